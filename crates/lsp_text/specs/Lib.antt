@@ -1,0 +1,4 @@
+pub mod Text
+pub mod TextLines
+pub mod Units
+pub mod Positions

@@ -1,0 +1,11 @@
+//! Lines and positions of a text: what "line 3, character 7" means, in the three encodings of LSP 3.17.
+//!
+//! - `position`: a place as the protocol writes it, and a range of two.
+//! - `encoding`: what a character of a line counts.
+#![tactic(auto)]
+
+mod encoding;
+mod position;
+
+pub use encoding::Encoding;
+pub use position::{Position, Range};
