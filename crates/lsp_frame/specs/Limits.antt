@@ -1,0 +1,31 @@
+use Rattle.std.specs.Prelude.{ℕ, ◌≤◌, Bool, ◌||◌, nat_lt, if◌then◌else◌, Option, Some, None}
+
+-- the four limits: bytes of a body, bytes of a text, open documents, changes of one message
+pub record Bounds : Type 0 where
+  pub max_body : ℕ
+  pub max_text : ℕ
+  pub max_docs : ℕ
+  pub max_changes : ℕ
+
+-- a number lies outside of a range, both of whose ends are good
+abbrev pub is_outside : ℕ → ℕ → ℕ → Bool
+is_outside least greatest n = nat_lt n least || nat_lt greatest n
+
+-- the first limit that is out of its range, counted from 1
+abbrev pub first_out_of_range : Bounds → Option ℕ
+first_out_of_range b =
+    if is_outside 4096 1073741824 b.max_body then Some 1
+    else if is_outside 0 1073741824 b.max_text then Some 2
+    else if is_outside 1 65536 b.max_docs then Some 3
+    else if is_outside 1 1048576 b.max_changes then Some 4
+    else None
+
+-- Each limit is in its range.
+pub record AreInRange (b : Bounds) : Type 0 where
+  pub least_body : 4096 ≤ b.max_body
+  pub greatest_body : b.max_body ≤ 1073741824
+  pub greatest_text : b.max_text ≤ 1073741824
+  pub least_docs : 1 ≤ b.max_docs
+  pub greatest_docs : b.max_docs ≤ 65536
+  pub least_changes : 1 ≤ b.max_changes
+  pub greatest_changes : b.max_changes ≤ 1048576

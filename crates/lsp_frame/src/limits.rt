@@ -1,0 +1,157 @@
+//! The limits that a user sets once, and that every layer keeps.
+
+ghost use Rattle.std.specs.Prelude.{◌≡◌, ◌≤◌, None, Some, MatchResult};
+ghost use Rattle.lsp_frame.specs.Limits.{Bounds, first_out_of_range};
+
+use std::marker::Model;
+use thiserror::Error;
+
+/// How long a body and a text may be, in bytes, how many documents may be open, and how many changes one
+/// message may hold. Clauses see the four numbers.
+#[derive(Clone, Copy, Debug, PartialEq, Eq)]
+pub struct Limits {
+    max_body: usize,
+    max_text: usize,
+    max_docs: usize,
+    max_changes: usize,
+}
+
+impl Model for Limits {
+    ghost use Rattle.lsp_frame.specs.Limits.{Bounds, AreInRange};
+
+    ghost Value = { Bounds };
+
+    ghost view = { λ l. record { max_body = l.max_body; max_text = l.max_text; max_docs = l.max_docs; max_changes = l.max_changes } };
+
+    ghost invariant = { λ l. AreInRange (record { max_body = l.max_body; max_text = l.max_text; max_docs = l.max_docs; max_changes = l.max_changes }) };
+
+    ghost inverse = { λ b. record { max_body = b.max_body; max_text = b.max_text; max_docs = b.max_docs; max_changes = b.max_changes } };
+}
+
+/// A limit is out of its range: `which` is 1 for `max_body`, 2 for `max_text`, 3 for `max_docs` and 4 for
+/// `max_changes`, the first of them that is.
+#[derive(Clone, Copy, Debug, PartialEq, Eq, Error)]
+#[error("limit {which} is out of range")]
+pub struct BadLimits {
+    pub which: u8,
+}
+
+impl Limits {
+    /// The least and the greatest `max_body`, in bytes.
+    pub const LEAST_BODY: usize = 4_096;
+
+    pub const GREATEST_BODY: usize = 1_073_741_824;
+    /// The greatest `max_text`, in bytes. The least is 0.
+    pub const GREATEST_TEXT: usize = 1_073_741_824;
+    /// The greatest `max_docs`. The least is 1.
+    pub const GREATEST_DOCS: usize = 65_536;
+    /// The greatest `max_changes`. The least is 1.
+    pub const GREATEST_CHANGES: usize = 1_048_576;
+
+    /// The limits, or which of them is the first out of its range.
+    pub fn new(
+        max_body: usize,
+        max_text: usize,
+        max_docs: usize,
+        max_changes: usize,
+    ) -> Result<Limits, BadLimits>
+        ensures { let given : Bounds = record { max_body = max_body; max_text = max_text; max_docs = max_docs; max_changes = max_changes } in
+            MatchResult result (λ limits. (limits ≡ given) × (first_out_of_range given ≡ None))
+            (λ bad. first_out_of_range given ≡ Some bad.which) }
+    {
+        if max_body < Self::LEAST_BODY || max_body > Self::GREATEST_BODY {
+            return Err(BadLimits { which: 1 });
+        }
+        if max_text > Self::GREATEST_TEXT {
+            return Err(BadLimits { which: 2 });
+        }
+        if max_docs < 1 || max_docs > Self::GREATEST_DOCS {
+            return Err(BadLimits { which: 3 });
+        }
+        if max_changes < 1 || max_changes > Self::GREATEST_CHANGES {
+            return Err(BadLimits { which: 4 });
+        }
+        Ok(Limits {
+            max_body,
+            max_text,
+            max_docs,
+            max_changes,
+        })
+    }
+
+    /// The greatest length of a body, in bytes.
+    pub fn max_body(&self) -> usize
+        ensures value { result ≡ self.now.max_body }
+        ensures range { (4096 ≤ result) × (result ≤ 1073741824) }
+    {
+        self.max_body
+    }
+
+    /// The greatest length of a text, in bytes.
+    pub fn max_text(&self) -> usize
+        ensures value { result ≡ self.now.max_text }
+        ensures range { result ≤ 1073741824 }
+    {
+        self.max_text
+    }
+
+    /// The greatest number of open documents.
+    pub fn max_docs(&self) -> usize
+        ensures value { result ≡ self.now.max_docs }
+        ensures range { (1 ≤ result) × (result ≤ 65536) }
+    {
+        self.max_docs
+    }
+
+    /// The greatest number of changes in one message.
+    pub fn max_changes(&self) -> usize
+        ensures value { result ≡ self.now.max_changes }
+        ensures range { (1 ≤ result) × (result ≤ 1048576) }
+    {
+        self.max_changes
+    }
+}
+
+#[cfg(test)]
+mod tests {
+    use super::*;
+    use std::test::Fail;
+
+    #[test]
+    fn the_first_bad_limit_is_named(rt: HostRuntime) -> Result<(), Fail> {
+        let cases = [
+            ([4_095, 0, 1, 1], 1),
+            ([4_096, 1_073_741_825, 0, 1], 2),
+            ([1_073_741_825, 0, 1, 1], 1),
+            ([4_096, 0, 0, 0], 3),
+            ([4_096, 0, 65_537, 1], 3),
+            ([4_096, 0, 1, 0], 4),
+            ([4_096, 0, 1, 1_048_577], 4),
+        ];
+        for (given, which) in cases {
+            let [body, text, docs, changes] = given;
+            assert_eq!(rt;
+                Limits::new(body, text, docs, changes),
+                Err(BadLimits { which })
+            );
+        }
+        Ok(())
+    }
+
+    #[test]
+    fn limits_at_the_ends_of_their_ranges(rt: HostRuntime) -> Result<(), Fail> {
+        let least = Limits::new(4_096, 0, 1, 1)?;
+        assert_eq!(rt; (least.max_body(), least.max_text()), (4_096, 0));
+        assert_eq!(rt; (least.max_docs(), least.max_changes()), (1, 1));
+        let greatest = Limits::new(1_073_741_824, 1_073_741_824, 65_536, 1_048_576)?;
+        assert_eq!(rt;
+            (greatest.max_body(), greatest.max_text()),
+            (1_073_741_824, 1_073_741_824)
+        );
+        assert_eq!(rt;
+            (greatest.max_docs(), greatest.max_changes()),
+            (65_536, 1_048_576)
+        );
+        Ok(())
+    }
+}

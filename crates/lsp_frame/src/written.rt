@@ -1,0 +1,95 @@
+//! The one spelling in which frames are written.
+
+ghost use Rattle.std.specs.Prelude.{◌≡◌, ◌<◌, ◌≤◌, length, IfOk, IfErr, OnOk, Err};
+ghost use Rattle.lsp_frame.specs.Frame.{frame};
+ghost use Rattle.lsp_frame.specs.Encode.{IsEncodeFault};
+ghost use Rattle.lsp_frame.specs.declared.written.EncodeFault.TheVariants.{BodyTooLong, NoMemory};
+
+use crate::limits::Limits;
+use itoa::Buffer;
+use std::alloc::{AllocError, Global};
+use thiserror::Error;
+
+#[tactic(auto, unfolding(crate::specs::Frame::frame))]
+/// The frame of a body, `Content-Length: N`, an empty line and the body, with no limit on its length.
+///
+/// Fails only where memory runs out. Linear in the body: its bytes are copied once.
+pub fn frame(alloc: Global, body: &[u8]) -> Result<Vec<u8>, AllocError>
+    ensures { IfOk result (λ bytes. bytes.items ≡ frame body.now) }
+{
+    let mut buffer = Buffer::new();
+    let length = buffer.format(body.len()).as_bytes();
+    let mut bytes = Vec::with_capacity(alloc, NAME.len() + length.len() + END.len() + body.len())?;
+    bytes.extend_from_slice(NAME)?;
+    bytes.extend_from_slice(length)?;
+    bytes.extend_from_slice(END)?;
+    bytes.extend_from_slice(body)?;
+    Ok(bytes)
+}
+
+const NAME: &[u8] = b"Content-Length: ";
+
+const END: &[u8] = b"\r\n\r\n";
+
+/// Why a body has no frame.
+#[derive(Clone, Copy, Debug, PartialEq, Eq, Error)]
+pub enum EncodeFault {
+    /// The body is longer than the limit: its length in bytes.
+    #[error("the body has {len} bytes, more than the limit")]
+    BodyTooLong { len: usize },
+    #[error("out of memory")]
+    NoMemory,
+}
+
+impl From<AllocError> for EncodeFault {
+    ghost from_gives = { λ _ e. e ≡ NoMemory };
+
+    fn from(_e: AllocError) -> EncodeFault {
+        EncodeFault::NoMemory
+    }
+}
+
+/// The frame of a body that is no longer than `max_body` allows.
+///
+/// Linear in the body.
+pub fn encode(alloc: Global, limits: &Limits, body: &[u8]) -> Result<Vec<u8>, EncodeFault>
+    ensures framed { IfOk result (λ bytes. bytes.items ≡ frame body.now) }
+    ensures within { OnOk result (length body.now ≤ limits.now.max_body) }
+    ensures too_long { limits.now.max_body < length body.now → result ≡ Err (EncodeFault.BodyTooLong (length body.now)) }
+    ensures fault { IfErr result (IsEncodeFault limits.now.max_body (length body.now)) }
+{
+    if body.len() > limits.max_body() {
+        return Err(EncodeFault::BodyTooLong { len: body.len() });
+    }
+    Ok(frame(alloc, body)?)
+}
+
+#[cfg(test)]
+mod tests {
+    use super::*;
+    use std::test::Fail;
+
+    #[test]
+    fn frame_of_129_bytes(rt: HostRuntime) -> Result<(), Fail> {
+        let body = vec![in rt.alloc(); b' '; 129]?;
+        let bytes = frame(rt.alloc(), &body)?;
+        assert_eq!(rt; bytes.len(), 152);
+        assert!(rt; bytes.starts_with(b"Content-Length: 129\r\n\r\n "));
+        let empty = frame(rt.alloc(), b"")?;
+        assert_eq!(rt; empty.as_slice(), b"Content-Length: 0\r\n\r\n".as_slice());
+        Ok(())
+    }
+
+    #[test]
+    fn encode_stops_above_the_limit(rt: HostRuntime) -> Result<(), Fail> {
+        let limits = Limits::new(4_096, 0, 1, 1)?;
+        let body = vec![in rt.alloc(); b'x'; 4_097]?;
+        assert_eq!(rt; body.len(), 4_097);
+        let taken = encode(rt.alloc(), &limits, &body[..4_096])?;
+        assert_eq!(rt; taken.len(), 4_120);
+        assert!(rt; taken.starts_with(b"Content-Length: 4096\r\n\r\nx"));
+        let refused = encode(rt.alloc(), &limits, &body);
+        assert!(rt; refused == Err(EncodeFault::BodyTooLong { len: 4_097 }));
+        Ok(())
+    }
+}
