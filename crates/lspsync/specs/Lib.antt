@@ -1,0 +1,11 @@
+pub mod Log
+pub mod Body
+pub mod Views
+pub mod Table
+pub mod Documents
+pub mod Session
+pub mod Front
+pub mod Handled
+pub mod Normal
+pub use Rattle.lsp_frame.specs.Frame
+pub use Rattle.lsp_frame.specs.Limits
