@@ -1,3 +1,5 @@
 pub mod JsonLemmas
 pub mod TableLemmas
 pub mod WholeChange
+pub mod PortLemmas
+pub mod EngineLemmas

@@ -5,7 +5,9 @@ pub mod Table
 pub mod Documents
 pub mod Session
 pub mod Front
+pub mod Ports
 pub mod Handled
 pub mod Normal
+pub mod Engine
 pub use Rattle.lsp_frame.specs.Frame
 pub use Rattle.lsp_frame.specs.Limits

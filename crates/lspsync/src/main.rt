@@ -4,14 +4,36 @@
 //! - `body`: what a frame's body asks.
 //! - `documents`: the open documents.
 //! - `session`: what becomes of a body.
-//! - `engine`: a log from a reader to a writer.
+//! - `turns`: reads to the end and writes whole.
+//! - `engine`: a log from a reader to a writer, and the theorem of that path.
 //! - `command_line`: the words that the program is called with.
 //! - `run`: the program over any reader and writers.
 #![tactic(auto)]
 
 mod body;
+mod command_line;
 mod documents;
+mod engine;
+mod outcome;
 mod record;
+mod run;
 mod session;
+mod turns;
 
-fn main(rt: HostRuntime) {}
+use crate::run::run;
+use std::process::ExitCode;
+use std::{env, io};
+
+fn main(rt: HostRuntime) -> io::Result<ExitCode> {
+    let alloc = rt.alloc();
+    let given: Vec<String> = env::args(&rt)?.collect(alloc)?;
+    let words: Vec<&str> = given.iter().map(|word| word.as_str()).collect(alloc)?;
+    let status = run(
+        alloc,
+        &words,
+        &mut rt.stdin(),
+        &mut rt.stdout(),
+        &mut rt.stderr(),
+    );
+    Ok(ExitCode::from(status))
+}

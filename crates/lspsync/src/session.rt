@@ -45,6 +45,12 @@ impl Session {
         }
     }
 
+    pub fn limits(&self) -> &Limits
+        ensures { result.now ≡ self.entry.now.limits }
+    {
+        &self.limits
+    }
+
     /// Handles a body. After a refusal and where the body is not handled the session is as it was.
     pub fn handle(&mut self, alloc: Global, body: &[u8]) -> Result<Handled, AllocError>
         ensures handled { IfOk result (HandlesAs self.old.limits (session_of self.old)
