@@ -1,3 +1,4 @@
 pub mod JsonLemmas
 pub mod TableLemmas
 pub mod WholeChange
+pub mod FrameLemmas
