@@ -78,12 +78,12 @@ at_next limits input rest session next normal more body after p is short takes k
       handles = record {
         splits = splits-push limits.max_body input rest p.bodies body after p.handles.splits is short;
         becomes = normalises-push limits fresh p.bodies p.outs (session_of session) p.refusals body t.out (session_of next) t.refusals p.handles.becomes t.becomes;
-        };
+      };
       kept = kept ∙ p.kept;
       written = t.output ∙ ap (λ xs. xs ++ frame t.out) p.written ∙ sym (together-push p.outs t.out);
       counted = omega (arith, t.messages, p.counted, length-push p.bodies body);
       refused = omega (arith, t.refused, p.refused);
-      }
+    }
 
 -- where the rest begins
 begins : (limit : ℕ) (input rest : List ℕ) (bodies : List (List ℕ)) → Splits limit input bodies rest → length input - length rest ≡ length (together bodies)

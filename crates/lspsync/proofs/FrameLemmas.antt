@@ -89,7 +89,7 @@ begins_push (y ∷ xs) (f ∷ front) rest x e =
     let h : y ≡ f = cc in
     let t : xs ++ x ∷ [] ≡ front ++ rest = cc in
     elim (begins_push xs front rest x t) [
-      inl whole ↦ inl (let all : f ∷ front ≡ y ∷ (xs ++ x ∷ []) = cc in all)
+      | inl whole ↦ inl (let all : f ∷ front ≡ y ∷ (xs ++ x ∷ []) = cc in all)
       | inr part ↦ inr (part.0, let same : xs ≡ front ++ part.0 = part.1 in let all : y ∷ xs ≡ f ∷ (front ++ part.0) = cc in all)
     ]
 
@@ -103,7 +103,7 @@ numbers_one n small fits = record { is = sym (decimal_digit n small); begins = b
   where
     by : (front rest : List ℕ) → 0 < length front → (48 + n) ∷ [] ≡ front ++ rest → (m : ℕ) × (m ≤ n) × (front ≡ decimal m)
     by front rest some e = elim (begins_push [] front rest (48 + n) e) [
-      inl whole ↦ (n, omega arith, whole ∙ sym (decimal_digit n small))
+      | inl whole ↦ (n, omega arith, whole ∙ sym (decimal_digit n small))
       | inr part ↦ absurd (begins_nothing front part.0 some part.1)
     ]
 
@@ -112,9 +112,10 @@ numbers_more n ds large fits before = record { is = is; begins = by }
   where
     is : ds ++ ((48 + n % 10) ∷ []) ≡ decimal n
     is = rw before.is (sym (decimal_step n large fits))
+
     by : (front rest : List ℕ) → 0 < length front → ds ++ ((48 + n % 10) ∷ []) ≡ front ++ rest → (m : ℕ) × (m ≤ n) × (front ≡ decimal m)
     by front rest some e = elim (begins_push ds front rest (48 + n % 10) e) [
-      inl whole ↦ (n, omega arith, whole ∙ is)
+      | inl whole ↦ (n, omega arith, whole ∙ is)
       | inr part ↦ (let found = before.begins front part.0 some part.1 in (found.0, omega (arith, found.1), found.2))
     ]
 
@@ -165,12 +166,12 @@ no_length limit e bytes fits some ends_line never body more after within is =
     let whole : bytes ++ more ≡ decimal size ++ (13 ∷ tail) = append_cancel_left name _ _ (sym (append_assoc name bytes more) ∙ is ∙ frame_is body after) in
     let cut : take e bytes ++ (drop e bytes ++ more) ≡ decimal size ++ (13 ∷ tail) = sym (append_assoc (take e bytes) (drop e bytes) more) ∙ ap (λ xs. xs ++ more) (take-append-drop e bytes) ∙ whole in
     ⊎_elim (λ (below : e < length bytes).
-      let at : drop e bytes ++ more ≡ 13 ∷ (drop (suc e) bytes ++ more) = rw (behind bytes e below, ends_line.here below) refl in
-      never size within (same_line (take e bytes) (decimal size) _ _ ends_line.front (HasNoReturn-decimal size (omega arith)) (ap (λ xs. take e bytes ++ xs) (sym at) ∙ cut)).0)
+    let at : drop e bytes ++ more ≡ 13 ∷ (drop (suc e) bytes ++ more) = rw (behind bytes e below, ends_line.here below) refl in
+    never size within (same_line (take e bytes) (decimal size) _ _ ends_line.front (HasNoReturn-decimal size (omega arith)) (ap (λ xs. take e bytes ++ xs) (sym at) ∙ cut)).0)
     (λ (all : length bytes ≤ e).
-      let begun = begins_line (take e bytes) (decimal size) _ tail ends_line.front cut in
-      let found = begins_decimal size (take e bytes) begun.0 (omega arith) (omega (arith, length-take-le e bytes ends_line.within)) begun.1 in
-      never found.0 (omega (arith, found.1)) found.2) (cases_lt e (length bytes))
+    let begun = begins_line (take e bytes) (decimal size) _ tail ends_line.front cut in
+    let found = begins_decimal size (take e bytes) begun.0 (omega arith) (omega (arith, length-take-le e bytes ends_line.within)) begun.1 in
+    never found.0 (omega (arith, found.1)) found.2) (cases_lt e (length bytes))
 
 -- There is none where the ends of lines don't follow the length.
 pub no_ends : (limit len : ℕ) (bytes : List ℕ) → limit < 2 ^ 64 → len < 2 ^ 64 → (0 < length bytes → slice_index bytes 0 ≡ 13) → ((more rest : List ℕ) → bytes ++ more ≢ ends ++ rest) → HasNoFrame limit (name ++ (decimal len ++ bytes))
@@ -205,7 +206,7 @@ cut_length limit len bytes more body within size open_end is = record {
   within = omega arith;
   open_end = open_end;
   is = ap (λ xs. name ++ xs) (append_assoc (decimal len) bytes more) ∙ ap (λ xs. name ++ (decimal len ++ xs)) is
-    ∙ ap (λ n. name ++ (decimal n ++ (ends ++ body))) (sym size) ∙ sym (frame_alone body);
+      ∙ ap (λ n. name ++ (decimal n ++ (ends ++ body))) (sym size) ∙ sym (frame_alone body);
 }
 
 pub cut_ends : (limit len : ℕ) (bytes : List ℕ) → len ≤ limit → length bytes < 4 → ends ≡ bytes ++ drop (length bytes) ends → IsCut limit (name ++ (decimal len ++ bytes))

@@ -103,6 +103,7 @@ whole-accepted limits table b d some small = by (open_at table b.uri) refl
         let same : changed first b ≡ d = (let f : Some (changed first b) ≡ Some d = rw is at h in cc) in
         subst (λ x. accepted_change limits table (whole_batch x) ≡ Some x) same
         (rw (own-uri table b.uri first found, whole-acceptable limits first.version first.text b.version b.texts some small is) refl)
+
     by : (o : Option Document) → open_at table b.uri ≡ o → accepted_on limits b o ≡ Some d → accepted_change limits table (whole_batch d) ≡ Some d
     by None found h = absurd (cc)
     by (Some first) found h = on first found (is_acceptable limits first.version first.text b.version b.texts) refl h

@@ -48,9 +48,9 @@ whole_change document version new =
     object (member (codes "jsonrpc") (string (codes "2.0"))
     (member (codes "method") (string (codes "textDocument/didChange"))
     (member (codes "params") (object
-      (member (codes "contentChanges") (array (item (object (member (codes "text") (string new) no_members)) no_items))
-      (member (codes "textDocument") (object (member (codes "uri") (string document)
-      (member (codes "version") (number (of_integer version)) no_members))) no_members))) no_members)))
+    (member (codes "contentChanges") (array (item (object (member (codes "text") (string new) no_members)) no_items))
+    (member (codes "textDocument") (object (member (codes "uri") (string document)
+    (member (codes "version") (number (of_integer version)) no_members))) no_members))) no_members)))
 
 -- The body of the didChange that gives a document the text and the version that it has now.
 abbrev pub whole_change_body : Document → List ℕ

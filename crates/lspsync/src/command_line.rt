@@ -1,6 +1,5 @@
 //! The words that the program is called with.
 
-
 use clap::builder::ValueParser;
 use clap::{Arg, Command, Error};
 use lsp_frame::Limits;
@@ -33,10 +32,38 @@ fn program<'a>(alloc: Global) -> Result<Command<'a>, AllocError> {
 fn normalise<'a>(alloc: Global) -> Result<Command<'a>, AllocError> {
     Command::new(alloc, "normalise")
         .about("Writes the log on standard input with each accepted didChange in normal form")
-        .arg(limit(alloc, "max-body", 4_096, 1_073_741_824, "16777216", "Greatest length of a body, in bytes"))?
-        .arg(limit(alloc, "max-text", 0, 1_073_741_824, "16777216", "Greatest length of a text, in bytes"))?
-        .arg(limit(alloc, "max-docs", 1, 65_536, "1024", "Greatest number of open documents"))?
-        .arg(limit(alloc, "max-changes", 1, 1_048_576, "65536", "Greatest number of changes in one message"))
+        .arg(limit(
+            alloc,
+            "max-body",
+            4_096,
+            1_073_741_824,
+            "16777216",
+            "Greatest length of a body, in bytes",
+        ))?
+        .arg(limit(
+            alloc,
+            "max-text",
+            0,
+            1_073_741_824,
+            "16777216",
+            "Greatest length of a text, in bytes",
+        ))?
+        .arg(limit(
+            alloc,
+            "max-docs",
+            1,
+            65_536,
+            "1024",
+            "Greatest number of open documents",
+        ))?
+        .arg(limit(
+            alloc,
+            "max-changes",
+            1,
+            1_048_576,
+            "65536",
+            "Greatest number of changes in one message",
+        ))
 }
 
 /// An option with a number from `least` to `greatest`.

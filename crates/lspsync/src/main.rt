@@ -18,6 +18,8 @@ mod outcome;
 mod record;
 mod run;
 mod session;
+#[cfg(test)]
+mod tests;
 mod turns;
 
 use crate::run::run;

@@ -1,10 +1,10 @@
 //! How a run of an engine ends.
 
-use std::alloc::AllocError;
-use thiserror::Error;
-
 ghost use Rattle.std.specs.Prelude.{◌≡◌};
 ghost use Rattle.lspsync.specs.declared.outcome.EngineFault.TheVariants.{NoMemory};
+
+use std::alloc::AllocError;
+use thiserror::Error;
 
 /// A log that was read to its end.
 #[derive(Clone, Copy, Debug, PartialEq, Eq)]

@@ -30,7 +30,11 @@ pub fn front_of<'a>(limits: &Limits, bytes: &'a [u8]) -> Front<'a>
     ensures { IsFront limits.now.max_body bytes.entry.now result }
 {
     if bytes.len() <= NAME.len() {
-        return if NAME.starts_with(bytes) { Front::Cut } else { Front::Foreign };
+        return if NAME.starts_with(bytes) {
+            Front::Cut
+        } else {
+            Front::Foreign
+        };
     }
     match bytes.strip_prefix(NAME) {
         Some(rest) => after_name(limits.max_body(), rest),
@@ -58,7 +62,11 @@ fn after_length<'a>(len: usize, bytes: &'a [u8]) -> Front<'a>
         → IsFront limit (codes "Content-Length: " ++ decimal len ++ bytes.entry.now) result }
 {
     if bytes.len() < END.len() {
-        return if END.starts_with(bytes) { Front::Cut } else { Front::Foreign };
+        return if END.starts_with(bytes) {
+            Front::Cut
+        } else {
+            Front::Foreign
+        };
     }
     match bytes.strip_prefix(END) {
         Some(rest) if rest.len() < len => Front::Cut,
@@ -103,8 +111,14 @@ mod tests {
     #[test]
     fn a_frame_and_what_is_behind_it(rt: HostRuntime) -> Result<(), Fail> {
         let limits = limits()?;
-        assert_eq!(rt; front_of(&limits, LOG), Front::Frame(b"{\"id\":1234}", b"rest"));
-        assert_eq!(rt; front_of(&limits, b"Content-Length: 0\r\n\r\n"), Front::Frame(b"", b""));
+        assert_eq!(rt;
+            front_of(&limits, LOG),
+            Front::Frame(b"{\"id\":1234}", b"rest")
+        );
+        assert_eq!(rt;
+            front_of(&limits, b"Content-Length: 0\r\n\r\n"),
+            Front::Frame(b"", b"")
+        );
         Ok(())
     }
 
@@ -114,7 +128,10 @@ mod tests {
         for len in 1..33 {
             assert_eq!(rt; front_of(&limits, &LOG[..len]), Front::Cut);
         }
-        assert_eq!(rt; front_of(&limits, &LOG[..33]), Front::Frame(b"{\"id\":1234}", b""));
+        assert_eq!(rt;
+            front_of(&limits, &LOG[..33]),
+            Front::Frame(b"{\"id\":1234}", b"")
+        );
         Ok(())
     }
 

@@ -23,8 +23,7 @@ returns-in-Some c limit within fits =
 
 pub returns-in-Some-2 : goal.returns-in-Some-2
 returns-in-Some-2 c limit within fits =
-    let stripped = strip_prefix_is Decides-eqb c.args.bytes.now ends c.strip_prefix.result c.strip_prefix.ensures.cases in
-    (
+    let stripped = strip_prefix_is Decides-eqb c.args.bytes.now ends c.strip_prefix.result c.strip_prefix.ensures.cases in (
       whole_frame c.args.len c.args.bytes.now c.in-Some.rest.now c.split_at.result.0.now c.split_at.result.1.now (rw c.in-Some.is at stripped) c.split_at.ensures.by_index.0 c.split_at.ensures.front_len,
       omega (arith, c.split_at.ensures.front_len),
     )

@@ -15,7 +15,7 @@ returns-in_default c =
     let bytes = c.args.bytes.now in
     let found : IsLineEnd bytes c.unwrap_or-end.result = rw c.unwrap_or-end.ensures (IsLineEnd-found bytes c.memchr.result c.memchr.ensures) in
     no_length c.args.max_body c.unwrap_or-end.result bytes (omega arith) c.requires found (λ n within is.
-      elim c.in_default.branch [
-        in_default-via-in-Some+else-len-max_body w ↦ (let same : w.in-Some.len ≡ n = decimal_injective w.in-Some.len n (omega arith) (omega arith) (sym w.in-Some.ensures ∙ c.split_at.ensures.front ∙ is) in omega (arith, w.if-len-max_body.false))
-        | in_default-via-in_default w ↦ w.in_default.ensures n (omega arith) (c.split_at.ensures.front ∙ is)
-      ])
+    elim c.in_default.branch [
+      | in_default-via-in-Some+else-len-max_body w ↦ (let same : w.in-Some.len ≡ n = decimal_injective w.in-Some.len n (omega arith) (omega arith) (sym w.in-Some.ensures ∙ c.split_at.ensures.front ∙ is) in omega (arith, w.if-len-max_body.false))
+      | in_default-via-in_default w ↦ w.in_default.ensures n (omega arith) (c.split_at.ensures.front ∙ is)
+    ])

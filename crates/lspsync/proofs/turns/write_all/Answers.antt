@@ -13,9 +13,10 @@ pub returns-in-Ok-eq0-clause-err : goal.returns-in-Ok-eq0-clause-err
 returns-in-Ok-eq0-clause-err g c = (tt, nothing_more _ _ _ c.args.bytes.now _ c.writes.at c.in-Ok-eq0.field-0 c.writes.invariant.1 c.in-Ok-eq0.ensures.bytes c.in-Ok-eq0.field-0-test)
 
 pub writes-preserved-in-Ok : goal.writes-preserved-in-Ok
-writes-preserved-in-Ok g c =
-    (omega (arith, c.in-Ok.ensures.bound, length-take {A = ℕ}, length-drop {A = ℕ}),
-    more_written _ _ _ c.args.bytes.now c.writes.at c.in-Ok.n c.writes.invariant.0 c.in-Ok.ensures.bound c.writes.invariant.1 c.in-Ok.ensures.bytes)
+writes-preserved-in-Ok g c = (
+  omega (arith, c.in-Ok.ensures.bound, length-take {A = ℕ}, length-drop {A = ℕ}),
+  more_written _ _ _ c.args.bytes.now c.writes.at c.in-Ok.n c.writes.invariant.0 c.in-Ok.ensures.bound c.writes.invariant.1 c.in-Ok.ensures.bytes,
+)
 
 pub returns-then-ne-clause-err : goal.returns-then-ne-clause-err
 returns-then-ne-clause-err g c = (tt, kept _ _ _ c.args.bytes.now c.writes.at c.writes.invariant.1 c.in-Err.ensures.bytes)

@@ -29,8 +29,11 @@ returns c =
     let some = change-accepted c.args.limits.now c.args.self.now.entries.entries (batch_view c.args.batch) c.as_str.result.now c.in-Some.entry.now c.take.new.self c.as_str.ensures.value c.in-Some.ensures.value taken
     (c.take.ensures.version ∙ version) c.take.ensures.text c.take.ensures.language in
     let same = c.deref-2.ensures ∙ sym c.as_str.ensures.value in
-    rw some (ap (map entry_document) (c.get_mut.follows.holds c.take.new.self).0 ∙ table-set_value c.as_str.result.now c.args.self.now.entries.entries c.take.new.self, record {
-      bytes = c.in_ok-whole_change.ensures.text ∙ ap (λ uri. whole_change_body (document_under uri c.take.new.self)) same;
-      asked = c.in_ok-whole_change.ensures.read ∙ ap (λ uri. Some (changes (Some (whole_batch (document_under uri c.take.new.self))))) same;
-      same = whole-accepted c.args.limits.now (map entry_document c.args.self.now.entries.entries) (batch_view c.args.batch) (document_under c.as_str.result.now c.take.new.self) c.accepts.ensures.limits.0 c.accepts.ensures.limits.1 some;
-      })
+    rw some (
+      ap (map entry_document) (c.get_mut.follows.holds c.take.new.self).0 ∙ table-set_value c.as_str.result.now c.args.self.now.entries.entries c.take.new.self,
+      record {
+        bytes = c.in_ok-whole_change.ensures.text ∙ ap (λ uri. whole_change_body (document_under uri c.take.new.self)) same;
+        asked = c.in_ok-whole_change.ensures.read ∙ ap (λ uri. Some (changes (Some (whole_batch (document_under uri c.take.new.self))))) same;
+        same = whole-accepted c.args.limits.now (map entry_document c.args.self.now.entries.entries) (batch_view c.args.batch) (document_under c.as_str.result.now c.take.new.self) c.accepts.ensures.limits.0 c.accepts.ensures.limits.1 some;
+      },
+    )
