@@ -1,14 +1,14 @@
 -- The records of a log, one after another.
-use Rattle.std.proofs.Common.{◌≡◌, ◌≤◌, ◌<◌, ℕ, ◌+◌, ◌-◌, List, [], ◌∷◌, ◌++◌, length, flat_map, refl, sym, ap, ◌∙◌, subst, arith, append-nil, append_assoc, length-append, inr, Vec, Global}
+use Rattle.std.proofs.Common.{◌≡◌, ◌≤◌, ◌<◌, ℕ, ◌+◌, ◌-◌, List, [], ◌∷◌, ◌++◌, length, refl, sym, ap, ◌∙◌, subst, arith, append-nil, append_assoc, length-append, inr, Vec, Global}
 use Rattle.std.proofs.lemmas.Grind.{flat_map-append}
 use Rattle.std.specs.List.{AllByRecursion}
 use Rattle.lsp_frame.specs.Limits.{Bounds}
 use Rattle.lsp_frame.specs.Frame.{frame}
-use Rattle.lspsync.specs.Log.{together, Splits, IsCut}
+use Rattle.lspsync.specs.Log.{together, Splits}
 use Rattle.lspsync.specs.Session as model
 use Rattle.lspsync.specs.Session.{judge}
 use Rattle.lspsync.specs.Normal.{Becomes, Normalises, fresh}
-use Rattle.lspsync.specs.Engine.{capped, Handles, Takes, Stops, IsLogFault, IsTakeFault, HasForeignRecord, HasTooLongRecord, EndsInFrame, Normalised}
+use Rattle.lspsync.specs.Engine.{capped, Handles, Takes, Stops, IsLogFault, IsTakeFault, HasForeignRecord, HasTooLongRecord, Normalised}
 use Rattle.lspsync.specs.Handled.{session_of, HandlesAs}
 use Rattle.lspsync.specs.Table.{Document}
 use Rattle.lspsync.specs.declared.session.Handled.TheVariants.{Rewritten}

@@ -1,5 +1,5 @@
 -- The table of documents as an ordered map keeps it.
-use Rattle.std.proofs.Common.{◌≡◌, ℕ, ℤ, subst, Bool, true, false, List, [], ◌∷◌, ◌++◌, length, map, cond, Option, Some, None, option_map, is_some, String, string_bytes, bytes_eq, not, ◌&&◌, slice_get, sum_by, take, get_or, nat_le, int_lt, ◌+◌, ◌-◌, ◌<◌, ◌≤◌, arith, refl, sym, ap, ◌∙◌, ⊎_elim}
+use Rattle.std.proofs.Common.{◌≡◌, ℕ, ℤ, subst, Bool, true, false, List, [], ◌∷◌, ◌++◌, length, map, Option, Some, None, option_map, is_some, String, string_bytes, bytes_eq, not, ◌&&◌, slice_get, sum_by, take, get_or, nat_le, int_lt, ◌+◌, ◌-◌, ◌<◌, ◌≤◌, arith, refl, sym, ap, ◌∙◌, ⊎_elim}
 use Rattle.std.proofs.lemmas.Bool.{cases_Bool, and_parts, leb-true, le-leb}
 use Rattle.std.proofs.lemmas.Slice.Eq.{bytes_eq-Decides}
 use Rattle.std.proofs.lemmas.Bool.Decides.{nat_tests}

@@ -1,5 +1,5 @@
 -- What the program does with a body.
-use Rattle.std.specs.Prelude.{◌≡◌, ℕ, List}
+use Rattle.std.specs.Prelude.{◌≡◌}
 use Rattle.lsp_frame.specs.Limits.{Bounds}
 use Rattle.lspsync.specs.Session.{Session, Verdict, taken, refused, accepted, unsupported, judge, whole_change_body}
 use Rattle.lspsync.specs.Documents.{table_of}

@@ -1,5 +1,5 @@
 -- The open documents of a session (LSP 3.17, Text Document Synchronization), in order of opening.
-use Rattle.std.specs.Prelude.{ℕ, ◌+◌, ℤ, Bool, ◌&&◌, not, if◌then◌else◌, nat_lt, nat_le, int_lt, List, [], ◌∷◌, ◌++◌, length, sum_by, Option, Some, None, is_some}
+use Rattle.std.specs.Prelude.{ℕ, ℤ, Bool, ◌&&◌, not, if◌then◌else◌, nat_lt, nat_le, int_lt, List, [], ◌∷◌, ◌++◌, length, sum_by, Option, Some, None, is_some}
 use Rattle.std.specs.Str.{bytes_eq}
 use Rattle.lsp_frame.specs.Limits.{Bounds}
 

@@ -22,9 +22,10 @@ const NAME: &[u8] = b"Content-Length: ";
 
 const END: &[u8] = b"\r\n\r\n";
 
-/// What stands at the front of bytes, where a frame's body is no longer than `limits` allows (LSP 3.17, Base Protocol).
+/// What stands at the front of bytes, of which there is one at least (LSP 3.17, Base Protocol). A frame whose body
+/// is longer than `limits` allows counts as none, as soon as its length shows.
 ///
-/// Linear in the header; the body is not read.
+/// Linear in the bytes up to the first `\r`; a body is not read.
 pub fn front_of<'a>(limits: &Limits, bytes: &'a [u8]) -> Front<'a>
     requires { 0 < length bytes.now }
     ensures { IsFront limits.now.max_body bytes.entry.now result }

@@ -1,6 +1,6 @@
 use Rattle.lspsync.proofs.TableLemmas.{too_long}
 use Rattle.lspsync.proofs.documents.fit.Goals as goal
-use Rattle.std.proofs.Common.{◌<◌, length, string_bytes, arith}
+use Rattle.std.proofs.Common.{arith}
 
 pub returns-then-len-room : goal.returns-then-len-room
 returns-then-len-room c =

@@ -1,5 +1,4 @@
 use Rattle.std.proofs.Common.{length}
-use Rattle.lspsync.specs.Handled.{session_of}
 use Rattle.lspsync.proofs.EngineLemmas.{Passed}
 use Rattle.lspsync.proofs.engine.normal_form.Given as goal
 

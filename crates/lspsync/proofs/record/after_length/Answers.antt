@@ -1,4 +1,4 @@
-use Rattle.std.proofs.Common.{◌≡◌, ◌++◌, true, length, drop, sym, arith}
+use Rattle.std.proofs.Common.{◌≡◌, true, sym, arith}
 use Rattle.std.proofs.lemmas.Bool.Decides.{Decides-eqb}
 use Rattle.std.proofs.lemmas.Slice.Eq.{starts_is, strip_prefix_is}
 use Rattle.lspsync.proofs.FrameLemmas.{ends, shorter_begins, no_ends, cut_ends, cut_body, whole_frame}

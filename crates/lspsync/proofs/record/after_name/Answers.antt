@@ -1,4 +1,4 @@
-use Rattle.std.proofs.Common.{◌≡◌, ◌<◌, ◌≤◌, ℕ, ◌++◌, decimal, subst, ap, ◌∙◌, sym, arith}
+use Rattle.std.proofs.Common.{◌≡◌, ◌++◌, subst, ap, ◌∙◌, sym, arith}
 use Rattle.lspsync.specs.Front.{IsFront}
 use Rattle.std.proofs.lemmas.Fmt.{decimal_injective}
 use Rattle.lspsync.proofs.FrameLemmas.{name, IsLineEnd, IsLineEnd-found, no_length}

@@ -1,4 +1,3 @@
-use Rattle.std.proofs.Common.{◌≡◌}
 use Rattle.std.specs.Io.KnownBytes.{Consumes}
 use Rattle.lspsync.proofs.turns.read_all.Given as goal
 

@@ -1,9 +1,9 @@
-use Rattle.std.proofs.Common.{◌≡◌, map, sym, ap, ◌∙◌, refl, rules, string_bytes, w32, to_z, of_z, List, ℕ, true, false, Some}
+use Rattle.std.proofs.Common.{◌≡◌, map, sym, ap, ◌∙◌, refl, rules, string_bytes, w32, to_z, of_z, true, false, Some}
 use Rattle.std.proofs.lemmas.Int.{to_z-of_z}
-use Rattle.lspsync.specs.Documents.{Changes, entry_document, document_under}
+use Rattle.lspsync.specs.Documents.{entry_document, document_under}
 use Rattle.lspsync.specs.Session.{whole_change_body}
 use Rattle.lspsync.specs.Views.{batch_view}
-use Rattle.lspsync.specs.Table.{after_change, is_acceptable, whole_batch}
+use Rattle.lspsync.specs.Table.{is_acceptable, whole_batch}
 use Rattle.lspsync.specs.Body.{changes}
 use Rattle.lspsync.proofs.TableLemmas.{change-absent, change-refused, change-accepted, set_value-found, table-set_value, whole-accepted}
 use Rattle.lspsync.proofs.documents.Documents.change.Goals as goal
