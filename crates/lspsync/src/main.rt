@@ -22,20 +22,28 @@ mod session;
 mod tests;
 mod turns;
 
-use crate::run::run;
+use crate::run::{refuse, run};
 use std::process::ExitCode;
 use std::{env, io};
 
-fn main(rt: HostRuntime) -> io::Result<ExitCode> {
+fn main(rt: HostRuntime) -> ExitCode {
+    let status = match answer(&rt) {
+        Ok(status) => status,
+        Err(error) => refuse(error.kind(), &mut rt.stderr()),
+    };
+    ExitCode::from(status)
+}
+
+/// Runs the program over the process's own streams. Fails only where the words of its call could not be had.
+fn answer(rt: &HostRuntime) -> io::Result<u8> {
     let alloc = rt.alloc();
-    let given: Vec<String> = env::args(&rt)?.collect(alloc)?;
+    let given: Vec<String> = env::args(rt)?.collect(alloc)?;
     let words: Vec<&str> = given.iter().map(|word| word.as_str()).collect(alloc)?;
-    let status = run(
+    Ok(run(
         alloc,
         &words,
         &mut rt.stdin(),
         &mut rt.stdout(),
         &mut rt.stderr(),
-    );
-    Ok(ExitCode::from(status))
+    ))
 }

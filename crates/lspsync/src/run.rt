@@ -3,9 +3,9 @@
 use crate::command_line::limits_of;
 use crate::engine::normalise;
 use crate::outcome::EngineFault;
-use clap::error::ErrorKind;
+use clap::error as clap_error;
 use std::alloc::Global;
-use std::io::{Read, Write};
+use std::io::{ErrorKind, Read, Write};
 
 /// How many reads and writes one run may make.
 const MAX_TURNS: u64 = 1_099_511_627_776;
@@ -44,7 +44,7 @@ pub fn run<R: Read, W: Write, E: Write>(
 
 /// Prints what `clap` says of the words: help to the output, and a usage fault to the errors.
 fn answer<W: Write, E: Write>(error: &clap::Error, output: &mut W, errors: &mut E) -> u8 {
-    if error.kind() == ErrorKind::OutOfMemory {
+    if error.kind() == clap_error::ErrorKind::OutOfMemory {
         return report(EngineFault::NoMemory, errors);
     }
     if error.use_stderr() {
@@ -55,6 +55,15 @@ fn answer<W: Write, E: Write>(error: &clap::Error, output: &mut W, errors: &mut 
         Ok(()) => 0,
         Err(_) => report(EngineFault::Write, errors),
     }
+}
+
+/// Prints why the words of a call could not be had: want of memory, or a word that is no text. Answers the status.
+pub fn refuse<E: Write>(kind: ErrorKind, errors: &mut E) -> u8 {
+    if kind == ErrorKind::OutOfMemory {
+        return report(EngineFault::NoMemory, errors);
+    }
+    let _ = writeln!(errors, "lspsync: the command line is not UTF-8");
+    USAGE
 }
 
 /// Prints the line of a fault, and answers its status.
