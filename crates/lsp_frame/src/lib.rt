@@ -2,10 +2,20 @@
 //!
 //! - `limits`: how long a body, a text and a list may be, in all layers above.
 //! - `written`: the one spelling in which frames are written.
+//! - `fault`: what can be wrong with the frames of a stream.
 #![tactic(auto)]
 
+mod fault;
+mod framer;
+mod header;
 mod limits;
+mod notes;
+mod shape;
+mod stage;
+mod words;
 mod written;
 
+pub use fault::FrameFault;
+pub use framer::Framer;
 pub use limits::{BadLimits, Limits};
 pub use written::{EncodeFault, encode, frame};
