@@ -4,4 +4,5 @@ pub mod LineLemmas
 pub mod ProgressLemmas
 pub mod FrameLemmas
 pub mod FaultLemmas
+pub mod StreamLemmas
 pub mod WordLemmas

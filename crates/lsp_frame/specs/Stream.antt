@@ -1,12 +1,13 @@
 -- What a framer holds, and the frames of a whole stream.
-use Rattle.std.specs.Prelude.{ℕ, ◌≡◌, ◌≤◌, ◌<◌, ◌⊎◌, Bool, List, [], ◌∷◌, ◌++◌, length}
+use Rattle.std.specs.Prelude.{ℕ, ◌≡◌, ◌≤◌, ◌<◌, ◌⊎◌, Bool, List, [], ◌∷◌, ◌++◌, length, ◌-◌, Option, MatchOption}
 use Rattle.lsp_frame.specs.Limits.{Bounds}
 use Rattle.lsp_frame.specs.Header.{Line, AreLines, header_of, BeginsHeader}
 use Rattle.lsp_frame.specs.Verdict.{judge}
 use Rattle.lsp_frame.specs.Frame.{Spells, HasNoFrame}
 use Rattle.std.specs.Prelude.{Ok, true, false}
 use Rattle.lsp_frame.specs.Frame.{IsHopeless}
-use Rattle.lsp_frame.specs.Faults.{IsDecided, place_behind}
+use Rattle.lsp_frame.specs.Faults.{IsDecidedAt, IsDecided, place_behind}
+use Rattle.lsp_frame.specs.declared.fault.HeaderFault.{HeaderFault}
 use Rattle.lsp_frame.specs.declared.fault.FrameFault.{FrameFault}
 use Rattle.lsp_frame.specs.declared.fault.FrameFault.TheVariants.{BadHeader, HeaderTooLong, MissingLength, RepeatedHeader, BadLength, BodyTooLong, BadCharset, Failed, NoMemory}
 
@@ -81,3 +82,33 @@ IsSpelled max_body stream (body ∷ bodies) rest =
 pub record HasFrames (max_body : ℕ) (stream : List ℕ) (bodies : List (List ℕ)) (rest : List ℕ) : Type 0 where
   pub spelled : IsSpelled max_body stream bodies rest
   pub longest : HasNoFrame max_body rest
+
+-- No fault was decided yet.
+abbrev pub IsSound : ℕ → List ℕ → Type 0
+IsSound max_body bytes = (k : ℕ) (fault : HeaderFault) → IsDecidedAt max_body bytes k fault → ⊥
+
+-- What a stream is read as: its frames have these bodies, and behind them a fault was decided, or none.
+pub record IsRead (max_body : ℕ) (stream : List ℕ) (bodies : List (List ℕ)) (fault : Option FrameFault) : Type 0 where
+  pub rest : List ℕ
+  pub frames : HasFrames max_body stream bodies rest
+  pub end : MatchOption fault (IsSound max_body rest) (IsDecided max_body (place_behind 0 (length stream - length rest)) rest)
+
+-- A framer stands behind the frames of a stream with these bodies, and holds one more or a part of one.
+pub record IsHolding (max_body : ℕ) (stream : List ℕ) (bodies : List (List ℕ)) (framer : Framing) : Type 0 where
+  pub spelled : IsSpelled max_body stream bodies framer.held
+  pub place : framer.place ≡ place_behind 0 (length stream - length framer.held)
+  pub sound : framer.failed ≡ false
+  pub part : IsPart max_body framer.held
+  pub limit : framer.limits.max_body ≡ max_body
+
+-- The same, and what it holds is not a whole one.
+pub record IsBehind (max_body : ℕ) (stream : List ℕ) (bodies : List (List ℕ)) (framer : Framing) : Type 0 where
+  pub holding : IsHolding max_body stream bodies framer
+  pub none : IsFrame max_body framer.held → ⊥
+
+-- A fault was decided behind the frames of a stream.
+pub record IsFaulty (max_body : ℕ) (stream : List ℕ) (bodies : List (List ℕ)) (fault : FrameFault) : Type 0 where
+  pub rest : List ℕ
+  pub spelled : IsSpelled max_body stream bodies rest
+  pub decided : IsDecided max_body (place_behind 0 (length stream - length rest)) rest fault
+  pub hopeless : IsHopeless max_body rest

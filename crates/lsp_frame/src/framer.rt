@@ -147,3 +147,6 @@ impl Framer {
         self.place = self.place.saturating_add(n);
     }
 }
+
+#[cfg(test)]
+mod tests;
