@@ -6,3 +6,4 @@ pub mod FrameLemmas
 pub mod FaultLemmas
 pub mod StreamLemmas
 pub mod WordLemmas
+pub mod WrittenLemmas

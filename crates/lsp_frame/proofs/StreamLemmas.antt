@@ -1,24 +1,24 @@
 -- The frames of a whole stream, and that a stream has one reading.
-use Rattle.std.proofs.Common.{◌≡◌, ◌≢◌, ℕ, zero, suc, ◌+◌, ◌-◌, ◌^◌, ◌<◌, ◌≤◌, min, Bool, true, false, List, [], ◌∷◌, ◌++◌, length, take, drop, map, refl, sym, ◌∙◌, ap, subst, append_assoc, append-nil, take-append-drop, arith, inl, inr}
-use Rattle.std.specs.Prelude.{Result, Ok, Err, ◌⊎◌, Option, Some, None, MatchOption, replicate}
-use Rattle.std.proofs.lemmas.List.{length-append, length-take, length-drop, take-take, take-append-le, length-replicate, map_push}
+use Rattle.std.proofs.Common.{◌≡◌, ℕ, ◌+◌, ◌-◌, ◌<◌, ◌≤◌, true, false, List, [], ◌∷◌, ◌++◌, length, take, drop, refl, sym, ◌∙◌, ap, subst, append_assoc, append-nil, take-append-drop, arith, inl, inr}
+use Rattle.std.specs.Prelude.{Ok, Err, ◌⊎◌, Option, Some, None, MatchOption, replicate}
+use Rattle.std.proofs.lemmas.List.{length-append, length-take, length-drop, take-take, take-append-le, length-replicate}
 use Rattle.lsp_frame.specs.Header.{Line, AreLines, lines_bytes, header_of, BeginsHeader, IsHeader}
 use Rattle.lsp_frame.specs.Verdict.{judge}
-use Rattle.lsp_frame.specs.Frame.{Spells, HasNoFrame, IsHopeless}
+use Rattle.lsp_frame.specs.Frame.{Spells, HasNoFrame}
 use Rattle.lsp_frame.specs.Faults.{IsBadHeaderAt, IsHeaderTooLongAt, IsJudgedAt, IsDecidedAt, IsDecided, fault_at, place_behind}
-use Rattle.lsp_frame.specs.Stream.{Framing, IsFrame, IsPart, IsHeaderPart, IsBodyPart, HoldsOne, IsSpelled, HasFrames, IsSound, IsRead, IsHolding, IsBehind, IsFaulty, IsStreamFault, IsFeedFault, given_up}
+use Rattle.lsp_frame.specs.Stream.{Framing, IsFrame, IsPart, IsSpelled, IsSound, IsRead, IsHolding, IsBehind, IsFaulty, IsStreamFault, IsFeedFault, given_up}
 use Rattle.lsp_frame.specs.declared.fault.HeaderFault.{HeaderFault}
 use Rattle.lsp_frame.specs.declared.fault.HeaderFault.TheVariants as header
 use Rattle.lsp_frame.specs.declared.fault.FrameFault.{FrameFault}
 use Rattle.lsp_frame.specs.declared.fault.FrameFault.TheVariants as fault_of
-use Rattle.lsp_frame.proofs.ProgressLemmas.{all_of, taken_more}
+use Rattle.lsp_frame.proofs.ProgressLemmas.{all_of}
 use Rattle.lsp_frame.specs.Limits.{Bounds}
 use Rattle.std.specs.List.{flat_map}
 use Rattle.std.proofs.lemmas.List.Concat.{flat_map-append}
 use Rattle.std.proofs.lemmas.List.{take_more}
 use Rattle.std.proofs.Common.{Vec, Global, get_or}
 use Rattle.lsp_frame.proofs.HeaderLemmas.{same_header}
-use Rattle.lsp_frame.proofs.FaultLemmas.{begins_none, header_begins_none, decided_hopeless, part_one, no_frame_in_header}
+use Rattle.lsp_frame.proofs.FaultLemmas.{header_begins_none, decided_hopeless, part_one}
 
 -- Fronts of one length of the same bytes are one.
 pub same_length_front : (a b x y : List ℕ) → length a ≡ length b → a ++ x ≡ b ++ y → (a ≡ b) × (x ≡ y)

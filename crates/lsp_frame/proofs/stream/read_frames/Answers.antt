@@ -1,7 +1,7 @@
-use Rattle.std.proofs.Common.{◌≡◌, ◌+◌, ◌++◌, List, [], ℕ, Some, None, take, drop, map, Vec, Global, ap, sym, subst, ◌∙◌, refl}
+use Rattle.std.proofs.Common.{◌≡◌, List, [], ℕ, Some, None, take, map, Vec, Global, ap, sym, subst}
 use Rattle.std.proofs.lemmas.List.{take_all}
 use Rattle.std.specs.List.{flat_map}
-use Rattle.lsp_frame.specs.Stream.{IsBehind, IsRead, IsFaulty}
+use Rattle.lsp_frame.specs.Stream.{IsBehind, IsRead}
 use Rattle.lsp_frame.proofs.StreamLemmas.{new_behind, behind_none, piece_faulty, piece_behind, behind_read, same_read}
 use Rattle.lsp_frame.proofs.stream.read_frames.Goals as goal
 

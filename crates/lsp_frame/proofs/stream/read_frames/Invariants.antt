@@ -1,4 +1,4 @@
-use Rattle.std.proofs.Common.{◌≡◌, ◌≤◌, ℕ, List, false, take, map, Vec, Global}
+use Rattle.std.proofs.Common.{◌≡◌, ℕ, false, take, map, Vec, Global}
 use Rattle.std.specs.List.{flat_map}
 use Rattle.lsp_frame.specs.Stream.{IsBehind, IsFrame}
 use Rattle.lsp_frame.proofs.stream.read_frames.Given as goal
