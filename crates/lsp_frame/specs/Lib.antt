@@ -1,3 +1,9 @@
 pub mod Limits
+pub mod Header
+pub mod Charset
+pub mod Verdict
 pub mod Frame
 pub mod Encode
+pub mod Faults
+pub mod Stream
+pub mod Progress

@@ -2,10 +2,24 @@
 //!
 //! - `limits`: how long a body, a text and a list may be, in all layers above.
 //! - `written`: the one spelling in which frames are written.
+//! - `framer`: the frames of a stream that comes in pieces, over `stage`, `header`, `shape`, `notes` and `words`.
+//! - `fault`: what can be wrong with them.
+//! - `stream`: the frames of a whole stream, and that they don't depend on how it was cut.
 #![tactic(auto)]
 
+mod fault;
+mod framer;
+mod header;
 mod limits;
+mod notes;
+mod shape;
+mod stage;
+mod stream;
+mod words;
 mod written;
 
+pub use fault::FrameFault;
+pub use framer::Framer;
 pub use limits::{BadLimits, Limits};
+pub use stream::{Frames, read_frames};
 pub use written::{EncodeFault, encode, frame};

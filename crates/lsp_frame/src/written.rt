@@ -1,7 +1,7 @@
 //! The one spelling in which frames are written.
 
-ghost use Rattle.std.specs.Prelude.{◌≡◌, ◌<◌, ◌≤◌, length, IfOk, IfErr, OnOk, Err};
-ghost use Rattle.lsp_frame.specs.Frame.{frame};
+ghost use Rattle.std.specs.Prelude.{◌≡◌, ◌<◌, ◌≤◌, ℕ, length, IfOk, IfErr, OnOk, Err};
+ghost use Rattle.lsp_frame.specs.Frame.{frame, Spells};
 ghost use Rattle.lsp_frame.specs.Encode.{IsEncodeFault};
 ghost use Rattle.lsp_frame.specs.declared.written.EncodeFault.TheVariants.{BodyTooLong, NoMemory};
 
@@ -10,11 +10,19 @@ use itoa::Buffer;
 use std::alloc::{AllocError, Global};
 use thiserror::Error;
 
-#[tactic(auto, unfolding(crate::specs::Frame::frame))]
 /// The frame of a body, `Content-Length: N`, an empty line and the body, with no limit on its length.
 ///
 /// Fails only where memory runs out. Linear in the body: its bytes are copied once.
 pub fn frame(alloc: Global, body: &[u8]) -> Result<Vec<u8>, AllocError>
+    ensures framed { IfOk result (λ bytes. bytes.items ≡ frame body.now) }
+    // Under each limit that lets the body pass it is a frame as it is read.
+    ensures spells { IfOk result (λ bytes. (max_body : ℕ) → length body.now ≤ max_body → Spells max_body bytes.items body.now) }
+{
+    written_bytes(alloc, body)
+}
+
+#[tactic(auto, unfolding(crate::specs::Frame::frame))]
+fn written_bytes(alloc: Global, body: &[u8]) -> Result<Vec<u8>, AllocError>
     ensures { IfOk result (λ bytes. bytes.items ≡ frame body.now) }
 {
     let mut buffer = Buffer::new();
@@ -54,6 +62,7 @@ impl From<AllocError> for EncodeFault {
 /// Linear in the body.
 pub fn encode(alloc: Global, limits: &Limits, body: &[u8]) -> Result<Vec<u8>, EncodeFault>
     ensures framed { IfOk result (λ bytes. bytes.items ≡ frame body.now) }
+    ensures spells { IfOk result (λ bytes. Spells limits.now.max_body bytes.items body.now) }
     ensures within { OnOk result (length body.now ≤ limits.now.max_body) }
     ensures too_long { limits.now.max_body < length body.now → result ≡ Err (EncodeFault.BodyTooLong (length body.now)) }
     ensures fault { IfErr result (IsEncodeFault limits.now.max_body (length body.now)) }

@@ -1,0 +1,222 @@
+-- After a fault no frame can come, and no more than one frame is ever held.
+use Rattle.std.proofs.Common.{◌≡◌, ℕ, ◌+◌, ◌-◌, ◌≤◌, Bool, true, false, List, [], ◌∷◌, ◌++◌, length, take, drop, refl, sym, ◌∙◌, ap, subst, append_assoc, append-nil, take-append-drop, arith, inl, inr}
+use Rattle.std.specs.Prelude.{Ok, Err, ◌⊎◌}
+use Rattle.std.proofs.lemmas.List.{length-append, length-take, take-take, nil_from_length}
+use Rattle.std.proofs.Math.Seq.{take-append-add}
+use Rattle.lsp_frame.specs.Header.{Line, AreLines, header_of, BeginsHeader}
+use Rattle.lsp_frame.specs.Verdict.{judge}
+use Rattle.lsp_frame.specs.Frame.{Spells, IsHopeless}
+use Rattle.lsp_frame.specs.Limits.{Bounds}
+use Rattle.lsp_frame.specs.Stream.{Framing, IsFrame, IsPart, HoldsOne, IsStreamFault, IsFeedFault}
+use Rattle.lsp_frame.specs.declared.fault.FrameFault.{FrameFault}
+use Rattle.lsp_frame.specs.Faults.{IsBadHeaderAt, IsHeaderTooLongAt, IsJudgedAt, IsDecidedAt, fault_at, place_behind}
+use Rattle.lsp_frame.specs.Progress.{IsInBody, IsAtStage, IsHeaderStop, has_failed}
+use Rattle.lsp_frame.specs.declared.header.Stop.{Stop}
+use Rattle.lsp_frame.specs.declared.header.Stop.TheVariants as stop
+use Rattle.lsp_frame.specs.declared.fault.HeaderFault.{HeaderFault}
+use Rattle.lsp_frame.specs.declared.fault.HeaderFault.TheVariants as header
+use Rattle.lsp_frame.specs.declared.stage.Stage.{Stage}
+use Rattle.lsp_frame.specs.declared.stage.Stage.TheVariants as stage
+use Rattle.lsp_frame.proofs.HeaderLemmas.{same_header}
+use Rattle.lsp_frame.proofs.ProgressLemmas.{so_far_begins}
+
+-- Of two fronts of the same bytes one begins the other.
+pub record Front (a b x y : List ℕ) : Type 0 where
+  pub more : List ℕ
+  pub is : a ≡ b ++ more
+  pub rest : y ≡ more ++ x
+
+pub one_front : (a b x y : List ℕ) → a ++ x ≡ b ++ y → Front a b x y ⊎ Front b a y x
+one_front [] b x y e = inr (record { more = b; is = refl; rest = e })
+one_front (c ∷ a) [] x y e = inl (record { more = c ∷ a; is = refl; rest = sym e })
+one_front (c ∷ a) (d ∷ b) x y e =
+    let h : c ≡ d = cc in
+    let t : a ++ x ≡ b ++ y = cc in
+    elim (one_front a b x y t) [
+      | inl f ↦ let i : a ≡ b ++ f.more = f.is in let r : c ∷ a ≡ d ∷ (b ++ f.more) = cc in inl (record { more = f.more; is = r; rest = f.rest })
+      | inr f ↦ let i : b ≡ a ++ f.more = f.is in let r : d ∷ b ≡ c ∷ (a ++ f.more) = cc in inr (record { more = f.more; is = r; rest = f.rest })
+    ]
+
+-- What a header is at the front of is no beginning of a header.
+pub begins_none : (lines : List Line) (x : List ℕ) → AreLines lines → BeginsHeader (header_of lines ++ x) → ⊥
+begins_none lines x each begins =
+    let e : header_of begins.lines ++ [] ≡ header_of lines ++ (x ++ begins.rest) = append-nil (header_of begins.lines) ∙ begins.is ∙ append_assoc (header_of lines) x begins.rest in
+    let s = same_header begins.lines lines [] (x ++ begins.rest) begins.each each e in
+    let len : 0 ≡ length (x ++ begins.rest) = ap length s.1 in
+    omega (arith, len, length-append x begins.rest, begins.more)
+
+pub header_begins_none : (lines : List Line) → AreLines lines → BeginsHeader (header_of lines) → ⊥
+header_begins_none lines each begins = begins_none lines [] each (subst BeginsHeader (sym (append-nil (header_of lines))) begins)
+
+-- Bytes cut behind byte k.
+pub cut_at : (bytes more : List ℕ) (k : ℕ) → bytes ++ more ≡ take k bytes ++ (drop k bytes ++ more)
+cut_at bytes more k = ap (λ x. x ++ more) (sym (take-append-drop k bytes)) ∙ append_assoc (take k bytes) (drop k bytes) more
+
+pub bad_hopeless : (bytes more tail : List ℕ) (k : ℕ) (lines : List Line) → IsBadHeaderAt bytes k → AreLines lines → bytes ++ more ≡ header_of lines ++ tail → ⊥
+bad_hopeless bytes more tail k lines bad each e =
+    elim (one_front (take (k + 1) bytes) (header_of lines) (drop (k + 1) bytes ++ more) tail (sym (cut_at bytes more (k + 1)) ∙ e)) [
+      | inl f ↦ shorter f.more f.is
+      | inr f ↦ longer f.more f.is
+    ]
+  where
+    longer : (c : List ℕ) → header_of lines ≡ take (k + 1) bytes ++ c → ⊥
+    longer [] is = bad.not_whole (record { lines = lines; each = each; is = sym (is ∙ append-nil (take (k + 1) bytes)) })
+    longer (b ∷ c) is = bad.not_on (record { lines = lines; rest = b ∷ c; each = each; is = is; more = omega arith })
+
+    shorter : (c : List ℕ) → take (k + 1) bytes ≡ header_of lines ++ c → ⊥
+    shorter [] is = bad.not_whole (record { lines = lines; each = each; is = is ∙ append-nil (header_of lines) })
+    shorter (b ∷ c) is =
+        let len : k + 1 ≡ length (header_of lines) + length (b ∷ c) = omega (arith, ap length is, length-append (header_of lines) (b ∷ c), length-take (k + 1) bytes, bad.there) in
+        let left : ℕ = k - length (header_of lines) in
+        let sum : k ≡ length (header_of lines) + (k - length (header_of lines)) = omega (arith, len) in
+        let front : take k bytes ≡ header_of lines ++ take (k - length (header_of lines)) (b ∷ c) =
+        sym (take-take k (k + 1) bytes (omega arith)) ∙ ap (take k) is ∙ ap (λ n. take n (header_of lines ++ (b ∷ c))) sum ∙ take-append-add (header_of lines) (b ∷ c) (k - length (header_of lines)) in
+        begins_none lines (take (k - length (header_of lines)) (b ∷ c)) each (subst BeginsHeader front bad.before)
+
+pub too_long_hopeless : (bytes more tail : List ℕ) (k : ℕ) (lines : List Line) → IsHeaderTooLongAt bytes k → AreLines lines → length (header_of lines) ≤ 8192 → bytes ++ more ≡ header_of lines ++ tail → ⊥
+too_long_hopeless bytes more tail k lines long each short e =
+    let len : length (take (k + 1) bytes) ≡ 8192 = omega (arith, length-take (k + 1) bytes, long.there, long.place) in
+    elim (one_front (take (k + 1) bytes) (header_of lines) (drop (k + 1) bytes ++ more) tail (sym (cut_at bytes more (k + 1)) ∙ e)) [
+      | inl f ↦ begins_none lines f.more each (subst BeginsHeader f.is long.on)
+      | inr f ↦ longer f.more f.is len
+    ]
+  where
+    longer : (c : List ℕ) → header_of lines ≡ take (k + 1) bytes ++ c → length (take (k + 1) bytes) ≡ 8192 → ⊥
+    longer [] is len = header_begins_none lines each (subst BeginsHeader (sym (is ∙ append-nil (take (k + 1) bytes))) long.on)
+    longer (b ∷ c) is len = omega (arith, ap length is, length-append (take (k + 1) bytes) (b ∷ c), len, short)
+
+pub judged_hopeless : (max_body : ℕ) (bytes more tail : List ℕ) (k n : ℕ) (fault : HeaderFault) (lines : List Line) → IsJudgedAt max_body bytes k fault → AreLines lines → judge max_body lines ≡ Ok n → bytes ++ more ≡ header_of lines ++ tail → ⊥
+judged_hopeless max_body bytes more tail k n fault lines at each good e =
+    let e2 : header_of at.lines ++ (drop (k + 1) bytes ++ more) ≡ header_of lines ++ tail = ap (λ x. x ++ (drop (k + 1) bytes ++ more)) (sym at.is) ∙ sym (cut_at bytes more (k + 1)) ∙ e in
+    let s = same_header at.lines lines (drop (k + 1) bytes ++ more) tail at.each each e2 in
+    let both : Err fault ≡ Ok n = sym at.judged ∙ ap (judge max_body) s.0 ∙ good in
+    cc
+
+-- After a decision no frame comes, whatever follows.
+pub decided_hopeless : (max_body : ℕ) (bytes : List ℕ) (k : ℕ) (fault : HeaderFault) → IsDecidedAt max_body bytes k fault → IsHopeless max_body bytes
+decided_hopeless max_body bytes k header.BadHeader at more spelling body tail s e =
+    bad_hopeless bytes more (body ++ tail) k s.lines at s.each (e ∙ ap (λ x. x ++ tail) s.is ∙ append_assoc (header_of s.lines) body tail)
+decided_hopeless max_body bytes k header.HeaderTooLong at more spelling body tail s e =
+    too_long_hopeless bytes more (body ++ tail) k s.lines at s.each s.short (e ∙ ap (λ x. x ++ tail) s.is ∙ append_assoc (header_of s.lines) body tail)
+decided_hopeless max_body bytes k header.MissingLength at more spelling body tail s e =
+    judged_hopeless max_body bytes more (body ++ tail) k (length body) header.MissingLength s.lines at s.each s.good (e ∙ ap (λ x. x ++ tail) s.is ∙ append_assoc (header_of s.lines) body tail)
+decided_hopeless max_body bytes k header.RepeatedHeader at more spelling body tail s e =
+    judged_hopeless max_body bytes more (body ++ tail) k (length body) header.RepeatedHeader s.lines at s.each s.good (e ∙ ap (λ x. x ++ tail) s.is ∙ append_assoc (header_of s.lines) body tail)
+decided_hopeless max_body bytes k header.BadLength at more spelling body tail s e =
+    judged_hopeless max_body bytes more (body ++ tail) k (length body) header.BadLength s.lines at s.each s.good (e ∙ ap (λ x. x ++ tail) s.is ∙ append_assoc (header_of s.lines) body tail)
+decided_hopeless max_body bytes k header.BodyTooLong at more spelling body tail s e =
+    judged_hopeless max_body bytes more (body ++ tail) k (length body) header.BodyTooLong s.lines at s.each s.good (e ∙ ap (λ x. x ++ tail) s.is ∙ append_assoc (header_of s.lines) body tail)
+decided_hopeless max_body bytes k header.BadCharset at more spelling body tail s e =
+    judged_hopeless max_body bytes more (body ++ tail) k (length body) header.BadCharset s.lines at s.each s.good (e ∙ ap (λ x. x ++ tail) s.is ∙ append_assoc (header_of s.lines) body tail)
+
+-- The body of a spelling is the rest behind a good header.
+pub record SameBody (max_body : ℕ) (body spelled tail : List ℕ) (wanted : ℕ) : Type 0 where
+  pub is : body ≡ spelled ++ tail
+  pub len : wanted ≡ length spelled
+
+pub same_body : (max_body : ℕ) (lines : List Line) (held body spelling spelled tail : List ℕ) (wanted : ℕ) → AreLines lines → held ≡ header_of lines ++ body → judge max_body lines ≡ Ok wanted → Spells max_body spelling spelled → held ≡ spelling ++ tail → SameBody max_body body spelled tail wanted
+same_body max_body lines held body spelling spelled tail wanted each is good s e =
+    let both : header_of lines ++ body ≡ header_of s.lines ++ (spelled ++ tail) = sym is ∙ e ∙ ap (λ x. x ++ tail) s.is ∙ append_assoc (header_of s.lines) spelled tail in
+    let same = same_header lines s.lines body (spelled ++ tail) each s.each both in
+    let told : judge max_body lines ≡ Ok (length spelled) = ap (judge max_body) same.0 ∙ s.good in
+    let l : wanted ≡ length spelled = cc in
+    record { is = same.1; len = l }
+
+pub no_frame_in_header : (max_body : ℕ) (held spelling body more : List ℕ) → BeginsHeader held → Spells max_body spelling body → held ≡ spelling ++ more → ⊥
+no_frame_in_header max_body held spelling body more begins s e =
+    begins_none s.lines (body ++ more) s.each (subst BeginsHeader (e ∙ ap (λ x. x ++ more) s.is ∙ append_assoc (header_of s.lines) body more) begins)
+
+-- No more than one frame is held.
+pub part_one : (max_body : ℕ) (held : List ℕ) → IsPart max_body held → HoldsOne max_body held
+part_one max_body held (inl part) spelling body more s e = absurd (no_frame_in_header max_body held spelling body more part.begins s e)
+part_one max_body held (inr part) spelling body more s e =
+    let same = same_body max_body part.lines held part.body spelling body more part.wanted part.each part.is part.good s e in
+    nil_from_length more (omega (arith, ap length same.is, length-append body more, same.len, part.within))
+
+pub stage_part : (max_body : ℕ) (held : List ℕ) (s : Stage) → IsAtStage max_body held s → has_failed s ≡ false → IsPart max_body held
+stage_part max_body held (stage.Header header) at sound = inl (record { begins = so_far_begins max_body held header at.so_far at.line_open; short = at.short })
+stage_part max_body held (stage.Body start stop_at) at sound =
+    inr (record {
+      lines = at.lines;
+      body = at.body;
+      wanted = at.wanted;
+      each = at.each;
+      is = at.is;
+      short = omega (arith, at.starts, at.short);
+      good = at.good;
+      within = omega (arith, ap length at.is, length-append (header_of at.lines) at.body, at.starts, at.ends, at.within);
+    })
+stage_part max_body held stage.Failed at sound = cc
+
+-- Where a whole frame is held, its body is all there.
+pub frame_len : (max_body : ℕ) (held : List ℕ) (start stop_at : ℕ) → IsInBody max_body held start stop_at → IsFrame max_body held → length held ≡ stop_at
+frame_len max_body held start stop_at at frame =
+    let same = same_body max_body at.lines held at.body held frame.body [] at.wanted at.each at.is at.good frame.spells (sym (append-nil held)) in
+    omega (arith, ap length same.is, length-append frame.body [], same.len, ap length at.is, length-append (header_of at.lines) at.body, at.starts, at.ends)
+
+pub no_frame_at_header : {A : Type 0} (max_body : ℕ) (held : List ℕ) → BeginsHeader held → IsFrame max_body held → A
+no_frame_at_header max_body held begins frame = absurd (no_frame_in_header max_body held held frame.body [] begins frame.spells (sym (append-nil held)))
+
+pub stage_bound : (max_body : ℕ) (held : List ℕ) (s : Stage) → IsAtStage max_body held s → length held ≤ 8192 + max_body
+stage_bound max_body held (stage.Header header) at = omega (arith, at.short)
+stage_bound max_body held (stage.Body start stop_at) at = omega (arith, at.within, at.ends, at.short, at.small)
+stage_bound max_body held stage.Failed at = at
+
+pub not_failed : (s : Stage) → (s ≡ stage.Failed → ⊥) → has_failed s ≡ false
+not_failed (stage.Header header) sound = refl
+not_failed (stage.Body start stop_at) sound = refl
+not_failed stage.Failed sound = absurd (sound refl)
+
+pub same_framing : (place : ℕ) (held other : List ℕ) (failed other_failed : Bool) (limits : Bounds) → held ≡ other → failed ≡ other_failed → (let f : Framing = record { place = place; held = held; failed = failed; limits = limits } in f) ≡ (let f : Framing = record { place = place; held = other; failed = other_failed; limits = limits } in f)
+same_framing place held other failed other_failed limits e f =
+    ap (λ (p : List ℕ × Bool). record { place = place; held = p.0; failed = p.1; limits = limits }) (let r : (held, failed) ≡ (other, other_failed) = cc in r)
+
+-- A fault of the stream, from what the framer held.
+pub stream_fault : (old : Framing) (piece : List ℕ) (new : Framing) (kind : HeaderFault) (k place : ℕ) (fault : FrameFault) → old.failed ≡ false → IsDecidedAt old.limits.max_body (old.held ++ piece) k kind → place ≡ place_behind old.place k → fault ≡ fault_at kind place → new ≡ record old { failed = true } → IsStreamFault old new piece fault
+stream_fault old piece new kind k place fault sound decided placed is after =
+    record {
+      sound = sound;
+      decided = record { kind = kind; k = k; decided = decided; is = is ∙ ap (fault_at kind) placed };
+      hopeless = decided_hopeless old.limits.max_body (old.held ++ piece) k kind decided;
+      after = after;
+    }
+
+pub feed_fault : (old : Framing) (piece : List ℕ) (new : Framing) (kind : HeaderFault) (place : ℕ) (fault : FrameFault) → fault ≡ fault_at kind place → IsStreamFault old new piece fault → IsFeedFault old new piece fault
+feed_fault old piece new header.BadHeader place fault e at = subst (IsFeedFault old new piece) (sym e) (subst (IsStreamFault old new piece) e at)
+feed_fault old piece new header.HeaderTooLong place fault e at = subst (IsFeedFault old new piece) (sym e) (subst (IsStreamFault old new piece) e at)
+feed_fault old piece new header.MissingLength place fault e at = subst (IsFeedFault old new piece) (sym e) (subst (IsStreamFault old new piece) e at)
+feed_fault old piece new header.RepeatedHeader place fault e at = subst (IsFeedFault old new piece) (sym e) (subst (IsStreamFault old new piece) e at)
+feed_fault old piece new header.BadLength place fault e at = subst (IsFeedFault old new piece) (sym e) (subst (IsStreamFault old new piece) e at)
+feed_fault old piece new header.BodyTooLong place fault e at = subst (IsFeedFault old new piece) (sym e) (subst (IsStreamFault old new piece) e at)
+feed_fault old piece new header.BadCharset place fault e at = subst (IsFeedFault old new piece) (sym e) (subst (IsStreamFault old new piece) e at)
+
+-- The same from the fields.
+pub feed_fault_at : (now : Framing) (place max_body : ℕ) (held other piece : List ℕ) (was : Bool) (limits : Bounds) (why : Stop) (kind : HeaderFault) (k told : ℕ) (fault : FrameFault) → (let f : Framing = record { place = place; held = held; failed = was; limits = limits } in f) ≡ now → was ≡ false → max_body ≡ limits.max_body → IsHeaderStop max_body (held ++ piece) why → why ≡ stop.Fault kind k → told ≡ place_behind place k → fault ≡ fault_at kind told → other ≡ held → IsFeedFault now (record { place = place; held = other; failed = true; limits = limits }) piece fault
+feed_fault_at now place max_body held other piece was limits why kind k told fault is sound limit stops why_is told_is fault_is same =
+    let old : Framing = record { place = place; held = held; failed = was; limits = limits } in
+    let new : Framing = record { place = place; held = other; failed = true; limits = limits } in
+    let decided : IsDecidedAt max_body (held ++ piece) k kind = subst (IsHeaderStop max_body (held ++ piece)) why_is stops in
+    let decided_here : IsDecidedAt limits.max_body (held ++ piece) k kind = subst (λ (n : ℕ). IsDecidedAt n (held ++ piece) k kind) limit decided in
+    let after : new ≡ record old { failed = true } = same_framing place other held true true limits same refl in
+    let at : IsStreamFault old new piece fault = stream_fault old piece new kind k told fault sound decided_here told_is fault_is after in
+    subst (λ (f : Framing). IsFeedFault f new piece fault) is (feed_fault old piece new kind told fault fault_is at)
+
+-- A framer that holds no whole frame.
+abbrev pub HasNone : Framing → Type 0
+HasNone now = now.failed ≡ false → IsFrame now.limits.max_body now.held → ⊥
+
+pub unfinished : (now : Framing) (place : ℕ) (held : List ℕ) (s : Stage) (limits : Bounds) (start stop_at : ℕ) → (let f : Framing = record { place = place; held = held; failed = has_failed s; limits = limits } in f) ≡ now → IsAtStage limits.max_body held s → s ≡ stage.Body start stop_at → (length held ≡ stop_at → ⊥) → HasNone now
+unfinished now place held s limits start stop_at is at body less =
+    let in_body : IsInBody limits.max_body held start stop_at = subst (IsAtStage limits.max_body held) body at in
+    subst HasNone is (λ sound frame. less (frame_len limits.max_body held start stop_at in_body frame))
+
+pub none_at : (max_body : ℕ) (held : List ℕ) (s : Stage) → IsAtStage max_body held s → ((start stop_at : ℕ) → s ≡ stage.Body start stop_at → ⊥) → has_failed s ≡ false → IsFrame max_body held → ⊥
+none_at max_body held (stage.Header header) at none sound frame = no_frame_at_header max_body held (so_far_begins max_body held header at.so_far at.line_open) frame
+none_at max_body held (stage.Body start stop_at) at none sound frame = none start stop_at refl
+none_at max_body held stage.Failed at none sound frame = cc
+
+pub no_body : (now : Framing) (place : ℕ) (held : List ℕ) (s : Stage) (limits : Bounds) → (let f : Framing = record { place = place; held = held; failed = has_failed s; limits = limits } in f) ≡ now → IsAtStage limits.max_body held s → ((start stop_at : ℕ) → s ≡ stage.Body start stop_at → ⊥) → HasNone now
+no_body now place held s limits is at none = subst HasNone is (none_at limits.max_body held s at none)
+
+pub frame_of : (max_body : ℕ) (held body : List ℕ) → Spells max_body held body → IsFrame max_body held
+frame_of max_body held body s = record { body = body; spells = s }

@@ -1,0 +1,180 @@
+-- What a header says, and the frame that it begins.
+use Rattle.std.proofs.Common.{◌≡◌, ℕ, ◌+◌, ◌-◌, ◌<◌, ◌≤◌, Bool, true, false, not, ◌||◌, ◌&&◌, List, [], ◌∷◌, ◌++◌, length, refl, sym, ◌∙◌, ap, subst, arith}
+use Rattle.std.specs.Prelude.{codes, nat_lt, if◌then◌else◌, Result, Ok, Err}
+use Rattle.std.specs.List.{list_all}
+use Rattle.std.proofs.lemmas.Bool.{lt-ltb, ltb-false}
+use Rattle.std.proofs.lemmas.List.{length-append, take_at}
+use Rattle.lsp_frame.specs.Header.{Line, lines_bytes, header_of}
+use Rattle.lsp_frame.specs.Charset.{trimmed, has_good_charset}
+use Rattle.lsp_frame.specs.Verdict.{values_of, is_number, number, judge, judge_values, judge_single}
+use Rattle.lsp_frame.specs.Stream.{IsFrame}
+use Rattle.lsp_frame.specs.Faults.{IsJudgedAt, IsDecidedAt}
+use Rattle.lsp_frame.specs.Progress.{IsSoFar, IsWhole, IsInBody, IsPartOfLine, length_said, length_of, charset_of, notes_of, both_judged, length_judged, judge_notes}
+use Rattle.lsp_frame.specs.declared.fault.HeaderFault.{HeaderFault}
+use Rattle.lsp_frame.specs.declared.fault.HeaderFault.TheVariants as header
+use Rattle.lsp_frame.specs.declared.notes.Length.TheVariants as said
+use Rattle.lsp_frame.specs.declared.notes.Charset.TheVariants as named
+use Rattle.lsp_frame.specs.declared.notes.Notes.{Notes}
+use Rattle.lsp_frame.specs.declared.header.Header.{Header}
+use Rattle.lsp_frame.specs.declared.shape.Shape.{Shape}
+use Rattle.lsp_frame.specs.declared.shape.Shape.TheVariants as shape
+
+pub or-true : (b : Bool) → (b || true) ≡ true
+or-true true = refl
+or-true false = refl
+
+-- Two values or more are too many.
+pub many : {A : Type 0} (a b : A) (xs : List A) → nat_lt 1 (length (a ∷ b ∷ xs)) ≡ true
+many a b xs = lt-ltb 1 (length (a ∷ b ∷ xs)) (omega arith)
+
+pub judged_one : (max_body : ℕ) (value : List ℕ) → length_judged (length_said max_body value) named.Missing ≡ judge_single max_body (value ∷ []) []
+judged_one max_body value =
+    elim (is_number (trimmed value)) as (λ b. length_judged (if not b then said.Bad else if nat_lt max_body (number (trimmed value)) then said.TooLong else said.Given (number (trimmed value))) named.Missing ≡ (if not b then Err header.BadLength else if nat_lt max_body (number (trimmed value)) then Err header.BodyTooLong else Ok (number (trimmed value)))) [
+      | true ↦ elim (nat_lt max_body (number (trimmed value))) as (λ b. length_judged (if b then said.TooLong else said.Given (number (trimmed value))) named.Missing ≡ (if b then Err header.BodyTooLong else Ok (number (trimmed value)))) [ true ↦ refl | false ↦ refl ]
+      | false ↦ refl
+    ]
+
+pub judged_two : (max_body : ℕ) (value content : List ℕ) → both_judged (length_said max_body value) (charset_of (content ∷ [])) ≡ judge_single max_body (value ∷ []) (content ∷ [])
+judged_two max_body value content =
+    elim (has_good_charset content) as (λ g. both_judged (length_said max_body value) (if g then named.Good else named.Bad) ≡ (if not (is_number (trimmed value)) then Err header.BadLength else if nat_lt max_body (number (trimmed value)) then Err header.BodyTooLong else if not (g && true) then Err header.BadCharset else Ok (number (trimmed value)))) [
+      | true ↦ elim (is_number (trimmed value)) as (λ b. length_judged (if not b then said.Bad else if nat_lt max_body (number (trimmed value)) then said.TooLong else said.Given (number (trimmed value))) named.Good ≡ (if not b then Err header.BadLength else if nat_lt max_body (number (trimmed value)) then Err header.BodyTooLong else Ok (number (trimmed value)))) [
+        | true ↦ elim (nat_lt max_body (number (trimmed value))) as (λ b. length_judged (if b then said.TooLong else said.Given (number (trimmed value))) named.Good ≡ (if b then Err header.BodyTooLong else Ok (number (trimmed value)))) [ true ↦ refl | false ↦ refl ]
+        | false ↦ refl
+      ]
+      | false ↦ elim (is_number (trimmed value)) as (λ b. length_judged (if not b then said.Bad else if nat_lt max_body (number (trimmed value)) then said.TooLong else said.Given (number (trimmed value))) named.Bad ≡ (if not b then Err header.BadLength else if nat_lt max_body (number (trimmed value)) then Err header.BodyTooLong else Err header.BadCharset)) [
+        | true ↦ elim (nat_lt max_body (number (trimmed value))) as (λ b. length_judged (if b then said.TooLong else said.Given (number (trimmed value))) named.Bad ≡ (if b then Err header.BodyTooLong else Err header.BadCharset)) [ true ↦ refl | false ↦ refl ]
+        | false ↦ refl
+      ]
+    ]
+
+pub missing_one : (max_body : ℕ) (content : List ℕ) → both_judged said.Missing (charset_of (content ∷ [])) ≡ Err header.MissingLength
+missing_one max_body content = elim (has_good_charset content) as (λ g. both_judged said.Missing (if g then named.Good else named.Bad) ≡ Err header.MissingLength) [ true ↦ refl | false ↦ refl ]
+
+pub repeated_one : (content : List ℕ) → both_judged said.Repeated (charset_of (content ∷ [])) ≡ Err header.RepeatedHeader
+repeated_one content = elim (has_good_charset content) as (λ g. both_judged said.Repeated (if g then named.Good else named.Bad) ≡ Err header.RepeatedHeader) [ true ↦ refl | false ↦ refl ]
+
+-- The notes of a header say what its lines say.
+pub judged_values : (max_body : ℕ) (lengths types : List (List ℕ)) → both_judged (length_of max_body lengths) (charset_of types) ≡ judge_values max_body lengths types
+judged_values max_body [] [] = refl
+judged_values max_body (value ∷ []) [] = judged_one max_body value
+judged_values max_body (value ∷ other ∷ values) [] = rw (many value other values) refl
+judged_values max_body [] (content ∷ []) = missing_one max_body content
+judged_values max_body (value ∷ []) (content ∷ []) = judged_two max_body value content
+judged_values max_body (value ∷ other ∷ values) (content ∷ []) = rw (many value other values) (repeated_one content)
+judged_values max_body lengths (content ∷ other ∷ types) = rw (many content other types, or-true (nat_lt 1 (length lengths))) refl
+
+pub judge_notes_is : (max_body : ℕ) (lines : List Line) → judge_notes (notes_of max_body lines) ≡ judge max_body lines
+unfolding notes_of judge
+judge_notes_is max_body lines = judged_values max_body (values_of (codes "content-length") lines) (values_of (codes "content-type") lines)
+
+-- what a verdict can be
+abbrev pub IsVerdict : ℕ → Result ℕ HeaderFault → Type 0
+IsVerdict max_body (Ok n) = n ≤ max_body
+IsVerdict max_body (Err header.BadHeader) = ⊥
+IsVerdict max_body (Err header.HeaderTooLong) = ⊥
+IsVerdict max_body (Err header.MissingLength) = Unit {0}
+IsVerdict max_body (Err header.RepeatedHeader) = Unit {0}
+IsVerdict max_body (Err header.BadLength) = Unit {0}
+IsVerdict max_body (Err header.BodyTooLong) = Unit {0}
+IsVerdict max_body (Err header.BadCharset) = Unit {0}
+
+pub single_verdict : (max_body : ℕ) (lengths types : List (List ℕ)) → IsVerdict max_body (judge_single max_body lengths types)
+single_verdict max_body [] types = tt
+single_verdict max_body (value ∷ values) types =
+    elim (is_number (trimmed value)) as (λ b. IsVerdict max_body (if not b then Err header.BadLength else if nat_lt max_body (number (trimmed value)) then Err header.BodyTooLong else if not (list_all has_good_charset types) then Err header.BadCharset else Ok (number (trimmed value)))) [
+      | true ↦ elim (nat_lt max_body (number (trimmed value))) as (λ b. nat_lt max_body (number (trimmed value)) ≡ b → IsVerdict max_body (if b then Err header.BodyTooLong else if not (list_all has_good_charset types) then Err header.BadCharset else Ok (number (trimmed value)))) [
+        | true ↦ λ _. tt
+        | false ↦ λ e. elim (list_all has_good_charset types) as (λ b. IsVerdict max_body (if not b then Err header.BadCharset else Ok (number (trimmed value)))) [
+          | true ↦ ltb-false max_body (number (trimmed value)) e
+          | false ↦ tt
+        ]
+      ] refl
+      | false ↦ tt
+    ]
+
+pub is_verdict : (max_body : ℕ) (lines : List Line) → IsVerdict max_body (judge max_body lines)
+unfolding judge
+is_verdict max_body lines =
+    let lengths : List (List ℕ) = values_of (codes "content-length") lines in
+    let types : List (List ℕ) = values_of (codes "content-type") lines in
+    elim (nat_lt 1 (length (values_of (codes "content-length") lines)) || nat_lt 1 (length (values_of (codes "content-type") lines))) as (λ b. IsVerdict max_body (if b then Err header.RepeatedHeader else judge_single max_body (values_of (codes "content-length") lines) (values_of (codes "content-type") lines))) [
+      | true ↦ tt
+      | false ↦ single_verdict max_body (values_of (codes "content-length") lines) (values_of (codes "content-type") lines)
+    ]
+
+pub judge_within : (max_body : ℕ) (lines : List Line) (n : ℕ) → judge max_body lines ≡ Ok n → n ≤ max_body
+judge_within max_body lines n e = subst (IsVerdict max_body) e (is_verdict max_body lines)
+
+pub judged_decided : (max_body : ℕ) (bytes : List ℕ) (k : ℕ) (fault : HeaderFault) → IsJudgedAt max_body bytes k fault → IsDecidedAt max_body bytes k fault
+judged_decided max_body bytes k header.BadHeader at = absurd (subst (IsVerdict max_body) at.judged (is_verdict max_body at.lines))
+judged_decided max_body bytes k header.HeaderTooLong at = absurd (subst (IsVerdict max_body) at.judged (is_verdict max_body at.lines))
+judged_decided max_body bytes k header.MissingLength at = at
+judged_decided max_body bytes k header.RepeatedHeader at = at
+judged_decided max_body bytes k header.BadLength at = at
+judged_decided max_body bytes k header.BodyTooLong at = at
+judged_decided max_body bytes k header.BadCharset at = at
+
+-- A header that has ended is whole.
+pub end_whole : (max_body : ℕ) (held : List ℕ) (header : Header) → IsSoFar max_body held header → header.shape ≡ shape.End → length held ≤ 8192 → IsWhole max_body held header.notes
+end_whole max_body held header so_far at_end short =
+    let shaped : so_far.part ≡ 13 ∷ 10 ∷ [] = subst (λ (s : Shape). IsPartOfLine s so_far.part) at_end so_far.shaped in
+    record {
+      lines = so_far.lines;
+      each = so_far.each;
+      is = so_far.is ∙ ap (λ x. lines_bytes so_far.lines ++ x) shaped;
+      short = short;
+      noted = so_far.noted;
+    }
+
+-- The fault of a header that is whole.
+pub whole_fault : (max_body : ℕ) (held rest : List ℕ) (notes : Notes) (fault : HeaderFault) → IsWhole max_body held notes → Err fault ≡ judge_notes notes → IsDecidedAt max_body (held ++ rest) (length held - 1) fault
+whole_fault max_body held rest notes fault whole told =
+    let judged : judge max_body whole.lines ≡ Err fault = sym (told ∙ ap judge_notes whole.noted ∙ judge_notes_is max_body whole.lines) in
+    let some : 0 < length held = omega (arith, ap length whole.is, length-append (lines_bytes whole.lines) (13 ∷ 10 ∷ [])) in
+    let last : length held ≡ length held - 1 + 1 = omega arith in
+    judged_decided max_body (held ++ rest) (length held - 1) fault (record {
+      lines = whole.lines;
+      each = whole.each;
+      is = take_at held rest (length held - 1 + 1) last ∙ whole.is;
+      there = omega (arith, length-append held rest);
+      within = omega (arith, whole.short);
+      judged = judged;
+    })
+
+-- The body behind a header that is whole.
+pub whole_body : (max_body : ℕ) (held body : List ℕ) (notes : Notes) (wanted start stop_at : ℕ) → IsWhole max_body held notes → Ok wanted ≡ judge_notes notes → length body ≤ wanted → start ≡ length held → stop_at ≡ start + wanted → IsInBody max_body (held ++ body) start stop_at
+whole_body max_body held body notes wanted start stop_at whole told within starts ends =
+    let good : judge max_body whole.lines ≡ Ok wanted = sym (told ∙ ap judge_notes whole.noted ∙ judge_notes_is max_body whole.lines) in
+    record {
+      lines = whole.lines;
+      body = body;
+      wanted = wanted;
+      each = whole.each;
+      is = ap (λ x. x ++ body) whole.is;
+      starts = starts ∙ ap length whole.is;
+      short = omega (arith, starts, whole.short);
+      good = good;
+      ends = ends;
+      within = omega (arith, length-append held body, starts, ends);
+      small = judge_within max_body whole.lines wanted good;
+    }
+
+-- A body that is all here.
+pub body_frame : (max_body : ℕ) (held : List ℕ) (start stop_at : ℕ) → IsInBody max_body held start stop_at → length held ≡ stop_at → IsFrame max_body held
+body_frame max_body held start stop_at in_body all =
+    let len : in_body.wanted ≡ length in_body.body =
+    omega (arith, ap length in_body.is, length-append (header_of in_body.lines) in_body.body, in_body.starts, in_body.ends, all) in
+    record {
+      body = in_body.body;
+      spells = record {
+        lines = in_body.lines;
+        each = in_body.each;
+        is = in_body.is;
+        short = omega (arith, in_body.starts, in_body.short);
+        good = in_body.good ∙ ap Ok len;
+      };
+    }
+
+pub whole_wanted : (max_body : ℕ) (held : List ℕ) (notes : Notes) (wanted : ℕ) → IsWhole max_body held notes → Ok wanted ≡ judge_notes notes → wanted ≤ max_body
+whole_wanted max_body held notes wanted whole told =
+    judge_within max_body whole.lines wanted (sym (told ∙ ap judge_notes whole.noted ∙ judge_notes_is max_body whole.lines))

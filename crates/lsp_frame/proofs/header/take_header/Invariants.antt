@@ -1,0 +1,17 @@
+use Rattle.std.proofs.Common.{◌≡◌, ◌≢◌, ◌-◌, ◌<◌, ◌≤◌, ◌++◌, length, take}
+use Rattle.lsp_frame.specs.Progress.{IsSoFar}
+use Rattle.lsp_frame.specs.declared.shape.Shape.TheVariants as shape
+use Rattle.lsp_frame.proofs.header.take_header.Given as goal
+
+abbrev pub invariant-loop-at : goal.invariant-loop-at
+invariant-loop-at l = record {
+  within : l.at ≤ length l.piece;
+  held : l.held.items ≡ l.fn.held.items ++ take l.at l.piece;
+  so_far : IsSoFar l.max_body l.held.items l.header;
+  line_start : l.header.shape ≢ shape.Whole;
+  short : length l.held.items ≤ 8192;
+  room : l.header.shape ≢ shape.End → length l.held.items < 8192;
+}
+
+abbrev pub decreases-loop-at : goal.decreases-loop-at
+decreases-loop-at l = length l.piece - l.at

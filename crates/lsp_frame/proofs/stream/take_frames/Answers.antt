@@ -1,0 +1,32 @@
+use Rattle.std.proofs.Common.{◌≡◌, ◌-◌, ◌++◌, List, ℕ, length, take, drop, map, Vec, Global, subst, refl, arith}
+use Rattle.std.proofs.lemmas.List.{take_all, length-take, length-drop}
+use Rattle.lsp_frame.specs.Stream.{IsBehind}
+use Rattle.lsp_frame.proofs.ProgressLemmas.{taken_more}
+use Rattle.lsp_frame.proofs.StreamLemmas.{fault_behind, fed_holding}
+use Rattle.lsp_frame.proofs.stream.take_frames.Goals as goal
+
+pub loop-at-preserved : goal.loop-at-preserved
+loop-at-preserved c = record {
+  within = omega (arith, c.in-Ok.ensures.taken, length-take (length c.args.piece.now - c.loop-at.at) (drop c.loop-at.at c.args.piece.now), length-drop c.loop-at.at c.args.piece.now, c.loop-at.invariant.within);
+  none = c.in_ok-take_frame.ensures.none.0;
+  sound = c.in_ok-take_frame.ensures.none.1;
+  taken = λ max_body stream at.
+      let before : List ℕ = stream ++ take c.loop-at.at c.args.piece.now in
+      let more : List ℕ = take c.in-Ok.taken (take (length c.args.piece.now - c.loop-at.at) (drop c.loop-at.at c.args.piece.now)) in
+      let holding = fed_holding max_body (stream ++ take c.loop-at.at c.args.piece.now) _ c.loop-at.framer c.feed.new.self more (c.loop-at.invariant.taken max_body stream at) c.in-Ok.ensures.held c.in-Ok.ensures.part in
+      subst (λ (z : List ℕ). IsBehind max_body z (map (λ (v : Vec ℕ Global). v.items) c.take_frame.new.bodies.items) c.take_frame.new.framer)
+      (taken_more stream c.args.piece.now (stream ++ take c.loop-at.at c.args.piece.now) _ c.loop-at.at c.in-Ok.taken refl refl)
+      (c.in_ok-take_frame.ensures.taken max_body _ holding);
+}
+
+pub returns-clause-taken : goal.returns-clause-taken
+returns-clause-taken c = λ max_body stream at.
+    let all : take c.loop-at.at c.args.piece.now ≡ c.args.piece.now = take_all c.loop-at.at c.args.piece.now c.loop-at-test.false in
+    subst (λ (z : List ℕ). IsBehind max_body (stream ++ z) (map (λ (v : Vec ℕ Global). v.items) c.loop-at.bodies.items) c.loop-at.framer) all (c.loop-at.invariant.taken max_body stream at)
+
+pub returns-in_default : goal.returns-in_default
+returns-in_default c = record {
+  none = tt;
+  taken = λ max_body stream at.
+      fault_behind max_body stream c.args.piece.now c.loop-at.at _ c.loop-at.framer c.feed.new.self c.in-Err.fault (c.loop-at.invariant.taken max_body stream at) c.in-Err.ensures.fault c.in_default.not-NoMemory;
+}

@@ -1,0 +1,152 @@
+//! The frames of a stream that comes in pieces.
+
+ghost use Rattle.std.specs.Prelude.{◌≡◌, ◌+◌, ◌<◌, ◌≤◌, ◌↔◌, ℕ, List, true, false, [], ◌++◌, length, take, Ok, Err, IfOk, IfErr, OnOk, IsTrue, IsErrOf, MatchOption};
+ghost use Rattle.lsp_frame.specs.Frame.{Spells, HasNoFrame, IsHopeless};
+ghost use Rattle.lsp_frame.specs.Faults.{IsDecided, place_behind};
+ghost use Rattle.lsp_frame.specs.Stream.{IsFrame, IsPart, HoldsOne, IsFeedFault, given_up};
+
+use crate::fault::FrameFault;
+use crate::header::{Header, Stop};
+use crate::limits::Limits;
+use crate::stage::{Stage, take_piece};
+use std::alloc::Global;
+use std::marker::Model;
+
+/// Takes a stream apart into its frames, in whatever pieces it comes.
+///
+/// It holds at most one frame, so no more than 8,192 bytes and those of `max_body`. Clauses see the number of
+/// bytes that were given up or skipped, the bytes held, whether the stream was found faulty, and the limits.
+#[derive(Drop)]
+pub struct Framer {
+    limits: Limits,
+    place: u64,
+    held: Vec<u8>,
+    stage: Stage,
+}
+
+impl Model for Framer {
+    ghost use Rattle.lsp_frame.specs.Stream.{Framing};
+
+    ghost Value = { Framing };
+
+    ghost use Rattle.std.specs.Prelude.{◌≤◌};
+    ghost use Rattle.lsp_frame.specs.Progress.{IsAtStage, has_failed};
+
+    ghost view = { λ f. record { place = f.place; held = f.held.items; failed = has_failed f.stage; limits = f.limits } };
+
+    ghost invariant = { λ f. IsAtStage f.limits.max_body f.held.items f.stage };
+}
+
+impl Framer {
+    /// At the start of a stream.
+    pub fn new(alloc: Global, limits: Limits) -> Framer
+        ensures { result ≡ record { place = 0; held = []; failed = false; limits = limits } }
+    {
+        Framer {
+            limits,
+            place: 0,
+            held: Vec::new(alloc),
+            stage: Stage::Header(Header::new()),
+        }
+    }
+
+    /// Takes bytes of the next piece of the stream: all of them, or those up to the end of one frame. Answers
+    /// how many. While a whole frame is held it takes none.
+    ///
+    /// After a fault of F1 to F7 every feed is refused. Linear in the bytes taken, however the stream is cut.
+    pub fn feed(&mut self, piece: &[u8]) -> Result<usize, FrameFault>
+        // The bytes held are those held before and the first of the piece.
+        ensures taken { IfOk result (λ k. k ≤ length piece.now) }
+        ensures held { IfOk result (λ k. self.new ≡ record self.old { held = self.old.held ++ take k piece.now }) }
+
+        // Some are left only behind a whole frame. No more than one frame is held.
+        ensures stops { IfOk result (λ k. k < length piece.now → IsFrame self.new.limits.max_body self.new.held) }
+        ensures part { OnOk result (IsPart self.new.limits.max_body self.new.held) }
+        ensures one { OnOk result (HoldsOne self.new.limits.max_body self.new.held) }
+        ensures bound { length self.new.held ≤ 8192 + self.new.limits.max_body }
+
+        // Which fault it is, where it was decided, and that no frame can come any more.
+        ensures fault { IfErr result (IsFeedFault self.old self.new piece.now) }
+        ensures failed { IsErrOf result FrameFault.Failed ↔ (self.old.failed ≡ true) }
+
+        // Without memory to take: on a whole frame, and on an empty piece.
+        ensures whole { self.old.failed ≡ false → IsFrame self.old.limits.max_body self.old.held → result ≡ Ok 0 }
+        ensures empty { self.old.failed ≡ false → length piece.now ≡ 0 → result ≡ Ok 0 }
+    {
+        if let Stage::Failed = self.stage {
+            return Err(FrameFault::Failed);
+        }
+        match take_piece(&mut self.held, self.stage, piece, self.limits.max_body()) {
+            Ok((taken, stage)) => {
+                self.stage = stage;
+                Ok(taken)
+            }
+            Err(Stop::Fault(fault, at)) => {
+                self.stage = Stage::Failed;
+                Err(fault.at(self.place.saturating_add(at as u64)))
+            }
+            Err(Stop::NoMemory) => Err(FrameFault::NoMemory),
+        }
+    }
+
+    /// The body of the frame that is held, once it is whole.
+    pub fn body(&self) -> Option<&[u8]>
+        ensures { MatchOption result
+            (self.now.failed ≡ false → (body : List ℕ) → Spells self.now.limits.max_body self.now.held body → ⊥)
+            (λ body. (self.now.failed ≡ false) × Spells self.now.limits.max_body self.now.held body.now) }
+    {
+        match self.stage {
+            Stage::Body { start, end } if self.held.len() == end => Some(&self.held[start..]),
+            _ => None,
+        }
+    }
+
+    /// All bytes of the frame that is held, once it is whole.
+    pub fn spelling(&self) -> Option<&[u8]>
+        ensures { MatchOption result
+            (self.now.failed ≡ false → IsFrame self.now.limits.max_body self.now.held → ⊥)
+            (λ bytes. (self.now.failed ≡ false) × IsFrame self.now.limits.max_body self.now.held × (bytes.now ≡ self.now.held)) }
+    {
+        match self.stage {
+            Stage::Body { end, .. } if self.held.len() == end => Some(&self.held),
+            _ => None,
+        }
+    }
+
+    /// Gives the frame up that is held. Does nothing where none is whole.
+    pub fn next(&mut self)
+        ensures given { self.old.failed ≡ false → IsFrame self.old.limits.max_body self.old.held → self.new ≡ given_up self.old }
+        ensures none { (self.old.failed ≡ false → IsFrame self.old.limits.max_body self.old.held → ⊥) → self.new ≡ self.old }
+    {
+        if self.is_whole() {
+            self.place = self.place.saturating_add(self.held.len() as u64);
+            self.held.clear();
+            self.stage = Stage::Header(Header::new());
+        }
+    }
+
+    fn is_whole(&self) -> bool
+        ensures { IsTrue result ↔ ((self.now.failed ≡ false) × IsFrame self.now.limits.max_body self.now.held) }
+    {
+        self.spelling().is_some()
+    }
+
+    /// Is no byte of a frame held, and was no fault found?
+    pub fn at_rest(&self) -> bool
+        ensures { IsTrue result ↔ ((self.now.held ≡ []) × (self.now.failed ≡ false)) }
+    {
+        self.held.is_empty() && !matches!(self.stage, Stage::Failed)
+    }
+
+    /// Goes past bytes of the stream that are no frame's: from then on places count them too.
+    pub fn skip(&mut self, n: u64)
+        requires nothing_held { self.old.held ≡ [] }
+        requires sound { self.old.failed ≡ false }
+        ensures { self.new ≡ record self.old { place = place_behind self.old.place n } }
+    {
+        self.place = self.place.saturating_add(n);
+    }
+}
+
+#[cfg(test)]
+mod tests;

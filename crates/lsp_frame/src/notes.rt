@@ -1,0 +1,139 @@
+//! What the lines of a header say, as far as they have come in.
+
+ghost use Rattle.std.specs.Prelude.{◌≡◌, ◌<◌, ◌^◌, ℕ, [], true, nat_lt, if◌then◌else◌, None, Some};
+ghost use Rattle.std.specs.List.{list_all};
+ghost use Rattle.lsp_frame.specs.Verdict.{is_digit, number};
+ghost use Rattle.lsp_frame.specs.Progress.{length_said, length_noted, charset_noted, noted, notes_of, judge_notes};
+
+use crate::fault::HeaderFault;
+use crate::words::{has_good_charset, is_text, trim};
+
+/// What the Content-Length lines say.
+#[derive(Clone, Copy)]
+pub(crate) enum Length {
+    Missing,
+    Bad,
+    TooLong,
+    Given(usize),
+    Repeated,
+}
+
+/// What the Content-Type lines say.
+#[derive(Clone, Copy)]
+pub(crate) enum Charset {
+    Missing,
+    Good,
+    Bad,
+    Repeated,
+}
+
+#[derive(Clone, Copy)]
+pub(crate) struct Notes {
+    pub(crate) length: Length,
+    pub(crate) charset: Charset,
+}
+
+impl Notes {
+    /// Of no line.
+    #[tactic(auto, unfolding(crate::specs::Progress::notes_of))]
+    pub(crate) fn new() -> Notes
+        ensures { (max_body : ℕ) → result ≡ notes_of max_body [] }
+    {
+        Notes {
+            length: Length::Missing,
+            charset: Charset::Missing,
+        }
+    }
+
+    /// One more line. Linear in it.
+    pub(crate) fn add(self, name: &[u8], value: &[u8], max_body: usize) -> Notes
+        requires { max_body < 2 ^ 32 }
+        ensures { result ≡ noted max_body self name.now value.now }
+    {
+        let length = if is_text(b"content-length", name) {
+            self.length.with(value, max_body)
+        } else {
+            self.length
+        };
+        let charset = if is_text(b"content-type", name) {
+            self.charset.with(value)
+        } else {
+            self.charset
+        };
+        Notes { length, charset }
+    }
+
+    /// The length of the body, or the first fault of the header.
+    pub(crate) fn verdict(self) -> Result<usize, HeaderFault>
+        ensures { result ≡ judge_notes self }
+    {
+        match (self.length, self.charset) {
+            (Length::Repeated, _) | (_, Charset::Repeated) => Err(HeaderFault::RepeatedHeader),
+            (Length::Missing, _) => Err(HeaderFault::MissingLength),
+            (Length::Bad, _) => Err(HeaderFault::BadLength),
+            (Length::TooLong, _) => Err(HeaderFault::BodyTooLong),
+            (Length::Given(_), Charset::Bad) => Err(HeaderFault::BadCharset),
+            (Length::Given(n), Charset::Missing | Charset::Good) => Ok(n),
+        }
+    }
+}
+
+impl Length {
+    fn with(self, value: &[u8], max_body: usize) -> Length
+        requires { max_body < 2 ^ 32 }
+        ensures { result ≡ length_noted max_body self value.now }
+    {
+        match self {
+            Length::Missing => read_length(value, max_body),
+            _ => Length::Repeated,
+        }
+    }
+}
+
+impl Charset {
+    fn with(self, value: &[u8]) -> Charset
+        ensures { result ≡ charset_noted self value.now }
+    {
+        match self {
+            Charset::Missing if has_good_charset(value) => Charset::Good,
+            Charset::Missing => Charset::Bad,
+            _ => Charset::Repeated,
+        }
+    }
+}
+
+fn read_length(value: &[u8], max_body: usize) -> Length
+    requires { max_body < 2 ^ 32 }
+    ensures { result ≡ length_said max_body value.now }
+{
+    let digits = trim(value);
+    if digits.is_empty() || !are_digits(digits) {
+        return Length::Bad;
+    }
+    match number_within(digits, max_body) {
+        Some(n) => Length::Given(n),
+        None => Length::TooLong,
+    }
+}
+
+fn are_digits(bytes: &[u8]) -> bool
+    ensures { result ≡ list_all is_digit bytes.now }
+{
+    bytes.iter().all(|b| *b >= b'0' && *b <= b'9')
+}
+
+/// The number that the digits write, unless it is greater than `most`.
+fn number_within(digits: &[u8], most: usize) -> Option<usize>
+    requires digits { list_all is_digit digits.now ≡ true }
+    requires most { most < 2 ^ 32 }
+    ensures { result ≡ (if nat_lt most (number digits.now) then None else Some (number digits.now)) }
+{
+    let mut n = 0;
+    for b in digits {
+        n = n * 10 + (*b - b'0') as usize;
+        if n > most {
+            return None;
+        }
+    }
+    Some(n)
+}

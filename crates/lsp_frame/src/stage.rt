@@ -1,0 +1,151 @@
+//! The stages of a frame that is coming in.
+
+ghost use Rattle.std.specs.Prelude.{◌≡◌, ◌+◌, ◌<◌, ◌≤◌, ◌^◌, ℕ, ◌++◌, length, take, IfOk, IfErr, OnOk, OnErr, IsOkAnd, Ok, false};
+ghost use Rattle.lsp_frame.specs.Stream.{IsFrame};
+ghost use Rattle.lsp_frame.specs.Progress.{IsWhole, IsInHeader, IsInBody, IsAtStage, IsHeaderStop, has_failed};
+ghost use Rattle.lsp_frame.specs.declared.header.Stop.TheVariants as stop;
+
+use crate::header::{Header, Stop, first, take_header};
+use crate::notes::Notes;
+
+/// What of a frame is held.
+#[derive(Clone, Copy)]
+pub(crate) enum Stage {
+    /// The beginning of a header, or nothing.
+    Header(Header),
+    /// A header, and what has come of the body, which starts and ends at these places of the frame.
+    Body { start: usize, end: usize },
+    /// A fault was found.
+    Failed,
+}
+
+/// Takes the bytes of a piece that belong to the frame that is coming in. After an `Err` what is held is what
+/// was held before.
+pub(crate) fn take_piece(
+    held: &mut Vec<u8>,
+    stage: Stage,
+    piece: &[u8],
+    max_body: usize,
+) -> Result<(usize, Stage), Stop>
+    requires small { max_body ≤ 1073741824 }
+    requires at_stage { IsAtStage max_body held.old.items stage }
+    requires sound { has_failed stage ≡ false }
+    ensures taken { IfOk result (λ got. got.0 ≤ length piece.now) }
+    ensures held { IfOk result (λ got. held.new.items ≡ held.old.items ++ take got.0 piece.now) }
+    ensures stage { IfOk result (λ got. IsAtStage max_body held.new.items got.1) }
+    ensures sound { IfOk result (λ got. has_failed got.1 ≡ false) }
+    ensures stops { IfOk result (λ got. got.0 < length piece.now → IsFrame max_body held.new.items) }
+    ensures whole { IsFrame max_body held.old.items → IsOkAnd result (λ got. got.0 ≡ 0) }
+    ensures empty { length piece.now ≡ 0 → IsOkAnd result (λ got. got.0 ≡ 0) }
+    ensures err { OnErr result (held.new.items ≡ held.old.items) }
+    ensures fault { IfErr result (IsHeaderStop max_body (held.old.items ++ piece.now)) }
+{
+    match stage {
+        Stage::Header(header) => take_from_header(held, header, piece, max_body),
+        Stage::Body { start, end } => match take_body(held, start, end, piece, max_body) {
+            Ok(taken) => Ok((taken, stage)),
+            Err(stop) => Err(stop),
+        },
+        Stage::Failed => unreachable!(),
+    }
+}
+
+/// Takes the bytes of a piece that belong to the frame whose header is coming in. After an `Err` what is
+/// held is what was held before.
+fn take_from_header(
+    held: &mut Vec<u8>,
+    header: Header,
+    piece: &[u8],
+    max_body: usize,
+) -> Result<(usize, Stage), Stop>
+    requires small { max_body ≤ 1073741824 }
+    requires in_header { IsInHeader max_body held.old.items header }
+    ensures taken { IfOk result (λ got. got.0 ≤ length piece.now) }
+    ensures held { IfOk result (λ got. held.new.items ≡ held.old.items ++ take got.0 piece.now) }
+    ensures stage { IfOk result (λ got. IsAtStage max_body held.new.items got.1) }
+    ensures stops { IfOk result (λ got. got.0 < length piece.now → IsFrame max_body held.new.items) }
+    ensures sound { IfOk result (λ got. has_failed got.1 ≡ false) }
+    ensures empty { length piece.now ≡ 0 → IsOkAnd result (λ got. got.0 ≡ 0) }
+    ensures err { OnErr result (held.new.items ≡ held.old.items) }
+    ensures fault { IfErr result (IsHeaderStop max_body (held.old.items ++ piece.now)) }
+{
+    if piece.is_empty() {
+        return Ok((0, Stage::Header(header)));
+    }
+    let before = held.len();
+    let mut header = header;
+    let taken = match take_header(held, &mut header, piece, max_body) {
+        Ok(taken) => taken,
+        Err(stop) => {
+            held.truncate(before);
+            return Err(stop);
+        }
+    };
+    if !header.shape.is_end() {
+        return Ok((taken, Stage::Header(header)));
+    }
+    match begin_body(held, header.notes, &piece[taken..], max_body) {
+        Ok((more, stage)) => Ok((taken + more, stage)),
+        Err(stop) => {
+            held.truncate(before);
+            Err(stop)
+        }
+    }
+}
+
+/// Takes the bytes of the body behind a header that is whole.
+fn begin_body(
+    held: &mut Vec<u8>,
+    notes: Notes,
+    rest: &[u8],
+    max_body: usize,
+) -> Result<(usize, Stage), Stop>
+    requires small { max_body ≤ 1073741824 }
+    requires whole { IsWhole max_body held.old.items notes }
+    ensures taken { IfOk result (λ got. got.0 ≤ length rest.now) }
+    ensures held { IfOk result (λ got. held.new.items ≡ held.old.items ++ take got.0 rest.now) }
+    ensures stage { IfOk result (λ got. IsAtStage max_body held.new.items got.1) }
+    ensures sound { IfOk result (λ got. has_failed got.1 ≡ false) }
+    ensures stops { IfOk result (λ got. got.0 < length rest.now → IsFrame max_body held.new.items) }
+    ensures err { OnErr result (held.new.items ≡ held.old.items) }
+    ensures fault { IfErr result (IsHeaderStop max_body (held.old.items ++ rest.now)) }
+{
+    let start = held.len();
+    let wanted = match notes.verdict() {
+        Ok(wanted) => wanted,
+        Err(fault) => return Err(Stop::Fault(fault, start - 1)),
+    };
+    let body = first(rest, wanted);
+    if held.extend_from_slice(body).is_err() {
+        return Err(Stop::NoMemory);
+    }
+    let end = start + wanted;
+    Ok((body.len(), Stage::Body { start, end }))
+}
+
+/// Takes the bytes of a piece that belong to the body, which ends at the place `end` of the frame.
+fn take_body(
+    held: &mut Vec<u8>,
+    start: usize,
+    end: usize,
+    piece: &[u8],
+    max_body: usize,
+) -> Result<usize, Stop>
+    requires in_body { IsInBody max_body held.old.items start end }
+    ensures taken { IfOk result (λ k. k ≤ length piece.now) }
+    ensures held { IfOk result (λ k. held.new.items ≡ held.old.items ++ take k piece.now) }
+    ensures stage { OnOk result (IsInBody max_body held.new.items start end) }
+    ensures stops { IfOk result (λ k. k < length piece.now → IsFrame max_body held.new.items) }
+    ensures quiet { length held.old.items ≡ end → result ≡ Ok 0 }
+    ensures empty { length piece.now ≡ 0 → result ≡ Ok 0 }
+    ensures err { IfErr result (λ why. (held.new.items ≡ held.old.items) × (why ≡ stop.NoMemory)) }
+{
+    let body = first(piece, end - held.len());
+    if body.is_empty() {
+        return Ok(0);
+    }
+    if held.extend_from_slice(body).is_err() {
+        return Err(Stop::NoMemory);
+    }
+    Ok(body.len())
+}

@@ -1,0 +1,93 @@
+//! The frames of a whole stream.
+
+ghost use Rattle.std.specs.Prelude.{◌≡◌, ◌++◌, ℕ, List, Option, false, map, drop, IfOk, MatchOption};
+ghost use Rattle.std.specs.List.{flat_map};
+ghost use Rattle.lsp_frame.specs.Stream.{IsRead, IsHolding, IsBehind, IsFaulty, IsFrame};
+ghost use Rattle.lsp_frame.specs.declared.fault.FrameFault.{FrameFault};
+
+use crate::fault::FrameFault;
+use crate::framer::Framer;
+use crate::limits::Limits;
+use std::alloc::{AllocError, Global};
+
+/// The bodies of the frames of a stream, and the fault that was found behind them.
+#[derive(Debug, Drop)]
+pub struct Frames {
+    pub bodies: Vec<Vec<u8>>,
+    pub fault: Option<FrameFault>,
+}
+
+/// The frames of a stream that comes in these pieces. Linear in the stream.
+pub fn read_frames(alloc: Global, limits: Limits, pieces: &[Vec<u8>]) -> Result<Frames, AllocError>
+    // They are those of the pieces put together.
+    ensures read { IfOk result (λ frames.
+        IsRead limits.max_body (flat_map (λ piece. piece.items) pieces.now) (map (λ body. body.items) frames.bodies.items) frames.fault) }
+    // No others are, nor is another fault: it doesn't matter how the stream was cut.
+    ensures only { IfOk result (λ frames. (bodies : List (List ℕ)) (fault : Option FrameFault) →
+        IsRead limits.max_body (flat_map (λ piece. piece.items) pieces.now) bodies fault →
+        (map (λ body. body.items) frames.bodies.items ≡ bodies) × (frames.fault ≡ fault)) }
+{
+    let mut framer = Framer::new(alloc, limits);
+    let mut bodies = Vec::new(alloc);
+    for piece in pieces {
+        if let Some(fault) = take_frames(alloc, &mut framer, piece, &mut bodies)? {
+            return Ok(Frames {
+                bodies,
+                fault: Some(fault),
+            });
+        }
+    }
+    Ok(Frames {
+        bodies,
+        fault: None,
+    })
+}
+
+/// Takes the frames of one piece, up to a fault.
+fn take_frames(
+    alloc: Global,
+    framer: &mut Framer,
+    piece: &[u8],
+    bodies: &mut Vec<Vec<u8>>,
+) -> Result<Option<FrameFault>, AllocError>
+    requires none { IsFrame framer.old.limits.max_body framer.old.held → ⊥ }
+    requires sound { framer.old.failed ≡ false }
+    ensures none { IfOk result (λ fault. MatchOption fault ((IsFrame framer.new.limits.max_body framer.new.held → ⊥) × (framer.new.failed ≡ false)) (λ _. Unit {0})) }
+    ensures taken { IfOk result (λ fault. (max_body : ℕ) (stream : List ℕ) →
+        IsBehind max_body stream (map (λ body. body.items) bodies.old.items) framer.old →
+        MatchOption fault
+        (IsBehind max_body (stream ++ piece.now) (map (λ body. body.items) bodies.new.items) framer.new)
+        (IsFaulty max_body (stream ++ piece.now) (map (λ body. body.items) bodies.new.items))) }
+{
+    let mut at = 0;
+    while at < piece.len() {
+        match framer.feed(&piece[at..]) {
+            Ok(taken) => at += taken,
+            Err(fault) => match fault {
+                FrameFault::NoMemory => return Err(AllocError),
+                _ => return Ok(Some(fault)),
+            },
+        }
+        take_frame(alloc, framer, bodies)?;
+    }
+    Ok(None)
+}
+
+/// Gives a frame up that is whole, and keeps its body.
+fn take_frame(
+    alloc: Global,
+    framer: &mut Framer,
+    bodies: &mut Vec<Vec<u8>>,
+) -> Result<(), AllocError>
+    requires sound { framer.old.failed ≡ false }
+    ensures none { IfOk result (λ _. (IsFrame framer.new.limits.max_body framer.new.held → ⊥) × (framer.new.failed ≡ false)) }
+    ensures taken { IfOk result (λ _. (max_body : ℕ) (stream : List ℕ) →
+        IsHolding max_body stream (map (λ body. body.items) bodies.old.items) framer.old →
+        IsBehind max_body stream (map (λ body. body.items) bodies.new.items) framer.new) }
+{
+    if let Some(body) = framer.body() {
+        bodies.push(Vec::from_slice(alloc, body)?)?;
+        framer.next();
+    }
+    Ok(())
+}
