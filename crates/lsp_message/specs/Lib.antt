@@ -1,3 +1,5 @@
 pub mod Values
 pub mod Message
+pub mod Params
+pub mod Agreement
 pub mod Seen

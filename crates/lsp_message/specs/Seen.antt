@@ -1,5 +1,5 @@
 -- What the types of `src/` stand for in the definitions.
-use Rattle.std.specs.Prelude.{◌≡◌, ◌<◌, ℕ, List, length, Option, Some, None, option_map, string_bytes, Result, Ok, Err}
+use Rattle.std.specs.Prelude.{◌≡◌, ◌<◌, ℕ, List, length, map, Option, Some, None, option_map, string_bytes, Result, Ok, Err}
 use Rattle.serde_json.specs.Errors.{IsMemory}
 use Rattle.serde_json.specs.View.{view}
 use Rattle.serde_json.specs.declared.error.Error.{Error}
@@ -11,7 +11,12 @@ use Rattle.lsp_message.specs.declared.message.Message.{Message}
 use Rattle.lsp_message.specs.declared.message.Message.TheVariants.{Request, Notification, Response}
 use Rattle.lsp_message.specs.declared.message.ReadFault.{ReadFault}
 use Rattle.lsp_message.specs.declared.message.ReadFault.TheVariants.{NotJson, NotAMessage, NoMemory}
+use Rattle.lsp_edit.specs.declared.change.Change.{Change}
+use Rattle.lsp_message.specs.declared.params.OpenParams.{OpenParams}
+use Rattle.lsp_message.specs.declared.params.ChangeParams.{ChangeParams}
+use Rattle.lsp_message.specs.declared.params.CloseParams.{CloseParams}
 use Rattle.lsp_message.specs.Message as spec
+use Rattle.lsp_message.specs.Params.{OpenData, EditData, ChangeData, CloseData}
 
 abbrev pub id_view : Id → spec.IdData
 id_view (Whole n) = spec.whole n
@@ -25,6 +30,18 @@ abbrev pub message_view : Message → spec.MessageData
 message_view (Request id method params) = spec.request (id_view id) (string_bytes method) (option_map view params)
 message_view (Notification method params) = spec.notification (string_bytes method) (option_map view params)
 message_view (Response id outcome) = spec.response (option_map id_view id) (outcome_view outcome)
+
+abbrev pub open_view : OpenParams → OpenData
+open_view p = record { uri = string_bytes p.uri; language = string_bytes p.language; version = p.version; text = string_bytes p.text }
+
+abbrev pub edit_view : Change → EditData
+edit_view c = record { range = c.range; text = string_bytes c.text }
+
+abbrev pub change_view : ChangeParams → ChangeData
+change_view p = record { uri = string_bytes p.uri; version = p.version; changes = map edit_view p.changes.items }
+
+abbrev pub close_view : CloseParams → CloseData
+close_view p = record { uri = string_bytes p.uri }
 
 -- when each fault of reading comes
 abbrev pub IsReadFault : List ℕ → ReadFault → Type 0

@@ -2,9 +2,9 @@
 
 ghost use Rattle.std.specs.Prelude.{◌≡◌, ℕ, List, false, codes, option_map, option_and_then, string_bytes};
 ghost use Rattle.std.specs.Str.{bytes_eq};
-ghost use Rattle.serde_json.specs.Find.{get_member, as_str, as_object};
-ghost use Rattle.serde_json.specs.View.{view, members_view};
-ghost use Rattle.lsp_message.specs.Values.{text_in};
+ghost use Rattle.serde_json.specs.Find.{get_member};
+ghost use Rattle.serde_json.specs.View.{view, items_view, members_view};
+ghost use Rattle.lsp_message.specs.Values.{member_at, text_in, members_in, items_in};
 
 use serde_json::{Map, Value};
 
@@ -29,10 +29,27 @@ pub(crate) fn text(value: Option<Value>) -> Option<String>
 
 /// The members of what may be an object, moved out of it.
 pub(crate) fn object(value: Option<Value>) -> Option<Map<String, Value>>
-    ensures { option_map (λ m. members_view m.entries) result ≡ option_and_then as_object (option_map view value) }
+    ensures { option_map (λ m. members_view m.entries) result ≡ members_in (option_map view value) }
 {
     match value? {
         Value::Object(members) => Some(members),
         _ => None,
     }
+}
+
+/// The items of what may be an array, moved out of it.
+pub(crate) fn array(value: Option<Value>) -> Option<Vec<Value>>
+    ensures { option_map (λ v. items_view v.items) result ≡ items_in (option_map view value) }
+{
+    match value? {
+        Value::Array(items) => Some(items),
+        _ => None,
+    }
+}
+
+/// The member of this name of what may be an object, moved out of it.
+pub(crate) fn member(value: Option<Value>, name: &str) -> Option<Value>
+    ensures { option_map view result ≡ member_at name.now (option_map view value) }
+{
+    take(&mut object(value)?, name)
 }
