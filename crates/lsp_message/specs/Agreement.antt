@@ -13,6 +13,12 @@ use Rattle.lsp_message.specs.declared.agreement.SyncKind.{SyncKind}
 use Rattle.lsp_message.specs.declared.agreement.SyncKind.TheVariants.{Off, Full, Incremental}
 use Rattle.lsp_message.specs.Values.{◌>>=◌, text_in, members_in, items_in, natural_in, is_missing}
 
+-- whether an encoding is offered; utf-16 always is
+abbrev pub is_offered : Offers → Encoding → Bool
+is_offered offers Utf8 = offers.utf8
+is_offered offers Utf16 = true
+is_offered offers Utf32 = offers.utf32
+
 -- UTF-16 is offered whatever a client says, so it has no place in the record.
 abbrev pub utf16_alone : Offers
 utf16_alone = record { utf8 = false; utf32 = false }
@@ -67,34 +73,30 @@ abbrev pub encoding_of : Option Data → Option (Option Encoding)
 encoding_of value = if is_missing value then Some (Some Utf16) else option_map encoding_named (text_in value)
 
 -- whether opening and closing is told, and how changes are
-pub record Sync : Type 0 where
-  pub open_close : Bool
-  pub kind : SyncKind
-
-abbrev pub sync_by : Members → Option Sync
+abbrev pub sync_by : Members → Option (Bool × SyncKind)
 sync_by ms = do
   open_close ← open_close_of (get_member (codes "openClose") ms)
   kind ← kind_of (get_member (codes "change") ms)
-  Some (record { open_close = open_close; kind = kind })
+  Some (open_close, kind)
 
--- The synchronisation is missing, a number, or an object.
-abbrev pub sync_in : Data → Option Sync
-sync_in null = Some (record { open_close = false; kind = Off })
+-- The synchronisation is missing, null, a number, or an object.
+abbrev pub sync_in : Data → Option (Bool × SyncKind)
+sync_in null = Some (false, Off)
 sync_in (boolean b) = None
-sync_in (number n) = option_map (λ kind. record { open_close = true; kind = kind }) (kind_in (Some (number n)))
+sync_in (number n) = option_map (λ kind. (true, kind)) (kind_in (Some (number n)))
 sync_in (string s) = None
 sync_in (array ds) = None
 sync_in (object ms) = sync_by ms
 
-abbrev pub sync_of : Option Data → Option Sync
-sync_of None = Some (record { open_close = false; kind = Off })
+abbrev pub sync_of : Option Data → Option (Bool × SyncKind)
+sync_of None = Some (false, Off)
 sync_of (Some value) = sync_in value
 
 abbrev pub announced_by : Members → Option Announced
 announced_by ms = do
   sync ← sync_of (get_member (codes "textDocumentSync") ms)
   encoding ← encoding_of (get_member (codes "positionEncoding") ms)
-  Some (record { open_close = sync.open_close; kind = sync.kind; encoding = encoding })
+  Some (record { open_close = sync.0; kind = sync.1; encoding = encoding })
 
 -- the result of an `initialize`
 abbrev pub announced_of : Data → Option Announced

@@ -11,7 +11,7 @@ mod members;
 mod message;
 mod params;
 
-pub use agreement::{Announced, Offers, SyncKind};
+pub use agreement::{Announced, Offers, SyncKind, params_initialize, result_initialize};
 pub use message::{Id, Message, Outcome, ReadFault, read};
 pub use params::{
     ChangeParams, CloseParams, OpenParams, ParamsFault, params_change, params_close, params_open,

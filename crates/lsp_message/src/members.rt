@@ -53,3 +53,11 @@ pub(crate) fn member(value: Option<Value>, name: &str) -> Option<Value>
 {
     take(&mut object(value)?, name)
 }
+
+/// The member of this name of an object.
+pub(crate) fn find<'v>(members: &'v Map<String, Value>, name: &str) -> Option<&'v Value>
+    ensures { option_map (λ v. view v.now) result
+        ≡ get_member name.now (members_view members.now.entries) }
+{
+    members.get(name)
+}
