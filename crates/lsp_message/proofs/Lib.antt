@@ -1,1 +1,3 @@
 pub mod Readings
+pub mod Sound
+pub mod Bodies

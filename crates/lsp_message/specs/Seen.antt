@@ -15,7 +15,10 @@ use Rattle.lsp_edit.specs.declared.change.Change.{Change}
 use Rattle.lsp_message.specs.declared.params.OpenParams.{OpenParams}
 use Rattle.lsp_message.specs.declared.params.ChangeParams.{ChangeParams}
 use Rattle.lsp_message.specs.declared.params.CloseParams.{CloseParams}
+use Rattle.lsp_message.specs.declared.outgoing.Outgoing.{Outgoing}
+use Rattle.lsp_message.specs.declared.outgoing.Outgoing.TheVariants.{Initialize, Initialized, DidOpen, DidChange, DidClose, Shutdown, Exit, InitializeResult, ShutdownResult, ErrorReply}
 use Rattle.lsp_message.specs.Message as spec
+use Rattle.lsp_message.specs.Outgoing as out
 use Rattle.lsp_message.specs.Params.{OpenData, EditData, ChangeData, CloseData}
 
 abbrev pub id_view : Id → spec.IdData
@@ -42,6 +45,18 @@ change_view p = record { uri = string_bytes p.uri; version = p.version; changes 
 
 abbrev pub close_view : CloseParams → CloseData
 close_view p = record { uri = string_bytes p.uri }
+
+abbrev pub outgoing_view : Outgoing → out.OutgoingData
+outgoing_view (Initialize offers) = out.initialize offers
+outgoing_view Initialized = out.initialized
+outgoing_view (DidOpen p) = out.did_open (open_view p)
+outgoing_view (DidChange p) = out.did_change (change_view p)
+outgoing_view (DidClose p) = out.did_close (close_view p)
+outgoing_view Shutdown = out.shutdown
+outgoing_view Exit = out.exit
+outgoing_view (InitializeResult id encoding kind) = out.initialize_result (id_view id) encoding kind
+outgoing_view (ShutdownResult id) = out.shutdown_result (id_view id)
+outgoing_view (ErrorReply id error) = out.error_reply (option_map id_view id) error
 
 -- when each fault of reading comes
 abbrev pub IsReadFault : List ℕ → ReadFault → Type 0

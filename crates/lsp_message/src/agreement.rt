@@ -4,6 +4,7 @@ ghost use Rattle.std.specs.Prelude.{◌≡◌, None, Some, IfOk, IfErr, Option, 
 ghost use Rattle.serde_json.specs.View.{view, items_view, members_view};
 ghost use Rattle.lsp_message.specs.declared.params.ParamsFault.TheVariants.{InvalidParams};
 ghost use Rattle.lsp_message.specs.Values.{is_missing};
+ghost use Rattle.lsp_message.specs.Outgoing.{kind_number};
 ghost use Rattle.lsp_message.specs.Agreement.{is_offered, offers_of, offers_by_capabilities, offers_by_general, offers_by_encodings, offers_named, texts_in, announced_of, announced_by, sync_of, sync_by, kind_in, kind_of, open_close_of, encoding_of};
 
 use crate::members::find;
@@ -48,6 +49,19 @@ pub enum SyncKind {
     Full,
     /// By changed ranges.
     Incremental,
+}
+
+impl SyncKind {
+    /// The protocol's number.
+    pub const fn number(self) -> u32
+        ensures { result ≡ kind_number self }
+    {
+        match self {
+            SyncKind::Off => 0,
+            SyncKind::Full => 1,
+            SyncKind::Incremental => 2,
+        }
+    }
 }
 
 /// What a server's result of `initialize` announces. An encoding whose name is unknown is `None`.

@@ -9,10 +9,14 @@
 mod agreement;
 mod members;
 mod message;
+mod outgoing;
 mod params;
+mod writer;
 
 pub use agreement::{Announced, Offers, SyncKind, params_initialize, result_initialize};
 pub use message::{Id, Message, Outcome, ReadFault, read};
+pub use outgoing::{ErrorCode, Outgoing};
 pub use params::{
     ChangeParams, CloseParams, OpenParams, ParamsFault, params_change, params_close, params_open,
 };
+pub use writer::write;
