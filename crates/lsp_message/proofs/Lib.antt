@@ -1,3 +1,4 @@
 pub mod Readings
 pub mod Sound
 pub mod Bodies
+pub mod ReadBack

@@ -5,8 +5,8 @@ use Rattle.serde_json.specs.Data.{null, object, no_members}
 use Rattle.lsp_text.specs.declared.position.Position.{Position}
 use Rattle.lsp_text.specs.declared.position.Range.{Range}
 use Rattle.lsp_message.specs.Agreement.{offers_of, announced_of}
-use Rattle.lsp_message.specs.Message.{IdData, whole, text, given, failed, MessageData, request, notification, response}
-use Rattle.lsp_message.specs.Outgoing.{OutgoingData, initialize, initialized, did_open, did_change, did_close, shutdown, exit, initialize_result, shutdown_result, error_reply, initialize_params, open_params, change_params, close_params, initialize_value}
+use Rattle.lsp_message.specs.Message.{IdData, whole, text, given, failed, MessageData, request, notification, response, message, reading}
+use Rattle.lsp_message.specs.Outgoing.{OutgoingData, body_of, initialize, initialized, did_open, did_change, did_close, shutdown, exit, initialize_result, shutdown_result, error_reply, initialize_params, open_params, change_params, close_params, initialize_value}
 use Rattle.lsp_message.specs.Params.{OpenData, EditData, ChangeData, CloseData, open_of, change_of, close_of}
 
 -- ---- messages as the types hold them: numbers in their ranges, and texts in UTF-8
@@ -64,6 +64,9 @@ sent exit = notification (codes "exit") None
 sent (initialize_result id encoding kind) = response (Some id) (given (initialize_value encoding kind))
 sent (shutdown_result id) = response (Some id) (given null)
 sent (error_reply id error) = response id failed
+
+abbrev pub IsReadAsSent : OutgoingData → Type 0
+IsReadAsSent m = reading (body_of m) ≡ message (sent m)
 
 -- The typed parameters, or the result, that the other end reads are those that were written.
 abbrev pub IsReadBack : OutgoingData → Type 0

@@ -3,6 +3,7 @@
 ghost use Rattle.std.specs.Prelude.{◌≡◌, Some, None, IfOk, map, option_map, string_bytes};
 ghost use Rattle.serde_json.specs.View.{view};
 ghost use Rattle.lsp_message.specs.Outgoing as spec;
+ghost use Rattle.lsp_message.specs.Sent.{IsProper, IsReadAsSent, IsReadBack};
 ghost use Rattle.lsp_message.specs.Seen.{id_view, open_view, edit_view, change_view, close_view, outgoing_view};
 
 use crate::agreement::{Offers, SyncKind};
@@ -16,9 +17,16 @@ use std::alloc::{AllocError, Global};
 
 /// The body of a message: its compact JSON text, members in the order of their names' bytes.
 ///
-/// Fails only where memory runs out. Linear in the body.
+/// Fails only where memory runs out. Linear in the body. The other end reads the body as the same message, and its typed parameters
+/// or result as those that were written; no other message has the same body.
 pub fn write(alloc: Global, message: &Outgoing) -> Result<Vec<u8>, AllocError>
-    ensures { IfOk result (λ body. body.items ≡ spec.body_of (outgoing_view message.now)) }
+    ensures body { IfOk result (λ body. body.items ≡ spec.body_of (outgoing_view message.now)) }
+
+    // What holds of a body, for every message whose numbers are in their ranges and whose texts are UTF-8.
+    ensures read_as { (m : spec.OutgoingData) → IsProper m → IsReadAsSent m }
+    ensures read_back { (m : spec.OutgoingData) → IsProper m → IsReadBack m }
+    ensures unique { (m n : spec.OutgoingData) → IsProper m → IsProper n
+        → spec.body_of m ≡ spec.body_of n → m ≡ n }
 {
     value_of(alloc, message)?.to_vec(alloc)
 }
