@@ -1,9 +1,9 @@
 -- The value of each written message: it has no float, is not deep, and its text is read back as it.
-use Rattle.std.proofs.Common.{◌≡◌, ℕ, ◌^◌, ◌<◌, ◌≤◌, max, suc, pos, negsuc, List, [], ◌∷◌, map, Bool, true, false, ◌||◌, Option, Some, None, FitsSigned, IsUtf8, IfSome, All, codes, refl, sym, ap, ap₂, ◌∙◌, arith}
-use Rattle.std.specs.Int.{w32, w64}
-use Rattle.std.specs.Prelude.{ℤ, ⊤}
+use Rattle.std.proofs.Common.{◌≡◌, ℕ, ◌^◌, ◌<◌, ◌≤◌, suc, pos, negsuc, List, [], ◌∷◌, map, Bool, true, false, ◌||◌, Option, Some, None, FitsSigned, IsUtf8, IfSome, All, codes, refl, arith}
+use Rattle.std.specs.Int.{w32}
+use Rattle.std.specs.Prelude.{ℤ}
 use Rattle.json.proofs.Printed.Utf8.{IsUtf8-are_ascii}
-use Rattle.serde_json.specs.Data.{Data, null, number, string, array, object, Items, no_items, item, Members, no_members, member, depth, items_depth}
+use Rattle.serde_json.specs.Data.{Data, number, string, array, object, no_members, member, depth, items_depth}
 use Rattle.serde_json.specs.Find.{of_integer, is_float}
 use Rattle.serde_json.specs.Read.{read, max_depth}
 use Rattle.serde_json.specs.View.{items_of}

@@ -1,11 +1,10 @@
 -- What is written is read as the same message, and no two messages have one text.
-use Rattle.std.proofs.Common.{◌≡◌, ℕ, ◌^◌, ◌<◌, ◌≤◌, suc, pos, negsuc, List, [], ◌∷◌, map, Bool, true, false, cond, ◌||◌, not, Option, Some, None, option_map, option_and_then, FitsSigned, IfSome, All, bytes_eq, codes, nat_lt, int_lt, refl, sym, ap, ap₂, ◌∙◌, arith, lt-ltb}
+use Rattle.std.proofs.Common.{◌≡◌, ℕ, ◌^◌, ◌<◌, suc, pos, negsuc, List, [], ◌∷◌, map, Bool, true, false, Option, Some, None, option_map, option_and_then, FitsSigned, IfSome, All, bytes_eq, codes, refl, sym, ap, ◌∙◌, arith, lt-ltb}
 use Rattle.std.specs.Int.{w32, w64}
-use Rattle.std.specs.Option.{option_map_or}
 use Rattle.std.specs.Prelude.{ℤ, if◌then◌else◌}
 use Rattle.std.proofs.lemmas.Bool.Decides.{nat_tests}
 use Rattle.std.proofs.lemmas.Option.{same_Some}
-use Rattle.serde_json.specs.Data.{Data, null, number, unsigned, array, object, member, no_members}
+use Rattle.serde_json.specs.Data.{Data, number}
 use Rattle.serde_json.specs.Find.{get, of_integer, as_i64}
 use Rattle.serde_json.specs.Read.{read}
 use Rattle.serde_json.specs.View.{items_of}
@@ -19,10 +18,10 @@ use Rattle.lsp_message.specs.declared.agreement.SyncKind.{SyncKind}
 use Rattle.lsp_message.specs.declared.agreement.SyncKind.TheVariants.{Off, Full, Incremental}
 use Rattle.lsp_message.specs.declared.outgoing.ErrorCode.{ErrorCode}
 use Rattle.lsp_message.specs.declared.outgoing.ErrorCode.TheVariants.{ParseError, InvalidRequest, MethodNotFound, InvalidParams, ServerNotInitialized}
-use Rattle.lsp_message.specs.Values.{text_in, is_null, member_at}
+use Rattle.lsp_message.specs.Values.{text_in, is_null}
 use Rattle.lsp_message.specs.Agreement.{offers_of, announced_of}
 use Rattle.lsp_message.specs.Message.{IdData, whole, text, message_of, message, reading, id_in, id_found}
-use Rattle.lsp_message.specs.Params.{OpenData, EditData, ChangeData, CloseData, open_of, change_of, close_of, within_version, version_in, position_in, range_in, range_of, edit_in, edits_in}
+use Rattle.lsp_message.specs.Params.{OpenData, EditData, ChangeData, open_of, change_of, close_of, within_version, version_in, position_in, range_in, edit_in, edits_in}
 use Rattle.lsp_message.specs.Outgoing as spec
 use Rattle.lsp_message.specs.Outgoing.{OutgoingData}
 use Rattle.lsp_message.specs.Sent.{sent, IsReadBack, IsProper, IsProperId, IsProperOpen, IsProperChange, IsProperEdit, IsProperRange, IsProperPosition}

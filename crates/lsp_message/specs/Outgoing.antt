@@ -1,6 +1,6 @@
 -- The messages that are written (LSP 3.17, Initialize, Initialized, Shutdown, Exit, DidOpen, DidChange, DidClose), and the JSON value of
 -- each. Members stand in the order of their names' bytes. A body is the compact text of the value.
-use Rattle.std.specs.Prelude.{ℕ, ℤ, pos, negsuc, Bool, true, false, List, [], ◌∷◌, ◌++◌, map, filter, Option, Some, None, codes, if◌then◌else◌}
+use Rattle.std.specs.Prelude.{ℕ, ℤ, negsuc, true, List, [], ◌∷◌, map, filter, Option, Some, None, codes}
 use Rattle.serde_json.specs.Data.{Data, null, boolean, number, unsigned, string, array, object, Members, no_members, member}
 use Rattle.serde_json.specs.Find.{of_integer}
 use Rattle.serde_json.specs.View.{items_of}

@@ -2,7 +2,7 @@
 -- that isn't named here isn't looked at; a wrong type, a missing member or a number out of range gives none.
 use Rattle.std.specs.Prelude.{ℕ, ◌^◌, ℤ, pos, negsuc, int_lt, List, [], ◌∷◌, Option, Some, None, option_map, option_and_then, codes, nat_lt, ◌||◌, if◌then◌else◌}
 use Rattle.serde_json.specs.Data.{Data, Items, no_items, item, Members}
-use Rattle.serde_json.specs.Find.{get_member, get, as_object}
+use Rattle.serde_json.specs.Find.{get_member, as_object}
 use Rattle.lsp_text.specs.declared.position.Position.{Position}
 use Rattle.lsp_text.specs.declared.position.Range.{Range}
 use Rattle.lsp_message.specs.Values.{◌>>=◌, member_at, text_in, members_in, items_in, whole_in, natural_in, is_missing}

@@ -1,5 +1,5 @@
 -- What the other end reads a written message as.
-use Rattle.std.specs.Prelude.{◌≡◌, ℕ, ◌^◌, ◌<◌, List, Bool, true, pos, Option, Some, None, ⊤, codes, FitsSigned, IsUtf8, All, IfSome}
+use Rattle.std.specs.Prelude.{◌≡◌, ◌^◌, ◌<◌, true, pos, Some, None, ⊤, codes, FitsSigned, IsUtf8, All, IfSome}
 use Rattle.std.specs.Int.{w32, w64}
 use Rattle.serde_json.specs.Data.{null, object, no_members}
 use Rattle.lsp_text.specs.declared.position.Position.{Position}
@@ -7,7 +7,7 @@ use Rattle.lsp_text.specs.declared.position.Range.{Range}
 use Rattle.lsp_message.specs.Agreement.{offers_of, announced_of}
 use Rattle.lsp_message.specs.Message.{IdData, whole, text, given, failed, MessageData, request, notification, response, message, reading}
 use Rattle.lsp_message.specs.Outgoing.{OutgoingData, body_of, initialize, initialized, did_open, did_change, did_close, shutdown, exit, initialize_result, shutdown_result, error_reply, initialize_params, open_params, change_params, close_params, initialize_value}
-use Rattle.lsp_message.specs.Params.{OpenData, EditData, ChangeData, CloseData, open_of, change_of, close_of}
+use Rattle.lsp_message.specs.Params.{OpenData, EditData, ChangeData, open_of, change_of, close_of}
 
 -- ---- messages as the types hold them: numbers in their ranges, and texts in UTF-8
 

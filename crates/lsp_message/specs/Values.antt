@@ -1,5 +1,5 @@
 -- Parts of a JSON value, as the tables of messages and parameters speak of them.
-use Rattle.std.specs.Prelude.{ℕ, Bool, true, ℤ, List, Option, Some, None, option_and_then, is_some}
+use Rattle.std.specs.Prelude.{ℕ, Bool, true, ℤ, List, Option, option_and_then, is_some}
 use Rattle.std.specs.Option.{option_map_or}
 use Rattle.serde_json.specs.Data.{Data, Items, Members}
 use Rattle.serde_json.specs.Find.{get, as_null, as_number, as_str, as_array, as_object, as_i64, as_u64}

@@ -11,6 +11,8 @@ mod members;
 mod message;
 mod outgoing;
 mod params;
+#[cfg(test)]
+mod tests;
 mod writer;
 
 pub use agreement::{Announced, Offers, SyncKind, params_initialize, result_initialize};
