@@ -2,3 +2,4 @@ pub mod Readings
 pub mod Sound
 pub mod Bodies
 pub mod ReadBack
+pub mod Proper

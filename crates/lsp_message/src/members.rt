@@ -1,6 +1,6 @@
 //! The members of a JSON object, taken out of it one by one, so that no text is copied.
 
-ghost use Rattle.std.specs.Prelude.{◌≡◌, ℕ, List, false, codes, option_map, option_and_then, string_bytes};
+ghost use Rattle.std.specs.Prelude.{◌≡◌, ℕ, List, false, option_map, string_bytes};
 ghost use Rattle.std.specs.Str.{bytes_eq};
 ghost use Rattle.serde_json.specs.Find.{get_member};
 ghost use Rattle.serde_json.specs.View.{view, items_view, members_view};

@@ -1,9 +1,9 @@
 //! Which message a body is (LSP 3.17, Base Protocol).
 
-ghost use Rattle.std.specs.Prelude.{◌≡◌, Some, IfOk, IfErr, MatchResult, codes, option_map, string_bytes};
+ghost use Rattle.std.specs.Prelude.{◌≡◌, Some, IfOk, IfErr, codes, option_map, string_bytes};
 ghost use Rattle.serde_json.specs.Find.{get_member};
 ghost use Rattle.serde_json.specs.View.{view, members_view};
-ghost use Rattle.lsp_message.specs.Message.{reading, message, not_a_message, id_in, id_found, call_of, answer_of, outcome_of, message_by, message_of, is_version_two};
+ghost use Rattle.lsp_message.specs.Message.{reading, message, id_in, id_found, call_of, answer_of, outcome_of, message_by, message_of, is_version_two};
 ghost use Rattle.lsp_message.specs.Seen.{id_view, message_view, IsReadFault, Answers};
 
 use crate::members::take;

@@ -1,9 +1,9 @@
 //! The typed parameters of the three document messages (LSP 3.17, DidOpen, DidChange, DidClose Text Document Notification).
 
-ghost use Rattle.std.specs.Prelude.{◌≡◌, ◌≢◌, None, Some, IfOk, IfErr, map, option_map, string_bytes, Err};
+ghost use Rattle.std.specs.Prelude.{◌≡◌, None, Some, IfOk, IfErr, map, option_map, Err};
 ghost use Rattle.serde_json.specs.View.{view, items_view, members_view};
 ghost use Rattle.lsp_message.specs.declared.params.ParamsFault.TheVariants.{InvalidParams, NoMemory};
-ghost use Rattle.lsp_message.specs.Params.{open_of, change_of, close_of, open_by, edit_in, edit_by, edits_in, document_in, document_and_changes, change_by, version_in, coordinate_in, position_in, range_in, range_of};
+ghost use Rattle.lsp_message.specs.Params.{open_of, change_of, close_of, open_by, edit_in, edits_in, document_in, document_and_changes, change_by, version_in, coordinate_in, position_in, range_in, range_of};
 ghost use Rattle.lsp_message.specs.Seen.{open_view, change_view, close_view, edit_view};
 
 use crate::members::{array, member, object, take, text};
