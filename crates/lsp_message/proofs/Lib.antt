@@ -1,0 +1,5 @@
+pub mod Readings
+pub mod Sound
+pub mod Bodies
+pub mod ReadBack
+pub mod Proper

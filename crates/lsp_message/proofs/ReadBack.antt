@@ -1,0 +1,205 @@
+-- What is written is read as the same message, and no two messages have one text.
+use Rattle.std.proofs.Common.{◌≡◌, ℕ, ◌^◌, ◌<◌, suc, pos, negsuc, List, [], ◌∷◌, map, Bool, true, false, Option, Some, None, option_map, option_and_then, FitsSigned, IfSome, All, bytes_eq, codes, refl, sym, ap, ◌∙◌, arith, lt-ltb}
+use Rattle.std.specs.Int.{w32, w64}
+use Rattle.std.specs.Prelude.{ℤ, if◌then◌else◌}
+use Rattle.std.proofs.lemmas.Bool.Decides.{nat_tests}
+use Rattle.std.proofs.lemmas.Option.{same_Some}
+use Rattle.serde_json.specs.Data.{Data, number}
+use Rattle.serde_json.specs.Find.{get, of_integer, as_i64}
+use Rattle.serde_json.specs.Read.{read}
+use Rattle.serde_json.specs.View.{items_of}
+use Rattle.lsp_text.specs.declared.encoding.Encoding.{Encoding}
+use Rattle.lsp_text.specs.declared.encoding.Encoding.TheVariants.{Utf8, Utf16, Utf32}
+use Rattle.lsp_text.specs.declared.position.Position.{Position}
+use Rattle.lsp_text.specs.declared.position.Range.{Range}
+use Rattle.lsp_message.specs.declared.agreement.Announced.{Announced}
+use Rattle.lsp_message.specs.declared.agreement.Offers.{Offers}
+use Rattle.lsp_message.specs.declared.agreement.SyncKind.{SyncKind}
+use Rattle.lsp_message.specs.declared.agreement.SyncKind.TheVariants.{Off, Full, Incremental}
+use Rattle.lsp_message.specs.declared.outgoing.ErrorCode.{ErrorCode}
+use Rattle.lsp_message.specs.declared.outgoing.ErrorCode.TheVariants.{ParseError, InvalidRequest, MethodNotFound, InvalidParams, ServerNotInitialized}
+use Rattle.lsp_message.specs.Values.{text_in, is_null}
+use Rattle.lsp_message.specs.Agreement.{offers_of, announced_of}
+use Rattle.lsp_message.specs.Message.{IdData, whole, text, message_of, message, reading, id_in, id_found}
+use Rattle.lsp_message.specs.Params.{OpenData, EditData, ChangeData, open_of, change_of, close_of, within_version, version_in, position_in, range_in, edit_in, edits_in}
+use Rattle.lsp_message.specs.Outgoing as spec
+use Rattle.lsp_message.specs.Outgoing.{OutgoingData}
+use Rattle.lsp_message.specs.Sent.{sent, IsReadBack, IsProper, IsProperId, IsProperOpen, IsProperChange, IsProperEdit, IsProperRange, IsProperPosition}
+use Rattle.lsp_message.proofs.Readings.{reading_of_value}
+use Rattle.lsp_message.proofs.Bodies.{read-body_of, utf8-body_of}
+
+-- ---- numbers
+
+as_i64-of_integer : (z : ℤ) → FitsSigned w64 z → as_i64 (of_integer z) ≡ Some z
+as_i64-of_integer (pos n) h = let small : n < 2 ^ 63 = h.sfits in rw lt-ltb refl
+as_i64-of_integer (negsuc n) h = refl
+
+within_version-fits : (z : ℤ) → FitsSigned w32 z → within_version z ≡ Some z
+within_version-fits (pos n) h = let small : n < 2 ^ 31 = h.sfits in grind (arith, nat_tests)
+within_version-fits (negsuc n) h = let small : n < 2 ^ 31 = h.sfits in grind (arith, nat_tests)
+
+version_in-of_integer : (z : ℤ) → FitsSigned w32 z → version_in (Some (number (of_integer z))) ≡ Some z
+version_in-of_integer z h =
+    let small = h.sfits in
+    ap (option_and_then within_version) (as_i64-of_integer z (record { sfits = omega arith })) ∙ within_version-fits z h
+
+-- ---- which message it is
+
+id_in-id_value : (id : IdData) → IsProperId id → id_in (spec.id_value id) ≡ Some id
+id_in-id_value (whole (pos n)) h = ap (option_map whole) (as_i64-of_integer (pos n) h)
+id_in-id_value (whole (negsuc n)) h = refl
+id_in-id_value (text s) h = refl
+
+is_null-id_value : (id : IdData) → is_null (spec.id_value id) ≡ false
+is_null-id_value (whole n) = refl
+is_null-id_value (text s) = refl
+
+message_of-error_reply : (id : Option IdData) (error : ErrorCode) → IfSome id IsProperId → message_of (spec.error_reply_value id error) ≡ message (sent (spec.error_reply id error))
+message_of-error_reply None error h = refl
+message_of-error_reply (Some id) error h = rw (is_null-id_value id, id_in-id_value id h) refl
+
+message_of-value_of : (m : OutgoingData) → IsProper m → message_of (spec.value_of m) ≡ message (sent m)
+message_of-value_of (spec.initialize offers) h = refl
+message_of-value_of spec.initialized h = refl
+message_of-value_of (spec.did_open p) h = refl
+message_of-value_of (spec.did_change p) h = refl
+message_of-value_of (spec.did_close p) h = refl
+message_of-value_of spec.shutdown h = refl
+message_of-value_of spec.exit h = refl
+message_of-value_of (spec.initialize_result id encoding kind) h = rw (is_null-id_value id, id_in-id_value id h) refl
+message_of-value_of (spec.shutdown_result id) h = rw (is_null-id_value id, id_in-id_value id h) refl
+message_of-value_of (spec.error_reply id error) h = message_of-error_reply id error h
+
+pub reading-body_of : (m : OutgoingData) → IsProper m → reading (spec.body_of m) ≡ message (sent m)
+reading-body_of m h = reading_of_value (spec.body_of m) (spec.value_of m) (utf8-body_of m h) (read-body_of m h) ∙ message_of-value_of m h
+
+-- ---- its parameters
+
+position_in-position_value : (p : Position) → IsProperPosition p → position_in (Some (spec.position_value p)) ≡ Some p
+position_in-position_value p h =
+    let line = h.line in
+    let character = h.character in
+    rw (lt-ltb p.line (2 ^ 32) line, lt-ltb p.character (2 ^ 32) character) refl
+
+range_in-range_value : (r : Range) → IsProperRange r → range_in (Some (spec.range_value r)) ≡ Some r
+range_in-range_value r h = rw (position_in-position_value r.start h.start, position_in-position_value r.stop h.stop) refl
+
+edit_in-edit_value : (r : Option Range) (s : List ℕ) → IfSome r IsProperRange → edit_in (spec.edit_value (record { range = r; text = s })) ≡ Some (record { range = r; text = s })
+edit_in-edit_value None s h = refl
+edit_in-edit_value (Some r) s h = rw (range_in-range_value r h) refl
+
+edits_in-edits : (es : List EditData) → All IsProperEdit es → edits_in (items_of (map spec.edit_value es)) ≡ Some es
+edits_in-edits [] h = refl
+edits_in-edits (e ∷ es) h =
+    let first = h 0 e (omega arith) in
+    rw (edit_in-edit_value e.range e.text first.range, edits_in-edits es (λ k d l. h (suc k) d (omega arith))) refl
+
+open_of-open_params : (p : OpenData) → IsProperOpen p → open_of (Some (spec.open_params p)) ≡ Some p
+open_of-open_params p h = rw (version_in-of_integer p.version h.version) refl
+
+change_of-change_params : (p : ChangeData) → IsProperChange p → change_of (Some (spec.change_params p)) ≡ Some p
+change_of-change_params p h = rw (version_in-of_integer p.version h.version, edits_in-edits p.changes h.changes) refl
+
+offers_of-initialize_params : (utf8 utf32 : Bool) → let offers : Offers = record { utf8 = utf8; utf32 = utf32 } in offers_of (Some (spec.initialize_params offers)) ≡ Some offers
+offers_of-initialize_params true true = refl
+offers_of-initialize_params true false = refl
+offers_of-initialize_params false true = refl
+offers_of-initialize_params false false = refl
+
+abbrev announces : Encoding → SyncKind → Announced
+announces encoding kind = record { open_close = true; kind = kind; encoding = Some encoding }
+
+announced_of-initialize_value : (encoding : Encoding) (kind : SyncKind) → announced_of (spec.initialize_value encoding kind) ≡ Some (announces encoding kind)
+announced_of-initialize_value Utf8 Off = refl
+announced_of-initialize_value Utf8 Full = refl
+announced_of-initialize_value Utf8 Incremental = refl
+announced_of-initialize_value Utf16 Off = refl
+announced_of-initialize_value Utf16 Full = refl
+announced_of-initialize_value Utf16 Incremental = refl
+announced_of-initialize_value Utf32 Off = refl
+announced_of-initialize_value Utf32 Full = refl
+announced_of-initialize_value Utf32 Incremental = refl
+
+pub is_read_back : (m : OutgoingData) → IsProper m → IsReadBack m
+is_read_back (spec.initialize offers) h = offers_of-initialize_params offers.utf8 offers.utf32
+is_read_back spec.initialized h = tt
+is_read_back (spec.did_open p) h = open_of-open_params p h
+is_read_back (spec.did_change p) h = change_of-change_params p h
+is_read_back (spec.did_close p) h = refl
+is_read_back spec.shutdown h = tt
+is_read_back spec.exit h = tt
+is_read_back (spec.initialize_result id encoding kind) h = announced_of-initialize_value encoding kind
+is_read_back (spec.shutdown_result id) h = tt
+is_read_back (spec.error_reply id error) h = tt
+
+-- ---- the message that a value is, as far as it was written
+
+abbrev error_named : List ℕ → Option ErrorCode
+error_named s =
+    if bytes_eq s (spec.error_text_of ParseError) then Some ParseError
+    else if bytes_eq s (spec.error_text_of InvalidRequest) then Some InvalidRequest
+    else if bytes_eq s (spec.error_text_of MethodNotFound) then Some MethodNotFound
+    else if bytes_eq s (spec.error_text_of InvalidParams) then Some InvalidParams
+    else if bytes_eq s (spec.error_text_of ServerNotInitialized) then Some ServerNotInitialized
+    else None
+
+abbrev called : List ℕ → Option Data → Option OutgoingData
+called m params =
+    if bytes_eq m (codes "initialize") then option_map spec.initialize (offers_of params)
+    else if bytes_eq m (codes "initialized") then Some spec.initialized
+    else if bytes_eq m (codes "textDocument/didOpen") then option_map spec.did_open (open_of params)
+    else if bytes_eq m (codes "textDocument/didChange") then option_map spec.did_change (change_of params)
+    else if bytes_eq m (codes "textDocument/didClose") then option_map spec.did_close (close_of params)
+    else if bytes_eq m (codes "shutdown") then Some spec.shutdown
+    else Some spec.exit
+
+abbrev announced : IdData → Announced → Option OutgoingData
+announced id a = option_map (λ e. spec.initialize_result id e a.kind) a.encoding
+
+abbrev answered : Option IdData → Data → Option OutgoingData
+answered id result = option_and_then (λ i. if is_null result then Some (spec.shutdown_result i) else option_and_then (announced i) (announced_of result)) id
+
+abbrev refused : Option IdData → Data → Option OutgoingData
+refused id error = option_map (spec.error_reply id) (option_and_then error_named (text_in (get (codes "message") error)))
+
+abbrev replied : Option IdData → Option Data → Option Data → Option OutgoingData
+replied id (Some error) result = refused id error
+replied id None result = option_and_then (answered id) result
+
+abbrev written_by : Option (List ℕ) → Data → Option OutgoingData
+written_by (Some m) d = called m (get (codes "params") d)
+written_by None d = replied (id_found (get (codes "id") d)) (get (codes "error") d) (get (codes "result") d)
+
+abbrev written_as : Data → Option OutgoingData
+written_as d = written_by (text_in (get (codes "method") d)) d
+
+id_found-id_or_null : (id : Option IdData) → IfSome id IsProperId → id_found (Some (spec.id_or_null id)) ≡ id
+id_found-id_or_null None h = refl
+id_found-id_or_null (Some id) h = id_in-id_value id h
+
+error_named-text : (e : ErrorCode) → error_named (spec.error_text_of e) ≡ Some e
+error_named-text ParseError = refl
+error_named-text InvalidRequest = refl
+error_named-text MethodNotFound = refl
+error_named-text InvalidParams = refl
+error_named-text ServerNotInitialized = refl
+
+written_as-value_of : (m : OutgoingData) → IsProper m → written_as (spec.value_of m) ≡ Some m
+written_as-value_of (spec.initialize offers) h = ap (option_map spec.initialize) (offers_of-initialize_params offers.utf8 offers.utf32)
+written_as-value_of spec.initialized h = refl
+written_as-value_of (spec.did_open p) h = ap (option_map spec.did_open) (open_of-open_params p h)
+written_as-value_of (spec.did_change p) h = ap (option_map spec.did_change) (change_of-change_params p h)
+written_as-value_of (spec.did_close p) h = refl
+written_as-value_of spec.shutdown h = refl
+written_as-value_of spec.exit h = refl
+written_as-value_of (spec.initialize_result id encoding kind) h =
+    rw (id_in-id_value id h) (ap (option_and_then (announced id)) (announced_of-initialize_value encoding kind))
+written_as-value_of (spec.shutdown_result id) h = rw (id_in-id_value id h) refl
+written_as-value_of (spec.error_reply id error) h =
+    ap (λ i. refused i (spec.error_value error)) (id_found-id_or_null id h) ∙ ap (option_map (spec.error_reply id)) (error_named-text error)
+
+-- two messages with one text are one message
+pub body_of-unique : (m n : OutgoingData) → IsProper m → IsProper n → spec.body_of m ≡ spec.body_of n → m ≡ n
+body_of-unique m n h k same =
+    let values : spec.value_of m ≡ spec.value_of n = same_Some _ _ (sym (read-body_of m h) ∙ ap read same ∙ read-body_of n k) in
+    same_Some _ _ (sym (written_as-value_of m h) ∙ ap written_as values ∙ written_as-value_of n k)

@@ -1,0 +1,41 @@
+-- A body against the value that its bytes are.
+use Rattle.std.proofs.Common.{◌≡◌, ℕ, ◌<◌, Bool, true, false, List, length, Some, None, Result, Ok, Err, IfOk, IfErr, IsUtf8, refl, ◌∙◌}
+use Rattle.std.specs.Str.{is_utf8}
+use Rattle.std.proofs.lemmas.Str.{IsUtf8-from_is_utf8, is_utf8-from_IsUtf8}
+use Rattle.serde_json.specs.Data.{Data}
+use Rattle.serde_json.specs.Read.{read}
+use Rattle.lsp_message.specs.declared.message.Message.{Message}
+use Rattle.lsp_message.specs.declared.message.ReadFault.{ReadFault}
+use Rattle.lsp_message.specs.declared.message.ReadFault.TheVariants.{NotJson, NotAMessage, NoMemory}
+use Rattle.lsp_message.specs.Message.{Reading, message_of, not_json, message, reading}
+use Rattle.serde_json.specs.Errors.{IsMemory}
+use Rattle.serde_json.specs.declared.error.Error.{Error}
+use Rattle.lsp_message.specs.Seen.{message_view, IsReadFault, IsFaultOf, Answers}
+
+-- a body whose bytes are a value is read as what that value is
+pub reading_of_value : (body : List ℕ) (d : Data) → IsUtf8 body → read body ≡ Some d → reading body ≡ message_of d
+reading_of_value body d utf8 reads = rw (is_utf8-from_IsUtf8 body utf8, reads) refl
+
+not_json_at : (body : List ℕ) (b : Bool) → is_utf8 body ≡ b → (IsUtf8 body → read body ≡ None) → reading body ≡ not_json
+not_json_at body true valid refused = rw (valid, refused (IsUtf8-from_is_utf8 body valid)) refl
+not_json_at body false broken refused = rw broken refl
+
+-- a body that `serde_json` refuses is no JSON
+pub reading_of_none : (body : List ℕ) → (IsUtf8 body → read body ≡ None) → reading body ≡ not_json
+reading_of_none body refused = not_json_at body _ refl refused
+
+pub ok_by_reading : (r : Result Message ReadFault) (body : List ℕ) (found : Reading) → reading body ≡ found → Answers r found → IfOk r (λ m. reading body ≡ message (message_view m))
+ok_by_reading (Ok m) body found is h = is ∙ h
+ok_by_reading (Err e) body found is h = tt
+
+pub err_by_reading : (r : Result Message ReadFault) (body : List ℕ) (found : Reading) → reading body ≡ found → Answers r found → IfErr r (IsReadFault body)
+err_by_reading (Ok m) body found is h = tt
+err_by_reading (Err NotJson) body found is h = absurd h
+err_by_reading (Err (NotAMessage id)) body found is h = is ∙ h
+err_by_reading (Err NoMemory) body found is h = absurd h
+
+-- the fault that an error of `serde_json` makes
+pub fault_by_error : (body : List ℕ) (error : Error) (fault : ReadFault) → IsFaultOf error fault → (¬ IsMemory error → IsUtf8 body → read body ≡ None) → (IsMemory error → 0 < length body) → IsReadFault body fault
+fault_by_error body error NotJson is refused memory = reading_of_none body (refused is)
+fault_by_error body error (NotAMessage id) is refused memory = absurd is
+fault_by_error body error NoMemory is refused memory = memory is

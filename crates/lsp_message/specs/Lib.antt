@@ -1,0 +1,7 @@
+pub mod Values
+pub mod Message
+pub mod Params
+pub mod Agreement
+pub mod Outgoing
+pub mod Sent
+pub mod Seen

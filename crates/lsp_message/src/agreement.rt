@@ -1,0 +1,228 @@
+//! What a client offers and what a server announces (LSP 3.17, Initialize Request).
+
+ghost use Rattle.std.specs.Prelude.{◌≡◌, None, Some, IfOk, IfErr, Option, option_map};
+ghost use Rattle.serde_json.specs.View.{view, items_view, members_view};
+ghost use Rattle.lsp_message.specs.declared.params.ParamsFault.TheVariants.{InvalidParams};
+ghost use Rattle.lsp_message.specs.Values.{is_missing};
+ghost use Rattle.lsp_message.specs.Outgoing.{kind_number};
+ghost use Rattle.lsp_message.specs.Agreement.{is_offered, offers_of, offers_by_capabilities, offers_by_general, offers_by_encodings, offers_named, texts_in, announced_of, announced_by, sync_of, sync_by, kind_in, kind_of, open_close_of, encoding_of};
+
+use crate::members::find;
+use crate::params::ParamsFault;
+use lsp_text::Encoding;
+use serde_json::{Map, Value};
+use std::alloc::Global;
+
+/// The encodings that a client offers (LSP 3.17, `general.positionEncodings`). UTF-16 is always among them.
+#[derive(Clone, Copy, Debug, PartialEq, Eq, Hash)]
+pub struct Offers {
+    pub utf8: bool,
+    pub utf32: bool,
+}
+
+impl Offers {
+    /// UTF-16, and what is chosen here.
+    pub const fn new(utf8: bool, utf32: bool) -> Self
+        ensures { result ≡ record { utf8 = utf8; utf32 = utf32 } }
+    {
+        Offers { utf8, utf32 }
+    }
+
+    /// Whether this encoding is offered. UTF-16 always is.
+    pub const fn includes(self, encoding: Encoding) -> bool
+        ensures { result ≡ is_offered self encoding }
+    {
+        match encoding {
+            Encoding::Utf8 => self.utf8,
+            Encoding::Utf16 => true,
+            Encoding::Utf32 => self.utf32,
+        }
+    }
+}
+
+/// How a server wants to be told of changes (LSP 3.17, TextDocumentSyncKind).
+#[derive(Clone, Copy, Debug, PartialEq, Eq, Hash)]
+pub enum SyncKind {
+    /// Not at all; the protocol's `None`.
+    Off,
+    /// By the whole text.
+    Full,
+    /// By changed ranges.
+    Incremental,
+}
+
+impl SyncKind {
+    /// The protocol's number.
+    pub const fn number(self) -> u32
+        ensures { result ≡ kind_number self }
+    {
+        match self {
+            SyncKind::Off => 0,
+            SyncKind::Full => 1,
+            SyncKind::Incremental => 2,
+        }
+    }
+}
+
+/// What a server's result of `initialize` announces. An encoding whose name is unknown is `None`.
+#[derive(Clone, Copy, Debug, PartialEq, Eq, Hash)]
+pub struct Announced {
+    pub open_close: bool,
+    pub kind: SyncKind,
+    pub encoding: Option<Encoding>,
+}
+
+/// Reads the params of an `initialize`. Takes no memory.
+///
+/// Linear in the number of encodings that are named.
+pub fn params_initialize(_alloc: Global, params: Option<Value>) -> Result<Offers, ParamsFault>
+    ensures ok { IfOk result (λ offers. offers_of (option_map view params) ≡ Some offers) }
+    ensures err { IfErr result (λ e. (e ≡ InvalidParams) × (offers_of (option_map view params) ≡ None)) }
+{
+    offers_of(params.as_ref()).ok_or(ParamsFault::InvalidParams)
+}
+
+/// Reads the result of an `initialize`. Takes no memory.
+pub fn result_initialize(_alloc: Global, value: Value) -> Result<Announced, ParamsFault>
+    ensures ok { IfOk result (λ announced. announced_of (view value) ≡ Some announced) }
+    ensures err { IfErr result (λ e. (e ≡ InvalidParams) × (announced_of (view value) ≡ None)) }
+{
+    announced_of(&value).ok_or(ParamsFault::InvalidParams)
+}
+
+fn is_missing(value: Option<&Value>) -> bool
+    ensures { result ≡ is_missing (option_map (λ v. view v.now) value.entry) }
+{
+    match value {
+        Some(value) => value.is_null(),
+        None => true,
+    }
+}
+
+fn offers_of(params: Option<&Value>) -> Option<Offers>
+    ensures { result ≡ offers_of (option_map (λ v. view v.now) params.entry) }
+{
+    let members = params?.as_object()?;
+    offers_by_capabilities(find(members, "capabilities"))
+}
+
+fn offers_by_capabilities(value: Option<&Value>) -> Option<Offers>
+    ensures { result ≡ offers_by_capabilities (option_map (λ v. view v.now) value.entry) }
+{
+    if is_missing(value) {
+        return Some(Offers::new(false, false));
+    }
+    let members = value?.as_object()?;
+    offers_by_general(find(members, "general"))
+}
+
+fn offers_by_general(value: Option<&Value>) -> Option<Offers>
+    ensures { result ≡ offers_by_general (option_map (λ v. view v.now) value.entry) }
+{
+    if is_missing(value) {
+        return Some(Offers::new(false, false));
+    }
+    let members = value?.as_object()?;
+    offers_by_encodings(find(members, "positionEncodings"))
+}
+
+fn offers_by_encodings(value: Option<&Value>) -> Option<Offers>
+    ensures { result ≡ offers_by_encodings (option_map (λ v. view v.now) value.entry) }
+{
+    if is_missing(value) {
+        return Some(Offers::new(false, false));
+    }
+    offers_named(value?.as_array()?)
+}
+
+/// The offers of a list of names, of which unknown ones are skipped; none if one of them is no string.
+fn offers_named(names: &Vec<Value>) -> Option<Offers>
+    ensures { result ≡ option_map offers_named (texts_in (items_view names.now.items)) }
+{
+    let mut offers = Offers::new(false, false);
+    for name in names {
+        match Encoding::of_name(name.as_str()?) {
+            Some(Encoding::Utf8) => offers.utf8 = true,
+            Some(Encoding::Utf32) => offers.utf32 = true,
+            _ => {}
+        }
+    }
+    Some(offers)
+}
+
+fn announced_of(value: &Value) -> Option<Announced>
+    ensures { result ≡ announced_of (view value.now) }
+{
+    let capabilities = value.get("capabilities")?.as_object()?;
+    announced_by(capabilities)
+}
+
+fn announced_by(capabilities: &Map<String, Value>) -> Option<Announced>
+    ensures { result ≡ announced_by (members_view capabilities.now.entries) }
+{
+    let (open_close, kind) = sync_of(find(capabilities, "textDocumentSync"))?;
+    let encoding = encoding_of(find(capabilities, "positionEncoding"))?;
+    Some(Announced {
+        open_close,
+        kind,
+        encoding,
+    })
+}
+
+fn sync_of(value: Option<&Value>) -> Option<(bool, SyncKind)>
+    ensures { result ≡ sync_of (option_map (λ v. view v.now) value.entry) }
+{
+    match value {
+        None | Some(Value::Null) => Some((false, SyncKind::Off)),
+        Some(Value::Number(_)) => Some((true, kind_in(value)?)),
+        Some(Value::Object(members)) => sync_by(members),
+        Some(_) => None,
+    }
+}
+
+fn sync_by(members: &Map<String, Value>) -> Option<(bool, SyncKind)>
+    ensures { result ≡ sync_by (members_view members.now.entries) }
+{
+    let open_close = open_close_of(find(members, "openClose"))?;
+    let kind = kind_of(find(members, "change"))?;
+    Some((open_close, kind))
+}
+
+fn kind_in(value: Option<&Value>) -> Option<SyncKind>
+    ensures { result ≡ kind_in (option_map (λ v. view v.now) value.entry) }
+{
+    match value?.as_u64()? {
+        0 => Some(SyncKind::Off),
+        1 => Some(SyncKind::Full),
+        2 => Some(SyncKind::Incremental),
+        _ => None,
+    }
+}
+
+fn kind_of(value: Option<&Value>) -> Option<SyncKind>
+    ensures { result ≡ kind_of (option_map (λ v. view v.now) value.entry) }
+{
+    if is_missing(value) {
+        return Some(SyncKind::Off);
+    }
+    kind_in(value)
+}
+
+fn open_close_of(value: Option<&Value>) -> Option<bool>
+    ensures { result ≡ open_close_of (option_map (λ v. view v.now) value.entry) }
+{
+    if is_missing(value) {
+        return Some(false);
+    }
+    value?.as_bool()
+}
+
+/// The encoding that a server chose: `Some(None)` where its name is unknown.
+fn encoding_of(value: Option<&Value>) -> Option<Option<Encoding>>
+    ensures { result ≡ encoding_of (option_map (λ v. view v.now) value.entry) }
+{
+    if is_missing(value) {
+        return Some(Some(Encoding::Utf16));
+    }
+    value?.as_str().map(Encoding::of_name)
+}

@@ -1,0 +1,24 @@
+//! Messages of the Language Server Protocol 3.17: from a body to a message and its typed parameters, and from a message to its one text.
+//!
+//! - `message`: which message a body is.
+//! - `params`: the typed parameters of the document messages.
+//! - `agreement`: what a client offers and what a server announces.
+//! - `members`: the members of an object, taken out of it one by one.
+#![tactic(auto)]
+
+mod agreement;
+mod members;
+mod message;
+mod outgoing;
+mod params;
+#[cfg(test)]
+mod tests;
+mod writer;
+
+pub use agreement::{Announced, Offers, SyncKind, params_initialize, result_initialize};
+pub use message::{Id, Message, Outcome, ReadFault, read};
+pub use outgoing::{ErrorCode, Outgoing};
+pub use params::{
+    ChangeParams, CloseParams, OpenParams, ParamsFault, params_change, params_close, params_open,
+};
+pub use writer::write;

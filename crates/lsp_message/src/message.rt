@@ -1,0 +1,229 @@
+//! Which message a body is (LSP 3.17, Base Protocol).
+
+ghost use Rattle.std.specs.Prelude.{◌≡◌, Some, IfOk, IfErr, codes, option_map, string_bytes};
+ghost use Rattle.serde_json.specs.Find.{get_member};
+ghost use Rattle.serde_json.specs.View.{view, members_view};
+ghost use Rattle.lsp_message.specs.Message.{reading, message, id_in, id_found, call_of, answer_of, outcome_of, message_by, message_of, is_version_two};
+ghost use Rattle.lsp_message.specs.Seen.{id_view, message_view, IsReadFault, Answers};
+
+use crate::members::take;
+use serde_json::{Map, Value};
+use std::alloc::Global;
+use thiserror::Error;
+
+/// The id of a request, which its response repeats.
+#[derive(Debug, PartialEq, Eq, Drop)]
+pub enum Id {
+    Whole(i64),
+    Text(String),
+}
+
+/// How a request went: the value of a response's `result`, or that it has an `error`.
+#[derive(Debug, PartialEq, Drop)]
+pub enum Outcome {
+    Given(Value),
+    Failed,
+}
+
+/// A message of JSON-RPC 2.0. `params` is the member's value, whatever it is.
+#[derive(Debug, PartialEq, Drop)]
+pub enum Message {
+    Request {
+        id: Id,
+        method: String,
+        params: Option<Value>,
+    },
+    Notification {
+        method: String,
+        params: Option<Value>,
+    },
+    /// The id is `None` where the member is null.
+    Response {
+        id: Option<Id>,
+        outcome: Outcome,
+    },
+}
+
+/// Why a body was not read as a message.
+#[derive(Debug, PartialEq, Eq, Drop, Error)]
+pub enum ReadFault {
+    #[error("the body is no JSON")]
+    NotJson,
+    /// The body is JSON and no message. The id is the one that a reply may name, if there is one.
+    #[error("the body is no message")]
+    NotAMessage { id: Option<Id> },
+    #[error("out of memory")]
+    NoMemory,
+}
+
+impl From<serde_json::Error> for ReadFault {
+    ghost use Rattle.lsp_message.specs.Seen.{IsFaultOf};
+
+    ghost from_gives = { IsFaultOf };
+
+    fn from(error: serde_json::Error) -> ReadFault {
+        if error.is_memory() {
+            ReadFault::NoMemory
+        } else {
+            ReadFault::NotJson
+        }
+    }
+}
+
+/// Reads a body.
+///
+/// One parse, linear in the body; texts are moved out of what was parsed.
+pub fn read(alloc: Global, body: &[u8]) -> Result<Message, ReadFault>
+    ensures ok { IfOk result (λ m. reading body.now ≡ message (message_view m)) }
+    ensures err { IfErr result (IsReadFault body.now) }
+{
+    let value = Value::from_slice(alloc, body)?;
+    message_of(value)
+}
+
+fn message_of(value: Value) -> Result<Message, ReadFault>
+    ensures { Answers result (message_of (view value)) }
+{
+    match value {
+        Value::Object(members) => message_by(Members::of(members)),
+        _ => Err(ReadFault::NotAMessage { id: None }),
+    }
+}
+
+/// The members of an object that make it a message.
+#[derive(Drop)]
+struct Members {
+    version: Option<Value>,
+    method: Option<Value>,
+    id: Option<Value>,
+    params: Option<Value>,
+    error: Option<Value>,
+    outcome: Option<Value>,
+}
+
+impl Members {
+    fn of(mut members: Map<String, Value>) -> Self
+        ensures version { option_map view result.version ≡ get_member (codes "jsonrpc") (members_view members.entries) }
+        ensures method { option_map view result.method ≡ get_member (codes "method") (members_view members.entries) }
+        ensures id { option_map view result.id ≡ get_member (codes "id") (members_view members.entries) }
+        ensures params { option_map view result.params ≡ get_member (codes "params") (members_view members.entries) }
+        ensures error { option_map view result.error ≡ get_member (codes "error") (members_view members.entries) }
+        ensures outcome { option_map view result.outcome ≡ get_member (codes "result") (members_view members.entries) }
+    {
+        let version = take(&mut members, "jsonrpc");
+        let method = take(&mut members, "method");
+        let id = take(&mut members, "id");
+        let params = take(&mut members, "params");
+        let error = take(&mut members, "error");
+        let outcome = take(&mut members, "result");
+        Members {
+            version,
+            method,
+            id,
+            params,
+            error,
+            outcome,
+        }
+    }
+}
+
+fn message_by(members: Members) -> Result<Message, ReadFault>
+    ensures { Answers result
+        (message_by (option_map view members.version) (option_map view members.method) (option_map view members.id)
+        (option_map view members.params) (option_map view members.error) (option_map view members.outcome)) }
+{
+    let Members {
+        version,
+        method,
+        id,
+        params,
+        error,
+        outcome,
+    } = members;
+    if !is_version_two(&version) {
+        return Err(ReadFault::NotAMessage { id: id_found(id) });
+    }
+    match method {
+        Some(Value::String(method)) => call_of(id, method, params),
+        Some(_) => Err(ReadFault::NotAMessage { id: id_found(id) }),
+        None => answer_of(id, error, outcome),
+    }
+}
+
+fn is_version_two(version: &Option<Value>) -> bool
+    ensures { result ≡ is_version_two (option_map view version.now) }
+{
+    match version {
+        Some(Value::String(text)) => text.as_str() == "2.0",
+        _ => false,
+    }
+}
+
+fn id_in(id: Value) -> Option<Id>
+    ensures { option_map id_view result ≡ id_in (view id) }
+{
+    match id {
+        Value::Number(number) => number.as_i64().map(Id::Whole),
+        Value::String(text) => Some(Id::Text(text)),
+        _ => None,
+    }
+}
+
+fn id_found(id: Option<Value>) -> Option<Id>
+    ensures { option_map id_view result ≡ id_found (option_map view id) }
+{
+    id_in(id?)
+}
+
+fn call_of(id: Option<Value>, method: String, params: Option<Value>) -> Result<Message, ReadFault>
+    ensures { Answers result (call_of (option_map view id) (string_bytes method) (option_map view params)) }
+{
+    let Some(id) = id else {
+        return Ok(Message::Notification { method, params });
+    };
+    match id_in(id) {
+        Some(id) => Ok(Message::Request { id, method, params }),
+        None => Err(ReadFault::NotAMessage { id: None }),
+    }
+}
+
+fn answer_of(
+    id: Option<Value>,
+    error: Option<Value>,
+    outcome: Option<Value>,
+) -> Result<Message, ReadFault>
+    ensures { Answers result (answer_of (option_map view id) (option_map view error) (option_map view outcome)) }
+{
+    let Some(id) = id else {
+        return Err(ReadFault::NotAMessage { id: None });
+    };
+    if id.is_null() {
+        return outcome_of(None, error, outcome);
+    }
+    match id_in(id) {
+        Some(id) => outcome_of(Some(id), error, outcome),
+        None => Err(ReadFault::NotAMessage { id: None }),
+    }
+}
+
+fn outcome_of(
+    id: Option<Id>,
+    error: Option<Value>,
+    outcome: Option<Value>,
+) -> Result<Message, ReadFault>
+    ensures { Answers result (outcome_of (option_map id_view id) (option_map view error) (option_map view outcome)) }
+{
+    if error.is_some_and(|error| !error.is_null()) {
+        return Ok(Message::Response {
+            id,
+            outcome: Outcome::Failed,
+        });
+    }
+    match outcome {
+        Some(value) => Ok(Message::Response {
+            id,
+            outcome: Outcome::Given(value),
+        }),
+        None => Err(ReadFault::NotAMessage { id }),
+    }
+}

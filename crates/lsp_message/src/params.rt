@@ -1,0 +1,218 @@
+//! The typed parameters of the three document messages (LSP 3.17, DidOpen, DidChange, DidClose Text Document Notification).
+
+ghost use Rattle.std.specs.Prelude.{◌≡◌, None, Some, IfOk, IfErr, map, option_map, Err};
+ghost use Rattle.serde_json.specs.View.{view, items_view, members_view};
+ghost use Rattle.lsp_message.specs.declared.params.ParamsFault.TheVariants.{InvalidParams, NoMemory};
+ghost use Rattle.lsp_message.specs.Params.{open_of, change_of, close_of, open_by, edit_in, edits_in, document_in, document_and_changes, change_by, version_in, coordinate_in, position_in, range_in, range_of};
+ghost use Rattle.lsp_message.specs.Seen.{open_view, change_view, close_view, edit_view};
+
+use crate::members::{array, member, object, take, text};
+use lsp_edit::Change;
+use lsp_text::{Position, Range};
+use serde_json::{Map, Value};
+use std::alloc::{AllocError, AllocFailed, Global};
+use thiserror::Error;
+
+/// The params of a `textDocument/didOpen`.
+#[derive(Debug, PartialEq, Eq, Drop)]
+pub struct OpenParams {
+    pub uri: String,
+    pub language: String,
+    pub version: i32,
+    pub text: String,
+}
+
+/// The params of a `textDocument/didChange`. The changes apply in order, each to the text that the one before left.
+#[derive(Debug, PartialEq, Eq, Drop)]
+pub struct ChangeParams {
+    pub uri: String,
+    pub version: i32,
+    pub changes: Vec<Change>,
+}
+
+/// The params of a `textDocument/didClose`.
+#[derive(Debug, PartialEq, Eq, Drop)]
+pub struct CloseParams {
+    pub uri: String,
+}
+
+/// Why parameters or a result were not read.
+#[derive(Clone, Copy, Debug, PartialEq, Eq, Error)]
+pub enum ParamsFault {
+    /// A member is missing, has the wrong type, or is a number out of range.
+    #[error("invalid params")]
+    InvalidParams,
+    #[error("out of memory")]
+    NoMemory,
+}
+
+impl From<AllocError> for ParamsFault {
+    ghost from_gives = { λ _ e. e ≡ NoMemory };
+
+    fn from(_e: AllocError) -> ParamsFault {
+        ParamsFault::NoMemory
+    }
+}
+
+impl<T: Drop> From<AllocFailed<T>> for ParamsFault {
+    ghost from_gives = { λ _ e. e ≡ NoMemory };
+
+    fn from(_e: AllocFailed<T>) -> ParamsFault {
+        ParamsFault::NoMemory
+    }
+}
+
+/// Reads the params of a `textDocument/didOpen`. The texts are moved out of them; nothing is copied.
+pub fn params_open(_alloc: Global, params: Option<Value>) -> Result<OpenParams, ParamsFault>
+    ensures ok { IfOk result (λ p. open_of (option_map view params) ≡ Some (open_view p)) }
+    ensures err { IfErr result (λ e. (e ≡ InvalidParams) × (open_of (option_map view params) ≡ None)) }
+{
+    open_in(params).ok_or(ParamsFault::InvalidParams)
+}
+
+/// Reads the params of a `textDocument/didChange`. The texts are moved out of them; nothing is copied.
+///
+/// Linear in the number of changes.
+pub fn params_change(alloc: Global, params: Option<Value>) -> Result<ChangeParams, ParamsFault>
+    ensures ok { IfOk result (λ p. change_of (option_map view params) ≡ Some (change_view p)) }
+    ensures invalid { result ≡ Err ParamsFault.InvalidParams → change_of (option_map view params) ≡ None }
+{
+    let (document, changes) = document_and_changes(params).ok_or(ParamsFault::InvalidParams)?;
+    change_by(alloc, document, changes)
+}
+
+/// Reads the params of a `textDocument/didClose`. The URI is moved out of them.
+pub fn params_close(_alloc: Global, params: Option<Value>) -> Result<CloseParams, ParamsFault>
+    ensures ok { IfOk result (λ p. close_of (option_map view params) ≡ Some (close_view p)) }
+    ensures err { IfErr result (λ e. (e ≡ InvalidParams) × (close_of (option_map view params) ≡ None)) }
+{
+    close_in(params).ok_or(ParamsFault::InvalidParams)
+}
+
+fn open_in(params: Option<Value>) -> Option<OpenParams>
+    ensures { option_map open_view result ≡ open_of (option_map view params) }
+{
+    open_by(document_in(params)?)
+}
+
+fn close_in(params: Option<Value>) -> Option<CloseParams>
+    ensures { option_map close_view result ≡ close_of (option_map view params) }
+{
+    let mut document = document_in(params)?;
+    let uri = text(take(&mut document, "uri"))?;
+    Some(CloseParams { uri })
+}
+
+/// The members of the object that names the document.
+fn document_in(params: Option<Value>) -> Option<Map<String, Value>>
+    ensures { option_map (λ m. members_view m.entries) result ≡ document_in (option_map view params) }
+{
+    object(member(params, "textDocument"))
+}
+
+fn open_by(mut document: Map<String, Value>) -> Option<OpenParams>
+    ensures { option_map open_view result ≡ open_by (members_view document.entries) }
+{
+    let uri = text(take(&mut document, "uri"))?;
+    let language = text(take(&mut document, "languageId"))?;
+    let version = version_in(take(&mut document, "version"))?;
+    let text = text(take(&mut document, "text"))?;
+    Some(OpenParams {
+        uri,
+        language,
+        version,
+        text,
+    })
+}
+
+fn version_in(value: Option<Value>) -> Option<i32>
+    ensures { result ≡ version_in (option_map view value) }
+{
+    i32::try_from(value?.as_i64()?).ok()
+}
+
+fn coordinate_in(value: Option<&Value>) -> Option<u32>
+    ensures { result ≡ coordinate_in (option_map (λ v. view v.now) value.entry) }
+{
+    u32::try_from(value?.as_u64()?).ok()
+}
+
+fn position_in(value: Option<&Value>) -> Option<Position>
+    ensures { result ≡ position_in (option_map (λ v. view v.now) value.entry) }
+{
+    let value = value?;
+    let line = coordinate_in(value.get("line"))?;
+    let character = coordinate_in(value.get("character"))?;
+    Some(Position { line, character })
+}
+
+fn range_in(value: &Value) -> Option<Range>
+    ensures { result ≡ range_in (Some (view value.now)) }
+{
+    let start = position_in(value.get("start"))?;
+    let stop = position_in(value.get("end"))?;
+    Some(Range { start, stop })
+}
+
+/// The range of a change: `Some(None)` where it has none and stands for the whole text.
+fn range_of(value: Option<Value>) -> Option<Option<Range>>
+    ensures { result ≡ range_of (option_map view value) }
+{
+    let Some(value) = value else {
+        return Some(None);
+    };
+    if value.is_null() {
+        return Some(None);
+    }
+    range_in(&value).map(Some)
+}
+
+fn edit_in(value: Value) -> Option<Change>
+    ensures { option_map edit_view result ≡ edit_in (view value) }
+{
+    let mut members = object(Some(value))?;
+    let text = text(take(&mut members, "text"))?;
+    let range = range_of(take(&mut members, "range"))?;
+    Some(Change { range, text })
+}
+
+fn change_by(
+    alloc: Global,
+    mut document: Map<String, Value>,
+    changes: Vec<Value>,
+) -> Result<ChangeParams, ParamsFault>
+    ensures ok { IfOk result (λ p. change_by (members_view document.entries) (items_view changes.items) ≡ Some (change_view p)) }
+    ensures invalid { result ≡ Err ParamsFault.InvalidParams
+        → change_by (members_view document.entries) (items_view changes.items) ≡ None }
+{
+    let uri = text(take(&mut document, "uri")).ok_or(ParamsFault::InvalidParams)?;
+    let version = version_in(take(&mut document, "version")).ok_or(ParamsFault::InvalidParams)?;
+    let changes = edits_in(alloc, changes)?;
+    Ok(ChangeParams {
+        uri,
+        version,
+        changes,
+    })
+}
+
+/// The members of the object that names the document, and the changes that are still to be read.
+fn document_and_changes(params: Option<Value>) -> Option<(Map<String, Value>, Vec<Value>)>
+    ensures { option_map (λ p. (members_view p.0.entries, items_view p.1.items)) result
+        ≡ document_and_changes (option_map view params) }
+{
+    let mut members = object(params)?;
+    let document = object(take(&mut members, "textDocument"))?;
+    let changes = array(take(&mut members, "contentChanges"))?;
+    Some((document, changes))
+}
+
+fn edits_in(alloc: Global, values: Vec<Value>) -> Result<Vec<Change>, ParamsFault>
+    ensures ok { IfOk result (λ changes. edits_in (items_view values.items) ≡ Some (map edit_view changes.items)) }
+    ensures invalid { result ≡ Err ParamsFault.InvalidParams → edits_in (items_view values.items) ≡ None }
+{
+    let mut changes = Vec::with_capacity(alloc, values.len())?;
+    for value in values {
+        changes.push(edit_in(value).ok_or(ParamsFault::InvalidParams)?)?;
+    }
+    Ok(changes)
+}
