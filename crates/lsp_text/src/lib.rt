@@ -2,10 +2,13 @@
 //!
 //! - `position`: a place as the protocol writes it, and a range of two.
 //! - `encoding`: what a character of a line counts.
+//! - `laws`: what holds of positions in every text.
 #![tactic(auto)]
 
 mod encoding;
+mod laws;
 mod position;
 
 pub use encoding::Encoding;
+pub use laws::position_laws;
 pub use position::{Position, Range};

@@ -1,0 +1,5 @@
+pub mod RowLemmas
+pub mod LineLemmas
+pub mod UnitLemmas
+pub mod PositionLemmas
+pub mod NearLemmas
