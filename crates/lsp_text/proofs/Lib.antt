@@ -3,3 +3,4 @@ pub mod LineLemmas
 pub mod UnitLemmas
 pub mod PositionLemmas
 pub mod NearLemmas
+pub mod InLineLemmas

@@ -10,7 +10,7 @@ use Rattle.lsp_text.proofs.LineLemmas.{line_rises, splits_none_past, in_content,
 use Rattle.lsp_text.proofs.UnitLemmas.{units_rise, units_same}
 
 -- The index of a content with the units of an index of that content is that index.
-content_index : (units : ℕ → ℕ) → ((c : ℕ) → 1 ≤ units c) → (text : List ℕ) (line start stop k : ℕ) → IsStart text line start → IsStop text line stop → k ≤ length text → is_in_content text line k ≡ true
+pub content_index : (units : ℕ → ℕ) → ((c : ℕ) → 1 ≤ units c) → (text : List ℕ) (line start stop k : ℕ) → IsStart text line start → IsStop text line stop → k ≤ length text → is_in_content text line k ≡ true
     → cond (nat_le (units_between units text start stop) (units_between units text start k)) (Some stop) (find (λ j. units_between units text start j == units_between units text start k) (line_content text line)) ≡ Some k
 content_index units some text line start stop k is_start is_stop within content =
     ⊎_elim

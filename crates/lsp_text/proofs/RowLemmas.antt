@@ -144,3 +144,16 @@ find_found test wanted low (suc count) found f =
         (λ (w : wanted low ≡ true). here p w (let s : Some low ≡ Some found = rw w at g in cc))
         (λ (w : wanted low ≡ false). more (rw w at g))
         (cases_Bool (wanted low))
+
+-- Nothing is found where no number of the row passes both tests.
+pub find_none : (test wanted : ℕ → Bool) (low count : ℕ) → ((k : ℕ) → low ≤ k → k < low + count → test k ≡ true → wanted k ≡ true → ⊥) → find wanted (filter test (numbers_from low count)) ≡ None
+find_none test wanted low zero none = refl
+find_none test wanted low (suc count) none =
+    ⊎_elim
+    (λ (p : test low ≡ true).
+    ⊎_elim
+    (λ (w : wanted low ≡ true). absurd (none low (omega arith) (omega arith) p w))
+    (λ (w : wanted low ≡ false). rw (p, w) (find_none test wanted (suc low) count (λ k order within. none k (omega arith) (omega arith))))
+    (cases_Bool (wanted low)))
+    (λ (p : test low ≡ false). rw p (find_none test wanted (suc low) count (λ k order within. none k (omega arith) (omega arith))))
+    (cases_Bool (test low))
