@@ -1,8 +1,11 @@
 //! Changes of a text: what the batch of a `didChange` means, and its one canonical batch.
 //!
 //! - `change`: a change as the protocol writes it, and the limit on the texts of a batch.
+//! - `laws`: what holds of every batch and of its canonical batch.
 #![tactic(auto)]
 
 mod change;
+mod laws;
 
 pub use change::{Change, MAX_NEW_TEXT, fits};
+pub use laws::batch_laws;

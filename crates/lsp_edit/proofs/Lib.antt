@@ -1,0 +1,9 @@
+pub mod KeepsLemmas
+pub mod GapLemmas
+pub mod PairLemmas
+pub mod BatchLemmas
+pub mod RebuiltLemmas
+pub mod CountLemmas
+pub mod SameLemmas
+pub mod ComposeLemmas
+pub mod WeightLemmas

@@ -1,0 +1,7 @@
+pub mod Items
+pub mod Batch
+pub mod Canonical
+pub mod Compose
+pub mod Keeps
+pub mod Laws
+pub mod Examples
