@@ -2,3 +2,4 @@ pub mod Text
 pub mod TextLines
 pub mod Units
 pub mod Positions
+pub mod LineStarts

@@ -5,6 +5,7 @@
 #![tactic(auto)]
 
 mod encoding;
+mod ends;
 mod position;
 
 pub use encoding::Encoding;
