@@ -1,3 +1,4 @@
 pub mod EndLemmas
 pub mod PlaceLemmas
 pub mod StartLemmas
+pub mod SearchLemmas

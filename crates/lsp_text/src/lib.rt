@@ -7,6 +7,8 @@
 mod encoding;
 mod ends;
 mod position;
+mod starts;
 
 pub use encoding::Encoding;
 pub use position::{Position, Range};
+pub use starts::{Starts, line_of};
