@@ -1,4 +1,12 @@
-pub mod EndLemmas
+pub mod RowLemmas
+pub mod LineLemmas
+pub mod UnitLemmas
+pub mod PositionLemmas
+pub mod NearLemmas
+pub mod InLineLemmas
 pub mod PlaceLemmas
+pub mod EndLemmas
 pub mod StartLemmas
+pub mod StartRowLemmas
+pub mod IndexesLemmas
 pub mod SearchLemmas

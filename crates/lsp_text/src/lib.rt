@@ -6,9 +6,13 @@
 
 mod encoding;
 mod ends;
+mod laws;
+mod lines;
 mod position;
 mod starts;
 
 pub use encoding::Encoding;
 pub use position::{Position, Range};
-pub use starts::{Starts, line_of};
+pub use laws::position_laws;
+pub use lines::Lines;
+pub use starts::{Looks, Starts, line_of};

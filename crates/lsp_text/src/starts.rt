@@ -45,3 +45,46 @@ pub fn line_of<S: Starts>(starts: &mut S, place: usize) -> usize
     }
     low
 }
+
+/// The starts of the lines of a text, of which each look is counted.
+#[derive(Debug)]
+pub struct Looks<'a> {
+    starts: &'a [u32],
+    made: usize,
+    ghost are_starts: { AreStarts starts.now },
+}
+
+impl<'a> Looks<'a> {
+    /// No look was made yet.
+    pub fn new(starts: &'a [u32]) -> Self
+        requires { AreStarts starts.now }
+        ensures starts { result.starts.now ≡ starts.now }
+        ensures made { result.made ≡ 0 }
+    {
+        Looks { starts, made: 0 }
+    }
+
+    /// How many looks were made. It stays at the greatest value of `usize`.
+    pub fn made(&self) -> usize
+        ensures { result ≡ ⟦<Looks<'a> as Starts>⟧.looks self.now }
+    {
+        self.made
+    }
+}
+
+impl Starts for Looks<'_> {
+    ghost starts = { λ looks. looks.starts.now };
+
+    ghost looks = { λ looks. looks.made };
+
+    fn len(&self) -> usize {
+        self.starts.len()
+    }
+
+    fn at(&mut self, index: usize) -> usize {
+        self.made = self.made.saturating_add(1);
+        self.starts[index] as usize
+    }
+
+    ghost are_starts = { λ looks. looks.are_starts };
+}
