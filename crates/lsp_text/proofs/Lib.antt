@@ -8,5 +8,6 @@ pub mod PlaceLemmas
 pub mod EndLemmas
 pub mod StartLemmas
 pub mod StartRowLemmas
+pub mod LeadLemmas
 pub mod IndexesLemmas
 pub mod SearchLemmas

@@ -4,3 +4,4 @@ pub mod Units
 pub mod Positions
 pub mod Starts
 pub mod LineStarts
+pub mod Leads
