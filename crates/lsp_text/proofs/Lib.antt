@@ -4,3 +4,10 @@ pub mod UnitLemmas
 pub mod PositionLemmas
 pub mod NearLemmas
 pub mod InLineLemmas
+pub mod PlaceLemmas
+pub mod EndLemmas
+pub mod StartLemmas
+pub mod StartRowLemmas
+pub mod LeadLemmas
+pub mod IndexesLemmas
+pub mod SearchLemmas

@@ -2,13 +2,17 @@
 //!
 //! - `position`: a place as the protocol writes it, and a range of two.
 //! - `encoding`: what a character of a line counts.
-//! - `laws`: what holds of positions in every text.
 #![tactic(auto)]
 
 mod encoding;
+mod ends;
 mod laws;
+mod lines;
 mod position;
+mod starts;
 
 pub use encoding::Encoding;
-pub use laws::position_laws;
 pub use position::{Position, Range};
+pub use laws::position_laws;
+pub use lines::Lines;
+pub use starts::{Looks, Starts, line_of};
