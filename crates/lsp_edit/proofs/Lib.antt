@@ -7,3 +7,4 @@ pub mod CountLemmas
 pub mod SameLemmas
 pub mod ComposeLemmas
 pub mod WeightLemmas
+pub mod PartLemmas

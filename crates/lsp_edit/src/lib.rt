@@ -6,6 +6,9 @@
 
 mod change;
 mod laws;
+mod replace;
+mod span;
 
 pub use change::{Change, MAX_NEW_TEXT, fits};
 pub use laws::batch_laws;
+pub use span::Span;
