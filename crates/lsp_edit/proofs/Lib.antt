@@ -8,3 +8,7 @@ pub mod SameLemmas
 pub mod ComposeLemmas
 pub mod WeightLemmas
 pub mod PartLemmas
+pub mod IndexLemmas
+pub mod CutLemmas
+pub mod CutPartsLemmas
+pub mod PutLemmas

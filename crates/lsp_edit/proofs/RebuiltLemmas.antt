@@ -49,7 +49,7 @@ plain_to_next index rest =
     ap (λ (items : List Item). items ++ rest) t ∙ append_assoc (plain_to index) (Old index ∷ []) rest
 
 module _ (old : List ℕ) where
-  text_row : (low count : ℕ) → low + count ≤ length old → text_of old (map Old (numbers_from low count)) ≡ take count (drop low old)
+  pub text_row : (low count : ℕ) → low + count ≤ length old → text_of old (map Old (numbers_from low count)) ≡ take count (drop low old)
   text_row low zero within = refl
   text_row low (suc count) within =
       let inside : low < length old = omega arith in
