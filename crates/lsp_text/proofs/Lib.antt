@@ -9,5 +9,6 @@ pub mod EndLemmas
 pub mod StartLemmas
 pub mod StartRowLemmas
 pub mod LeadLemmas
+pub mod ContentLemmas
 pub mod IndexesLemmas
 pub mod SearchLemmas
