@@ -102,7 +102,7 @@ prefix_high : (bytes rest : List ℕ) → AllHigh bytes → prefix_len is_inside
 prefix_high [] rest all = omega arith
 prefix_high (b ∷ bytes) rest all = rw (inside_high b all.0, prefix_high bytes rest all.1) (omega arith)
 
-place_cons : (c : ℕ) (cs : List ℕ) (n : ℕ) → place_of (c ∷ cs) (1 + n) ≡ length (encode c) + place_of cs n
+pub place_cons : (c : ℕ) (cs : List ℕ) (n : ℕ) → place_of (c ∷ cs) (1 + n) ≡ length (encode c) + place_of cs n
 place_cons c cs n =
     let next : 1 + n ≡ suc n = omega arith in
     ap (place_of (c ∷ cs)) next ∙ length-append (encode c) (encode_utf8_all (take n cs))

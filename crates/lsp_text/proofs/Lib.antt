@@ -10,5 +10,6 @@ pub mod StartLemmas
 pub mod StartRowLemmas
 pub mod LeadLemmas
 pub mod ContentLemmas
+pub mod ResolveLemmas
 pub mod IndexesLemmas
 pub mod SearchLemmas
