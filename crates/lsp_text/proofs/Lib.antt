@@ -12,4 +12,5 @@ pub mod LeadLemmas
 pub mod ContentLemmas
 pub mod ResolveLemmas
 pub mod IndexesLemmas
+pub mod ExactLemmas
 pub mod SearchLemmas

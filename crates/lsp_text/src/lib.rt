@@ -6,6 +6,7 @@
 
 mod encoding;
 mod ends;
+mod exact;
 mod in_line;
 mod laws;
 mod lines;
