@@ -1,5 +1,5 @@
 -- The exact position of a place, by the line starts and the bytes of its line.
-use Rattle.std.proofs.Common.{◌≡◌, ℕ, zero, suc, ◌+◌, ◌-◌, ◌≤◌, ◌<◌, ◌^◌, false, true, List, [], ◌∷◌, length, take, drop, slice_index, sum_by, refl, sym, ap, ◌∙◌, arith, ⊎_elim, subst}
+use Rattle.std.proofs.Common.{◌≡◌, ℕ, zero, suc, ◌+◌, ◌-◌, ◌≤◌, ◌<◌, ◌^◌, false, true, List, [], ◌∷◌, length, take, drop, slice_index, sum_by, Some, option_map, refl, sym, ap, ◌∙◌, arith, ⊎_elim, subst}
 use Rattle.std.specs.Prelude.{encode_utf8_all}
 use Rattle.std.specs.Char.{len_utf8}
 use Rattle.std.specs.Str.{chars, IsUtf8}
@@ -10,14 +10,15 @@ use Rattle.std.proofs.lemmas.Str.{encodes-chars, length-le-encodes}
 use Rattle.lsp_text.specs.declared.position.Position.{Position}
 use Rattle.lsp_text.specs.Text.{place_of}
 use Rattle.lsp_text.specs.TextLines.{ends_line, line_at, line_ends, line_start}
-use Rattle.lsp_text.specs.LineStarts.{Indexes, line_starts}
+use Rattle.lsp_text.specs.LineStarts.{Indexes, IsPlace, line_starts}
 use Rattle.lsp_text.specs.Starts.{AreStarts, IsLineOf}
 use Rattle.lsp_text.specs.Units.{units_between}
-use Rattle.lsp_text.specs.Positions.{exact_position}
+use Rattle.lsp_text.specs.Positions.{exact_position, denoted}
 use Rattle.lsp_text.proofs.LineLemmas.{line_rises, line_step, reached, in_content_line, line_has_start}
 use Rattle.lsp_text.proofs.PlaceLemmas.{place_order, place_rises, place_within}
 use Rattle.lsp_text.proofs.StartLemmas.{starts_of_text}
 use Rattle.lsp_text.proofs.IndexesLemmas.{indexes_line, indexes_start, indexes_count, starts_from}
+use Rattle.lsp_text.proofs.PositionLemmas.{exact_denotes}
 use Rattle.lsp_text.proofs.LeadLemmas.{utf8_units_of_text}
 use Rattle.lsp_text.proofs.ResolveLemmas.{part, part_utf8, chars_part}
 
@@ -125,3 +126,10 @@ exact_is units bytes lines shown place line count k utf8 indexes same found coun
     let line_is : line ≡ line_at (chars bytes) k = line_found bytes lines place line k indexes (subst (λ xs. IsLineOf xs place line) same found) within at in
     let count_is = counted ∙ front_units units bytes (slice_index lines line) place k utf8 front in
     rw (line_is, count_is) refl
+
+-- The exact position of a place denotes it.
+pub exact_resolves : (units : ℕ → ℕ) → ((c : ℕ) → 1 ≤ units c) → (text : List ℕ) (place : ℕ) (p : Position) → IsPlace text place →
+    ((k : ℕ) → k ≤ length text → place_of text k ≡ place → p ≡ exact_position units text k) → option_map (place_of text) (denoted units text p) ≡ Some place
+exact_resolves units some text place p at exact =
+    ap (λ q. option_map (place_of text) (denoted units text q)) (exact at.0 at.1 at.3) ∙
+    (ap (option_map (place_of text)) (exact_denotes units some text at.0 at.1 at.2) ∙ ap Some at.3)

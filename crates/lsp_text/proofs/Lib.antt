@@ -13,4 +13,5 @@ pub mod ContentLemmas
 pub mod ResolveLemmas
 pub mod IndexesLemmas
 pub mod ExactLemmas
+pub mod BoundaryLemmas
 pub mod SearchLemmas

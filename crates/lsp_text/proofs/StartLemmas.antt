@@ -76,7 +76,7 @@ not_line_feed : (a b : ℕ) → 128 ≤ a → 128 ≤ b → (a == 10) ≡ (b == 
 not_line_feed a b h g = grind (arith, nat_tests)
 
 -- the first byte is a line feed exactly if the first character is
-first_line_feed : (cs : List ℕ) → (slice_index (encode_utf8_all cs) 0 == 10) ≡ (slice_index cs 0 == 10)
+pub first_line_feed : (cs : List ℕ) → (slice_index (encode_utf8_all cs) 0 == 10) ≡ (slice_index cs 0 == 10)
 first_line_feed [] = refl
 first_line_feed (c ∷ cs) =
     ⊎_elim

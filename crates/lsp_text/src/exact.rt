@@ -1,9 +1,9 @@
 //! From a place to its exact position.
-ghost use Rattle.std.specs.Prelude.{◌≡◌, ◌≤◌, ℕ, length};
+ghost use Rattle.std.specs.Prelude.{◌≡◌, ◌≤◌, ℕ, Some, length, option_map};
 ghost use Rattle.std.specs.Str.{IsUtf8, chars};
 ghost use Rattle.lsp_text.specs.Text.{place_of};
 ghost use Rattle.lsp_text.specs.LineStarts.{Indexes, IsPlace};
-ghost use Rattle.lsp_text.specs.Positions.{exact_position};
+ghost use Rattle.lsp_text.specs.Positions.{exact_position, denoted};
 
 use crate::in_line::InLine;
 use crate::position::Position;
@@ -14,8 +14,9 @@ pub fn position_in<U: InLine>(starts: &[u32], bytes: &[u8], place: usize) -> Pos
     requires utf8 { IsUtf8 bytes.now }
     requires indexed { Indexes starts.now bytes.now }
     requires place { IsPlace (chars bytes.now) place }
-    ensures { (k : ℕ) → k ≤ length (chars bytes.now) → place_of (chars bytes.now) k ≡ place
+    ensures exact { (k : ℕ) → k ≤ length (chars bytes.now) → place_of (chars bytes.now) k ≡ place
         → result ≡ exact_position U.units_of (chars bytes.now) k }
+    ensures resolves { option_map (place_of (chars bytes.now)) (denoted U.units_of (chars bytes.now) result) ≡ Some place }
 {
     let mut looks = Looks::new(starts);
     let line = line_of(&mut looks, place);

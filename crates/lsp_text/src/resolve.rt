@@ -9,6 +9,7 @@ ghost use Rattle.lsp_text.specs.Positions.{denoted};
 
 use thiserror::Error;
 
+use crate::ends::is_inside_crlf;
 use crate::in_line::InLine;
 use crate::position::Position;
 
@@ -24,7 +25,7 @@ fn stop_before(bytes: &[u8], next: usize) -> usize
     requires within { next ≤ length bytes.now }
     ensures { result ≡ (if splits_crlf bytes.now (next - 1) then next - 2 else next - 1) }
 {
-    if next >= 2 && bytes[next - 2] == b'\r' && bytes[next - 1] == b'\n' {
+    if is_inside_crlf(bytes, next - 1) {
         next - 2
     } else {
         next - 1

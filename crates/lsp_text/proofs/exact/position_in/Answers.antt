@@ -1,5 +1,6 @@
 use Rattle.std.proofs.Common.{◌≤◌, length, slice_index, sym, ap, ◌∙◌, arith, subst}
-use Rattle.lsp_text.proofs.ExactLemmas.{indexes_are, indexes_few, front_found, front_order, front_within, front_utf8, front_few, part_short, exact_is}
+use Rattle.lsp_text.proofs.ExactLemmas.{indexes_are, indexes_few, front_found, front_order, front_within, front_utf8, front_few, part_short, exact_is, exact_resolves}
+use Rattle.std.specs.Str.{chars}
 use Rattle.lsp_text.proofs.exact.position_in.Goals as goal
 
 pub new-looks-requires : goal.new-looks-requires
@@ -31,6 +32,11 @@ overflow_cast-result-2 g c =
     let within = front_within c.args.bytes.now (slice_index c.args.starts.now c.line_of-line.result) c.args.place c.requires.place.0 c.requires.utf8 front in
     omega (arith, c.units_in.ensures, c.requires.indexed.size, front_few g.U.Units.units_of (λ x. (g.met.U.Units.bounds x).1) _ utf8, part_short c.args.bytes.now (slice_index c.args.starts.now c.line_of-line.result) c.args.place within)
 
-pub returns : goal.returns
-returns g c = λ k within at.
+pub returns-clause-exact : goal.returns-clause-exact
+returns-clause-exact g c = λ k within at.
     exact_is g.U.Units.units_of c.args.bytes.now c.args.starts.now c.new-looks.result.starts.now c.args.place c.line_of-line.result c.units_in.result k c.requires.utf8 c.requires.indexed c.new-looks.ensures.starts c.line_of-line.ensures.line c.units_in.ensures within at
+
+pub returns-clause-resolves : goal.returns-clause-resolves
+returns-clause-resolves g c =
+    exact_resolves g.U.Units.units_of (λ x. (g.met.U.Units.bounds x).0) (chars c.args.bytes.now) c.args.place _ c.requires.place
+      (λ k within at. exact_is g.U.Units.units_of c.args.bytes.now c.args.starts.now c.new-looks.result.starts.now c.args.place c.line_of-line.result c.units_in.result k c.requires.utf8 c.requires.indexed c.new-looks.ensures.starts c.line_of-line.ensures.line c.units_in.ensures within at)
