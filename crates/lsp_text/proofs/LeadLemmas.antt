@@ -7,7 +7,8 @@ use Rattle.std.proofs.lemmas.List.{length-append, get_or-append_right}
 use Rattle.std.proofs.lemmas.List.Sums.{sum_by-append, sum_by-cons}
 use Rattle.std.proofs.lemmas.Bool.{cases_lt, cases_Bool, cond_both}
 use Rattle.std.proofs.lemmas.Bool.Decides.{nat_tests}
-use Rattle.std.proofs.lemmas.Str.{length-encode, len_utf8_bounds}
+use Rattle.std.proofs.lemmas.Str.{length-encode, len_utf8_bounds, encodes-chars}
+use Rattle.std.specs.Str.{IsUtf8, chars}
 use borrow.Author.Tests.{ltb-true, ltb-false}
 use Rattle.lsp_text.specs.Units.{units_in}
 use Rattle.lsp_text.specs.declared.encoding.Encoding.TheVariants.{Utf8, Utf16, Utf32}
@@ -202,3 +203,38 @@ utf8_at (x ∷ cs) (suc k) h =
     shifted : (b : Bool) (n c : ℕ) → n ≤ c → option_map (λ m. n + m) (cond b None (Some (c - n))) ≡ cond b None (Some c)
     shifted true n c h = refl
     shifted false n c h = ap Some (omega arith)
+
+-- The same over the bytes of a text.
+pub units_of_text : (lead units : ℕ → ℕ) → ((c : ℕ) → FirstHas lead (encode c) (units c)) → (bytes : List ℕ) → IsUtf8 bytes → sum_by lead bytes ≡ sum_by units (chars bytes)
+units_of_text lead units first bytes utf8 = ap (sum_by lead) (sym (encodes-chars bytes utf8)) ∙ sum_of_bytes lead units first (chars bytes)
+
+pub place_of_text : (lead units : ℕ → ℕ) → ((c : ℕ) → FirstHas lead (encode c) (units c)) → ((c : ℕ) → 1 ≤ units c) → (bytes : List ℕ) → IsUtf8 bytes → (c : ℕ) → byte_place lead bytes c ≡ line_place units (chars bytes) c
+place_of_text lead units first some bytes utf8 c =
+    ap (λ bs. byte_place lead bs c) (sym (encodes-chars bytes utf8)) ∙ place_of_bytes lead units first some (chars bytes) c
+
+-- In UTF-8 the units are the bytes.
+utf8_units : (cs : List ℕ) → sum_by len_utf8 cs ≡ length (encode_utf8_all cs)
+utf8_units [] = refl
+utf8_units (c ∷ cs) = omega (arith, sum_by-cons len_utf8 c cs, utf8_units cs, length-append (encode c) (encode_utf8_all cs), length-encode c)
+
+pub utf8_units_of_text : (bytes : List ℕ) → IsUtf8 bytes → length bytes ≡ sum_by len_utf8 (chars bytes)
+utf8_units_of_text bytes utf8 = ap length (sym (encodes-chars bytes utf8)) ∙ sym (utf8_units (chars bytes))
+
+pub utf8_past_text : (bytes : List ℕ) → IsUtf8 bytes → (c : ℕ) → length bytes ≤ c → Some (length bytes) ≡ line_place len_utf8 (chars bytes) c
+utf8_past_text bytes utf8 c past =
+    let same : encode_utf8_all (chars bytes) ≡ bytes = encodes-chars bytes utf8 in
+    ap (λ bs. Some (length bs)) (sym same) ∙ sym (utf8_past (chars bytes) c (omega (arith, ap length same)))
+
+utf8_at_text : (bytes : List ℕ) → IsUtf8 bytes → (c : ℕ) → c < length bytes → line_place len_utf8 (chars bytes) c ≡ cond (is_inside (get_or bytes c 0)) None (Some c)
+utf8_at_text bytes utf8 c within =
+    let same : encode_utf8_all (chars bytes) ≡ bytes = encodes-chars bytes utf8 in
+    utf8_at (chars bytes) c (omega (arith, ap length same)) ∙ ap (λ bs. cond (is_inside (get_or bs c 0)) None (Some c)) same
+
+pub utf8_inside_text : (bytes : List ℕ) → IsUtf8 bytes → (c : ℕ) → c < length bytes → 128 ≤ get_or bytes c 0 → get_or bytes c 0 < 192 → None ≡ line_place len_utf8 (chars bytes) c
+utf8_inside_text bytes utf8 c within low high = sym (utf8_at_text bytes utf8 c within ∙ ap (λ b. cond b None (Some c)) (inside_yes (get_or bytes c 0) low high))
+
+pub utf8_ascii_text : (bytes : List ℕ) → IsUtf8 bytes → (c : ℕ) → c < length bytes → get_or bytes c 0 < 128 → Some c ≡ line_place len_utf8 (chars bytes) c
+utf8_ascii_text bytes utf8 c within low = sym (utf8_at_text bytes utf8 c within ∙ ap (λ b. cond b None (Some c)) (inside_ascii (get_or bytes c 0) low))
+
+pub utf8_lead_text : (bytes : List ℕ) → IsUtf8 bytes → (c : ℕ) → c < length bytes → 192 ≤ get_or bytes c 0 → Some c ≡ line_place len_utf8 (chars bytes) c
+utf8_lead_text bytes utf8 c within high = sym (utf8_at_text bytes utf8 c within ∙ ap (λ b. cond b None (Some c)) (inside_lead (get_or bytes c 0) high))

@@ -9,5 +9,9 @@ pub mod EndLemmas
 pub mod StartLemmas
 pub mod StartRowLemmas
 pub mod LeadLemmas
+pub mod ContentLemmas
+pub mod ResolveLemmas
 pub mod IndexesLemmas
+pub mod ExactLemmas
+pub mod BoundaryLemmas
 pub mod SearchLemmas

@@ -47,7 +47,7 @@ ends_weighed where_is weight text more k (suc n) e =
     ap (weighed_ends weight (where_is k)) (sym (drop-cons text k 0 within))))
 
 -- Bytes of characters past ASCII end no line.
-abbrev AllHigh : List ℕ → Type 0
+abbrev pub AllHigh : List ℕ → Type 0
 AllHigh [] = Unit {0}
 AllHigh (b ∷ bs) = (128 ≤ b) × AllHigh bs
 
@@ -61,7 +61,7 @@ high_skipped (b ∷ bs) rest before all =
     ap (λ t. cond t ((before + 1) ∷ later) later) (high_ends_none b (bs ++ rest) all.0) ∙
     (high_skipped bs rest (before + 1) all.1 ∙ ap (λ n. weighed_ends (λ _. 1) n rest) (omega arith))
 
-encode_high : (c : ℕ) → 128 ≤ c → AllHigh (encode c)
+pub encode_high : (c : ℕ) → 128 ≤ c → AllHigh (encode c)
 unfolding encode
 encode_high c h =
     cond_both (ltb c 128) _ _ AllHigh (λ e. absurd (omega (arith, ltb-true c 128 e)))
@@ -76,7 +76,7 @@ not_line_feed : (a b : ℕ) → 128 ≤ a → 128 ≤ b → (a == 10) ≡ (b == 
 not_line_feed a b h g = grind (arith, nat_tests)
 
 -- the first byte is a line feed exactly if the first character is
-first_line_feed : (cs : List ℕ) → (slice_index (encode_utf8_all cs) 0 == 10) ≡ (slice_index cs 0 == 10)
+pub first_line_feed : (cs : List ℕ) → (slice_index (encode_utf8_all cs) 0 == 10) ≡ (slice_index cs 0 == 10)
 first_line_feed [] = refl
 first_line_feed (c ∷ cs) =
     ⊎_elim

@@ -1,5 +1,5 @@
 -- The row of a text's line starts: how many there are, which each is, and that they ascend.
-use Rattle.std.proofs.Common.{◌≡◌, ℕ, zero, suc, ◌+◌, ◌-◌, ◌≤◌, ◌<◌, Bool, true, false, cond, List, [], ◌∷◌, length, get_or, slice_index, filter, refl, sym, ap, ◌∙◌, arith, ⊎_elim}
+use Rattle.std.proofs.Common.{◌≡◌, ℕ, zero, suc, ◌+◌, ◌-◌, ◌≤◌, ◌<◌, Bool, true, false, cond, List, [], ◌∷◌, length, get_or, slice_index, filter, refl, sym, ap, ◌∙◌, arith, ⊎_elim, subst}
 use Rattle.std.proofs.lemmas.Bool.{cases_lt, cases_Bool}
 use Rattle.lsp_text.specs.TextLines.{ends_line, numbers_from, line_at, line_ends, line_start, is_in_content}
 use Rattle.lsp_text.specs.LineStarts.{line_starts}
@@ -121,3 +121,18 @@ start_at text (suc j) h =
     let end : IsEnd text 0 (length text - 0) (0 + suc j) (get_or row j 0) = end_at text 0 (length text - 0) j (omega arith) in
     let line_is : line_at text (get_or row j 0) ≡ suc j = omega (arith, end.line_is) in
     sym (ap (line_start text) (sym line_is) ∙ end_starts text (get_or row j 0) (omega (arith, end.within)) (omega (arith, end.behind)) end.ends)
+
+-- Where a later line starts, an index ends the line before it.
+pub record IsNextStart (text : List ℕ) (line next : ℕ) : Type 0 where
+  pub some : 0 < next
+  pub within : next ≤ length text
+  pub ends : ends_line text next ≡ true
+  pub line_is : line_at text next ≡ suc line
+
+pub next_start : (text : List ℕ) (line : ℕ) → suc line ≤ line_ends text → IsNextStart text line (line_start text (suc line))
+next_start text line h =
+    let row = filter (ends_line text) (numbers_from 1 (length text - 0)) in
+    let size : suc (length row) ≡ suc (line_ends text) = length-line_starts text in
+    let end : IsEnd text 0 (length text - 0) (0 + suc line) (get_or row line 0) = end_at text 0 (length text - 0) line (omega arith) in
+    let found : IsNextStart text line (get_or row line 0) = record { some = omega (arith, end.behind); within = omega (arith, end.within); ends = end.ends; line_is = omega (arith, end.line_is) } in
+    subst (IsNextStart text line) (start_at text (suc line) h) found

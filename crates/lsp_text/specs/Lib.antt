@@ -5,3 +5,5 @@ pub mod Positions
 pub mod Starts
 pub mod LineStarts
 pub mod Leads
+pub mod UnitLaws
+pub mod LeadLaws

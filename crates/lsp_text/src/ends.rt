@@ -1,6 +1,6 @@
 //! The search for line ends.
 ghost use Rattle.std.specs.Prelude.{◌≡◌, ◌++◌, ◌≤◌, ◌<◌, suc, length, OnOk};
-ghost use Rattle.lsp_text.specs.TextLines.{ends_line};
+ghost use Rattle.lsp_text.specs.TextLines.{ends_line, splits_crlf};
 ghost use Rattle.lsp_text.specs.LineStarts.{ends_between};
 
 use std::alloc::AllocError;
@@ -17,6 +17,14 @@ fn ends_line_behind(bytes: &[u8], at: usize) -> bool
         b'\r' => at + 1 == bytes.len() || bytes[at + 1] != b'\n',
         _ => false,
     }
+}
+
+/// Whether the place lies between the bytes of a CRLF.
+pub fn is_inside_crlf(bytes: &[u8], place: usize) -> bool
+    requires { place ≤ length bytes.now }
+    ensures { result ≡ splits_crlf bytes.now place }
+{
+    place > 0 && place < bytes.len() && bytes[place - 1] == b'\r' && bytes[place] == b'\n'
 }
 
 /// Puts the places behind `low`, up to `high`, that end a line at the end of `starts`. It is linear in `high - low`.

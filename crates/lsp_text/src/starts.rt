@@ -47,7 +47,7 @@ pub fn line_of<S: Starts>(starts: &mut S, place: usize) -> usize
 }
 
 /// The starts of the lines of a text, of which each look is counted.
-#[derive(Debug)]
+#[derive(Debug, Drop)]
 pub struct Looks<'a> {
     starts: &'a [u32],
     made: usize,
