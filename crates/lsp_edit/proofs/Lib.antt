@@ -12,3 +12,5 @@ pub mod IndexLemmas
 pub mod CutLemmas
 pub mod CutPartsLemmas
 pub mod PutLemmas
+pub mod EndLemmas
+pub mod EditedLemmas

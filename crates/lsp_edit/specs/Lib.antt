@@ -5,4 +5,6 @@ pub mod Compose
 pub mod Keeps
 pub mod Parts
 pub mod Laws
+pub mod Faults
+pub mod Edited
 pub mod Examples

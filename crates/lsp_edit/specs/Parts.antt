@@ -115,3 +115,7 @@ new_parts bytes = if length bytes == 0 then [] else NewPart bytes ∷ []
 -- The parts with the bytes between two places replaced by a new text.
 abbrev pub replaced_parts : List Part → ℕ → ℕ → List ℕ → List Part
 replaced_parts parts start stop bytes = put_parts (front_parts parts start ++ new_parts bytes) (back_parts parts stop)
+
+-- The part of an old text before any change, if it isn't empty.
+abbrev pub whole_parts : List ℕ → List Part
+whole_parts bytes = if length bytes == 0 then [] else OldPart 0 (length bytes) ∷ []

@@ -5,10 +5,16 @@
 #![tactic(auto)]
 
 mod change;
+mod current;
+mod ends;
+mod fault;
+mod kept_lines;
 mod laws;
+mod pieces;
 mod replace;
 mod span;
 
 pub use change::{Change, MAX_NEW_TEXT, fits};
+pub use fault::{EditFault, Side};
 pub use laws::batch_laws;
 pub use span::Span;

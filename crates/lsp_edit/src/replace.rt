@@ -1,7 +1,7 @@
 //! Spans of a text with some of its bytes replaced: at most two spans are cut, and one is put in.
 
 ghost use Rattle.std.specs.Prelude.{◌≡◌, ◌++◌, ◌≤◌, ◌<◌, ℕ, OnOk, IfOk, length, drop};
-ghost use Rattle.lsp_edit.specs.Parts.{IsPart, AreParts, AreCut, parts_of, put_part, put_parts, replaced_parts, front_parts, back_parts, part_of, bytes_of};
+ghost use Rattle.lsp_edit.specs.Parts.{IsPart, AreParts, AreCut, parts_of, put_part, put_parts, new_parts, whole_parts, replaced_parts, front_parts, back_parts, part_of, bytes_of};
 
 use crate::span::Span;
 use std::alloc::{AllocError, Global};
@@ -87,4 +87,29 @@ pub fn replaced<'a>(
     }
     push_back(&mut out, spans, stop)?;
     Ok(out)
+}
+
+/// The one span of a text before any change, if the text isn't empty.
+pub fn whole<'a>(alloc: Global, before: &'a str) -> Result<Vec<Span<'a>>, AllocError>
+    ensures { IfOk result (λ made. parts_of made.items ≡ whole_parts before.now) }
+{
+    let mut spans = Vec::new(alloc);
+    if !before.is_empty() {
+        spans.push(Span::Old {
+            from: 0,
+            to: before.len(),
+        })?;
+    }
+    Ok(spans)
+}
+
+/// The one span of a new text, if the text isn't empty.
+pub fn all_new<'a>(alloc: Global, text: &'a str) -> Result<Vec<Span<'a>>, AllocError>
+    ensures { IfOk result (λ made. parts_of made.items ≡ new_parts text.now) }
+{
+    let mut spans = Vec::new(alloc);
+    if !text.is_empty() {
+        spans.push(Span::New(text))?;
+    }
+    Ok(spans)
 }

@@ -1,7 +1,7 @@
 //! Spans: what a text is made of after changes, without a copy of its characters.
 
 ghost use Rattle.std.specs.Prelude.{◌≡◌, ◌++◌, ◌≤◌, ◌<◌, ℕ, IfOk, OnOk, length, MatchOption, ◌∷◌, []};
-ghost use Rattle.lsp_edit.specs.Parts.{IsCut, joined, back_part, front_part, part_len, part_of, parts_of, put_part, IsOrdered};
+ghost use Rattle.lsp_edit.specs.Parts.{IsPart, bytes_in, IsCut, joined, back_part, front_part, part_len, part_of, parts_of, put_part, IsOrdered};
 
 use std::alloc::AllocError;
 
@@ -67,6 +67,17 @@ impl<'a> Span<'a> {
                 },
             ) if to == next => Some(Span::Old { from, to: end }),
             _ => None,
+        }
+    }
+
+    /// The bytes it stands for, where `before` is the old text.
+    pub(crate) fn read(self, before: &'a str) -> &'a str
+        requires { IsPart before.now (part_of self) }
+        ensures { result.now ≡ bytes_in before.now (part_of self.entry) }
+    {
+        match self {
+            Span::Old { from, to } => &before[from..to],
+            Span::New(text) => text,
         }
     }
 }
