@@ -1,9 +1,9 @@
 -- The fields of pieces: what they are at first, and what they tell.
-use Rattle.std.proofs.Common.{ℕ, suc, ◌≡◌, ◌+◌, ◌-◌, ◌*◌, ◌<◌, ◌≤◌, ◌⊎◌, Bool, true, false, List, [], ◌∷◌, ◌++◌, length, map, take, drop, min, ◌==◌, eqb-true, refl, sym, ap, ap₂, ◌∙◌, subst, arith, append-nil, take_all, encode_utf8_all, ⊎_elim, Option, Some, None, Result, Ok, Err}
+use Rattle.std.proofs.Common.{ℕ, suc, ◌≡◌, ◌+◌, ◌-◌, ◌*◌, ◌<◌, ◌≤◌, ◌⊎◌, Bool, true, false, List, [], ◌∷◌, ◌++◌, length, map, take, drop, min, ◌==◌, eqb-true, refl, sym, ap, ap₂, ◌∙◌, subst, arith, append-nil, take_all, encode_utf8_all, ⊎_elim, inr, Option, Some, None, Result, Ok, Err}
 use Rattle.std.specs.Str.{chars, IsUtf8, is_utf8}
 use Rattle.std.proofs.lemmas.Bool.{cases_Bool, eqb-false}
 use Rattle.std.proofs.lemmas.List.{nil_from_length}
-use Rattle.std.proofs.lemmas.Str.{encodes-chars, is_utf8-from_IsUtf8, IsUtf8-from_is_utf8, chars-nil, IsCharBoundary-start, IsCharBoundary-end}
+use Rattle.std.proofs.lemmas.Str.{encodes-chars, is_utf8-from_IsUtf8, IsUtf8-from_is_utf8, chars-nil, chars_from_encodes, IsCharBoundary-start, IsCharBoundary-end}
 use Rattle.lsp_text.specs.Text.{place_of}
 use Rattle.lsp_text.specs.TextLines.{numbers_from}
 use Rattle.lsp_text.specs.LineStarts.{Indexes}
@@ -11,7 +11,10 @@ use Rattle.lsp_text.proofs.PlaceLemmas.{place_end}
 use Rattle.lsp_edit.specs.Items.{Item, Old, New, plain, text_of}
 use Rattle.lsp_edit.specs.Parts.{Part, OldPart, NewPart, index_of, items_in, items_of, bytes_of, IsPart, AreParts, whole_parts}
 use Rattle.lsp_edit.specs.Keeps.{Keeps}
-use Rattle.lsp_edit.specs.Edited.{ArePieces, Edited, edited_bytes}
+use Rattle.lsp_edit.specs.Edited.{ArePieces, Edited, edited_text}
+use Rattle.lsp_edit.specs.Faults.{IsPlaces, places_at, ends_of}
+use Rattle.lsp_edit.specs.declared.fault.EditFault.{EditFault}
+use Rattle.lsp_text.specs.declared.position.Range.{Range}
 use Rattle.lsp_edit.proofs.KeepsLemmas.{plain_keeps}
 use Rattle.lsp_edit.proofs.RebuiltLemmas.{text_row}
 use Rattle.lsp_edit.proofs.IndexLemmas.{index_of-place}
@@ -74,3 +77,17 @@ begun before lines parts utf8 indexed whole = record {
 -- The bytes of the text as it is now are those of its parts.
 pub now_bytes : (before lines : List ℕ) (parts : List Part) (len changes : ℕ) → ArePieces before lines parts len changes → encode_utf8_all (text_of (chars before) (items_of (chars before) parts)) ≡ bytes_of before parts
 now_bytes before lines parts len changes are = sym (parts_bytes before (IsUtf8-from_is_utf8 before are.utf8) parts are.are)
+
+-- The text as it is now: its characters, told by its bytes, and before any change.
+pub now_chars : (before lines : List ℕ) (parts : List Part) (len changes : ℕ) (bytes : List ℕ) → ArePieces before lines parts len changes → IsUtf8 bytes → bytes ≡ bytes_of before parts → chars bytes ≡ text_of (chars before) (items_of (chars before) parts)
+now_chars before lines parts len changes bytes are utf8 same =
+    sym (chars_from_encodes (text_of (chars before) (items_of (chars before) parts)) bytes utf8 (now_bytes before lines parts len changes are ∙ sym same))
+
+pub fresh_chars : (before lines : List ℕ) (parts : List Part) (len changes : ℕ) → ArePieces before lines parts len changes → changes ≡ 0 → chars before ≡ text_of (chars before) (items_of (chars before) parts)
+fresh_chars before lines parts len changes are none = sym (ap (text_of (chars before)) (are.fresh none) ∙ plain_text (chars before))
+
+-- What a call told of the fields, told of what callers see.
+pub places_told : (units : ℕ → ℕ) (range : Range) (answer : Result (ℕ × ℕ) EditFault) (edited : Edited) (text : List ℕ) (changes : ℕ) → edited.changes ≡ changes → edited_text edited ≡ text
+    → answer ≡ places_at changes text (ends_of units text range) → IsPlaces answer (places_at edited.changes (edited_text edited) (ends_of units (edited_text edited) range))
+places_told units range answer edited text changes count same e =
+    inr (e ∙ ap₂ (λ (n : ℕ) (t : List ℕ). places_at n t (ends_of units t range)) (sym count) (sym same))

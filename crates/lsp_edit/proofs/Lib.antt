@@ -14,3 +14,4 @@ pub mod CutPartsLemmas
 pub mod PutLemmas
 pub mod EndLemmas
 pub mod EditedLemmas
+pub mod AppliedLemmas

@@ -59,7 +59,7 @@ put_all_few : (parts more : List Part) → length (put_parts parts more) ≤ len
 put_all_few parts [] = omega arith
 put_all_few parts (first ∷ rest) = omega (arith, length-append (put_part parts first) rest, put_one_more parts first)
 
-new_few : (bytes : List ℕ) → length (new_parts bytes) ≤ 1
+pub new_few : (bytes : List ℕ) → length (new_parts bytes) ≤ 1
 new_few bytes =
     ⊎_elim
     (λ (e : (length bytes == 0) ≡ true). rw e (omega arith))
@@ -125,7 +125,7 @@ module _ (old : List ℕ) where
         are_both (put_part parts first) rest p.1 were.1,
       )
 
-  new_items : (bytes : List ℕ) → is_utf8 bytes ≡ true → (items_of (chars old) (new_parts bytes) ≡ map New (chars bytes)) × AreParts old (new_parts bytes)
+  pub new_items : (bytes : List ℕ) → is_utf8 bytes ≡ true → (items_of (chars old) (new_parts bytes) ≡ map New (chars bytes)) × AreParts old (new_parts bytes)
   new_items bytes utf8 =
       ⊎_elim
       (λ (e : (length bytes == 0) ≡ true).

@@ -1,5 +1,5 @@
 -- A text that changes were applied to, as callers see it.
-use Rattle.std.specs.Prelude.{ℕ, ◌≡◌, ◌+◌, ◌*◌, ◌≤◌, true, List, length, min, string_bytes, encode_utf8_all, Option, Some, None, Ok}
+use Rattle.std.specs.Prelude.{ℕ, ◌≡◌, ◌+◌, ◌*◌, ◌≤◌, true, List, length, min, string_bytes, encode_utf8_all, Option, Ok, MatchOption}
 use Rattle.std.specs.Str.{chars, is_utf8}
 use Rattle.lsp_text.specs.LineStarts.{Indexes}
 use Rattle.lsp_edit.specs.declared.change.Change.{Change}
@@ -56,5 +56,4 @@ pub record ArePieces (before lines : List ℕ) (parts : List Part) (len changes 
 
 -- The text that changes meet was made, if it was, from the parts.
 abbrev pub IsCurrent : List ℕ → Option Current → Type 0
-IsCurrent bytes None = Unit {0}
-IsCurrent bytes (Some current) = string_bytes current.text ≡ bytes
+IsCurrent bytes current = MatchOption current (Unit {0}) (λ made. string_bytes made.text ≡ bytes)

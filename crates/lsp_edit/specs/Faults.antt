@@ -35,3 +35,7 @@ ends_of units text range = in_order (denoted units text range.start) (denoted un
 abbrev pub places_at : ℕ → List ℕ → Result (ℕ × ℕ) Fault → Result (ℕ × ℕ) EditFault
 places_at number text (Ok ends) = Ok (place_of text ends.0, place_of text ends.1)
 places_at number text (Err why) = Err (fault_at number why)
+
+-- The places of a range's ends or their fault are answered, or want of memory.
+abbrev pub IsPlaces : Result (ℕ × ℕ) EditFault → Result (ℕ × ℕ) EditFault → Type 0
+IsPlaces answer wanted = (answer ≡ Err NoMemory) ⊎ (answer ≡ wanted)

@@ -1,6 +1,6 @@
 //! The text that spans stand for, made in one copy.
 
-ghost use Rattle.std.specs.Prelude.{◌≡◌, ◌≤◌, IfOk, length, string_bytes};
+ghost use Rattle.std.specs.Prelude.{◌≡◌, ◌≤◌, IfOk, MatchOption, length, string_bytes};
 ghost use Rattle.lsp_text.specs.LineStarts.{Indexes};
 ghost use Rattle.lsp_edit.specs.Parts.{AreParts, bytes_of, parts_of};
 
@@ -17,6 +17,25 @@ pub struct Current {
 }
 
 impl Current {
+    /// What was made before, or the text that spans stand for, made now.
+    pub fn or_new<'a>(
+        made: Option<Self>,
+        alloc: Global,
+        before: &'a str,
+        spans: &[Span<'a>],
+        len: usize,
+    ) -> Result<Self, AllocError>
+        requires parts { AreParts before.now (parts_of spans.now) }
+        requires room { length (bytes_of before.now (parts_of spans.now)) ≤ 2147483648 }
+        requires made { MatchOption made (Unit {0}) (λ current. string_bytes current.text ≡ bytes_of before.now (parts_of spans.now)) }
+        ensures { IfOk result (λ current. string_bytes current.text ≡ bytes_of before.now (parts_of spans.now)) }
+    {
+        match made {
+            Some(current) => Ok(current),
+            None => Self::new(alloc, before, spans, len),
+        }
+    }
+
     /// The text that spans stand for, with its lines. `len` is how many bytes it has.
     pub fn new<'a>(
         alloc: Global,

@@ -17,4 +17,5 @@ mod span;
 pub use change::{Change, MAX_NEW_TEXT, fits};
 pub use fault::{EditFault, Side};
 pub use laws::batch_laws;
+pub use pieces::{MAX_TEXT, Pieces};
 pub use span::Span;

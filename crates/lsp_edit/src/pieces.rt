@@ -1,19 +1,23 @@
 //! A text that changes are applied to, kept as spans of the old text and of the changes' texts.
 
-ghost use Rattle.std.specs.Prelude.{◌≡◌, ◌↔◌, ◌+◌, ◌≤◌, ℕ, IfOk, IsTrue, length, string_bytes, string_len};
+ghost use Rattle.std.specs.Prelude.{◌≡◌, ◌↔◌, ◌+◌, ◌≤◌, ℕ, IfErr, IfOk, OnErr, OnOk, IsTrue, length, string_bytes, string_len};
 ghost use Rattle.std.specs.Str.{chars};
 ghost use Rattle.lsp_text.specs.LineStarts.{Indexes};
 ghost use Rattle.lsp_text.specs.Units.{units_in};
 ghost use Rattle.lsp_edit.specs.Items.{plain};
 ghost use Rattle.lsp_edit.specs.Parts.{AreParts, items_of, parts_of};
-ghost use Rattle.lsp_edit.specs.Edited.{edited_bytes, lines_of};
+ghost use Rattle.lsp_edit.specs.Edited.{Applied, edit_of, edited_bytes, edited_text, lines_of};
+ghost use Rattle.lsp_edit.specs.Faults.{IsPlaces, TellsFault, ends_of, places_at};
+ghost use Rattle.lsp_edit.specs.Batch.{after_change};
 
 use crate::change::Change;
 use crate::current::{Current, text_of_spans};
+use crate::ends::ends;
+use crate::fault::EditFault;
 use crate::kept_lines::KeptLines;
-use crate::replace::whole;
+use crate::replace::{all_new, replaced, whole};
 use crate::span::Span;
-use lsp_text::Lines;
+use lsp_text::{Encoding, Lines, Range};
 use std::alloc::{AllocError, Global};
 use std::marker::Model;
 
@@ -90,6 +94,76 @@ impl<'a> Pieces<'a> {
         ensures { IsTrue result ↔ (length (edited_bytes self.now) + string_len change.now.text ≤ MAX_TEXT) }
     {
         self.len + change.text.len() <= MAX_TEXT
+    }
+
+    /// The places of a range's two ends in the text as it is now. `change` is the number that a fault tells.
+    fn places(&mut self, encoding: Encoding, range: Range) -> Result<(usize, usize), EditFault>
+        ensures same { self.new ≡ self.old }
+        ensures places { IsPlaces result (places_at self.old.changes (edited_text self.old) (ends_of (units_in encoding) (edited_text self.old) range)) }
+    {
+        if self.changes == 0 {
+            return ends(self.lines.get(), self.before, encoding, range, 0);
+        }
+        let current = Current::or_new(
+            self.current.take(),
+            self.alloc,
+            self.before,
+            &self.spans,
+            self.len,
+        )?;
+        let places = ends(&current.lines, &current.text, encoding, range, self.changes);
+        self.current = Some(current);
+        places
+    }
+
+    /// Puts a new text in place of all that is there.
+    fn apply_to_all(&mut self, text: &'a str) -> Result<(), AllocError>
+        requires { length (edited_bytes self.old) + length text.now ≤ MAX_TEXT }
+        ensures applied { (units : ℕ → ℕ) → OnOk result (Applied units self.old (record { range = None; text = chars text.now }) self.new) }
+        ensures same { OnErr result (self.new ≡ self.old) }
+    {
+        let spans = all_new(self.alloc, text)?;
+        self.spans = spans;
+        self.len = text.len();
+        self.current = None;
+        self.changes = self.changes.saturating_add(1);
+        Ok(())
+    }
+
+    /// Puts a new text in place of a range.
+    fn apply_to_range(
+        &mut self,
+        encoding: Encoding,
+        range: Range,
+        text: &'a str,
+    ) -> Result<(), EditFault>
+        requires { length (edited_bytes self.old) + length text.now ≤ MAX_TEXT }
+        ensures applied { OnOk result (Applied (units_in encoding) self.old (record { range = Some range; text = chars text.now }) self.new) }
+        ensures same { OnErr result (self.new ≡ self.old) }
+        ensures told { IfErr result (λ fault. TellsFault self.old.changes (after_change (units_in encoding) self.old.before self.old.items (record { range = Some range; text = chars text.now })) fault) }
+    {
+        let (start, stop) = self.places(encoding, range)?;
+        let spans = replaced(self.alloc, &self.spans, start, stop, text)?;
+        self.spans = spans;
+        self.len = self.len - (stop - start) + text.len();
+        self.current = None;
+        self.changes = self.changes.saturating_add(1);
+        Ok(())
+    }
+
+    /// Applies a change to the text as it is now (LSP 3.17, TextDocumentContentChangeEvent). A fault leaves everything as it was, and
+    /// tells how many changes were applied before.
+    pub fn apply(&mut self, encoding: Encoding, change: &'a Change) -> Result<(), EditFault>
+        requires { length (edited_bytes self.old) + string_len change.now.text ≤ MAX_TEXT }
+        ensures applied { OnOk result (Applied (units_in encoding) self.old (edit_of change.now) self.new) }
+        ensures same { OnErr result (self.new ≡ self.old) }
+        ensures told { IfErr result (λ fault. TellsFault self.old.changes (after_change (units_in encoding) self.old.before self.old.items (edit_of change.now)) fault) }
+    {
+        match change.range {
+            None => self.apply_to_all(&change.text)?,
+            Some(range) => self.apply_to_range(encoding, range, &change.text)?,
+        }
+        Ok(())
     }
 
     /// The text as it is now. Costs one copy.
