@@ -76,7 +76,7 @@ fault_told units old items characters range number fault told =
         (λ (o : nat_le a b ≡ false). inr (Reversed, rw o refl, (let f : ◌≡◌ {A = Result (ℕ × ℕ) EditFault} (Err fault) (Err (fault_at number Reversed)) = rw o at e in cc)))
         (cases_Bool (nat_le a b))
 
-bytes_split : (text : List ℕ) (k : ℕ) → length (encode_utf8_all (take k text)) + length (encode_utf8_all (drop k text)) ≡ length (encode_utf8_all text)
+pub bytes_split : (text : List ℕ) (k : ℕ) → length (encode_utf8_all (take k text)) + length (encode_utf8_all (drop k text)) ≡ length (encode_utf8_all text)
 bytes_split text k =
     sym (length-append (encode_utf8_all (take k text)) (encode_utf8_all (drop k text)))
     ∙ ap length (sym (encodes-append (take k text) (drop k text)) ∙ ap encode_utf8_all (take-append-drop k text))

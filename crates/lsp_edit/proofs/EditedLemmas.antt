@@ -11,7 +11,7 @@ use Rattle.lsp_text.proofs.PlaceLemmas.{place_end}
 use Rattle.lsp_edit.specs.Items.{Item, Old, New, plain, text_of}
 use Rattle.lsp_edit.specs.Parts.{Part, OldPart, NewPart, index_of, items_in, items_of, bytes_of, IsPart, AreParts, whole_parts}
 use Rattle.lsp_edit.specs.Keeps.{Keeps}
-use Rattle.lsp_edit.specs.Edited.{ArePieces, Edited, edited_text}
+use Rattle.lsp_edit.specs.Edited.{ArePieces, Edited, edited_text, edited_bytes}
 use Rattle.lsp_edit.specs.Faults.{IsPlaces, places_at, ends_of}
 use Rattle.lsp_edit.specs.declared.fault.EditFault.{EditFault}
 use Rattle.lsp_text.specs.declared.position.Range.{Range}
@@ -91,3 +91,7 @@ pub places_told : (units : ℕ → ℕ) (range : Range) (answer : Result (ℕ ×
     → answer ≡ places_at changes text (ends_of units text range) → IsPlaces answer (places_at edited.changes (edited_text edited) (ends_of units (edited_text edited) range))
 places_told units range answer edited text changes count same e =
     inr (e ∙ ap₂ (λ (n : ℕ) (t : List ℕ). places_at n t (ends_of units t range)) (sym count) (sym same))
+
+-- The bytes of a text before any change.
+pub first_bytes : (before : List ℕ) (edited : Edited) → IsUtf8 before → edited ≡ record { before = chars before; items = plain (chars before); changes = 0 } → length (edited_bytes edited) ≡ length before
+first_bytes before edited utf8 is = ap (λ (e : Edited). length (edited_bytes e)) is ∙ ap length (ap encode_utf8_all (plain_text (chars before)) ∙ encodes-chars before utf8)

@@ -15,3 +15,4 @@ pub mod PutLemmas
 pub mod EndLemmas
 pub mod EditedLemmas
 pub mod AppliedLemmas
+pub mod RoomLemmas

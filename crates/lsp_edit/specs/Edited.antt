@@ -1,5 +1,5 @@
 -- A text that changes were applied to, as callers see it.
-use Rattle.std.specs.Prelude.{ℕ, ◌≡◌, ◌+◌, ◌*◌, ◌≤◌, true, List, length, min, string_bytes, encode_utf8_all, Option, Ok, MatchOption}
+use Rattle.std.specs.Prelude.{ℕ, ◌≡◌, ◌+◌, ◌*◌, ◌≤◌, true, List, length, min, string_bytes, encode_utf8_all, Option, Result, Ok, MatchOption}
 use Rattle.std.specs.Str.{chars, is_utf8}
 use Rattle.lsp_text.specs.LineStarts.{Indexes}
 use Rattle.lsp_edit.specs.declared.change.Change.{Change}
@@ -7,7 +7,7 @@ use Rattle.lsp_edit.specs.declared.kept_lines.KeptLines.{KeptLines}
 use Rattle.lsp_edit.specs.declared.kept_lines.KeptLines.TheVariants.{Own, Lent}
 use Rattle.lsp_edit.specs.declared.current.Current.{Current}
 use Rattle.lsp_edit.specs.Items.{Item, plain, text_of}
-use Rattle.lsp_edit.specs.Batch.{Edit, after_change}
+use Rattle.lsp_edit.specs.Batch.{Edit, Fault, after_change}
 use Rattle.lsp_edit.specs.Keeps.{Keeps}
 use Rattle.lsp_edit.specs.Parts.{Part, AreParts, items_of, bytes_of}
 
@@ -57,3 +57,9 @@ pub record ArePieces (before lines : List ℕ) (parts : List Part) (len changes 
 -- The text that changes meet was made, if it was, from the parts.
 abbrev pub IsCurrent : List ℕ → Option Current → Type 0
 IsCurrent bytes current = MatchOption current (Unit {0}) (λ made. string_bytes made.text ≡ bytes)
+
+-- What a batch leaves of a text: its meaning, after so many changes.
+pub record Means (before : List ℕ) (meant : Result (List Item) (ℕ × Fault)) (changes : ℕ) (edited : Edited) : Type 0 where
+  pub means : meant ≡ Ok edited.items
+  pub same : edited.before ≡ before
+  pub counted : edited.changes ≡ changes

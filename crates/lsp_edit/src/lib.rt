@@ -5,6 +5,7 @@
 #![tactic(auto)]
 
 mod change;
+mod compose;
 mod current;
 mod ends;
 mod fault;
@@ -15,6 +16,7 @@ mod replace;
 mod span;
 
 pub use change::{Change, MAX_NEW_TEXT, fits};
+pub use compose::{MAX_OLD_TEXT, compose, compose_over};
 pub use fault::{EditFault, Side};
 pub use laws::batch_laws;
 pub use pieces::{MAX_TEXT, Pieces};
