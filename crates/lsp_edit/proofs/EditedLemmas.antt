@@ -20,7 +20,7 @@ use Rattle.lsp_edit.proofs.RebuiltLemmas.{text_row}
 use Rattle.lsp_edit.proofs.IndexLemmas.{index_of-place}
 use Rattle.lsp_edit.proofs.CutPartsLemmas.{parts_bytes}
 
-index_first : (text : List ℕ) → index_of text 0 ≡ 0
+pub index_first : (text : List ℕ) → index_of text 0 ≡ 0
 index_first [] = refl
 index_first (c ∷ text) = refl
 

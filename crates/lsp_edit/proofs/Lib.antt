@@ -16,3 +16,4 @@ pub mod EndLemmas
 pub mod EditedLemmas
 pub mod AppliedLemmas
 pub mod RoomLemmas
+pub mod WalkLemmas

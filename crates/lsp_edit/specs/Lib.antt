@@ -7,4 +7,5 @@ pub mod Parts
 pub mod Laws
 pub mod Faults
 pub mod Edited
+pub mod Gaps
 pub mod Examples

@@ -4,8 +4,9 @@
 //! - `laws`: what holds of every batch and of its canonical batch.
 #![tactic(auto)]
 
+mod canonical;
 mod change;
-mod compose;
+mod composed;
 mod current;
 mod ends;
 mod fault;
@@ -16,7 +17,7 @@ mod replace;
 mod span;
 
 pub use change::{Change, MAX_NEW_TEXT, fits};
-pub use compose::{MAX_OLD_TEXT, compose, compose_over};
+pub use composed::{MAX_OLD_TEXT, compose, compose_over};
 pub use fault::{EditFault, Side};
 pub use laws::batch_laws;
 pub use pieces::{MAX_TEXT, Pieces};

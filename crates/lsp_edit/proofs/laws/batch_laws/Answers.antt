@@ -1,5 +1,5 @@
 use Rattle.std.proofs.Common.{refl}
-use Rattle.lsp_edit.proofs.AppliedLemmas
+use Rattle.lsp_edit.proofs.WalkLemmas
 use Rattle.lsp_edit.proofs.KeepsLemmas.{meaning_keeps}
 use Rattle.lsp_edit.proofs.PairLemmas.{pairs_kept}
 use Rattle.lsp_edit.proofs.GapLemmas.{ends_exact}

@@ -3,7 +3,7 @@ use Rattle.lsp_text.specs.Units.{units_in}
 use Rattle.lsp_edit.specs.Batch.{after_changes}
 use Rattle.lsp_edit.specs.Edited.{edit_of}
 use Rattle.lsp_edit.proofs.RoomLemmas.{Applying}
-use Rattle.lsp_edit.proofs.compose.apply_all.Given as goal
+use Rattle.lsp_edit.proofs.composed.apply_all.Given as goal
 
 abbrev pub invariant-loop-change : goal.invariant-loop-change
 invariant-loop-change l =

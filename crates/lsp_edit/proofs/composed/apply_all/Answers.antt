@@ -2,7 +2,7 @@ use Rattle.std.proofs.Common.{◌≡◌, ◌+◌, ◌∷◌, List, drop, arith, 
 use Rattle.std.proofs.lemmas.List.{drop_more}
 use Rattle.lsp_edit.specs.declared.change.Change.{Change}
 use Rattle.lsp_edit.proofs.RoomLemmas.{applying_on}
-use Rattle.lsp_edit.proofs.compose.apply_all.Goals as goal
+use Rattle.lsp_edit.proofs.composed.apply_all.Goals as goal
 
 pub loop-change-preserved : goal.loop-change-preserved
 loop-change-preserved c =
