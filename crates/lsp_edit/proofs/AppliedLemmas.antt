@@ -238,3 +238,7 @@ module _ (units : ℕ → ℕ) (range : Range) (before lines : List ℕ) (parts 
 
 pub edit_is : (change : Change) (range : Option Range) (bytes : List ℕ) → change.range ≡ range → bytes ≡ string_bytes change.text → record { range = range; text = chars bytes } ≡ edit_of change
 edit_is change range bytes ranged same = λ i. record { range = sym ranged i; text = chars (same i) }
+
+-- what callers see keeps each CRLF of the old text whole
+pub keeps_seen : (before lines : List ℕ) (parts : List Part) (len changes : ℕ) (edited : Edited) → ArePieces before lines parts len changes → seen before parts changes ≡ edited → Keeps edited.before 0 edited.items
+keeps_seen before lines parts len changes edited are view = subst (λ (e : Edited). Keeps e.before 0 e.items) view are.keeps

@@ -17,3 +17,4 @@ pub mod EditedLemmas
 pub mod AppliedLemmas
 pub mod RoomLemmas
 pub mod WalkLemmas
+pub mod LawLemmas

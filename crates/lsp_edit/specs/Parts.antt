@@ -119,3 +119,7 @@ replaced_parts parts start stop bytes = put_parts (front_parts parts start ++ ne
 -- The part of an old text before any change, if it isn't empty.
 abbrev pub whole_parts : List ℕ → List Part
 whole_parts bytes = if length bytes == 0 then [] else OldPart 0 (length bytes) ∷ []
+
+abbrev pub NoneEmpty : List Part → Type 0
+NoneEmpty [] = Unit {0}
+NoneEmpty (part ∷ parts) = (0 < part_len part) × NoneEmpty parts

@@ -1,15 +1,18 @@
 //! A text that changes are applied to, kept as spans of the old text and of the changes' texts.
 
-ghost use Rattle.std.specs.Prelude.{◌≡◌, ◌↔◌, ◌+◌, ◌≤◌, ℕ, IfErr, IfOk, OnErr, OnOk, IsTrue, length, string_bytes, string_len};
+ghost use Rattle.std.specs.Prelude.{◌≡◌, ◌↔◌, ◌+◌, ◌≤◌, ℕ, IfErr, IfOk, OnErr, OnOk, Ok, IsTrue, List, ◌*◌, map, length, string_bytes, string_len};
 ghost use Rattle.std.specs.Str.{chars};
 ghost use Rattle.lsp_text.specs.LineStarts.{Indexes};
 ghost use Rattle.lsp_text.specs.Units.{units_in};
 ghost use Rattle.lsp_edit.specs.Items.{plain};
-ghost use Rattle.lsp_edit.specs.Parts.{AreParts, items_of, parts_of};
+ghost use Rattle.lsp_edit.specs.Parts.{AreParts, NoneEmpty, items_of, parts_of};
 ghost use Rattle.lsp_edit.specs.Edited.{Applied, edit_of, edited_bytes, edited_text, lines_of};
 ghost use Rattle.lsp_edit.specs.Faults.{IsPlaces, TellsFault, ends_of, places_at};
-ghost use Rattle.lsp_edit.specs.Batch.{after_change};
+ghost use Rattle.lsp_edit.specs.Batch.{Edit, after_change, meaning};
+ghost use Rattle.lsp_edit.specs.Canonical.{canonical};
+ghost use Rattle.lsp_edit.specs.Laws.{IsCanonical, KeepsPairs, RangesStay};
 
+use crate::canonical::canonical_of;
 use crate::change::Change;
 use crate::current::{Current, text_of_spans};
 use crate::ends::ends;
@@ -164,6 +167,34 @@ impl<'a> Pieces<'a> {
             Some(range) => self.apply_to_range(encoding, range, &change.text)?,
         }
         Ok(())
+    }
+
+    /// The canonical batch of what was applied: one change for each gap between kept characters of the old text that is changed, from
+    /// the last gap to the first. It makes the same of the old text, character by character, and each of its ranges denotes in the text
+    /// that it meets what it denotes in the old text. Costs the spans, and one exact position for each end of a changed gap.
+    pub fn canonical(&self, encoding: Encoding) -> Result<Vec<Change>, AllocError>
+        ensures batch { IfOk result (λ changes. map edit_of changes.items ≡ canonical (units_in encoding) self.now.before self.now.items) }
+        ensures means { meaning (units_in encoding) self.now.before (canonical (units_in encoding) self.now.before self.now.items) ≡ Ok self.now.items }
+        ensures ranges { RangesStay (units_in encoding) self.now.before (plain self.now.before) (canonical (units_in encoding) self.now.before self.now.items) }
+        ensures pairs { KeepsPairs self.now.before self.now.items }
+        ensures law { (batch : List Edit) → meaning (units_in encoding) self.now.before batch ≡ Ok self.now.items → IsCanonical (units_in encoding) self.now.before batch self.now.items }
+    {
+        canonical_of(
+            self.alloc,
+            self.before,
+            self.lines.get(),
+            &self.spans,
+            encoding,
+        )
+    }
+
+    /// The spans that stand for the text as it is now, in order. None is empty, and there are at most two more than one for each change.
+    pub fn spans(&self) -> &[Span<'a>]
+        ensures items { items_of self.now.before (parts_of result.now) ≡ self.now.items }
+        ensures some { NoneEmpty (parts_of result.now) }
+        ensures few { length result.now ≤ 1 + 2 * self.now.changes }
+    {
+        &self.spans
     }
 
     /// The text as it is now. Costs one copy.
