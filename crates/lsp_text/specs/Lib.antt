@@ -2,3 +2,8 @@ pub mod Text
 pub mod TextLines
 pub mod Units
 pub mod Positions
+pub mod Starts
+pub mod LineStarts
+pub mod Leads
+pub mod UnitLaws
+pub mod LeadLaws

@@ -5,7 +5,20 @@
 #![tactic(auto)]
 
 mod encoding;
+mod ends;
+mod exact;
+mod in_line;
+mod laws;
+mod lines;
 mod position;
+mod resolve;
+mod starts;
+mod units;
 
 pub use encoding::Encoding;
 pub use position::{Position, Range};
+pub use laws::position_laws;
+pub use lines::Lines;
+pub use resolve::InsideCharacter;
+pub use starts::{Looks, Starts, line_of};
+pub use units::{Units, Utf8, Utf16, Utf32};

@@ -1,0 +1,10 @@
+use Rattle.std.proofs.Common.{◌≡◌, drop, map}
+use Rattle.lsp_text.specs.Units.{units_in}
+use Rattle.lsp_edit.specs.Batch.{after_changes}
+use Rattle.lsp_edit.specs.Edited.{edit_of}
+use Rattle.lsp_edit.proofs.RoomLemmas.{Applying}
+use Rattle.lsp_edit.proofs.composed.apply_all.Given as goal
+
+abbrev pub invariant-loop-change : goal.invariant-loop-change
+invariant-loop-change l =
+    Applying (units_in l.encoding) l.fn.pieces.before (after_changes (units_in l.encoding) l.fn.pieces.before 0 l.fn.pieces.items (map edit_of l.changes)) l.change-index (drop l.change-index l.changes) l.pieces

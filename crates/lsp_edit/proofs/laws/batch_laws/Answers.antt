@@ -1,0 +1,35 @@
+use Rattle.std.proofs.Common.{refl}
+use Rattle.lsp_edit.proofs.LawLemmas.{canonical_law}
+use Rattle.lsp_edit.proofs.ComposeLemmas.{then_means, then_associative}
+use Rattle.lsp_edit.proofs.laws.batch_laws.Goals as goal
+
+pub returns : goal.returns
+returns c = record {
+  canonical = canonical_law;
+  then = then_means;
+  associative = then_associative;
+  examples = record {
+    a_deletion_and_an_insertion = refl;
+    an_insertion_and_a_deletion = refl;
+    the_first_of_two = refl;
+    the_second_of_two = refl;
+    the_whole_text = refl;
+    the_same_whole_text = refl;
+    no_text = refl;
+    no_text_from_none = refl;
+    touching_changes = refl;
+    a_new_line_end = refl;
+    a_line_end_replaced = refl;
+    a_line_end_by_itself = refl;
+    past_the_line = refl;
+    behind_the_line_end = refl;
+    past_the_last_line = refl;
+    a_reversed_range = refl;
+    inside_the_start = refl;
+    inside_the_stop = refl;
+    past_the_end_twice = refl;
+    a_deletion_and_an_end = refl;
+    behind_the_last_line_end = refl;
+    two_batches = refl;
+  };
+}

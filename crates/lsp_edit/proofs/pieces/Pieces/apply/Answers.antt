@@ -1,0 +1,12 @@
+use Rattle.std.proofs.Common.{subst, None}
+use Rattle.lsp_text.specs.Units.{units_in}
+use Rattle.lsp_edit.specs.Batch.{Edit}
+use Rattle.lsp_edit.specs.Edited.{Applied}
+use Rattle.lsp_edit.proofs.AppliedLemmas.{edit_is}
+use Rattle.lsp_edit.proofs.pieces.Pieces.apply.Goals as goal
+
+pub returns-in_ok-apply_to_all-in-None-clause-applied : goal.returns-in_ok-apply_to_all-in-None-clause-applied
+returns-in_ok-apply_to_all-in-None-clause-applied c =
+    subst (λ (change : Edit). Applied (units_in c.args.encoding) c.args.self.now change c.apply_to_all.new.self)
+    (edit_is c.args.change.now None _ c.in-None.is c.deref.ensures)
+    (c.in_ok-apply_to_all-in-None.ensures.applied (units_in c.args.encoding))

@@ -1,0 +1,58 @@
+-- The one canonical batch of all batches that keep the same old characters and insert the same texts between them.
+use Rattle.std.specs.Prelude.{ℕ, suc, ◌≡◌, Bool, ◌||◌, nat_lt, List, [], ◌∷◌, ◌++◌, length, map, reverse, filter, Some}
+use Rattle.lsp_text.specs.Positions.{exact_position}
+use Rattle.lsp_edit.specs.Items.{Item, Old, New}
+use Rattle.lsp_edit.specs.Batch.{Edit}
+
+-- The old characters that are kept, by their indexes, in order.
+abbrev pub kept : List Item → List ℕ
+kept [] = []
+kept (Old index ∷ items) = index ∷ kept items
+kept (New character ∷ items) = kept items
+
+-- The gap texts: the new characters before the first kept one, between neighbouring kept ones, and behind the last.
+abbrev pub put_first : ℕ → List (List ℕ) → List (List ℕ)
+put_first character [] = []
+put_first character (gap ∷ gaps) = (character ∷ gap) ∷ gaps
+
+abbrev pub gap_texts : List Item → List (List ℕ)
+gap_texts [] = [] ∷ []
+gap_texts (Old index ∷ items) = [] ∷ gap_texts items
+gap_texts (New character ∷ items) = put_first character (gap_texts items)
+
+-- Two batches do the same if what they mean keeps the same old characters and has the same gap texts.
+pub record DoTheSame (items others : List Item) : Type 0 where
+  pub same_kept : kept items ≡ kept others
+  pub same_texts : gap_texts items ≡ gap_texts others
+
+-- A gap: where it lies in the old text, and the text that is to stand there.
+pub record Gap : Type 0 where
+  pub low : ℕ
+  pub high : ℕ
+  pub text : List ℕ
+
+-- Each gap goes from behind a kept character, or from 0, to the next kept one, or to the end of the old text.
+abbrev pub gaps_between : List ℕ → List ℕ → List (List ℕ) → List Gap
+gaps_between [] highs texts = []
+gaps_between (low ∷ lows) [] texts = []
+gaps_between (low ∷ lows) (high ∷ highs) [] = []
+gaps_between (low ∷ lows) (high ∷ highs) (text ∷ texts) = record { low = low; high = high; text = text } ∷ gaps_between lows highs texts
+
+abbrev pub gaps : List ℕ → List Item → List Gap
+gaps old items = gaps_between (0 ∷ map suc (kept items)) (kept items ++ length old ∷ []) (gap_texts items)
+
+-- A gap is changed if it holds an old character, or new ones stand there.
+abbrev pub is_changed : Gap → Bool
+is_changed gap = nat_lt gap.low gap.high || nat_lt 0 (length gap.text)
+
+-- The change of a gap: its range is the exact positions of the gap's two ends in the old text.
+abbrev pub change_of : (ℕ → ℕ) → List ℕ → Gap → Edit
+change_of units old gap =
+    record {
+      range = Some (record { start = exact_position units old gap.low; stop = exact_position units old gap.high });
+      text = gap.text;
+    }
+
+-- The canonical batch of items: one change for each changed gap, from the last gap to the first.
+abbrev pub canonical : (ℕ → ℕ) → List ℕ → List Item → List Edit
+canonical units old items = reverse (map (change_of units old) (filter is_changed (gaps old items)))

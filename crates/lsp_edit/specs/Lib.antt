@@ -1,0 +1,11 @@
+pub mod Items
+pub mod Batch
+pub mod Canonical
+pub mod Compose
+pub mod Keeps
+pub mod Parts
+pub mod Laws
+pub mod Faults
+pub mod Edited
+pub mod Gaps
+pub mod Examples

@@ -1,0 +1,125 @@
+-- What spans stand for: parts of the old text, told by places, and parts of new texts.
+use Rattle.std.specs.Prelude.{ℕ, suc, ◌≡◌, ◌+◌, ◌-◌, ◌<◌, ◌≤◌, true, if◌then◌else◌, ◌==◌, nat_lt, List, [], ◌∷◌, ◌++◌, length, map, take, drop, flat_map, IsCharBoundary}
+use Rattle.std.specs.Char.{len_utf8}
+use Rattle.std.specs.Str.{chars, is_utf8}
+use Rattle.lsp_edit.specs.declared.span.Span.{Span}
+use Rattle.lsp_edit.specs.declared.span.Span.TheVariants.{Old as OldSpan, New as NewSpan}
+use Rattle.lsp_text.specs.TextLines.{numbers_from}
+use Rattle.lsp_edit.specs.Items.{Item, Old, New}
+
+-- A part: the bytes of the old text from one place to another, or the bytes of a new text.
+pub data Part : Type 0 where
+  OldPart : ℕ → ℕ → Part
+  NewPart : List ℕ → Part
+
+abbrev pub part_of : Span → Part
+part_of (OldSpan from to) = OldPart from to
+part_of (NewSpan text) = NewPart text.now
+
+abbrev pub parts_of : List Span → List Part
+parts_of spans = map part_of spans
+
+-- The index of a place: how many characters of the text begin before it.
+abbrev pub index_of : List ℕ → ℕ → ℕ
+index_of [] place = 0
+index_of (c ∷ text) place = if place == 0 then 0 else suc (index_of text (place - len_utf8 c))
+
+-- The items of a part of the old text `old`, and of parts, one after another.
+abbrev pub items_in : List ℕ → Part → List Item
+items_in old (OldPart from to) = map Old (numbers_from (index_of old from) (index_of old to - index_of old from))
+items_in old (NewPart bytes) = map New (chars bytes)
+
+abbrev pub items_of : List ℕ → List Part → List Item
+items_of old parts = flat_map (items_in old) parts
+
+-- The bytes of a part of the text with the bytes `old`, and of parts, one after another.
+abbrev pub bytes_in : List ℕ → Part → List ℕ
+bytes_in old (OldPart from to) = take (to - from) (drop from old)
+bytes_in old (NewPart bytes) = bytes
+
+abbrev pub bytes_of : List ℕ → List Part → List ℕ
+bytes_of old parts = flat_map (bytes_in old) parts
+
+abbrev pub part_len : Part → ℕ
+part_len (OldPart from to) = to - from
+part_len (NewPart bytes) = length bytes
+
+-- A part is not empty and is cut between characters.
+abbrev pub IsPart : List ℕ → Part → Type 0
+IsPart old (OldPart from to) = (from < to) × IsCharBoundary old from × IsCharBoundary old to
+IsPart old (NewPart bytes) = (0 < length bytes) × (is_utf8 bytes ≡ true)
+
+abbrev pub AreParts : List ℕ → List Part → Type 0
+AreParts old [] = Unit {0}
+AreParts old (part ∷ parts) = IsPart old part × AreParts old parts
+
+-- the first bytes of a part, and those behind them
+abbrev pub front_part : Part → ℕ → Part
+front_part (OldPart from to) count = OldPart from (from + count)
+front_part (NewPart bytes) count = NewPart (take count bytes)
+
+abbrev pub back_part : Part → ℕ → Part
+back_part (OldPart from to) count = OldPart (from + count) to
+back_part (NewPart bytes) count = NewPart (drop count bytes)
+
+-- the parts before a place, and those behind it
+abbrev pub front_parts : List Part → ℕ → List Part
+front_parts [] place = []
+front_parts (part ∷ parts) place =
+    if place == 0 then []
+    else if nat_lt place (part_len part) then front_part part place ∷ []
+    else part ∷ front_parts parts (place - part_len part)
+
+abbrev pub back_parts : List Part → ℕ → List Part
+back_parts [] place = []
+back_parts (part ∷ parts) place =
+    if nat_lt place (part_len part) then back_part part place ∷ parts
+    else back_parts parts (place - part_len part)
+
+-- A part put behind parts: two parts of the old text that touch become one.
+abbrev pub joined : Part → Part → List Part
+joined (OldPart from to) (OldPart next end) = if to == next then OldPart from end ∷ [] else OldPart from to ∷ OldPart next end ∷ []
+joined (OldPart from to) (NewPart bytes) = OldPart from to ∷ NewPart bytes ∷ []
+joined (NewPart bytes) part = NewPart bytes ∷ part ∷ []
+
+abbrev pub put_part : List Part → Part → List Part
+put_part [] part = part ∷ []
+put_part (first ∷ []) part = joined first part
+put_part (first ∷ second ∷ parts) part = first ∷ put_part (second ∷ parts) part
+
+-- A part that may be cut behind its first bytes.
+abbrev pub IsCut : Part → ℕ → Type 0
+IsCut (OldPart from to) count = (from ≤ to) × (count ≤ to - from)
+IsCut (NewPart bytes) count = IsCharBoundary bytes count
+
+-- A part's ends are in order.
+abbrev pub IsOrdered : Part → Type 0
+IsOrdered (OldPart from to) = from ≤ to
+IsOrdered (NewPart bytes) = Unit {0}
+
+-- Parts that may be cut at a place: each has its ends in order, and one that the place lies in may be cut there.
+abbrev pub AreCut : List Part → ℕ → Type 0
+AreCut [] place = Unit {0}
+AreCut (part ∷ parts) place =
+    IsOrdered part × (place < part_len part → IsCut part place) × (part_len part ≤ place → AreCut parts (place - part_len part))
+
+-- Parts put behind others, where only the first can touch what stands before it.
+abbrev pub put_parts : List Part → List Part → List Part
+put_parts parts [] = parts
+put_parts parts (first ∷ rest) = put_part parts first ++ rest
+
+-- the part of a new text, if that isn't empty
+abbrev pub new_parts : List ℕ → List Part
+new_parts bytes = if length bytes == 0 then [] else NewPart bytes ∷ []
+
+-- The parts with the bytes between two places replaced by a new text.
+abbrev pub replaced_parts : List Part → ℕ → ℕ → List ℕ → List Part
+replaced_parts parts start stop bytes = put_parts (front_parts parts start ++ new_parts bytes) (back_parts parts stop)
+
+-- The part of an old text before any change, if it isn't empty.
+abbrev pub whole_parts : List ℕ → List Part
+whole_parts bytes = if length bytes == 0 then [] else OldPart 0 (length bytes) ∷ []
+
+abbrev pub NoneEmpty : List Part → Type 0
+NoneEmpty [] = Unit {0}
+NoneEmpty (part ∷ parts) = (0 < part_len part) × NoneEmpty parts

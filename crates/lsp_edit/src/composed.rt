@@ -1,0 +1,74 @@
+//! What a whole batch of changes makes of a text.
+
+ghost use Rattle.std.specs.Prelude.{◌≡◌, ◌+◌, ◌≤◌, ℕ, Ok, MatchResult, length, map, string_len, sum_by};
+ghost use Rattle.std.specs.Str.{chars};
+ghost use Rattle.lsp_text.specs.LineStarts.{Indexes};
+ghost use Rattle.lsp_text.specs.Units.{units_in};
+ghost use Rattle.lsp_edit.specs.Batch.{after_changes, meaning};
+ghost use Rattle.lsp_edit.specs.Edited.{Means, edit_of, edited_bytes};
+ghost use Rattle.lsp_edit.specs.Faults.{TellsBatchFault};
+
+use crate::change::{Change, MAX_NEW_TEXT};
+use crate::fault::EditFault;
+use crate::pieces::{MAX_TEXT, Pieces};
+use lsp_text::{Encoding, Lines};
+use std::alloc::Global;
+
+/// How many bytes a text may have that a batch is composed over.
+pub const MAX_OLD_TEXT: usize = 1_073_741_824;
+
+/// Applies the changes of a batch to pieces, one after another.
+fn apply_all<'a>(
+    pieces: Pieces<'a>,
+    encoding: Encoding,
+    changes: &'a [Change],
+) -> Result<Pieces<'a>, EditFault>
+    requires fresh { pieces.changes ≡ 0 }
+    requires room { length (edited_bytes pieces) + sum_by (λ change. string_len change.text) changes.now ≤ MAX_TEXT }
+    ensures { MatchResult result
+        (λ made. Means pieces.entry.before (after_changes (units_in encoding) pieces.entry.before 0 pieces.entry.items (map edit_of changes.now)) (length changes.now) made)
+        (λ fault. TellsBatchFault (after_changes (units_in encoding) pieces.entry.before 0 pieces.entry.items (map edit_of changes.now)) fault) }
+{
+    let mut pieces = pieces;
+    for change in changes {
+        pieces.apply(encoding, change)?;
+    }
+    Ok(pieces)
+}
+
+/// What a batch makes of a text: its changes are applied one after another (LSP 3.17, DidChangeTextDocumentParams). The first change
+/// that has no result is told. Costs what each change costs to apply.
+pub fn compose<'a>(
+    alloc: Global,
+    before: &'a str,
+    encoding: Encoding,
+    changes: &'a [Change],
+) -> Result<Pieces<'a>, EditFault>
+    requires size { length before.now ≤ MAX_OLD_TEXT }
+    requires fits { sum_by (λ change. string_len change.text) changes.now ≤ MAX_NEW_TEXT }
+    ensures { MatchResult result
+        (λ pieces. Means (chars before.now) (meaning (units_in encoding) (chars before.now) (map edit_of changes.now)) (length changes.now) pieces)
+        (λ fault. TellsBatchFault (meaning (units_in encoding) (chars before.now) (map edit_of changes.now)) fault) }
+{
+    let pieces = Pieces::start(alloc, before)?;
+    apply_all(pieces, encoding, changes)
+}
+
+/// The same, over a text whose lines the caller keeps.
+pub fn compose_over<'a>(
+    alloc: Global,
+    before: &'a str,
+    lines: &'a Lines,
+    encoding: Encoding,
+    changes: &'a [Change],
+) -> Result<Pieces<'a>, EditFault>
+    requires indexed { Indexes lines.now before.now }
+    requires size { length before.now ≤ MAX_OLD_TEXT }
+    requires fits { sum_by (λ change. string_len change.text) changes.now ≤ MAX_NEW_TEXT }
+    ensures { MatchResult result
+        (λ pieces. Means (chars before.now) (meaning (units_in encoding) (chars before.now) (map edit_of changes.now)) (length changes.now) pieces)
+        (λ fault. TellsBatchFault (meaning (units_in encoding) (chars before.now) (map edit_of changes.now)) fault) }
+{
+    let pieces = Pieces::over(alloc, before, lines)?;
+    apply_all(pieces, encoding, changes)
+}

@@ -1,0 +1,39 @@
+//! The ends of a change's range, as places of the text that the change meets.
+
+ghost use Rattle.std.specs.Prelude.{◌≡◌, ℕ};
+ghost use Rattle.std.specs.Str.{chars};
+ghost use Rattle.lsp_text.specs.LineStarts.{Indexes};
+ghost use Rattle.lsp_text.specs.Units.{units_in};
+ghost use Rattle.lsp_edit.specs.Faults.{ends_of, places_at};
+
+use crate::fault::{EditFault, Side};
+use lsp_text::{Encoding, Lines, Range};
+
+/// The places of a range's two ends in the text that `lines` index. `change` is the number of the change that a fault tells.
+pub fn ends(
+    lines: &Lines,
+    text: &str,
+    encoding: Encoding,
+    range: Range,
+    change: usize,
+) -> Result<(usize, usize), EditFault>
+    requires { Indexes lines.now text.now }
+    ensures { result ≡ places_at change (chars text.now) (ends_of (units_in encoding) (chars text.now) range) }
+{
+    let Ok(start) = lines.resolve(text, encoding, range.start) else {
+        return Err(EditFault::InsideCharacter {
+            change,
+            side: Side::Start,
+        });
+    };
+    let Ok(stop) = lines.resolve(text, encoding, range.stop) else {
+        return Err(EditFault::InsideCharacter {
+            change,
+            side: Side::Stop,
+        });
+    };
+    if start > stop {
+        return Err(EditFault::ReversedRange { change });
+    }
+    Ok((start, stop))
+}

@@ -1,0 +1,37 @@
+//! Why a change can't be applied.
+
+ghost use Rattle.std.specs.Prelude.{◌≡◌};
+ghost use Rattle.lsp_edit.specs.declared.fault.EditFault.TheVariants.{NoMemory};
+
+use std::alloc::AllocError;
+use thiserror::Error;
+
+/// Which end of a change's range a fault is about.
+#[derive(Clone, Copy, Debug, PartialEq, Eq)]
+pub enum Side {
+    Start,
+    Stop,
+}
+
+/// Why a change has no result. Changes are counted from 0, and the first faulty one decides: first its start, then its stop, then
+/// their order.
+#[derive(Clone, Copy, Debug, PartialEq, Eq, Error)]
+pub enum EditFault {
+    /// An end of the change's range lies inside a character.
+    #[error("change {change}: {side:?} lies inside a character")]
+    InsideCharacter { change: usize, side: Side },
+    /// The change's range starts behind its end.
+    #[error("change {change}: the range is reversed")]
+    ReversedRange { change: usize },
+    /// No memory was left.
+    #[error("out of memory")]
+    NoMemory,
+}
+
+impl From<AllocError> for EditFault {
+    ghost from_gives = { λ _ fault. fault ≡ NoMemory };
+
+    fn from(_: AllocError) -> EditFault {
+        EditFault::NoMemory
+    }
+}

@@ -1,0 +1,206 @@
+//! A text that changes are applied to, kept as spans of the old text and of the changes' texts.
+
+ghost use Rattle.std.specs.Prelude.{◌≡◌, ◌↔◌, ◌+◌, ◌≤◌, ℕ, IfErr, IfOk, OnErr, OnOk, Ok, IsTrue, List, ◌*◌, map, length, string_bytes, string_len};
+ghost use Rattle.std.specs.Str.{chars};
+ghost use Rattle.lsp_text.specs.LineStarts.{Indexes};
+ghost use Rattle.lsp_text.specs.Units.{units_in};
+ghost use Rattle.lsp_edit.specs.Items.{plain};
+ghost use Rattle.lsp_edit.specs.Parts.{AreParts, NoneEmpty, items_of, parts_of};
+ghost use Rattle.lsp_edit.specs.Edited.{Applied, edit_of, edited_bytes, edited_text, lines_of};
+ghost use Rattle.lsp_edit.specs.Faults.{IsPlaces, TellsFault, ends_of, places_at};
+ghost use Rattle.lsp_edit.specs.Batch.{Edit, after_change, meaning};
+ghost use Rattle.lsp_edit.specs.Canonical.{canonical};
+ghost use Rattle.lsp_edit.specs.Laws.{IsCanonical, KeepsPairs, RangesStay};
+
+use crate::canonical::canonical_of;
+use crate::change::Change;
+use crate::current::{Current, text_of_spans};
+use crate::ends::ends;
+use crate::fault::EditFault;
+use crate::kept_lines::KeptLines;
+use crate::replace::{all_new, replaced, whole};
+use crate::span::Span;
+use lsp_text::{Encoding, Lines, Range};
+use std::alloc::{AllocError, Global};
+use std::marker::Model;
+
+/// How many bytes a text may have.
+pub const MAX_TEXT: usize = 2_147_483_648;
+
+/// A text that changes are applied to, one after another. It borrows the old text and the texts of the changes, and copies neither
+/// to tell what became of the old text.
+#[derive(Drop)]
+pub struct Pieces<'a> {
+    alloc: Global,
+    before: &'a str,
+    lines: KeptLines<'a>,
+    spans: Vec<Span<'a>>,
+    len: usize,
+    changes: usize,
+    current: Option<Current>,
+}
+
+impl<'a> Model for Pieces<'a> {
+    ghost use Rattle.std.specs.Str.{chars};
+    ghost use Rattle.lsp_edit.specs.Parts.{items_of, parts_of, bytes_of};
+    ghost use Rattle.lsp_edit.specs.Edited.{Edited, ArePieces, IsCurrent, lines_of};
+
+    ghost Value = { Edited };
+
+    ghost view = { λ pieces. record {
+      before = chars pieces.before.now;
+      items = items_of (chars pieces.before.now) (parts_of pieces.spans.items);
+      changes = pieces.changes;
+    } };
+
+    ghost invariant = { λ pieces. ArePieces pieces.before.now (lines_of pieces.lines) (parts_of pieces.spans.items) pieces.len pieces.changes
+        × IsCurrent (bytes_of pieces.before.now (parts_of pieces.spans.items)) pieces.current };
+}
+
+impl<'a> Pieces<'a> {
+    /// Nothing changed yet, over lines of the text.
+    fn begin(alloc: Global, before: &'a str, lines: KeptLines<'a>) -> Result<Self, AllocError>
+        requires { Indexes (lines_of lines) before.now }
+        ensures { IfOk result (λ pieces. pieces ≡ record { before = chars before.now; items = plain (chars before.now); changes = 0 }) }
+    {
+        let spans = whole(alloc, before)?;
+        Ok(Pieces {
+            alloc,
+            before,
+            lines,
+            spans,
+            len: before.len(),
+            changes: 0,
+            current: None,
+        })
+    }
+
+    /// A text before any change. Costs a search through the text for its lines.
+    pub fn start(alloc: Global, before: &'a str) -> Result<Self, AllocError>
+        requires { length before.now ≤ MAX_TEXT }
+        ensures { IfOk result (λ pieces. pieces ≡ record { before = chars before.now; items = plain (chars before.now); changes = 0 }) }
+    {
+        let lines = Lines::new(alloc, before)?;
+        Self::begin(alloc, before, KeptLines::Own(lines))
+    }
+
+    /// A text before any change, whose lines the caller keeps. Costs nothing that grows with the text.
+    pub fn over(alloc: Global, before: &'a str, lines: &'a Lines) -> Result<Self, AllocError>
+        requires { Indexes lines.now before.now }
+        ensures { IfOk result (λ pieces. pieces ≡ record { before = chars before.now; items = plain (chars before.now); changes = 0 }) }
+    {
+        Self::begin(alloc, before, KeptLines::Lent(lines))
+    }
+
+    /// Whether the text as it is now and the change's text have together at most 2,147,483,648 bytes.
+    pub fn has_room(&self, change: &Change) -> bool
+        ensures { IsTrue result ↔ (length (edited_bytes self.now) + string_len change.now.text ≤ MAX_TEXT) }
+    {
+        self.len + change.text.len() <= MAX_TEXT
+    }
+
+    /// The places of a range's two ends in the text as it is now. `change` is the number that a fault tells.
+    fn places(&mut self, encoding: Encoding, range: Range) -> Result<(usize, usize), EditFault>
+        ensures same { self.new ≡ self.old }
+        ensures places { IsPlaces result (places_at self.old.changes (edited_text self.old) (ends_of (units_in encoding) (edited_text self.old) range)) }
+    {
+        if self.changes == 0 {
+            return ends(self.lines.get(), self.before, encoding, range, 0);
+        }
+        let current = Current::or_new(
+            self.current.take(),
+            self.alloc,
+            self.before,
+            &self.spans,
+            self.len,
+        )?;
+        let places = ends(&current.lines, &current.text, encoding, range, self.changes);
+        self.current = Some(current);
+        places
+    }
+
+    /// Puts a new text in place of all that is there.
+    fn apply_to_all(&mut self, text: &'a str) -> Result<(), AllocError>
+        requires { length (edited_bytes self.old) + length text.now ≤ MAX_TEXT }
+        ensures applied { (units : ℕ → ℕ) → OnOk result (Applied units self.old (record { range = None; text = chars text.now }) self.new) }
+        ensures same { OnErr result (self.new ≡ self.old) }
+    {
+        let spans = all_new(self.alloc, text)?;
+        self.spans = spans;
+        self.len = text.len();
+        self.current = None;
+        self.changes = self.changes.saturating_add(1);
+        Ok(())
+    }
+
+    /// Puts a new text in place of a range.
+    fn apply_to_range(
+        &mut self,
+        encoding: Encoding,
+        range: Range,
+        text: &'a str,
+    ) -> Result<(), EditFault>
+        requires { length (edited_bytes self.old) + length text.now ≤ MAX_TEXT }
+        ensures applied { OnOk result (Applied (units_in encoding) self.old (record { range = Some range; text = chars text.now }) self.new) }
+        ensures same { OnErr result (self.new ≡ self.old) }
+        ensures told { IfErr result (λ fault. TellsFault self.old.changes (after_change (units_in encoding) self.old.before self.old.items (record { range = Some range; text = chars text.now })) fault) }
+    {
+        let (start, stop) = self.places(encoding, range)?;
+        let spans = replaced(self.alloc, &self.spans, start, stop, text)?;
+        self.spans = spans;
+        self.len = self.len - (stop - start) + text.len();
+        self.current = None;
+        self.changes = self.changes.saturating_add(1);
+        Ok(())
+    }
+
+    /// Applies a change to the text as it is now (LSP 3.17, TextDocumentContentChangeEvent). A fault leaves everything as it was, and
+    /// tells how many changes were applied before.
+    pub fn apply(&mut self, encoding: Encoding, change: &'a Change) -> Result<(), EditFault>
+        requires { length (edited_bytes self.old) + string_len change.now.text ≤ MAX_TEXT }
+        ensures applied { OnOk result (Applied (units_in encoding) self.old (edit_of change.now) self.new) }
+        ensures same { OnErr result (self.new ≡ self.old) }
+        ensures told { IfErr result (λ fault. TellsFault self.old.changes (after_change (units_in encoding) self.old.before self.old.items (edit_of change.now)) fault) }
+    {
+        match change.range {
+            None => self.apply_to_all(&change.text)?,
+            Some(range) => self.apply_to_range(encoding, range, &change.text)?,
+        }
+        Ok(())
+    }
+
+    /// The canonical batch of what was applied: one change for each gap between kept characters of the old text that is changed, from
+    /// the last gap to the first. It makes the same of the old text, character by character, and each of its ranges denotes in the text
+    /// that it meets what it denotes in the old text. Costs the spans, and one exact position for each end of a changed gap.
+    pub fn canonical(&self, encoding: Encoding) -> Result<Vec<Change>, AllocError>
+        ensures batch { IfOk result (λ changes. map edit_of changes.items ≡ canonical (units_in encoding) self.now.before self.now.items) }
+        ensures means { meaning (units_in encoding) self.now.before (canonical (units_in encoding) self.now.before self.now.items) ≡ Ok self.now.items }
+        ensures ranges { RangesStay (units_in encoding) self.now.before (plain self.now.before) (canonical (units_in encoding) self.now.before self.now.items) }
+        ensures pairs { KeepsPairs self.now.before self.now.items }
+        ensures law { (batch : List Edit) → meaning (units_in encoding) self.now.before batch ≡ Ok self.now.items → IsCanonical (units_in encoding) self.now.before batch self.now.items }
+    {
+        canonical_of(
+            self.alloc,
+            self.before,
+            self.lines.get(),
+            &self.spans,
+            encoding,
+        )
+    }
+
+    /// The spans that stand for the text as it is now, in order. None is empty, and there are at most two more than one for each change.
+    pub fn spans(&self) -> &[Span<'a>]
+        ensures items { items_of self.now.before (parts_of result.now) ≡ self.now.items }
+        ensures some { NoneEmpty (parts_of result.now) }
+        ensures few { length result.now ≤ 1 + 2 * self.now.changes }
+    {
+        &self.spans
+    }
+
+    /// The text as it is now. Costs one copy.
+    pub fn text(&self) -> Result<String, AllocError>
+        ensures { IfOk result (λ text. string_bytes text ≡ edited_bytes self.now) }
+    {
+        text_of_spans(self.alloc, self.before, &self.spans, self.len)
+    }
+}

@@ -1,0 +1,17 @@
+pub mod RowLemmas
+pub mod LineLemmas
+pub mod UnitLemmas
+pub mod PositionLemmas
+pub mod NearLemmas
+pub mod InLineLemmas
+pub mod PlaceLemmas
+pub mod EndLemmas
+pub mod StartLemmas
+pub mod StartRowLemmas
+pub mod LeadLemmas
+pub mod ContentLemmas
+pub mod ResolveLemmas
+pub mod IndexesLemmas
+pub mod ExactLemmas
+pub mod BoundaryLemmas
+pub mod SearchLemmas

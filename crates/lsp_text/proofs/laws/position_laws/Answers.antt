@@ -1,0 +1,10 @@
+use Rattle.lsp_text.proofs.PositionLemmas.{exact_denotes, denoted_whole}
+use Rattle.lsp_text.proofs.NearLemmas.{exact_near}
+use Rattle.lsp_text.proofs.laws.position_laws.Goals as goal
+
+pub returns : goal.returns
+returns c = record {
+  denotes = exact_denotes;
+  whole = λ units text p k h. ((denoted_whole units text p k h).within, (denoted_whole units text p k h).whole);
+  near = exact_near;
+}

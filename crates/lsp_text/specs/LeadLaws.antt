@@ -1,0 +1,11 @@
+-- No byte has more than four units.
+use Rattle.std.specs.Prelude.{ℕ, ◌≤◌}
+use Rattle.std.proofs.Common.{arith}
+use Rattle.std.proofs.lemmas.Bool.Decides.{nat_tests}
+use Rattle.lsp_text.specs.Leads.{lead_units_utf16, lead_units_utf32}
+
+pub utf16_few : (byte : ℕ) → lead_units_utf16 byte ≤ 4
+utf16_few byte = grind (arith, nat_tests)
+
+pub utf32_few : (byte : ℕ) → lead_units_utf32 byte ≤ 4
+utf32_few byte = grind (arith, nat_tests)

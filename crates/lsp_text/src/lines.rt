@@ -1,0 +1,106 @@
+//! The lines of a text, kept as the places where they start.
+ghost use Rattle.std.specs.Prelude.{◌≡◌, ◌+◌, ◌≤◌, ◌↔◌, ℕ, List, Some, length, option_map, IsTrue, IfOk};
+ghost use Rattle.std.specs.Result.{result_ok};
+ghost use Rattle.std.specs.Str.{chars};
+ghost use Rattle.lsp_text.specs.Text.{place_of};
+ghost use Rattle.lsp_text.specs.TextLines.{line_ends};
+ghost use Rattle.lsp_text.specs.LineStarts.{Indexes, IsPlace};
+ghost use Rattle.lsp_text.specs.Units.{units_in};
+ghost use Rattle.lsp_text.specs.Positions.{exact_position, denoted};
+
+use std::alloc::{AllocError, Global};
+use std::marker::Model;
+
+use crate::encoding::Encoding;
+use crate::ends::{is_inside_crlf, push_ends};
+use crate::exact::position_in;
+use crate::position::Position;
+use crate::resolve::{InsideCharacter, resolve_in};
+use crate::starts::{Looks, Starts};
+use crate::units::{Utf8, Utf16, Utf32};
+
+/// The lines of a text, by the places where they start (LSP 3.17, Position: `\n`, `\r\n` and `\r` end a line). It holds four bytes
+/// a line, and not the text.
+#[derive(Debug, Drop)]
+pub struct Lines {
+    starts: Vec<u32>,
+}
+
+impl Model for Lines {
+    ghost use Rattle.std.specs.Prelude.{ℕ, List};
+    ghost use Rattle.lsp_text.specs.Starts.{AreStarts};
+
+    ghost Value = { List ℕ };
+
+    ghost view = { λ lines. lines.starts.items };
+
+    ghost invariant = { λ lines. AreStarts lines.starts.items };
+}
+
+impl Lines {
+    /// The lines of a text, in time linear in its bytes.
+    pub fn new(alloc: Global, text: &str) -> Result<Self, AllocError>
+        requires { length text.now ≤ 2147483648 }
+        ensures { IfOk result (λ lines. Indexes lines text.now) }
+    {
+        let bytes = text.as_bytes();
+        let mut starts = Vec::new(alloc);
+        starts.push(0)?;
+        push_ends(&mut starts, bytes, 0, bytes.len())?;
+        Ok(Lines { starts })
+    }
+
+    /// How many lines there are: one more than line ends, at least one.
+    pub fn count(&self) -> usize
+        ensures count { result ≡ length self.now }
+        ensures line_ends { (text : List ℕ) → Indexes self.now text → result ≡ line_ends (chars text) + 1 }
+    {
+        self.starts.len()
+    }
+
+    /// The line starts, to be looked up with each look counted.
+    pub fn looks(&self) -> Looks<'_>
+        ensures starts { ⟦<Looks<'static> as Starts>⟧.starts result ≡ self.now }
+        ensures made { ⟦<Looks<'static> as Starts>⟧.looks result ≡ 0 }
+    {
+        Looks::new(&self.starts)
+    }
+
+    /// Whether a position can stand at this place of the text: it is a boundary of characters that splits no CRLF.
+    pub fn is_place(&self, text: &str, place: usize) -> bool
+        ensures { IsTrue result ↔ IsPlace (chars text.now) place }
+    {
+        text.is_char_boundary(place) && !is_inside_crlf(text.as_bytes(), place)
+    }
+
+    /// The place that a position denotes in the text that the lines index (LSP 3.17, Position): the end of the text, if it has no such
+    /// line; the end of the line's content, if that has no more units. It costs the line's text up to the character, in UTF-8 nothing.
+    pub fn resolve(&self, text: &str, encoding: Encoding, position: Position) -> Result<usize, InsideCharacter>
+        requires { Indexes self.now text.now }
+        ensures { result_ok result ≡ option_map (place_of (chars text.now)) (denoted (units_in encoding) (chars text.now) position) }
+    {
+        let bytes = text.as_bytes();
+        match encoding {
+            Encoding::Utf8 => resolve_in::<Utf8>(&self.starts, bytes, position),
+            Encoding::Utf16 => resolve_in::<Utf16>(&self.starts, bytes, position),
+            Encoding::Utf32 => resolve_in::<Utf32>(&self.starts, bytes, position),
+        }
+    }
+
+    /// The exact position of a place in the text that the lines index. It costs a binary search over the lines, and the line's text up
+    /// to the place, in UTF-8 the search alone.
+    pub fn position(&self, text: &str, encoding: Encoding, place: usize) -> Position
+        requires indexed { Indexes self.now text.now }
+        requires place { IsPlace (chars text.now) place }
+        ensures exact { (k : ℕ) → k ≤ length (chars text.now) → place_of (chars text.now) k ≡ place
+            → result ≡ exact_position (units_in encoding) (chars text.now) k }
+        ensures resolves { option_map (place_of (chars text.now)) (denoted (units_in encoding) (chars text.now) result) ≡ Some place }
+    {
+        let bytes = text.as_bytes();
+        match encoding {
+            Encoding::Utf8 => position_in::<Utf8>(&self.starts, bytes, place),
+            Encoding::Utf16 => position_in::<Utf16>(&self.starts, bytes, place),
+            Encoding::Utf32 => position_in::<Utf32>(&self.starts, bytes, place),
+        }
+    }
+}
