@@ -149,4 +149,6 @@ impl Framer {
 }
 
 #[cfg(test)]
+mod refused;
+#[cfg(test)]
 mod tests;
