@@ -14,4 +14,6 @@ pub mod ResolveLemmas
 pub mod IndexesLemmas
 pub mod ExactLemmas
 pub mod BoundaryLemmas
+pub mod ShiftLemmas
+pub mod SpliceLemmas
 pub mod SearchLemmas

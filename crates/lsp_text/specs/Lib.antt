@@ -7,3 +7,4 @@ pub mod LineStarts
 pub mod Leads
 pub mod UnitLaws
 pub mod LeadLaws
+pub mod Splice

@@ -12,6 +12,7 @@ mod laws;
 mod lines;
 mod position;
 mod resolve;
+mod splice;
 mod starts;
 mod units;
 
