@@ -1,15 +1,15 @@
 -- Inside a line: its content is all indexes from its start to its stop, and a position goes by the characters between them alone.
-use Rattle.std.proofs.Common.{ℕ, zero, suc, ◌≡◌, ◌+◌, ◌-◌, ◌<◌, ◌≤◌, ◌⊎◌, Bool, true, false, not, ◌&&◌, ◌||◌, cond, get_or, if◌then◌else◌, List, [], ◌∷◌, length, take, drop, sum_by, slice_index, ◌==◌, nat_lt, nat_le, Option, Some, None, option_map, find, ⊎_elim, inl, inr, refl, sym, ap, ◌∙◌, arith, eqb-true, eq-eqb, ltb-true, ltb-false, le-ltb, le-leb, leb-true, leb-false, length-drop, length-take}
-use Rattle.std.proofs.lemmas.Bool.{cases_Bool, cases_eq, cases_lt, and_parts, and_from, and_left, and_right, or_left, or_right, not-true, not_from_false, lt-leb, eqb-false, false_from_ne_true}
+use Rattle.std.proofs.Common.{ℕ, zero, suc, ◌≡◌, ◌+◌, ◌-◌, ◌<◌, ◌≤◌, ◌⊎◌, Bool, true, false, not, ◌&&◌, cond, if◌then◌else◌, List, [], ◌∷◌, length, take, drop, sum_by, slice_index, ◌==◌, nat_lt, nat_le, Option, Some, None, option_map, find, ⊎_elim, inl, inr, refl, sym, ap, ◌∙◌, arith, eqb-true, ltb-true, ltb-false, le-ltb, le-leb, length-drop, length-take}
+use Rattle.std.proofs.lemmas.Bool.{cases_Bool, cases_eq, and_parts, and_from, or_right, not-true, not_from_false, lt-leb, eqb-false, false_from_ne_true}
 use Rattle.std.proofs.lemmas.List.{take-take, get_or-drop}
 use Rattle.std.proofs.lemmas.List.Sums.{sum_by-cons, prefix_len_is}
 use Rattle.std.specs.List.{prefix_len}
 use Rattle.lsp_text.specs.declared.position.Position.{Position}
-use Rattle.lsp_text.specs.TextLines.{line_feed, carriage_return, ends_line, splits_crlf, line_at, line_ends, is_in_content, numbers_from, line_content, line_start, line_stop}
+use Rattle.lsp_text.specs.TextLines.{line_feed, carriage_return, ends_line, splits_crlf, line_at, line_ends, is_in_content, line_content, line_start, line_stop}
 use Rattle.lsp_text.specs.Units.{units_between}
 use Rattle.lsp_text.specs.Positions.{denoted}
-use Rattle.lsp_text.proofs.RowLemmas.{find_only, find_none}
-use Rattle.lsp_text.proofs.LineLemmas.{line_rises, line_step, in_content, in_content_line, in_content_whole, line_has_start, line_has_stop, IsStart, IsStop}
+use Rattle.lsp_text.proofs.RowLemmas.{find_none}
+use Rattle.lsp_text.proofs.LineLemmas.{line_rises, in_content, in_content_line, in_content_whole, line_has_start, line_has_stop, IsStart, IsStop}
 use Rattle.lsp_text.proofs.PositionLemmas.{content_index}
 
 -- The index in a line of the characters `line` that has c units before it: the line's end if it has no more, none inside a character.

@@ -1,12 +1,12 @@
 -- Positions: an exact position denotes its index, and whatever a position denotes is an index of the text that splits no CRLF.
-use Rattle.std.proofs.Common.{ℕ, zero, suc, ◌≡◌, ◌+◌, ◌-◌, ◌<◌, ◌≤◌, ◌⊎◌, Bool, true, false, cond, List, length, ◌==◌, nat_lt, nat_le, Option, Some, None, find, filter, ⊎_elim, refl, ap, arith, eqb-true, eq-eqb, le-ltb, ltb-false, ltb-true, leb-true, leb-false, le-leb}
+use Rattle.std.proofs.Common.{ℕ, suc, ◌≡◌, ◌<◌, ◌≤◌, true, false, cond, List, length, ◌==◌, nat_lt, nat_le, Some, find, ⊎_elim, refl, ap, arith, eqb-true, eq-eqb, le-ltb, ltb-false, le-leb}
 use Rattle.std.proofs.lemmas.Bool.{cases_Bool, cases_eq, lt-leb}
 use Rattle.lsp_text.specs.declared.position.Position.{Position}
-use Rattle.lsp_text.specs.TextLines.{splits_crlf, line_at, line_ends, is_in_content, numbers_from, line_content, line_start, line_stop}
+use Rattle.lsp_text.specs.TextLines.{splits_crlf, line_at, line_ends, is_in_content, line_content, line_start, line_stop}
 use Rattle.lsp_text.specs.Units.{units_between}
 use Rattle.lsp_text.specs.Positions.{exact_position, denoted}
-use Rattle.lsp_text.proofs.RowLemmas.{IsFirst, IsLast, find_only, IsFound, find_found}
-use Rattle.lsp_text.proofs.LineLemmas.{line_rises, splits_none_past, in_content, in_content_line, in_content_whole, start_in_content, stop_in_content, line_has_stop, IsStart, IsStop}
+use Rattle.lsp_text.proofs.RowLemmas.{find_only, IsFound, find_found}
+use Rattle.lsp_text.proofs.LineLemmas.{line_rises, splits_none_past, in_content, in_content_whole, start_in_content, stop_in_content, line_has_stop, IsStart, IsStop}
 use Rattle.lsp_text.proofs.UnitLemmas.{units_rise, units_same}
 
 -- The index of a content with the units of an index of that content is that index.

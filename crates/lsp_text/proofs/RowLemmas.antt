@@ -1,5 +1,5 @@
 -- Rows of numbers: the first number of a row that passes a test, the last, and the only one.
-use Rattle.std.proofs.Common.{ℕ, zero, suc, ◌≡◌, ◌+◌, ◌<◌, ◌≤◌, ◌⊎◌, ◌∷◌, Bool, true, false, cond, List, Option, Some, None, filter, find, ⊎_elim, inl, inr, refl, arith}
+use Rattle.std.proofs.Common.{ℕ, zero, suc, ◌≡◌, ◌+◌, ◌<◌, ◌≤◌, ◌⊎◌, ◌∷◌, Bool, true, false, Some, None, filter, find, ⊎_elim, inl, inr, refl, arith}
 use Rattle.std.proofs.lemmas.Bool.{cases_Bool, cases_eq, cases_lt}
 use Rattle.lsp_text.specs.TextLines.{numbers_from, first_or, last_or}
 

@@ -4,9 +4,13 @@ use Rattle.std.proofs.lemmas.List.{length-append, length-drop, length-take, get_
 use Rattle.std.proofs.lemmas.List.Elements.{filter-append}
 use Rattle.std.proofs.lemmas.Bool.{cases_lt, cases_Bool}
 use Rattle.lsp_text.specs.TextLines.{ends_line, numbers_from}
-use Rattle.lsp_text.specs.LineStarts.{ends_between, line_starts}
+use Rattle.lsp_text.specs.LineStarts.{Indexes, ends_between, line_starts}
 use Rattle.lsp_text.specs.Starts.{IsLineOf, AreStarts}
-use Rattle.lsp_text.specs.Splice.{IsReplaced}
+use Rattle.lsp_text.specs.Splice.{IsReplaced, Replaces}
+use Rattle.std.specs.Prelude.{Result, Ok, Err, OnOk, OnErr}
+use Rattle.std.specs.Str.{IsUtf8}
+use Rattle.lsp_text.proofs.StartLemmas.{starts_of_text}
+use Rattle.lsp_text.proofs.IndexesLemmas.{indexes_from}
 use Rattle.lsp_text.proofs.StartRowLemmas.{filter_ascends, ascends_from, line_starts_are}
 
 numbers_split : (first m n : ℕ) → numbers_from first (m + n) ≡ numbers_from first m ++ numbers_from (first + m) n
@@ -39,11 +43,11 @@ filter_moved move test other a b (suc n) same moves =
     let here : test a ≡ other b = ap test (sym a0) ∙ (same 0 (omega arith) ∙ ap other b0) in
     let moved : move a ≡ b = ap move (sym a0) ∙ (moves 0 (omega arith) ∙ b0) in
     let later : map move (filter test (numbers_from (suc a) n)) ≡ filter other (numbers_from (suc b) n) =
-          filter_moved move test other (suc a) (suc b) n (λ j h. ap test (omega arith) ∙ (same (suc j) (omega arith) ∙ ap other (omega arith))) (λ j h. ap move (omega arith) ∙ (moves (suc j) (omega arith) ∙ omega arith)) in
+    filter_moved move test other (suc a) (suc b) n (λ j h. ap test (omega arith) ∙ (same (suc j) (omega arith) ∙ ap other (omega arith))) (λ j h. ap move (omega arith) ∙ (moves (suc j) (omega arith) ∙ omega arith)) in
     ⊎_elim
-      (λ (e : other b ≡ true). let f : test a ≡ true = here ∙ e in rw (e, f, moved) (ap (λ xs. b ∷ xs) later))
-      (λ (e : other b ≡ false). let f : test a ≡ false = here ∙ e in rw (e, f) later)
-      (cases_Bool (other b))
+    (λ (e : other b ≡ true). let f : test a ≡ true = here ∙ e in rw (e, f, moved) (ap (λ xs. b ∷ xs) later))
+    (λ (e : other b ≡ false). let f : test a ≡ false = here ∙ e in rw (e, f) later)
+    (cases_Bool (other b))
 
 -- A number of a filtered row lies in the row.
 pub filter_below : (test : ℕ → Bool) (low n k : ℕ) → k < length (filter test (numbers_from low n)) → get_or (filter test (numbers_from low n)) k 0 < low + n
@@ -68,18 +72,18 @@ count_front : (front behind : List ℕ) (place line : ℕ) → 0 < length front 
 count_front front behind place line some low high found =
     let size : length (front ++ behind) ≡ length front + length behind = length-append front behind in
     ⊎_elim
-      (λ (h : line + 1 < length front).
-        let last = length front - 1 in
-        let at : get_or (front ++ behind) last 0 ≡ get_or front last 0 = get_or_append_left front behind 0 last (omega arith) in
-        absurd (omega (arith, at, low last (omega arith), found.greatest last (omega arith) (omega (arith, size)))))
-      (λ (h : length front ≤ line + 1).
-        ⊎_elim
-          (λ (g : length front < line + 1).
-            let at : get_or (front ++ behind) line 0 ≡ get_or behind (line - length front) 0 = get_or-append_right front behind (length front) line 0 refl (omega arith) in
-            absurd (omega (arith, at, found.at_most, high (line - length front) (omega (arith, size, found.within)))))
-          (λ (g : line + 1 ≤ length front). omega arith)
-          (cases_lt (length front) (line + 1)))
-      (cases_lt (line + 1) (length front))
+    (λ (h : line + 1 < length front).
+    let last = length front - 1 in
+    let at : get_or (front ++ behind) last 0 ≡ get_or front last 0 = get_or_append_left front behind 0 last (omega arith) in
+    absurd (omega (arith, at, low last (omega arith), found.greatest last (omega arith) (omega (arith, size)))))
+    (λ (h : length front ≤ line + 1).
+    ⊎_elim
+    (λ (g : length front < line + 1).
+    let at : get_or (front ++ behind) line 0 ≡ get_or behind (line - length front) 0 = get_or-append_right front behind (length front) line 0 refl (omega arith) in
+    absurd (omega (arith, at, found.at_most, high (line - length front) (omega (arith, size, found.within)))))
+    (λ (g : line + 1 ≤ length front). omega arith)
+    (cases_lt (length front) (line + 1)))
+    (cases_lt (line + 1) (length front))
 
 -- The starts up to a place, and those behind it.
 pub record IsCut (text : List ℕ) (place count : ℕ) : Type 0 where
@@ -92,11 +96,11 @@ starts_cut text place count within some found =
     let behind = ends_between text place (length text) in
     let whole : line_starts text ≡ front ++ behind = ap (λ xs. 0 ∷ xs) (ends_split text 0 place (length text) (omega arith) within) in
     let counted : count - 1 + 1 ≡ length front =
-          count_front front behind place (count - 1) (omega arith) (low place) (ends_behind text place (length text)) (subst (λ xs. IsLineOf xs place (count - 1)) whole found) in
+    count_front front behind place (count - 1) (omega arith) (low place) (ends_behind text place (length text)) (subst (λ xs. IsLineOf xs place (count - 1)) whole found) in
     let size : length front ≡ count = omega arith in
     record {
       front = ap (take count) whole ∙ take_at front behind count size;
-      behind = ap (drop count) whole ∙ drop_at front behind count size
+      behind = ap (drop count) whole ∙ drop_at front behind count size;
     }
   where
     low : (place : ℕ) (k : ℕ) → k < length (0 ∷ ends_between text 0 place) → get_or (0 ∷ ends_between text 0 place) k 0 ≤ place
@@ -122,7 +126,7 @@ module _ (old bytes : List ℕ) (from to len : ℕ) (is : IsReplaced old bytes f
   ends_back : (i : ℕ) → ends_line old (suc (to + i)) ≡ ends_line bytes (suc (from + len + i))
   ends_back i =
       let next : get_or old (suc (to + i)) 0 ≡ get_or bytes (suc (from + len + i)) 0 =
-            ap (λ k. get_or old k 0) (omega arith) ∙ (same_back (suc i) ∙ ap (λ k. get_or bytes k 0) (omega arith)) in
+      ap (λ k. get_or old k 0) (omega arith) ∙ (same_back (suc i) ∙ ap (λ k. get_or bytes k 0) (omega arith)) in
       ap (λ x. (x == 10) || ((x == 13) && not (slice_index old (suc (to + i)) == 10))) (same_back i) ∙
       ap (λ y. (slice_index bytes (from + len + i) == 10) || ((slice_index bytes (from + len + i) == 13) && not (y == 10))) next
 
@@ -131,25 +135,25 @@ module _ (old bytes : List ℕ) (from to len : ℕ) (is : IsReplaced old bytes f
   front_stays =
       sym (map-id (ends_between old 0 (from - 1))) ∙
       filter_moved (λ x. x) (ends_line old) (ends_line bytes) 1 1 (from - 1 - 0)
-        (λ j h. let a : 1 + j ≡ suc j = omega arith in ap (ends_line old) a ∙ (ends_front j (omega arith) ∙ ap (ends_line bytes) (sym a)))
-        (λ j h. refl)
+      (λ j h. let a : 1 + j ≡ suc j = omega arith in ap (ends_line old) a ∙ (ends_front j (omega arith) ∙ ap (ends_line bytes) (sym a)))
+      (λ j h. refl)
 
   -- those behind it move with its end
   pub back_moves : map (λ start. start - to + (from + len)) (ends_between old to (length old)) ≡ ends_between bytes (from + len) (length bytes)
   back_moves =
       filter_moved (λ start. start - to + (from + len)) (ends_line old) (ends_line bytes) (suc to) (suc (from + len)) (length old - to)
-        (λ j h. let a : suc to + j ≡ suc (to + j) = omega arith in let b : suc (from + len) + j ≡ suc (from + len + j) = omega arith in ap (ends_line old) a ∙ (ends_back j ∙ ap (ends_line bytes) (sym b)))
-        (λ j h. omega arith) ∙
+      (λ j h. let a : suc to + j ≡ suc (to + j) = omega arith in let b : suc (from + len) + j ≡ suc (from + len + j) = omega arith in ap (ends_line old) a ∙ (ends_back j ∙ ap (ends_line bytes) (sym b)))
+      (λ j h. omega arith) ∙
       ap (λ n. filter (ends_line bytes) (numbers_from (suc (from + len)) n)) (sym same_length)
 
   -- So the starts are those before, those found anew, and those behind, moved.
   pub starts_spliced : line_starts bytes ≡ (0 ∷ ends_between old 0 (from - 1)) ++ (ends_between bytes (from - 1) (from + len) ++ map (λ start. start - to + (from + len)) (ends_between old to (length old)))
   starts_spliced =
       ap (λ xs. 0 ∷ xs)
-        (ends_split bytes 0 (from - 1) (length bytes) (omega arith) (omega (arith, is.inserted)) ∙
-        (ap (λ xs. ends_between bytes 0 (from - 1) ++ xs) (ends_split bytes (from - 1) (from + len) (length bytes) (omega arith) is.inserted) ∙
-        (ap (λ xs. xs ++ (ends_between bytes (from - 1) (from + len) ++ ends_between bytes (from + len) (length bytes))) (sym front_stays) ∙
-        ap (λ xs. ends_between old 0 (from - 1) ++ (ends_between bytes (from - 1) (from + len) ++ xs)) (sym back_moves))))
+      (ends_split bytes 0 (from - 1) (length bytes) (omega arith) (omega (arith, is.inserted)) ∙
+      (ap (λ xs. ends_between bytes 0 (from - 1) ++ xs) (ends_split bytes (from - 1) (from + len) (length bytes) (omega arith) is.inserted) ∙
+      (ap (λ xs. xs ++ (ends_between bytes (from - 1) (from + len) ++ ends_between bytes (from + len) (length bytes))) (sym front_stays) ∙
+      ap (λ xs. ends_between old 0 (from - 1) ++ (ends_between bytes (from - 1) (from + len) ++ xs)) (sym back_moves))))
 
 -- What the code does: it cuts the starts at both ends of the edit, puts what it found between, and moves those behind.
 pub record IsPlaced (old bytes starts found now : List ℕ) (from to len keep past : ℕ) : Type 0 where
@@ -195,8 +199,8 @@ module _ (old bytes starts found now : List ℕ) (from to len keep past : ℕ) (
       let i = k - (keep + length found) in
       let row = ends_between old to (length old) in
       let at : get_or now k 0 ≡ get_or row i 0 =
-            ap (λ n. get_or now n 0) (let e : k ≡ keep + length found + i = omega arith in e) ∙
-            (sym (get_or-drop (keep + length found) now i 0) ∙ ap (λ xs. get_or xs i 0) (now_behind ∙ behind_is)) in
+      ap (λ n. get_or now n 0) (let e : k ≡ keep + length found + i = omega arith in e) ∙
+      (sym (get_or-drop (keep + length found) now i 0) ∙ ap (λ xs. get_or xs i 0) (now_behind ∙ behind_is)) in
       let inside : i < length row = omega (arith, length-drop (keep + length found) now, ap length (now_behind ∙ behind_is)) in
       (omega (arith, at, ends_behind old to (length old) i inside), omega (arith, at, ends_upto old to (length old) i placed.is.within inside))
 
@@ -247,3 +251,20 @@ module _ (old bytes starts found now shown : List ℕ) (from to len keep past co
       (ap (λ m. take (keep + m) shown ++ map (λ start. start - to + (from + len)) (drop (keep + m) shown)) counted ∙
       (ap (λ xs. take (keep + length found) xs ++ map (λ start. start - to + (from + len)) (drop (keep + length found) xs)) same ∙
       placed_starts old bytes starts found now from to len keep past placed)))
+
+-- Lines of a text that was replaced, seen as line starts of its bytes, and back.
+pub replaces_from : (old lines starts bytes read : List ℕ) (from to len : ℕ) → starts ≡ lines → Indexes lines old → IsUtf8 old → read ≡ bytes → IsReplaced old bytes from to len → Replaces starts read from to len
+replaces_from old lines starts bytes read from to len same indexes utf8 is replaced = record {
+  old = old;
+  starts_are = same ∙ (indexes.starts ∙ sym (starts_of_text old utf8));
+  replaced = subst (λ bs. IsReplaced old bs from to len) (sym is) replaced;
+}
+
+module _ {T E : Type 0} (starts bytes read : List ℕ) (is : read ≡ bytes) where
+  pub indexes_ok : (r : Result T E) → IsUtf8 bytes → length bytes ≤ 2147483648 → OnOk r (starts ≡ line_starts read) → OnOk r (Indexes starts bytes)
+  indexes_ok (Ok x) utf8 size made = indexes_from bytes starts utf8 size (made ∙ ap line_starts is)
+  indexes_ok (Err e) utf8 size made = made
+
+  pub starts_kept : (r : Result T E) (old : List ℕ) → AreStarts old → OnOk r (starts ≡ line_starts read) → OnErr r (starts ≡ old) → AreStarts starts
+  starts_kept (Ok x) old are made kept = subst AreStarts (sym made) (line_starts_are read)
+  starts_kept (Err e) old are made kept = subst AreStarts (sym kept) are

@@ -17,9 +17,9 @@ mod starts;
 mod units;
 
 pub use encoding::Encoding;
-pub use position::{Position, Range};
 pub use laws::position_laws;
 pub use lines::Lines;
+pub use position::{Position, Range};
 pub use resolve::InsideCharacter;
 pub use starts::{Looks, Starts, line_of};
 pub use units::{Units, Utf8, Utf16, Utf32};

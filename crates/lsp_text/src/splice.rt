@@ -4,10 +4,9 @@ ghost use Rattle.lsp_text.specs.LineStarts.{line_starts};
 ghost use Rattle.lsp_text.specs.Splice.{Replaces};
 ghost use Rattle.lsp_text.specs.Starts.{AreStarts, IsLineOf};
 
-use std::alloc::AllocError;
-
 use crate::ends::push_ends;
 use crate::starts::{Looks, line_of};
+use std::alloc::AllocError;
 
 /// How many starts are at most a place.
 fn starts_to(starts: &[u32], place: usize) -> usize
@@ -31,7 +30,12 @@ fn shift(starts: &mut [u32], first: usize, to: usize, end: usize)
 }
 
 /// Puts other starts in place of those from index `keep` to index `past`. All memory is taken first.
-fn replace(starts: &mut Vec<u32>, keep: usize, past: usize, fresh: Vec<u32>) -> Result<(), AllocError>
+fn replace(
+    starts: &mut Vec<u32>,
+    keep: usize,
+    past: usize,
+    fresh: Vec<u32>,
+) -> Result<(), AllocError>
     requires order { keep ≤ past }
     requires within { past ≤ vec_len starts.old }
     ensures ok { OnOk result (starts.new.items ≡ take keep starts.old.items ++ (fresh.items ++ drop past starts.old.items)) }
@@ -45,7 +49,13 @@ fn replace(starts: &mut Vec<u32>, keep: usize, past: usize, fresh: Vec<u32>) -> 
 
 /// Makes the line starts of a text those of the text `bytes`, in which the bytes from `from` to `to` were replaced by `len` others. All
 /// memory is taken first.
-pub fn splice_starts(starts: &mut Vec<u32>, bytes: &[u8], from: usize, to: usize, len: usize) -> Result<(), AllocError>
+pub fn splice_starts(
+    starts: &mut Vec<u32>,
+    bytes: &[u8],
+    from: usize,
+    to: usize,
+    len: usize,
+) -> Result<(), AllocError>
     requires replaces { Replaces starts.old.items bytes.now from to len }
     requires size { length bytes.now ≤ 2147483648 }
     ensures ok { OnOk result (starts.new.items ≡ line_starts bytes.now) }

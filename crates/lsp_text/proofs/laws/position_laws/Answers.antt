@@ -1,4 +1,3 @@
-use Rattle.lsp_text.proofs.InLineLemmas.{between_in_content}
 use Rattle.lsp_text.proofs.PositionLemmas.{exact_denotes, denoted_whole}
 use Rattle.lsp_text.proofs.NearLemmas.{exact_near}
 use Rattle.lsp_text.proofs.laws.position_laws.Goals as goal

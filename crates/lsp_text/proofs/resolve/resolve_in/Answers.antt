@@ -1,6 +1,6 @@
-use Rattle.std.proofs.Common.{◌≡◌, ◌+◌, ◌<◌, ◌^◌, ◌≤◌, length, sym, ap, ◌∙◌, arith}
+use Rattle.std.proofs.Common.{◌+◌, ◌≤◌, length, sym, arith}
 use Rattle.lsp_text.proofs.IndexesLemmas.{indexes_line, indexes_count}
-use Rattle.lsp_text.proofs.ResolveLemmas.{resolved_past, resolved_at, IsContent, content_order, content_within, content_utf8, place_in_content}
+use Rattle.lsp_text.proofs.ResolveLemmas.{resolved_past, resolved_at, content_order, content_within, content_utf8, place_in_content}
 use Rattle.lsp_text.proofs.resolve.resolve_in.Goals as goal
 
 pub returns-then-line-starts : goal.returns-then-line-starts
@@ -26,19 +26,19 @@ place_in-requires g c =
 pub overflow_add-result : goal.overflow_add-result
 overflow_add-result g c =
     let within : c.content-start.result.0 + c.in-Some.place ≤ length c.args.bytes.now =
-      place_in_content g.U.Units.units_of c.args.bytes.now c.args.position.line _ c.content-start.result.1 c.args.position.character _ c.requires.utf8
-        (record { there = indexes_line _ _ _ c.requires.indexed c.if-line-starts.false; start_is = c.content-start.ensures.start; stop_is = c.content-start.ensures.stop })
-        c.in-Some.ensures in
+    place_in_content g.U.Units.units_of c.args.bytes.now c.args.position.line _ c.content-start.result.1 c.args.position.character _ c.requires.utf8
+    (record { there = indexes_line _ _ _ c.requires.indexed c.if-line-starts.false; start_is = c.content-start.ensures.start; stop_is = c.content-start.ensures.stop })
+    c.in-Some.ensures in
     omega (arith, within, c.requires.indexed.size)
 
 pub returns-in-Some : goal.returns-in-Some
 returns-in-Some g c =
     resolved_at g.U.Units.units_of (λ x. (g.met.U.Units.bounds x).0) c.args.bytes.now c.args.position c.content-start.result.0 c.content-start.result.1 _ c.requires.utf8
-      (record { there = indexes_line _ _ _ c.requires.indexed c.if-line-starts.false; start_is = c.content-start.ensures.start; stop_is = c.content-start.ensures.stop })
-      c.in-Some.ensures
+    (record { there = indexes_line _ _ _ c.requires.indexed c.if-line-starts.false; start_is = c.content-start.ensures.start; stop_is = c.content-start.ensures.stop })
+    c.in-Some.ensures
 
 pub returns-in-None : goal.returns-in-None
 returns-in-None g c =
     resolved_at g.U.Units.units_of (λ x. (g.met.U.Units.bounds x).0) c.args.bytes.now c.args.position c.content-start.result.0 c.content-start.result.1 _ c.requires.utf8
-      (record { there = indexes_line _ _ _ c.requires.indexed c.if-line-starts.false; start_is = c.content-start.ensures.start; stop_is = c.content-start.ensures.stop })
-      c.in-None.ensures
+    (record { there = indexes_line _ _ _ c.requires.indexed c.if-line-starts.false; start_is = c.content-start.ensures.start; stop_is = c.content-start.ensures.stop })
+    c.in-None.ensures

@@ -1,4 +1,4 @@
-use Rattle.std.proofs.Common.{ap, ◌∙◌, ◌++◌, take, drop, sym}
+use Rattle.std.proofs.Common.{ap, ◌∙◌, ◌++◌, take, drop}
 use Rattle.lsp_text.proofs.ShiftLemmas.{drained_is}
 use Rattle.lsp_text.proofs.splice.replace.Goals as goal
 

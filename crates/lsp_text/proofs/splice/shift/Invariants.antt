@@ -1,4 +1,4 @@
-use Rattle.std.proofs.Common.{◌≡◌, ◌+◌, ◌-◌, ◌++◌, map, take, drop}
+use Rattle.std.proofs.Common.{◌≡◌}
 use Rattle.lsp_text.proofs.ShiftLemmas.{shifted}
 use Rattle.lsp_text.proofs.splice.shift.Given as goal
 

@@ -1,4 +1,4 @@
-use Rattle.std.proofs.Common.{◌≡◌, ◌+◌, ◌≤◌, ◌<◌, length, sym, ap, ◌∙◌, arith, subst, refl}
+use Rattle.std.proofs.Common.{◌∙◌, refl}
 use Rattle.lsp_text.proofs.SpliceLemmas.{IsPlaced, line_of_same, starts_are_same, found_anew, shown_behind, shown_room, shown_starts}
 use Rattle.lsp_text.proofs.splice.splice_starts.Goals as goal
 
@@ -21,7 +21,7 @@ shift-requires-clause-behind c =
       now_is = c.in_ok-replace.ensures.ok;
     } in
     shown_behind c.requires.replaces.old c.args.bytes.now c.args.starts.now.items c.push_ends.new.starts.items c.replace.new.starts.items c.deref_mut.result.now c.args.from c.args.to c.args.len c.starts_to-keep.result c.starts_to-past.result c.len.result placed
-      c.deref_mut.ensures.value (c.len.ensures ∙ c.push_ends.new.starts.ok.0)
+    c.deref_mut.ensures.value (c.len.ensures ∙ c.push_ends.new.starts.ok.0)
 
 pub shift-requires-clause-room : goal.shift-requires-clause-room
 shift-requires-clause-room c =
@@ -36,7 +36,7 @@ shift-requires-clause-room c =
       now_is = c.in_ok-replace.ensures.ok;
     } in
     shown_room c.requires.replaces.old c.args.bytes.now c.args.starts.now.items c.push_ends.new.starts.items c.replace.new.starts.items c.deref_mut.result.now c.args.from c.args.to c.args.len c.starts_to-keep.result c.starts_to-past.result c.len.result placed
-      c.deref_mut.ensures.value (c.len.ensures ∙ c.push_ends.new.starts.ok.0) c.requires.size
+    c.deref_mut.ensures.value (c.len.ensures ∙ c.push_ends.new.starts.ok.0) c.requires.size
 
 pub returns-clause-ok : goal.returns-clause-ok
 returns-clause-ok c =
@@ -51,5 +51,5 @@ returns-clause-ok c =
       now_is = c.in_ok-replace.ensures.ok;
     } in
     shown_starts c.requires.replaces.old c.args.bytes.now c.args.starts.now.items c.push_ends.new.starts.items c.replace.new.starts.items c.deref_mut.result.now c.args.from c.args.to c.args.len c.starts_to-keep.result c.starts_to-past.result c.len.result placed
-      c.deref_mut.ensures.value (c.len.ensures ∙ c.push_ends.new.starts.ok.0)
-      c.shift.new.starts _ _ (c.shift.auto.starts ∙ c.deref_mut.ensures.len) c.shift.ensures
+    c.deref_mut.ensures.value (c.len.ensures ∙ c.push_ends.new.starts.ok.0)
+    c.shift.new.starts _ _ (c.shift.auto.starts ∙ c.deref_mut.ensures.len) c.shift.ensures
