@@ -9,6 +9,7 @@ pub mod EndLemmas
 pub mod StartLemmas
 pub mod StartRowLemmas
 pub mod LeadLemmas
+pub mod BlockLemmas
 pub mod ContentLemmas
 pub mod ResolveLemmas
 pub mod IndexesLemmas
