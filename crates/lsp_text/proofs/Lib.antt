@@ -17,4 +17,6 @@ pub mod ExactLemmas
 pub mod BoundaryLemmas
 pub mod ShiftLemmas
 pub mod SpliceLemmas
+pub mod PastLemmas
+pub mod PartLemmas
 pub mod SearchLemmas

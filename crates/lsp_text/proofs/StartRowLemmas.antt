@@ -108,7 +108,7 @@ end_starts text (suc k) within some ends =
     (λ (h : suc k ≤ line_start text line). omega arith)
     (cases_lt (line_start text line) (suc k))
 
-first_starts : (text : List ℕ) → line_start text 0 ≡ 0
+pub first_starts : (text : List ℕ) → line_start text 0 ≡ 0
 first_starts text =
     let start = line_has_start text 0 (omega arith) in omega (arith, start.least 0 (omega arith) (in_content text 0 0 refl refl))
 

@@ -8,3 +8,4 @@ pub mod Leads
 pub mod UnitLaws
 pub mod LeadLaws
 pub mod Splice
+pub mod LineLaws

@@ -17,7 +17,7 @@ mod starts;
 mod units;
 
 pub use encoding::Encoding;
-pub use laws::position_laws;
+pub use laws::{line_laws, position_laws};
 pub use lines::Lines;
 pub use position::{Position, Range};
 pub use resolve::InsideCharacter;
