@@ -17,7 +17,7 @@ module _ (lead : ℕ → ℕ) where
       let more : nat_lt c (lead b) ≡ false = le-ltb c (lead b) (omega arith) in
       let left : c - lead b - sum_by lead xs ≡ c - sum_by lead (b ∷ xs) = omega arith in
       rw (more, pass xs ys (c - lead b) (omega arith), left)
-        (map_twice 1 (length xs) (byte_place lead ys (c - sum_by lead (b ∷ xs))) ∙ ap (λ n. option_map (λ m. n + m) (byte_place lead ys (c - sum_by lead (b ∷ xs)))) (omega arith))
+      (map_twice 1 (length xs) (byte_place lead ys (c - sum_by lead (b ∷ xs))) ∙ ap (λ n. option_map (λ m. n + m) (byte_place lead ys (c - sum_by lead (b ∷ xs)))) (omega arith))
 
   -- A block of the bytes from a place on that has no more units than are left is passed.
   pub pass_block : (bytes : List ℕ) (place size left units : ℕ) (found : Option ℕ) → place + size ≤ length bytes → units ≡ sum_by lead (take size (drop place bytes)) → units ≤ left →
@@ -29,7 +29,7 @@ module _ (lead : ℕ → ℕ) where
       let long : length block ≡ size = length-take-le size (drop place bytes) (omega (arith, length-drop place bytes)) in
       let whole : block ++ drop (place + size) bytes ≡ drop place bytes = ap (λ ys. block ++ ys) (sym behind) ∙ take-append-drop size (drop place bytes) in
       let passed : byte_place lead (drop place bytes) left ≡ option_map (λ n. length block + n) (byte_place lead (drop (place + size) bytes) (left - sum_by lead block)) =
-            ap (λ xs. byte_place lead xs left) (sym whole) ∙ pass block (drop (place + size) bytes) left (omega arith) in
+      ap (λ xs. byte_place lead xs left) (sym whole) ∙ pass block (drop (place + size) bytes) left (omega arith) in
       sym (map_twice place size (byte_place lead (drop (place + size) bytes) (left - units))) ∙
       (ap (λ n. option_map (λ m. place + m) (option_map (λ m. n + m) (byte_place lead (drop (place + size) bytes) (left - units)))) (sym long) ∙
       (ap (λ u. option_map (λ m. place + m) (option_map (λ m. length block + m) (byte_place lead (drop (place + size) bytes) (left - u)))) counted ∙

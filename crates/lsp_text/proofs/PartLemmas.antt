@@ -36,10 +36,10 @@ take_two text k h = ap (take 2) (drop-cons text k 0 (omega arith) ∙ ap (λ xs.
 one_end : (text : List ℕ) (k : ℕ) → k < length text → ends_line text (suc k) ≡ true → IsLineEnd (take 1 (drop k text))
 one_end text k within ends =
     ⊎_elim
-      (λ (h : (slice_index text k == line_feed) ≡ true). inl (inl (take_one text k within ∙ ap (λ x. x ∷ []) (eqb-true (slice_index text k) 10 h))))
-      (λ (h : ((slice_index text k == carriage_return) && not (slice_index text (suc k) == line_feed)) ≡ true).
-        inl (inr (take_one text k within ∙ ap (λ x. x ∷ []) (eqb-true (slice_index text k) 13 (and_parts (slice_index text k == carriage_return) (not (slice_index text (suc k) == line_feed)) h).0))))
-      (or_cases (slice_index text k == line_feed) ((slice_index text k == carriage_return) && not (slice_index text (suc k) == line_feed)) ends)
+    (λ (h : (slice_index text k == line_feed) ≡ true). inl (inl (take_one text k within ∙ ap (λ x. x ∷ []) (eqb-true (slice_index text k) 10 h))))
+    (λ (h : ((slice_index text k == carriage_return) && not (slice_index text (suc k) == line_feed)) ≡ true).
+    inl (inr (take_one text k within ∙ ap (λ x. x ∷ []) (eqb-true (slice_index text k) 13 (and_parts (slice_index text k == carriage_return) (not (slice_index text (suc k) == line_feed)) h).0))))
+    (or_cases (slice_index text k == line_feed) ((slice_index text k == carriage_return) && not (slice_index text (suc k) == line_feed)) ends)
 
 two_ends : (text : List ℕ) (k : ℕ) → suc k < length text → splits_crlf text (suc k) ≡ true → IsLineEnd (take 2 (drop k text))
 two_ends text k within split =
@@ -61,13 +61,13 @@ line_end_is text line (suc k) there start =
     let ends : ends_line text (suc (suc k)) ≡ true = ap (ends_line text) (sym start) ∙ next.ends in
     let stop = stop_is text line (suc k) there start in
     ⊎_elim
-      (λ (e : splits_crlf text (suc k) ≡ true).
-        let here : line_stop text line ≡ k = stop ∙ (ap (λ b. cond b (suc k - 1) (suc k)) e ∙ omega arith) in
-        end_from text line k 2 here (omega (arith, start)) (two_ends text k (omega (arith, start, next.within)) e))
-      (λ (e : splits_crlf text (suc k) ≡ false).
-        let here : line_stop text line ≡ suc k = stop ∙ ap (λ b. cond b (suc k - 1) (suc k)) e in
-        end_from text line (suc k) 1 here (omega (arith, start)) (one_end text (suc k) (omega (arith, start, next.within)) ends))
-      (cases_Bool (splits_crlf text (suc k)))
+    (λ (e : splits_crlf text (suc k) ≡ true).
+    let here : line_stop text line ≡ k = stop ∙ (ap (λ b. cond b (suc k - 1) (suc k)) e ∙ omega arith) in
+    end_from text line k 2 here (omega (arith, start)) (two_ends text k (omega (arith, start, next.within)) e))
+    (λ (e : splits_crlf text (suc k) ≡ false).
+    let here : line_stop text line ≡ suc k = stop ∙ ap (λ b. cond b (suc k - 1) (suc k)) e in
+    end_from text line (suc k) 1 here (omega (arith, start)) (one_end text (suc k) (omega (arith, start, next.within)) ends))
+    (cases_Bool (splits_crlf text (suc k)))
 
 pub lines_part : (text : List ℕ) → LinesPart text
 lines_part text = record {

@@ -2,7 +2,7 @@
 use Rattle.std.proofs.Common.{◌≡◌, ℕ, suc, ◌+◌, ◌-◌, ◌≤◌, ◌<◌, Bool, true, false, ◌==◌, cond, List, [], ◌∷◌, ◌++◌, length, take, drop, Option, Some, None, option_map, nat_lt, refl, sym, ap, ◌∙◌, arith, lt-ltb}
 use Rattle.std.specs.Prelude.{encode_utf8_all}
 use Rattle.std.specs.Char.{len_utf8}
-use Rattle.std.specs.Str.{chars, IsUtf8}
+use Rattle.std.specs.Str.{chars, IsCharBoundary, IsUtf8}
 use Rattle.std.proofs.Math.Utf8.{encode}
 use Rattle.std.proofs.lemmas.List.{take-append-drop, length-append, append-nil, length-take, length-drop}
 use Rattle.std.proofs.lemmas.Str.{encodes-append, encodes-chars, chars_from_encodes, IsUtf8-between, length-encode}
@@ -10,6 +10,9 @@ use Rattle.lsp_text.specs.declared.position.Position.{Position}
 use Rattle.lsp_text.specs.Text.{place_of}
 use Rattle.lsp_text.specs.TextLines.{line_ends, line_start, line_stop}
 use Rattle.lsp_text.specs.Positions.{denoted}
+use Rattle.lsp_text.specs.LineStarts.{IsPlace}
+use Rattle.lsp_text.proofs.PositionLemmas.{denoted_whole}
+use Rattle.lsp_text.proofs.BoundaryLemmas.{boundary_from}
 use Rattle.lsp_text.specs.Leads.{line_place}
 use Rattle.lsp_text.proofs.InLineLemmas.{index_in_line, denoted_in_line}
 use Rattle.lsp_text.proofs.PlaceLemmas.{place_end, place_within, place_add, part_place, place_boundary, place_rises}
@@ -135,3 +138,17 @@ place_in_content units bytes line start stop c n utf8 content is =
       content_order bytes line start stop content,
       content_within bytes line start stop utf8 content,
     )
+
+-- What a position denotes is a place at which a position may stand.
+pub denoted_place : (units : ℕ → ℕ) (text : List ℕ) (p : Position) (place : ℕ) → Some place ≡ option_map (place_of text) (denoted units text p) → IsPlace text place
+denoted_place units text p place is = by_index (denoted units text p) refl is
+  where
+    by_index : (o : Option ℕ) → denoted units text p ≡ o → Some place ≡ option_map (place_of text) o → IsPlace text place
+    by_index None e is = absurd (cc)
+    by_index (Some k) e is =
+        let whole = denoted_whole units text p k e in
+        let same : place ≡ place_of text k = cc in
+        (k, whole.within, whole.whole, sym same)
+
+pub denoted_boundary : (units : ℕ → ℕ) (bytes : List ℕ) (p : Position) (place : ℕ) → IsUtf8 bytes → Some place ≡ option_map (place_of (chars bytes)) (denoted units (chars bytes) p) → IsCharBoundary bytes place
+denoted_boundary units bytes p place utf8 is = (boundary_from bytes place utf8 (denoted_place units (chars bytes) p place is)).0

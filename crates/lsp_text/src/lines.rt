@@ -1,7 +1,7 @@
 //! The lines of a text, kept as the places where they start.
 ghost use Rattle.std.specs.Prelude.{◌≡◌, ◌+◌, ◌≤◌, ◌↔◌, ℕ, List, Some, length, option_map, IsTrue, IfOk, OnOk, OnErr};
 ghost use Rattle.std.specs.Result.{result_ok};
-ghost use Rattle.std.specs.Str.{chars};
+ghost use Rattle.std.specs.Str.{IsCharBoundary, chars};
 ghost use Rattle.lsp_text.specs.Text.{place_of};
 ghost use Rattle.lsp_text.specs.TextLines.{line_ends};
 ghost use Rattle.lsp_text.specs.LineStarts.{Indexes, IsPlace};
@@ -69,7 +69,8 @@ impl Lines {
 
     /// Whether a position can stand at this place of the text: it is a boundary of characters that splits no CRLF.
     pub fn is_place(&self, text: &str, place: usize) -> bool
-        ensures { IsTrue result ↔ IsPlace (chars text.now) place }
+        ensures place { IsTrue result ↔ IsPlace (chars text.now) place }
+        ensures boundary { IsTrue result → IsCharBoundary text.now place }
     {
         text.is_char_boundary(place) && !is_inside_crlf(text.as_bytes(), place)
     }
@@ -83,7 +84,9 @@ impl Lines {
         position: Position,
     ) -> Result<usize, InsideCharacter>
         requires { Indexes self.now text.now }
-        ensures { result_ok result ≡ option_map (place_of (chars text.now)) (denoted (units_in encoding) (chars text.now) position) }
+        ensures value { result_ok result ≡ option_map (place_of (chars text.now)) (denoted (units_in encoding) (chars text.now) position) }
+        ensures place { IfOk result (IsPlace (chars text.now)) }
+        ensures boundary { IfOk result (IsCharBoundary text.now) }
     {
         let bytes = text.as_bytes();
         match encoding {
