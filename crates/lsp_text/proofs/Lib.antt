@@ -20,3 +20,4 @@ pub mod SpliceLemmas
 pub mod PastLemmas
 pub mod PartLemmas
 pub mod SearchLemmas
+mod Examples

@@ -47,23 +47,23 @@ returns-in-None-clause-value g c =
 pub returns-then-line-starts-clause-place : goal.returns-then-line-starts-clause-place
 returns-then-line-starts-clause-place g c =
     denoted_place g.U.Units.units_of (chars c.args.bytes.now) c.args.position (length c.args.bytes.now)
-      (sym (resolved_past g.U.Units.units_of c.args.bytes.now c.args.position c.requires.utf8 (omega (arith, indexes_count c.args.bytes.now c.args.starts.now c.requires.indexed, c.if-line-starts.true))))
+    (sym (resolved_past g.U.Units.units_of c.args.bytes.now c.args.position c.requires.utf8 (omega (arith, indexes_count c.args.bytes.now c.args.starts.now c.requires.indexed, c.if-line-starts.true))))
 
 pub returns-then-line-starts-clause-boundary : goal.returns-then-line-starts-clause-boundary
 returns-then-line-starts-clause-boundary g c =
     denoted_boundary g.U.Units.units_of c.args.bytes.now c.args.position (length c.args.bytes.now) c.requires.utf8
-      (sym (resolved_past g.U.Units.units_of c.args.bytes.now c.args.position c.requires.utf8 (omega (arith, indexes_count c.args.bytes.now c.args.starts.now c.requires.indexed, c.if-line-starts.true))))
+    (sym (resolved_past g.U.Units.units_of c.args.bytes.now c.args.position c.requires.utf8 (omega (arith, indexes_count c.args.bytes.now c.args.starts.now c.requires.indexed, c.if-line-starts.true))))
 
 pub returns-in-Some-clause-place : goal.returns-in-Some-clause-place
 returns-in-Some-clause-place g c =
     denoted_place g.U.Units.units_of (chars c.args.bytes.now) c.args.position (c.content-start.result.0 + c.in-Some.place)
-      (resolved_at g.U.Units.units_of (λ x. (g.met.U.Units.bounds x).0) c.args.bytes.now c.args.position c.content-start.result.0 c.content-start.result.1 _ c.requires.utf8
+    (resolved_at g.U.Units.units_of (λ x. (g.met.U.Units.bounds x).0) c.args.bytes.now c.args.position c.content-start.result.0 c.content-start.result.1 _ c.requires.utf8
     (record { there = indexes_line _ _ _ c.requires.indexed c.if-line-starts.false; start_is = c.content-start.ensures.start; stop_is = c.content-start.ensures.stop })
     c.in-Some.ensures)
 
 pub returns-in-Some-clause-boundary : goal.returns-in-Some-clause-boundary
 returns-in-Some-clause-boundary g c =
     denoted_boundary g.U.Units.units_of c.args.bytes.now c.args.position (c.content-start.result.0 + c.in-Some.place) c.requires.utf8
-      (resolved_at g.U.Units.units_of (λ x. (g.met.U.Units.bounds x).0) c.args.bytes.now c.args.position c.content-start.result.0 c.content-start.result.1 _ c.requires.utf8
+    (resolved_at g.U.Units.units_of (λ x. (g.met.U.Units.bounds x).0) c.args.bytes.now c.args.position c.content-start.result.0 c.content-start.result.1 _ c.requires.utf8
     (record { there = indexes_line _ _ _ c.requires.indexed c.if-line-starts.false; start_is = c.content-start.ensures.start; stop_is = c.content-start.ensures.stop })
     c.in-Some.ensures)
