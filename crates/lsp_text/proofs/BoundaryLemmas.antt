@@ -1,5 +1,5 @@
 -- A place splits a CRLF of the bytes exactly if its index splits one of the characters.
-use Rattle.std.proofs.Common.{◌≡◌, ℕ, zero, suc, ◌+◌, ◌-◌, ◌≤◌, ◌<◌, Bool, true, false, ◌&&◌, ◌==◌, List, [], ◌∷◌, ◌++◌, length, take, drop, get_or, slice_index, refl, sym, ap, ◌∙◌, arith, ⊎_elim}
+use Rattle.std.proofs.Common.{◌≡◌, ℕ, zero, suc, ◌+◌, ◌-◌, ◌≤◌, ◌<◌, Bool, true, false, ◌&&◌, ◌==◌, List, [], ◌∷◌, ◌++◌, length, drop, get_or, slice_index, refl, sym, ap, ◌∙◌, arith, ⊎_elim}
 use Rattle.std.specs.Prelude.{encode_utf8_all, IsTrue, ◌↔◌, not}
 use Rattle.std.specs.Char.{len_utf8}
 use Rattle.std.specs.Str.{chars, IsUtf8, IsCharBoundary}
@@ -12,7 +12,7 @@ use Rattle.std.proofs.lemmas.Str.{encode_ascii, length-encode, len_utf8_bounds, 
 use Rattle.lsp_text.specs.Text.{place_of}
 use Rattle.lsp_text.specs.TextLines.{splits_crlf}
 use Rattle.lsp_text.specs.LineStarts.{IsPlace}
-use Rattle.lsp_text.proofs.PlaceLemmas.{place_more, drop_place, place_boundary, index_at, IsIndexAt}
+use Rattle.lsp_text.proofs.PlaceLemmas.{place_more, drop_place, place_boundary, index_at}
 use Rattle.lsp_text.proofs.StartLemmas.{AllHigh, encode_high, first_line_feed}
 
 high_at : (bytes rest : List ℕ) (k : ℕ) → AllHigh bytes → k < length bytes → 128 ≤ get_or (bytes ++ rest) k 0
@@ -27,11 +27,11 @@ not_return a b h g = grind (arith, nat_tests)
 last_return : (x : ℕ) (rest : List ℕ) → (get_or (encode x ++ rest) (len_utf8 x - 1) 0 == 13) ≡ (x == 13)
 last_return x rest =
     ⊎_elim
-      (λ (h : x < 128).
-        let one : len_utf8 x - 1 ≡ 0 = omega (arith, length-encode x, ap length (encode_ascii x h)) in
-        rw (one, encode_ascii x h) refl)
-      (λ (h : 128 ≤ x). not_return (get_or (encode x ++ rest) (len_utf8 x - 1) 0) x (high_at (encode x) rest (len_utf8 x - 1) (encode_high x h) (omega (arith, length-encode x, (len_utf8_bounds x).0))) h)
-      (cases_lt x 128)
+    (λ (h : x < 128).
+    let one : len_utf8 x - 1 ≡ 0 = omega (arith, length-encode x, ap length (encode_ascii x h)) in
+    rw (one, encode_ascii x h) refl)
+    (λ (h : 128 ≤ x). not_return (get_or (encode x ++ rest) (len_utf8 x - 1) 0) x (high_at (encode x) rest (len_utf8 x - 1) (encode_high x h) (omega (arith, length-encode x, (len_utf8_bounds x).0))) h)
+    (cases_lt x 128)
 
 -- the byte at a place
 byte_at : (text : List ℕ) (k i : ℕ) → get_or (encode_utf8_all text) (place_of text k + i) 0 ≡ get_or (encode_utf8_all (drop k text)) i 0

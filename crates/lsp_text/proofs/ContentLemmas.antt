@@ -1,17 +1,16 @@
 -- Where a line's content ends, by the start of the next line; and that it ends at the same place of the bytes.
-use Rattle.std.proofs.Common.{◌≡◌, ℕ, zero, suc, ◌+◌, ◌-◌, ◌≤◌, ◌<◌, Bool, true, false, not, ◌&&◌, ◌||◌, ◌==◌, cond, List, [], ◌∷◌, ◌++◌, length, take, drop, get_or, slice_index, refl, sym, ap, ◌∙◌, arith, ⊎_elim, eqb-true, subst}
+use Rattle.std.proofs.Common.{◌≡◌, ℕ, zero, suc, ◌+◌, ◌-◌, ◌≤◌, ◌<◌, Bool, true, false, ◌==◌, cond, List, [], ◌∷◌, ◌++◌, length, take, drop, get_or, slice_index, refl, sym, ap, ◌∙◌, arith, ⊎_elim, eqb-true, subst}
 use Rattle.std.specs.Prelude.{encode_utf8_all}
-use Rattle.std.specs.Str.{chars, IsUtf8}
 use Rattle.std.specs.List.{prefix_len}
 use Rattle.std.proofs.Math.Utf8.{encode}
 use Rattle.std.proofs.lemmas.List.{length-append, get_or-map, length-map}
 use Rattle.std.proofs.lemmas.Bool.{cases_lt, cases_eq, cases_Bool, and_parts, and_right}
 use Rattle.std.proofs.lemmas.Bool.Decides.{nat_tests}
-use Rattle.std.proofs.lemmas.Str.{encode_ascii, length-encode, encodes-chars}
+use Rattle.std.proofs.lemmas.Str.{encode_ascii}
 use Rattle.lsp_text.specs.Text.{place_of}
 use Rattle.lsp_text.specs.TextLines.{line_feed, carriage_return, ends_line, splits_crlf, line_at, line_ends, line_start, line_stop, is_in_content}
-use Rattle.lsp_text.specs.LineStarts.{line_starts, start_places}
-use Rattle.lsp_text.proofs.LineLemmas.{line_rises, in_content, in_content_line, in_content_whole, line_has_start, line_has_stop, IsStart, IsStop, splits_none_past}
+use Rattle.lsp_text.specs.LineStarts.{line_starts}
+use Rattle.lsp_text.proofs.LineLemmas.{line_rises, in_content, in_content_line, in_content_whole, line_has_start, line_has_stop, IsStop, splits_none_past}
 use Rattle.lsp_text.proofs.InLineLemmas.{is_inside_line, line_length}
 use Rattle.lsp_text.proofs.StartRowLemmas.{next_start, IsNextStart, start_at, length-line_starts}
 use Rattle.lsp_text.proofs.StartLemmas.{starts_of_bytes, AllHigh, encode_high}
@@ -34,9 +33,9 @@ before_split text k split =
 pub stop_is : (text : List ℕ) (line k : ℕ) → suc line ≤ line_ends text → line_start text (suc line) ≡ suc k → line_stop text line ≡ cond (splits_crlf text k) (k - 1) k
 stop_is text line k there start =
     ⊎_elim
-      (λ (e : splits_crlf text k ≡ true). rw e (at_split k e here (omega (arith, within)) all))
-      (λ (e : splits_crlf text k ≡ false). rw e (omega (arith, all (line_stop text line) stop.passes, stop.greatest k (omega (arith, within)) (in_content text line k here e))))
-      (cases_Bool (splits_crlf text k))
+    (λ (e : splits_crlf text k ≡ true). rw e (at_split k e here (omega (arith, within)) all))
+    (λ (e : splits_crlf text k ≡ false). rw e (omega (arith, all (line_stop text line) stop.passes, stop.greatest k (omega (arith, within)) (in_content text line k here e))))
+    (cases_Bool (splits_crlf text k))
   where
     next : IsNextStart text line (suc k)
     next = subst (IsNextStart text line) start (next_start text line there)
@@ -53,9 +52,9 @@ stop_is text line k there start =
     all : (j : ℕ) → is_in_content text line j ≡ true → j ≤ k
     all j inside =
         ⊎_elim
-          (λ (h : k < j). absurd (omega (arith, line_rises text (suc k) j h, next.line_is, in_content_line text line j inside)))
-          (λ (h : j ≤ k). h)
-          (cases_lt k j)
+        (λ (h : k < j). absurd (omega (arith, line_rises text (suc k) j h, next.line_is, in_content_line text line j inside)))
+        (λ (h : j ≤ k). h)
+        (cases_lt k j)
 
     at_split : (k : ℕ) → splits_crlf text k ≡ true → line_at text k ≡ line → k ≤ length text → ((j : ℕ) → is_in_content text line j ≡ true → j ≤ k) → line_stop text line ≡ k - 1
     at_split zero e here within all = absurd (cc)
@@ -63,10 +62,10 @@ stop_is text line k there start =
         let before = before_split text j e in
         let whole : splits_crlf text (line_stop text line) ≡ false = in_content_whole text line (line_stop text line) stop.passes in
         ⊎_elim
-          (λ (h : line_stop text line ≡ suc j). absurd (let w : splits_crlf text (suc j) ≡ false = ap (splits_crlf text) (sym h) ∙ whole in cc))
-          (λ (h : line_stop text line ≡ suc j → ⊥).
-            omega (arith, h, all (line_stop text line) stop.passes, stop.greatest j (omega arith) (in_content text line j (sym before.0 ∙ here) before.1)))
-          (cases_eq (line_stop text line) (suc j))
+        (λ (h : line_stop text line ≡ suc j). absurd (let w : splits_crlf text (suc j) ≡ false = ap (splits_crlf text) (sym h) ∙ whole in cc))
+        (λ (h : line_stop text line ≡ suc j → ⊥).
+        omega (arith, h, all (line_stop text line) stop.passes, stop.greatest j (omega arith) (in_content text line j (sym before.0 ∙ here) before.1)))
+        (cases_eq (line_stop text line) (suc j))
 
 pub stop_behind : (text : List ℕ) (line : ℕ) → line ≤ line_ends text → line_start text line ≤ line_stop text line
 stop_behind text line there =
@@ -113,14 +112,14 @@ prefix_of_bytes (c ∷ cs) =
     let bytes = encode_utf8_all cs in
     let front = prefix_len is_inside_line cs in
     ⊎_elim
-      (λ (h : c < 128).
-        ap (λ bs. prefix_len is_inside_line (bs ++ bytes)) (encode_ascii c h) ∙ ascii (is_inside_line c) (ap length (encode_ascii c h)) (prefix_of_bytes cs))
-      (λ (h : 128 ≤ c).
-        let goes_on : prefix_len is_inside_line (c ∷ cs) ≡ 1 + front = rw (inside_high c h) refl in
-        prefix_high (encode c) bytes (encode_high c h) ∙
-        (ap (λ n. length (encode c) + n) (prefix_of_bytes cs) ∙
-        (sym (place_cons c cs front) ∙ ap (place_of (c ∷ cs)) (sym goes_on))))
-      (cases_lt c 128)
+    (λ (h : c < 128).
+    ap (λ bs. prefix_len is_inside_line (bs ++ bytes)) (encode_ascii c h) ∙ ascii (is_inside_line c) (ap length (encode_ascii c h)) (prefix_of_bytes cs))
+    (λ (h : 128 ≤ c).
+    let goes_on : prefix_len is_inside_line (c ∷ cs) ≡ 1 + front = rw (inside_high c h) refl in
+    prefix_high (encode c) bytes (encode_high c h) ∙
+    (ap (λ n. length (encode c) + n) (prefix_of_bytes cs) ∙
+    (sym (place_cons c cs front) ∙ ap (place_of (c ∷ cs)) (sym goes_on))))
+    (cases_lt c 128)
   where
     ascii : (b : Bool) → length (encode c) ≡ 1 → prefix_len is_inside_line (encode_utf8_all cs) ≡ place_of cs (prefix_len is_inside_line cs) → cond b (1 + prefix_len is_inside_line (encode_utf8_all cs)) 0 ≡ place_of (c ∷ cs) (cond b (1 + prefix_len is_inside_line cs) 0)
     ascii true one front = omega (arith, one, front, place_cons c cs (prefix_len is_inside_line cs))
@@ -140,5 +139,5 @@ same_stop text line there =
     let sum : start + (line_stop text line - start) ≡ line_stop text line = omega arith in
     let whole : place_of text (line_stop text line) ≡ place_of text start + place_of (drop start text) (line_stop text line - start) = ap (place_of text) (sym sum) ∙ place_add text start (line_stop text line - start) in
     let part : prefix_len is_inside_line (drop (line_start bytes line) bytes) ≡ place_of (drop start text) (line_stop text line - start) =
-          ap (prefix_len is_inside_line) rest ∙ (prefix_of_bytes (drop start text) ∙ ap (place_of (drop start text)) front) in
+    ap (prefix_len is_inside_line) rest ∙ (prefix_of_bytes (drop start text) ∙ ap (place_of (drop start text)) front) in
     omega arith

@@ -1,5 +1,5 @@
 -- The line ends of a text, found among its line feeds and carriage returns.
-use Rattle.std.proofs.Common.{◌≡◌, ℕ, zero, suc, ◌+◌, ◌-◌, ◌≤◌, ◌<◌, Bool, true, false, not, cond, eqb, List, [], ◌∷◌, ◌++◌, length, take, drop, map, get_or, slice_index, filter, refl, sym, ap, ◌∙◌, arith, ⊎_elim}
+use Rattle.std.proofs.Common.{◌≡◌, ℕ, zero, suc, ◌+◌, ◌-◌, ◌≤◌, ◌<◌, Bool, true, false, List, [], ◌∷◌, ◌++◌, length, take, drop, map, get_or, slice_index, filter, refl, sym, ap, ◌∙◌, arith, ⊎_elim}
 use Rattle.std.proofs.lemmas.List.{length-take, length-take-le, length-drop, get_or-take, get_or-drop, append-nil}
 use Rattle.std.proofs.lemmas.Bool.{cases_Bool}
 use Rattle.std.proofs.lemmas.Bool.Decides.{nat_tests}
@@ -38,11 +38,11 @@ unfolding places_from
 ends_of-places text part low i zero same e = refl
 ends_of-places text part low i (suc n) same e =
     let more : ends_of text low (places_from (is_byte2 10 13) part (i + 1) n) ≡ filter (ends_line text) (numbers_from (suc (suc (low + i))) n) =
-          ends_of-places text part low (i + 1) n same (omega arith) ∙ ap (λ x. filter (ends_line text) (numbers_from (suc x) n)) (omega arith) in
+    ends_of-places text part low (i + 1) n same (omega arith) ∙ ap (λ x. filter (ends_line text) (numbers_from (suc x) n)) (omega arith) in
     ⊎_elim
-      (λ (y : is_byte2 10 13 (slice_index part i) ≡ true). rw (y, more) refl)
-      (λ (y : is_byte2 10 13 (slice_index part i) ≡ false). rw (y, no_mark text (low + i) (ap (is_byte2 10 13) (sym (same i (omega arith))) ∙ y)) more)
-      (cases_Bool (is_byte2 10 13 (slice_index part i)))
+    (λ (y : is_byte2 10 13 (slice_index part i) ≡ true). rw (y, more) refl)
+    (λ (y : is_byte2 10 13 (slice_index part i) ≡ false). rw (y, no_mark text (low + i) (ap (is_byte2 10 13) (sym (same i (omega arith))) ∙ y)) more)
+    (cases_Bool (is_byte2 10 13 (slice_index part i)))
 
 pub Marks-places : (part : List ℕ) (low high i n : ℕ) → low + (i + n) ≤ high → Marks low high (places_from (is_byte2 10 13) part i n)
 unfolding places_from
@@ -50,9 +50,9 @@ Marks-places part low high i zero e = tt
 Marks-places part low high i (suc n) e =
     let more : Marks low high (places_from (is_byte2 10 13) part (i + 1) n) = Marks-places part low high (i + 1) n (omega arith) in
     ⊎_elim
-      (λ (y : is_byte2 10 13 (slice_index part i) ≡ true). rw y (omega arith, more))
-      (λ (y : is_byte2 10 13 (slice_index part i) ≡ false). rw y more)
-      (cases_Bool (is_byte2 10 13 (slice_index part i)))
+    (λ (y : is_byte2 10 13 (slice_index part i) ≡ true). rw y (omega arith, more))
+    (λ (y : is_byte2 10 13 (slice_index part i) ≡ false). rw y more)
+    (cases_Bool (is_byte2 10 13 (slice_index part i)))
 
 -- The marks of the bytes from `low` to `high` give the ends behind `low`, up to `high`.
 pub ends_of-part : (text : List ℕ) (low high : ℕ) → low ≤ high → high ≤ length text →

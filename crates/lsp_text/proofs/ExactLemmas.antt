@@ -1,16 +1,15 @@
 -- The exact position of a place, by the line starts and the bytes of its line.
-use Rattle.std.proofs.Common.{◌≡◌, ℕ, zero, suc, ◌+◌, ◌-◌, ◌≤◌, ◌<◌, ◌^◌, false, true, List, [], ◌∷◌, length, take, drop, slice_index, sum_by, Some, option_map, refl, sym, ap, ◌∙◌, arith, ⊎_elim, subst}
-use Rattle.std.specs.Prelude.{encode_utf8_all}
+use Rattle.std.proofs.Common.{◌≡◌, ℕ, zero, suc, ◌-◌, ◌≤◌, ◌<◌, List, [], ◌∷◌, length, drop, slice_index, sum_by, Some, option_map, refl, sym, ap, ◌∙◌, arith, ⊎_elim, subst}
 use Rattle.std.specs.Char.{len_utf8}
 use Rattle.std.specs.Str.{chars, IsUtf8}
-use Rattle.std.proofs.lemmas.Bool.{cases_lt, cases_Bool}
+use Rattle.std.proofs.lemmas.Bool.{cases_lt}
 use Rattle.std.proofs.lemmas.List.{length-take, length-drop}
 use Rattle.std.proofs.lemmas.List.Sums.{sum_by-cons}
 use Rattle.std.proofs.lemmas.Str.{encodes-chars, length-le-encodes}
 use Rattle.lsp_text.specs.declared.position.Position.{Position}
 use Rattle.lsp_text.specs.Text.{place_of}
-use Rattle.lsp_text.specs.TextLines.{ends_line, line_at, line_ends, line_start}
-use Rattle.lsp_text.specs.LineStarts.{Indexes, IsPlace, line_starts}
+use Rattle.lsp_text.specs.TextLines.{line_at, line_ends, line_start}
+use Rattle.lsp_text.specs.LineStarts.{Indexes, IsPlace}
 use Rattle.lsp_text.specs.Starts.{AreStarts, IsLineOf}
 use Rattle.lsp_text.specs.Units.{units_between}
 use Rattle.lsp_text.specs.Positions.{exact_position, denoted}
@@ -49,18 +48,18 @@ line_found bytes lines place line k indexes found within at =
     let there : line ≤ line_ends text = indexes_line bytes lines line indexes found.within in
     let start = line_has_start text line there in
     let low : line_start text line ≤ k =
-          place_order text (line_start text line) k (omega (arith, start.in_row)) (omega (arith, at, indexes_start bytes lines line indexes there, found.at_most)) in
+    place_order text (line_start text line) k (omega (arith, start.in_row)) (omega (arith, at, indexes_start bytes lines line indexes there, found.at_most)) in
     let rises : line_at text (line_start text line) ≤ line_at text k = line_rises text (line_start text line) k low in
     let here : line_at text (line_start text line) ≡ line = in_content_line text line (line_start text line) start.passes in
     ⊎_elim
-      (λ (h : line < line_at text k).
-        let m = line_at text k in
-        let up : m ≤ line_ends text = line_rises text k (length text) within in
-        let before : line_start text m ≤ k = start_before text k within in
-        let above : place < slice_index lines m = found.greatest m h (omega (arith, indexes_count bytes lines indexes)) in
-        absurd (omega (arith, at, indexes_start bytes lines m indexes up, place_rises text (line_start text m) k before within)))
-      (λ (h : line_at text k ≤ line). omega arith)
-      (cases_lt line (line_at text k))
+    (λ (h : line < line_at text k).
+    let m = line_at text k in
+    let up : m ≤ line_ends text = line_rises text k (length text) within in
+    let before : line_start text m ≤ k = start_before text k within in
+    let above : place < slice_index lines m = found.greatest m h (omega (arith, indexes_count bytes lines indexes)) in
+    absurd (omega (arith, at, indexes_start bytes lines m indexes up, place_rises text (line_start text m) k before within)))
+    (λ (h : line_at text k ≤ line). omega arith)
+    (cases_lt line (line_at text k))
 
 -- A line's part up to the place of one of its indexes.
 pub record IsFront (bytes : List ℕ) (start place k : ℕ) : Type 0 where
@@ -73,7 +72,7 @@ front_from bytes lines place line k indexes found within at =
     record {
       within = within;
       place_is = at;
-      start_is = indexes_start bytes lines line indexes (indexes_line bytes lines line indexes found.within) ∙ ap (λ l. place_of (chars bytes) (line_start (chars bytes) l)) (line_found bytes lines place line k indexes found within at)
+      start_is = indexes_start bytes lines line indexes (indexes_line bytes lines line indexes found.within) ∙ ap (λ l. place_of (chars bytes) (line_start (chars bytes) l)) (line_found bytes lines place line k indexes found within at);
     }
 
 pub front_order : (bytes : List ℕ) (start place k : ℕ) → IsFront bytes start place k → start ≤ place

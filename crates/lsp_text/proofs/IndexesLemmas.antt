@@ -1,10 +1,10 @@
 -- What it gives that lines are those of a text.
-use Rattle.std.proofs.Common.{◌≡◌, ℕ, suc, ◌+◌, ◌≤◌, List, [], ◌∷◌, ◌++◌, length, map, get_or, slice_index, cond, ◌<◌, ◌-◌, refl, sym, ap, ◌∙◌, arith, subst}
+use Rattle.std.proofs.Common.{◌≡◌, ℕ, suc, ◌+◌, ◌≤◌, List, [], ◌∷◌, ◌++◌, length, get_or, slice_index, cond, ◌<◌, ◌-◌, sym, ap, ◌∙◌, arith, subst}
 use Rattle.std.proofs.lemmas.List.{length-map, get_or-map}
 use Rattle.std.specs.Str.{chars, IsUtf8}
 use Rattle.lsp_text.specs.Text.{place_of}
 use Rattle.lsp_text.specs.TextLines.{line_ends, line_start, line_stop, splits_crlf}
-use Rattle.lsp_text.specs.LineStarts.{Indexes, line_starts, start_places, ends_between}
+use Rattle.lsp_text.specs.LineStarts.{Indexes, line_starts, ends_between}
 use Rattle.lsp_text.specs.Starts.{AreStarts}
 use Rattle.lsp_text.proofs.StartLemmas.{starts_of_text}
 use Rattle.lsp_text.proofs.StartRowLemmas.{line_starts_are, length-line_starts, start_at, next_start, IsNextStart}
@@ -64,7 +64,7 @@ indexes_next bytes lines line utf8 indexes h =
     let ends : line_ends bytes ≡ line_ends text = ap line_ends (sym same) ∙ same_line_ends text in
     let at : suc line ≡ line + 1 = omega arith in
     let next : slice_index lines (line + 1) ≡ line_start bytes (suc line) =
-          ap (slice_index lines) (sym at) ∙ (indexes_start bytes lines (suc line) indexes there ∙ (same_start text (suc line) there ∙ ap (λ bs. line_start bs (suc line)) same)) in
+    ap (slice_index lines) (sym at) ∙ (indexes_start bytes lines (suc line) indexes there ∙ (same_start text (suc line) there ∙ ap (λ bs. line_start bs (suc line)) same)) in
     let is_next : IsNextStart bytes line (slice_index lines (line + 1)) = subst (IsNextStart bytes line) (sym next) (next_start bytes line (omega arith)) in
     let stop : place_of text (line_stop text line) ≡ line_stop bytes line = same_stop text line (omega arith) ∙ ap (λ bs. line_stop bs line) same in
     let n = slice_index lines (line + 1) in
@@ -72,5 +72,5 @@ indexes_next bytes lines line utf8 indexes h =
     record {
       some = is_next.some;
       within = is_next.within;
-      stop = sym (stop ∙ (stop_is bytes line (n - 1) (omega arith) (sym next ∙ omega (arith, is_next.some)) ∙ ap (λ m. cond (splits_crlf bytes (n - 1)) m (n - 1)) minus))
+      stop = sym (stop ∙ (stop_is bytes line (n - 1) (omega arith) (sym next ∙ omega (arith, is_next.some)) ∙ ap (λ m. cond (splits_crlf bytes (n - 1)) m (n - 1)) minus));
     }

@@ -1,17 +1,17 @@
 -- Units counted byte by byte are those counted character by character.
-use Rattle.std.proofs.Common.{◌≡◌, ℕ, zero, suc, ◌+◌, ◌-◌, ◌*◌, ◌/◌, ◌%◌, ◌≤◌, ◌<◌, Bool, true, false, cond, ltb, eqb, List, [], ◌∷◌, ◌++◌, length, take, drop, get_or, sum_by, Option, Some, None, option_map, nat_lt, ◌==◌, refl, sym, ap, ◌∙◌, arith, ⊎_elim, leb, ◌&&◌, lt-ltb, le-ltb}
+use Rattle.std.proofs.Common.{◌≡◌, ℕ, zero, suc, ◌+◌, ◌-◌, ◌/◌, ◌%◌, ◌≤◌, ◌<◌, Bool, true, false, cond, ltb, List, [], ◌∷◌, ◌++◌, length, get_or, sum_by, Option, Some, None, option_map, nat_lt, ◌==◌, refl, sym, ap, ◌∙◌, arith, ⊎_elim, leb, ◌&&◌, lt-ltb, le-ltb}
 use Rattle.std.specs.Prelude.{encode_utf8_all}
 use Rattle.std.specs.Char.{len_utf8}
 use Rattle.std.proofs.Math.Utf8.{encode}
 use Rattle.std.proofs.lemmas.List.{length-append, get_or-append_right}
 use Rattle.std.proofs.lemmas.List.Sums.{sum_by-append, sum_by-cons}
-use Rattle.std.proofs.lemmas.Bool.{cases_lt, cases_Bool, cond_both}
+use Rattle.std.proofs.lemmas.Bool.{cases_lt, cond_both}
 use Rattle.std.proofs.lemmas.Bool.Decides.{nat_tests}
 use Rattle.std.proofs.lemmas.Str.{length-encode, len_utf8_bounds, encodes-chars}
 use Rattle.std.specs.Str.{IsUtf8, chars}
 use borrow.Author.Tests.{ltb-true, ltb-false}
 use Rattle.lsp_text.specs.Units.{units_in}
-use Rattle.lsp_text.specs.declared.encoding.Encoding.TheVariants.{Utf8, Utf16, Utf32}
+use Rattle.lsp_text.specs.declared.encoding.Encoding.TheVariants.{Utf16}
 use Rattle.lsp_text.specs.Leads.{lead_units_utf16, lead_units_utf32, HaveNone, FirstHas, line_place, byte_place}
 
 -- a byte inside a character has no units
@@ -46,9 +46,9 @@ pub utf16_first : (c : ℕ) → FirstHas lead_units_utf16 (encode c) (units_in U
 unfolding encode
 utf16_first c =
     cond_both (ltb c 128) _ _ P (λ e. let h : c < 128 = ltb-true c 128 e in (utf16_ascii c h ∙ sym (units_utf16_one c (omega arith)), tt))
-      (λ _. cond_both (ltb c 2048) _ _ P (λ e. let h : c < 2048 = ltb-true c 2048 e in (utf16_one (192 + c / 64) (omega arith) (omega arith) ∙ sym (units_utf16_one c (omega arith)), (none c, tt)))
-        (λ _. cond_both (ltb c 65536) _ _ P (λ e. let h : c < 65536 = ltb-true c 65536 e in (utf16_one (224 + c / 4096) (omega arith) (omega arith) ∙ sym (units_utf16_one c h), (none (c / 64), (none c, tt))))
-          (λ e. let h : 65536 ≤ c = ltb-false c 65536 e in (utf16_two (240 + c / 262144) (omega arith) ∙ sym (units_utf16_two c h), (none (c / 4096), (none (c / 64), (none c, tt)))))))
+    (λ _. cond_both (ltb c 2048) _ _ P (λ e. let h : c < 2048 = ltb-true c 2048 e in (utf16_one (192 + c / 64) (omega arith) (omega arith) ∙ sym (units_utf16_one c (omega arith)), (none c, tt)))
+    (λ _. cond_both (ltb c 65536) _ _ P (λ e. let h : c < 65536 = ltb-true c 65536 e in (utf16_one (224 + c / 4096) (omega arith) (omega arith) ∙ sym (units_utf16_one c h), (none (c / 64), (none c, tt))))
+    (λ e. let h : 65536 ≤ c = ltb-false c 65536 e in (utf16_two (240 + c / 262144) (omega arith) ∙ sym (units_utf16_two c h), (none (c / 4096), (none (c / 64), (none c, tt)))))))
   where
     P : List ℕ → Type 0
     P bytes = FirstHas lead_units_utf16 bytes (units_in Utf16 c)
@@ -60,9 +60,9 @@ pub utf32_first : (c : ℕ) → FirstHas lead_units_utf32 (encode c) 1
 unfolding encode
 utf32_first c =
     cond_both (ltb c 128) _ _ P (λ e. (utf32_ascii c (ltb-true c 128 e), tt))
-      (λ _. cond_both (ltb c 2048) _ _ P (λ _. (utf32_lead (192 + c / 64) (omega arith), (none c, tt)))
-        (λ _. cond_both (ltb c 65536) _ _ P (λ _. (utf32_lead (224 + c / 4096) (omega arith), (none (c / 64), (none c, tt))))
-          (λ _. (utf32_lead (240 + c / 262144) (omega arith), (none (c / 4096), (none (c / 64), (none c, tt)))))))
+    (λ _. cond_both (ltb c 2048) _ _ P (λ _. (utf32_lead (192 + c / 64) (omega arith), (none c, tt)))
+    (λ _. cond_both (ltb c 65536) _ _ P (λ _. (utf32_lead (224 + c / 4096) (omega arith), (none (c / 64), (none c, tt))))
+    (λ _. (utf32_lead (240 + c / 262144) (omega arith), (none (c / 4096), (none (c / 64), (none c, tt)))))))
   where
     P : List ℕ → Type 0
     P bytes = FirstHas lead_units_utf32 bytes 1
@@ -105,14 +105,14 @@ module _ (lead units : ℕ → ℕ) where
   first_place [] rest n c first some = absurd first
   first_place (b ∷ bytes) rest n c first some =
       ⊎_elim
-        (λ (h : c < n).
-          let less : nat_lt c n ≡ true = grind (arith, nat_tests) in
-          rw (first.0, less) refl)
-        (λ (h : n ≤ c).
-          let less : nat_lt c n ≡ false = grind (arith, nat_tests) in
-          let above : (c == 0) ≡ false = grind (arith, nat_tests) in
-          rw (first.0, less, above, skip_none bytes rest (c - n) first.1) (map_twice 1 (length bytes) (byte_place lead rest (c - n)) ∙ ap (λ l. option_map (λ m. l + m) (byte_place lead rest (c - n))) (omega arith)))
-        (cases_lt c n)
+      (λ (h : c < n).
+      let less : nat_lt c n ≡ true = grind (arith, nat_tests) in
+      rw (first.0, less) refl)
+      (λ (h : n ≤ c).
+      let less : nat_lt c n ≡ false = grind (arith, nat_tests) in
+      let above : (c == 0) ≡ false = grind (arith, nat_tests) in
+      rw (first.0, less, above, skip_none bytes rest (c - n) first.1) (map_twice 1 (length bytes) (byte_place lead rest (c - n)) ∙ ap (λ l. option_map (λ m. l + m) (byte_place lead rest (c - n))) (omega arith)))
+      (cases_lt c n)
 
   -- A place found byte by byte is the one found character by character.
   pub place_of_bytes : ((c : ℕ) → FirstHas lead (encode c) (units c)) → ((c : ℕ) → 1 ≤ units c) → (cs : List ℕ) (c : ℕ) → byte_place lead (encode_utf8_all cs) c ≡ line_place units cs c
@@ -147,9 +147,9 @@ encode_outside : (c : ℕ) → FirstOutside (encode c)
 unfolding encode
 encode_outside c =
     cond_both (ltb c 128) _ _ FirstOutside (λ e. (inside_ascii c (ltb-true c 128 e), tt))
-      (λ _. cond_both (ltb c 2048) _ _ FirstOutside (λ _. (inside_lead (192 + c / 64) (omega arith), (next_inside c, tt)))
-        (λ _. cond_both (ltb c 65536) _ _ FirstOutside (λ _. (inside_lead (224 + c / 4096) (omega arith), (next_inside (c / 64), (next_inside c, tt))))
-          (λ _. (inside_lead (240 + c / 262144) (omega arith), (next_inside (c / 4096), (next_inside (c / 64), (next_inside c, tt)))))))
+    (λ _. cond_both (ltb c 2048) _ _ FirstOutside (λ _. (inside_lead (192 + c / 64) (omega arith), (next_inside c, tt)))
+    (λ _. cond_both (ltb c 65536) _ _ FirstOutside (λ _. (inside_lead (224 + c / 4096) (omega arith), (next_inside (c / 64), (next_inside c, tt))))
+    (λ _. (inside_lead (240 + c / 262144) (omega arith), (next_inside (c / 4096), (next_inside (c / 64), (next_inside c, tt)))))))
   where
     next_inside : (bits : ℕ) → is_inside (128 + bits % 64) ≡ true
     next_inside bits = inside_yes (128 + bits % 64) (omega arith) (omega arith)
@@ -190,15 +190,15 @@ utf8_at (x ∷ cs) (suc k) h =
     let size : length (encode x) ≡ len_utf8 x = length-encode x in
     let sum : length (encode x ++ rest) ≡ len_utf8 x + length rest = length-append (encode x) rest ∙ ap (λ n. n + length rest) size in
     ⊎_elim
-      (λ (l : suc k < len_utf8 x).
-        let less : nat_lt (suc k) (len_utf8 x) ≡ true = lt-ltb (suc k) (len_utf8 x) l in
-        let inside : is_inside (get_or (encode x ++ rest) (suc k) 0) ≡ true = behind_first (encode x) rest (suc k) (encode_outside x) (omega arith) (omega (arith, size)) in
-        rw (above, less, inside) refl)
-      (λ (l : len_utf8 x ≤ suc k).
-        let less : nat_lt (suc k) (len_utf8 x) ≡ false = le-ltb (suc k) (len_utf8 x) l in
-        let at : get_or (encode x ++ rest) (suc k) 0 ≡ get_or rest (suc k - len_utf8 x) 0 = get_or-append_right (encode x) rest (len_utf8 x) (suc k) 0 size l in
-        rw (above, less, at, utf8_at cs (suc k - len_utf8 x) (omega (arith, sum))) (shifted (is_inside (get_or rest (suc k - len_utf8 x) 0)) (len_utf8 x) (suc k) l))
-      (cases_lt (suc k) (len_utf8 x))
+    (λ (l : suc k < len_utf8 x).
+    let less : nat_lt (suc k) (len_utf8 x) ≡ true = lt-ltb (suc k) (len_utf8 x) l in
+    let inside : is_inside (get_or (encode x ++ rest) (suc k) 0) ≡ true = behind_first (encode x) rest (suc k) (encode_outside x) (omega arith) (omega (arith, size)) in
+    rw (above, less, inside) refl)
+    (λ (l : len_utf8 x ≤ suc k).
+    let less : nat_lt (suc k) (len_utf8 x) ≡ false = le-ltb (suc k) (len_utf8 x) l in
+    let at : get_or (encode x ++ rest) (suc k) 0 ≡ get_or rest (suc k - len_utf8 x) 0 = get_or-append_right (encode x) rest (len_utf8 x) (suc k) 0 size l in
+    rw (above, less, at, utf8_at cs (suc k - len_utf8 x) (omega (arith, sum))) (shifted (is_inside (get_or rest (suc k - len_utf8 x) 0)) (len_utf8 x) (suc k) l))
+    (cases_lt (suc k) (len_utf8 x))
   where
     shifted : (b : Bool) (n c : ℕ) → n ≤ c → option_map (λ m. n + m) (cond b None (Some (c - n))) ≡ cond b None (Some c)
     shifted true n c h = refl

@@ -9,9 +9,15 @@ pub mod EndLemmas
 pub mod StartLemmas
 pub mod StartRowLemmas
 pub mod LeadLemmas
+pub mod BlockLemmas
 pub mod ContentLemmas
 pub mod ResolveLemmas
 pub mod IndexesLemmas
 pub mod ExactLemmas
 pub mod BoundaryLemmas
+pub mod ShiftLemmas
+pub mod SpliceLemmas
+pub mod PastLemmas
+pub mod PartLemmas
 pub mod SearchLemmas
+mod Examples

@@ -1,5 +1,5 @@
 -- Indexes of a text and their places among its bytes.
-use Rattle.std.proofs.Common.{◌≡◌, ℕ, zero, suc, ◌+◌, ◌-◌, ◌≤◌, ◌<◌, Bool, true, false, cond, ltb, List, [], ◌∷◌, ◌++◌, length, take, drop, get_or, refl, sym, ap, ◌∙◌, arith, ⊎_elim, append-nil}
+use Rattle.std.proofs.Common.{◌≡◌, ℕ, zero, suc, ◌+◌, ◌-◌, ◌≤◌, ◌<◌, true, List, [], ◌∷◌, ◌++◌, length, take, drop, get_or, refl, sym, ap, ◌∙◌, arith, ⊎_elim, append-nil}
 use Rattle.std.specs.Prelude.{encode_utf8, encode_utf8_all}
 use Rattle.std.proofs.Math.Utf8.{scalar, scalars}
 use Rattle.std.specs.Char.{len_utf8}
@@ -7,7 +7,7 @@ use Rattle.std.specs.Str.{chars, IsUtf8, IsCharBoundary}
 use Rattle.std.proofs.Math.Seq.{take-suc, take-add}
 use Rattle.std.proofs.lemmas.List.{length-append, length-take-le, take-append-drop, take_at, drop_at, take_all}
 use Rattle.std.proofs.lemmas.Bool.{cases_lt, and_parts, and_from}
-use Rattle.std.proofs.lemmas.Str.{encodes-append, length-encode, len_utf8_bounds, encodes-chars, chars-append, IsUtf8-take, IsUtf8-drop, IsCharBoundary-from_take, scalars-chars}
+use Rattle.std.proofs.lemmas.Str.{encodes-append, length-encode, len_utf8_bounds, encodes-chars, chars-append, IsUtf8-take, IsCharBoundary-from_take, scalars-chars}
 use Rattle.lsp_text.specs.Text.{place_of}
 
 pub place_start : (text : List ℕ) → place_of text 0 ≡ 0
@@ -27,17 +27,17 @@ pub place_rises : (text : List ℕ) (j k : ℕ) → j ≤ k → k ≤ length tex
 place_rises text j zero order within = omega (arith, ap (place_of text) (let e : j ≡ 0 = omega arith in e))
 place_rises text j (suc k) order within =
     ⊎_elim
-      (λ (h : j < suc k). omega (arith, place_rises text j k (omega arith) (omega arith), place_more text k (omega arith), (len_utf8_bounds (get_or text k 0)).0))
-      (λ (h : suc k ≤ j). omega (arith, ap (place_of text) (let e : j ≡ suc k = omega arith in e)))
-      (cases_lt j (suc k))
+    (λ (h : j < suc k). omega (arith, place_rises text j k (omega arith) (omega arith), place_more text k (omega arith), (len_utf8_bounds (get_or text k 0)).0))
+    (λ (h : suc k ≤ j). omega (arith, ap (place_of text) (let e : j ≡ suc k = omega arith in e)))
+    (cases_lt j (suc k))
 
 -- An index with a place at most that of another is at most that other, and equal places are those of one index.
 pub place_order : (text : List ℕ) (j k : ℕ) → j ≤ length text → place_of text j ≤ place_of text k → j ≤ k
 place_order text j k within low =
     ⊎_elim
-      (λ (h : k < j). absurd (omega (arith, place_rises text k j (omega arith) within)))
-      (λ (h : j ≤ k). h)
-      (cases_lt k j)
+    (λ (h : k < j). absurd (omega (arith, place_rises text k j (omega arith) within)))
+    (λ (h : j ≤ k). h)
+    (cases_lt k j)
 
 pub place_one : (text : List ℕ) (j k : ℕ) → j ≤ length text → k ≤ length text → place_of text j ≡ place_of text k → j ≡ k
 place_one text j k low high same =
@@ -69,7 +69,7 @@ pub part_place : (text : List ℕ) (j k : ℕ) → j ≤ k → k ≤ length text
 part_place text j k order within =
     let rest = drop j text in
     let same : place_of text k - place_of text j ≡ place_of rest (k - j) =
-          omega (arith, place_add text j (k - j), ap (place_of text) (let e : j + (k - j) ≡ k = omega arith in e)) in
+    omega (arith, place_add text j (k - j), ap (place_of text) (let e : j + (k - j) ≡ k = omega arith in e)) in
     ap (λ n. take n (drop (place_of text j) (encode_utf8_all text))) same ∙ (ap (λ bs. take (place_of rest (k - j)) bs) (drop_place text j) ∙ take_place rest (k - j))
 
 -- A place on a boundary of characters is that of an index.
@@ -87,9 +87,9 @@ index_at bytes place utf8 boundary =
       index = length (chars front);
       within = omega (arith, ap length split, length-append (chars front) (chars (drop place bytes)));
       place_is =
-        ap (λ cs. length (encode_utf8_all (take (length (chars front)) cs))) split ∙
-        (ap (λ cs. length (encode_utf8_all cs)) (take_at (chars front) (chars (drop place bytes)) (length (chars front)) refl) ∙
-        (ap length (encodes-chars front is_front) ∙ length-take-le place bytes boundary.0))
+          ap (λ cs. length (encode_utf8_all (take (length (chars front)) cs))) split ∙
+          (ap (λ cs. length (encode_utf8_all cs)) (take_at (chars front) (chars (drop place bytes)) (length (chars front)) refl) ∙
+          (ap length (encodes-chars front is_front) ∙ length-take-le place bytes boundary.0));
     }
 
 scalars-take : (cs : List ℕ) (k : ℕ) → scalars cs ≡ true → scalars (take k cs) ≡ true
@@ -105,4 +105,4 @@ place_boundary bytes k utf8 within =
     let same : encode_utf8_all (chars bytes) ≡ bytes = encodes-chars bytes utf8 in
     let front : encode_utf8_all (take k (chars bytes)) ≡ take place bytes = sym (take_place (chars bytes) k) ∙ ap (take place) same in
     IsCharBoundary-from_take bytes place utf8 (omega (arith, place_within (chars bytes) k within, ap length same))
-      (take k (chars bytes), (scalars-take (chars bytes) k (scalars-chars bytes utf8), front))
+    (take k (chars bytes), (scalars-take (chars bytes) k (scalars-chars bytes utf8), front))

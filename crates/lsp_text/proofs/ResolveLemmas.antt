@@ -1,8 +1,8 @@
 -- The place that a position denotes, by the bytes of its line.
-use Rattle.std.proofs.Common.{◌≡◌, ℕ, zero, suc, ◌+◌, ◌-◌, ◌≤◌, ◌<◌, Bool, true, false, ◌==◌, cond, List, [], ◌∷◌, ◌++◌, length, take, drop, Option, Some, None, option_map, nat_lt, refl, sym, ap, ◌∙◌, arith, lt-ltb}
+use Rattle.std.proofs.Common.{◌≡◌, ℕ, suc, ◌+◌, ◌-◌, ◌≤◌, ◌<◌, Bool, true, false, ◌==◌, cond, List, [], ◌∷◌, ◌++◌, length, take, drop, Option, Some, None, option_map, nat_lt, refl, sym, ap, ◌∙◌, arith, lt-ltb}
 use Rattle.std.specs.Prelude.{encode_utf8_all}
 use Rattle.std.specs.Char.{len_utf8}
-use Rattle.std.specs.Str.{chars, IsUtf8}
+use Rattle.std.specs.Str.{chars, IsCharBoundary, IsUtf8}
 use Rattle.std.proofs.Math.Utf8.{encode}
 use Rattle.std.proofs.lemmas.List.{take-append-drop, length-append, append-nil, length-take, length-drop}
 use Rattle.std.proofs.lemmas.Str.{encodes-append, encodes-chars, chars_from_encodes, IsUtf8-between, length-encode}
@@ -10,9 +10,11 @@ use Rattle.lsp_text.specs.declared.position.Position.{Position}
 use Rattle.lsp_text.specs.Text.{place_of}
 use Rattle.lsp_text.specs.TextLines.{line_ends, line_start, line_stop}
 use Rattle.lsp_text.specs.Positions.{denoted}
+use Rattle.lsp_text.specs.LineStarts.{IsPlace}
+use Rattle.lsp_text.proofs.PositionLemmas.{denoted_whole}
+use Rattle.lsp_text.proofs.BoundaryLemmas.{boundary_from}
 use Rattle.lsp_text.specs.Leads.{line_place}
 use Rattle.lsp_text.proofs.InLineLemmas.{index_in_line, denoted_in_line}
-use Rattle.lsp_text.proofs.LeadLemmas.{map_twice}
 use Rattle.lsp_text.proofs.PlaceLemmas.{place_end, place_within, place_add, part_place, place_boundary, place_rises}
 use Rattle.lsp_text.proofs.ContentLemmas.{stop_behind, stop_within}
 
@@ -23,14 +25,14 @@ part bytes from to = take (to - from) (drop from bytes)
 pub part_utf8 : (bytes : List ℕ) (j k : ℕ) → IsUtf8 bytes → j ≤ k → k ≤ length (chars bytes) → IsUtf8 (part bytes (place_of (chars bytes) j) (place_of (chars bytes) k))
 part_utf8 bytes j k utf8 order within =
     IsUtf8-between bytes (place_of (chars bytes) j) (place_of (chars bytes) k) utf8 (omega (arith, place_rises (chars bytes) j k order within))
-      (place_boundary bytes j utf8 (omega arith)) (place_boundary bytes k utf8 within)
+    (place_boundary bytes j utf8 (omega arith)) (place_boundary bytes k utf8 within)
 
 pub chars_part : (bytes : List ℕ) (j k : ℕ) → IsUtf8 bytes → j ≤ k → k ≤ length (chars bytes) → chars (part bytes (place_of (chars bytes) j) (place_of (chars bytes) k)) ≡ take (k - j) (drop j (chars bytes))
 chars_part bytes j k utf8 order within =
     let from = place_of (chars bytes) j in
     let to = place_of (chars bytes) k in
     let same : encode_utf8_all (take (k - j) (drop j (chars bytes))) ≡ part bytes from to =
-          sym (part_place (chars bytes) j k order within) ∙ ap (λ bs. part bs from to) (encodes-chars bytes utf8) in
+    sym (part_place (chars bytes) j k order within) ∙ ap (λ bs. part bs from to) (encodes-chars bytes utf8) in
     sym (chars_from_encodes (take (k - j) (drop j (chars bytes))) (part bytes from to) (part_utf8 bytes j k utf8 order within) same)
 
 map_len : (units : ℕ → ℕ) (x c : ℕ) (f g : ℕ → ℕ) (o : Option ℕ) (p : Option ℕ) → p ≡ option_map g o → ((n : ℕ) → f (suc n) ≡ len_utf8 x + g n) → f 0 ≡ 0 →
@@ -48,8 +50,8 @@ line_place_is : (units : ℕ → ℕ) (cs behind : List ℕ) (c : ℕ) → line_
 line_place_is units [] behind c = refl
 line_place_is units (x ∷ cs) behind c =
     map_len units x c (place_of (x ∷ (cs ++ behind))) (place_of (cs ++ behind)) (index_in_line units cs (c - units x)) (line_place units cs (c - units x))
-      (line_place_is units cs behind (c - units x))
-      (λ n. length-append (encode x) (encode_utf8_all (take n (cs ++ behind))) ∙ ap (λ l. l + place_of (cs ++ behind) n) (length-encode x)) refl
+    (line_place_is units cs behind (c - units x))
+    (λ n. length-append (encode x) (encode_utf8_all (take n (cs ++ behind))) ∙ ap (λ l. l + place_of (cs ++ behind) n) (length-encode x)) refl
 
 shifted : (text : List ℕ) (start : ℕ) (o : Option ℕ) → option_map (place_of text) (option_map (λ n. start + n) o) ≡ option_map (λ n. place_of text start + n) (option_map (place_of (drop start text)) o)
 shifted text start None = refl
@@ -59,7 +61,7 @@ shifted text start (Some n) = ap Some (place_add text start n)
 pub resolved : (units : ℕ → ℕ) → ((c : ℕ) → 1 ≤ units c) → (bytes : List ℕ) (p : Position) → IsUtf8 bytes → p.line ≤ line_ends (chars bytes) →
     option_map (place_of (chars bytes)) (denoted units (chars bytes) p) ≡
     option_map (λ n. place_of (chars bytes) (line_start (chars bytes) p.line) + n)
-      (line_place units (chars (part bytes (place_of (chars bytes) (line_start (chars bytes) p.line)) (place_of (chars bytes) (line_stop (chars bytes) p.line)))) p.character)
+    (line_place units (chars (part bytes (place_of (chars bytes) (line_start (chars bytes) p.line)) (place_of (chars bytes) (line_stop (chars bytes) p.line)))) p.character)
 resolved units some bytes p utf8 there =
     let text = chars bytes in
     let start = line_start text p.line in
@@ -127,5 +129,26 @@ place_in_line units cs c n is =
 
 pub place_in_content : (units : ℕ → ℕ) (bytes : List ℕ) (line start stop c n : ℕ) → IsUtf8 bytes → IsContent bytes line start stop → Some n ≡ line_place units (chars (part bytes start stop)) c → start + n ≤ length bytes
 place_in_content units bytes line start stop c n utf8 content is =
-    omega (arith, place_in_line units (chars (part bytes start stop)) c n is, ap length (encodes-chars (part bytes start stop) (content_utf8 bytes line start stop utf8 content)),
-      length-take (stop - start) (drop start bytes), length-drop start bytes, content_order bytes line start stop content, content_within bytes line start stop utf8 content)
+    omega (
+      arith,
+      place_in_line units (chars (part bytes start stop)) c n is,
+      ap length (encodes-chars (part bytes start stop) (content_utf8 bytes line start stop utf8 content)),
+      length-take (stop - start) (drop start bytes),
+      length-drop start bytes,
+      content_order bytes line start stop content,
+      content_within bytes line start stop utf8 content,
+    )
+
+-- What a position denotes is a place at which a position may stand.
+pub denoted_place : (units : ℕ → ℕ) (text : List ℕ) (p : Position) (place : ℕ) → Some place ≡ option_map (place_of text) (denoted units text p) → IsPlace text place
+denoted_place units text p place is = by_index (denoted units text p) refl is
+  where
+    by_index : (o : Option ℕ) → denoted units text p ≡ o → Some place ≡ option_map (place_of text) o → IsPlace text place
+    by_index None e is = absurd (cc)
+    by_index (Some k) e is =
+        let whole = denoted_whole units text p k e in
+        let same : place ≡ place_of text k = cc in
+        (k, whole.within, whole.whole, sym same)
+
+pub denoted_boundary : (units : ℕ → ℕ) (bytes : List ℕ) (p : Position) (place : ℕ) → IsUtf8 bytes → Some place ≡ option_map (place_of (chars bytes)) (denoted units (chars bytes) p) → IsCharBoundary bytes place
+denoted_boundary units bytes p place utf8 is = (boundary_from bytes place utf8 (denoted_place units (chars bytes) p place is)).0

@@ -1,5 +1,5 @@
 -- A binary search: how many looks it may still take.
-use Rattle.std.proofs.Common.{◌≡◌, ℕ, zero, suc, ◌+◌, ◌-◌, ◌*◌, ◌/◌, ◌≤◌, ◌<◌, ◌^◌, List, length, slice_index, arith, refl, ap, ◌∙◌, pow-suc}
+use Rattle.std.proofs.Common.{◌≡◌, ℕ, zero, suc, ◌+◌, ◌-◌, ◌/◌, ◌≤◌, ◌<◌, ◌^◌, List, length, slice_index, arith, ap, pow-suc}
 use Rattle.lsp_text.specs.Starts.{AreStarts}
 
 -- Where `made` looks were made and `size` starts are left, so many looks more that there are at most `most` in all are enough.

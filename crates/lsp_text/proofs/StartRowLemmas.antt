@@ -1,7 +1,7 @@
 -- The row of a text's line starts: how many there are, which each is, and that they ascend.
-use Rattle.std.proofs.Common.{◌≡◌, ℕ, zero, suc, ◌+◌, ◌-◌, ◌≤◌, ◌<◌, Bool, true, false, cond, List, [], ◌∷◌, length, get_or, slice_index, filter, refl, sym, ap, ◌∙◌, arith, ⊎_elim, subst}
+use Rattle.std.proofs.Common.{◌≡◌, ℕ, zero, suc, ◌+◌, ◌-◌, ◌≤◌, ◌<◌, Bool, true, false, cond, List, [], ◌∷◌, length, get_or, filter, refl, sym, ap, ◌∙◌, arith, ⊎_elim, subst}
 use Rattle.std.proofs.lemmas.Bool.{cases_lt, cases_Bool}
-use Rattle.lsp_text.specs.TextLines.{ends_line, numbers_from, line_at, line_ends, line_start, is_in_content}
+use Rattle.lsp_text.specs.TextLines.{ends_line, numbers_from, line_at, line_ends, line_start}
 use Rattle.lsp_text.specs.LineStarts.{line_starts}
 use Rattle.lsp_text.specs.Starts.{AreStarts}
 use Rattle.lsp_text.proofs.LineLemmas.{line_rises, in_content, in_content_line, line_end_whole, line_has_start}
@@ -20,9 +20,9 @@ filter_ascends test low zero = tt
 filter_ascends test low (suc count) =
     let later : Ascends (suc low) (filter test (numbers_from (suc low) count)) = filter_ascends test (suc low) count in
     ⊎_elim
-      (λ (e : test low ≡ true). rw e (omega arith, later))
-      (λ (e : test low ≡ false). rw e (ascends_lower low (suc low) (filter test (numbers_from (suc low) count)) (omega arith) later))
-      (cases_Bool (test low))
+    (λ (e : test low ≡ true). rw e (omega arith, later))
+    (λ (e : test low ≡ false). rw e (ascends_lower low (suc low) (filter test (numbers_from (suc low) count)) (omega arith) later))
+    (cases_Bool (test low))
 
 pub ascends_from : (low : ℕ) (xs : List ℕ) → Ascends low xs → (k : ℕ) → k < length xs → low ≤ get_or xs k 0
 ascends_from low [] a k h = absurd (omega arith)
@@ -43,11 +43,11 @@ line_starts_are text = record {
   some = omega arith;
   first = refl;
   ascend = λ (j k : ℕ) (order : j ≤ k) (within : k < length (line_starts text)).
-    ⊎_elim
+      ⊎_elim
       (λ (h : j < k). let r : get_or (line_starts text) j 0 < get_or (line_starts text) k 0 = ascends_at 0 (line_starts text) (starts_ascend text) j k h within in omega arith)
       (λ (h : k ≤ j). let e : j ≡ k = omega arith in rw e (omega arith))
-      (cases_lt j k)
-  }
+      (cases_lt j k);
+}
 
 -- There is one start more than line ends.
 ends_counted : (text : List ℕ) (k n : ℕ) → length (filter (ends_line text) (numbers_from (suc k) n)) + line_at text k ≡ line_at text (k + n)
@@ -56,9 +56,9 @@ ends_counted text k (suc n) =
     let later : length (filter (ends_line text) (numbers_from (suc (suc k)) n)) + line_at text (suc k) ≡ line_at text (suc k + n) = ends_counted text (suc k) n in
     let end : line_at text (suc k + n) ≡ line_at text (k + suc n) = ap (line_at text) (omega arith) in
     ⊎_elim
-      (λ (e : ends_line text (suc k) ≡ true). let l : line_at text (suc k) ≡ suc (line_at text k) = rw e refl in rw e (omega arith))
-      (λ (e : ends_line text (suc k) ≡ false). let l : line_at text (suc k) ≡ line_at text k = rw e refl in rw e (omega arith))
-      (cases_Bool (ends_line text (suc k)))
+    (λ (e : ends_line text (suc k) ≡ true). let l : line_at text (suc k) ≡ suc (line_at text k) = rw e refl in rw e (omega arith))
+    (λ (e : ends_line text (suc k) ≡ false). let l : line_at text (suc k) ≡ line_at text k = rw e refl in rw e (omega arith))
+    (cases_Bool (ends_line text (suc k)))
 
 pub length-line_starts : (text : List ℕ) → length (line_starts text) ≡ suc (line_ends text)
 length-line_starts text =
@@ -104,11 +104,11 @@ end_starts text (suc k) within some ends =
     let here : line_at text (line_start text line) ≡ line = in_content_line text line (line_start text line) start.passes in
     let before : line ≡ suc (line_at text k) = rw ends refl in
     ⊎_elim
-      (λ (h : line_start text line < suc k). absurd (omega (arith, line_rises text (line_start text line) k (omega arith))))
-      (λ (h : suc k ≤ line_start text line). omega arith)
-      (cases_lt (line_start text line) (suc k))
+    (λ (h : line_start text line < suc k). absurd (omega (arith, line_rises text (line_start text line) k (omega arith))))
+    (λ (h : suc k ≤ line_start text line). omega arith)
+    (cases_lt (line_start text line) (suc k))
 
-first_starts : (text : List ℕ) → line_start text 0 ≡ 0
+pub first_starts : (text : List ℕ) → line_start text 0 ≡ 0
 first_starts text =
     let start = line_has_start text 0 (omega arith) in omega (arith, start.least 0 (omega arith) (in_content text 0 0 refl refl))
 

@@ -7,3 +7,5 @@ pub mod LineStarts
 pub mod Leads
 pub mod UnitLaws
 pub mod LeadLaws
+pub mod Splice
+pub mod LineLaws

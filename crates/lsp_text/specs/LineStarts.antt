@@ -1,6 +1,6 @@
 -- The line starts of a text, and what it means that they were kept for it.
-use Rattle.std.specs.Prelude.{ℕ, suc, ◌≡◌, ◌+◌, ◌-◌, ◌≤◌, false, List, ◌∷◌, length, take, drop, map, filter}
-use Rattle.std.specs.Str.{chars, IsUtf8}
+use Rattle.std.specs.Prelude.{ℕ, suc, ◌≡◌, ◌-◌, ◌≤◌, false, List, ◌∷◌, length, map, filter}
+use Rattle.std.specs.Str.{chars}
 use Rattle.lsp_text.specs.Text.{place_of}
 use Rattle.lsp_text.specs.TextLines.{ends_line, splits_crlf, numbers_from}
 

@@ -1,5 +1,5 @@
 -- Positions (LSP 3.17, Position), over a text and a function that gives each character its units.
-use Rattle.std.specs.Prelude.{ℕ, ◌==◌, if◌then◌else◌, nat_lt, nat_le, List, length, Option, Some, None, find}
+use Rattle.std.specs.Prelude.{ℕ, ◌==◌, if◌then◌else◌, nat_lt, nat_le, List, length, Option, Some, find}
 use Rattle.lsp_text.specs.declared.position.Position.{Position}
 use Rattle.lsp_text.specs.TextLines.{line_at, line_ends, line_content, line_start, line_stop}
 use Rattle.lsp_text.specs.Units.{units_between}

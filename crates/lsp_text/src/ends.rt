@@ -3,9 +3,8 @@ ghost use Rattle.std.specs.Prelude.{◌≡◌, ◌++◌, ◌≤◌, ◌<◌, suc
 ghost use Rattle.lsp_text.specs.TextLines.{ends_line, splits_crlf};
 ghost use Rattle.lsp_text.specs.LineStarts.{ends_between};
 
-use std::alloc::AllocError;
-
 use memchr::memchr2_iter;
+use std::alloc::AllocError;
 
 /// Whether a line ends behind the byte at `at`.
 fn ends_line_behind(bytes: &[u8], at: usize) -> bool
@@ -28,7 +27,12 @@ pub fn is_inside_crlf(bytes: &[u8], place: usize) -> bool
 }
 
 /// Puts the places behind `low`, up to `high`, that end a line at the end of `starts`. It is linear in `high - low`.
-pub fn push_ends(starts: &mut Vec<u32>, bytes: &[u8], low: usize, high: usize) -> Result<(), AllocError>
+pub fn push_ends(
+    starts: &mut Vec<u32>,
+    bytes: &[u8],
+    low: usize,
+    high: usize,
+) -> Result<(), AllocError>
     requires order { low ≤ high }
     requires within { high ≤ length bytes.now }
     requires size { length bytes.now ≤ 2147483648 }

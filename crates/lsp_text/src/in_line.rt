@@ -1,5 +1,5 @@
 //! Units and places inside one line, by its bytes.
-ghost use Rattle.std.specs.Prelude.{◌≡◌, ◌≤◌, ℕ, List, length, sum_by};
+ghost use Rattle.std.specs.Prelude.{◌≡◌, ◌+◌, ◌*◌, ◌≤◌, ◌<◌, ℕ, IfSome, length, take, drop, sum_by, option_map};
 ghost use Rattle.std.specs.Str.{IsUtf8, chars};
 ghost use Rattle.lsp_text.specs.Leads.{lead_units_utf16, lead_units_utf32, line_place, byte_place};
 ghost use Rattle.lsp_text.specs.LeadLaws.{utf16_few, utf32_few};
@@ -25,7 +25,7 @@ trait LeadUnits {
     ghost lead_units: { ℕ → ℕ };
 
     /// The units of the character whose UTF-8 begins with this byte, and 0 for a byte inside a character.
-    fn lead_units(byte: u8) -> u32
+    fn lead_units(byte: u8) -> u8
         ensures { result ≡ lead_units byte };
 
     ghost few: { (byte : ℕ) → lead_units byte ≤ 4 };
@@ -34,7 +34,7 @@ trait LeadUnits {
 impl LeadUnits for Utf16 {
     ghost lead_units = { lead_units_utf16 };
 
-    fn lead_units(byte: u8) -> u32 {
+    fn lead_units(byte: u8) -> u8 {
         if byte < 128 {
             1
         } else if byte < 192 {
@@ -52,7 +52,7 @@ impl LeadUnits for Utf16 {
 impl LeadUnits for Utf32 {
     ghost lead_units = { lead_units_utf32 };
 
-    fn lead_units(byte: u8) -> u32 {
+    fn lead_units(byte: u8) -> u8 {
         if byte < 128 {
             1
         } else if byte < 192 {
@@ -65,10 +65,25 @@ impl LeadUnits for Utf32 {
     ghost few = { utf32_few };
 }
 
-/// The units of these bytes together.
-fn lead_units_in<L: LeadUnits>(bytes: &[u8]) -> usize
+/// The units of `N` bytes from a place on. It is short, and of a fixed length, so that it takes no branch.
+#[inline]
+fn units_of_block<L: LeadUnits, const N: usize>(bytes: &[u8], place: usize) -> u8
+    requires small { N ≤ 32 }
+    requires within { place + N ≤ length bytes.now }
+    ensures { result ≡ sum_by L.lead_units (take N (drop place bytes.now)) }
+{
+    let mut units = 0;
+    for index in 0..N {
+        units += L::lead_units(bytes[place + index]);
+    }
+    units
+}
+
+/// The units of these bytes together, byte by byte.
+fn units_one_by_one<L: LeadUnits>(bytes: &[u8]) -> usize
     requires { length bytes.now ≤ 2147483648 }
-    ensures { result ≡ sum_by L.lead_units bytes.now }
+    ensures units { result ≡ sum_by L.lead_units bytes.now }
+    ensures few { result ≤ 4 * length bytes.now }
 {
     let mut units = 0;
     for byte in bytes {
@@ -77,13 +92,49 @@ fn lead_units_in<L: LeadUnits>(bytes: &[u8]) -> usize
     units
 }
 
-/// The place with so many units before it; the end where there are no more, `None` inside a character.
-fn place_by_leads<L: LeadUnits>(bytes: &[u8], character: u32) -> Option<usize>
-    ensures { result ≡ byte_place L.lead_units bytes.now character }
+/// The units of these bytes together, block by block.
+fn units_of_bytes<L: LeadUnits>(bytes: &[u8]) -> usize
+    requires { length bytes.now ≤ 2147483648 }
+    ensures { result ≡ sum_by L.lead_units bytes.now }
+{
+    let blocks = bytes.len() / 32;
+    let mut units = 0;
+    for block in 0..blocks {
+        units += units_of_block::<L, 32>(bytes, 32 * block) as usize;
+    }
+    units + units_one_by_one::<L>(&bytes[32 * blocks..])
+}
+
+/// Passes over blocks of `N` bytes while they have no more units than are left: the place behind them, and the units left there.
+#[inline]
+fn pass_blocks<L: LeadUnits, const N: usize>(bytes: &[u8], character: u32) -> (usize, u32)
+    requires some { 0 < N }
+    requires small { N ≤ 32 }
+    ensures within { result.0 ≤ length bytes.now }
+    ensures rest { option_map (λ n. result.0 + n) (byte_place L.lead_units (drop result.0 bytes.now) result.1)
+        ≡ byte_place L.lead_units bytes.now character }
+{
+    let mut place = 0;
+    let mut left = character;
+    while bytes.len() - place >= N {
+        let units = u32::from(units_of_block::<L, N>(bytes, place));
+        if left < units {
+            break;
+        }
+        left -= units;
+        place += N;
+    }
+    (place, left)
+}
+
+/// The place with so many units before it, byte by byte; the end where there are no more, `None` inside a character.
+fn place_one_by_one<L: LeadUnits>(bytes: &[u8], character: u32) -> Option<usize>
+    ensures place { result ≡ byte_place L.lead_units bytes.now character }
+    ensures within { IfSome result (λ place. place ≤ length bytes.now) }
 {
     let mut left = character;
     for (place, byte) in bytes.iter().enumerate() {
-        let units = L::lead_units(*byte);
+        let units = u32::from(L::lead_units(*byte));
         if left < units {
             return if left == 0 { Some(place) } else { None };
         }
@@ -92,9 +143,20 @@ fn place_by_leads<L: LeadUnits>(bytes: &[u8], character: u32) -> Option<usize>
     Some(bytes.len())
 }
 
+/// The same, by long blocks and then by short ones.
+fn place_by_leads<L: LeadUnits>(bytes: &[u8], character: u32) -> Option<usize>
+    ensures { result ≡ byte_place L.lead_units bytes.now character }
+{
+    let (long, after_long) = pass_blocks::<L, 32>(bytes, character);
+    let rest = &bytes[long..];
+    let (short, after_short) = pass_blocks::<L, 8>(rest, after_long);
+    let place = place_one_by_one::<L>(&rest[short..], after_short)?;
+    Some(long + short + place)
+}
+
 impl InLine for Utf16 {
     fn units_in(line: &[u8]) -> usize {
-        lead_units_in::<Utf16>(line)
+        units_of_bytes::<Utf16>(line)
     }
 
     fn place_in(line: &[u8], character: u32) -> Option<usize> {
@@ -104,7 +166,7 @@ impl InLine for Utf16 {
 
 impl InLine for Utf32 {
     fn units_in(line: &[u8]) -> usize {
-        lead_units_in::<Utf32>(line)
+        units_of_bytes::<Utf32>(line)
     }
 
     fn place_in(line: &[u8], character: u32) -> Option<usize> {

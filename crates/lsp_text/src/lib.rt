@@ -12,13 +12,16 @@ mod laws;
 mod lines;
 mod position;
 mod resolve;
+mod splice;
 mod starts;
+#[cfg(test)]
+mod tests;
 mod units;
 
 pub use encoding::Encoding;
-pub use position::{Position, Range};
-pub use laws::position_laws;
+pub use laws::{line_laws, position_laws};
 pub use lines::Lines;
+pub use position::{Position, Range};
 pub use resolve::InsideCharacter;
 pub use starts::{Looks, Starts, line_of};
 pub use units::{Units, Utf8, Utf16, Utf32};

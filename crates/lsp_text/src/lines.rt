@@ -1,23 +1,24 @@
 //! The lines of a text, kept as the places where they start.
-ghost use Rattle.std.specs.Prelude.{◌≡◌, ◌+◌, ◌≤◌, ◌↔◌, ℕ, List, Some, length, option_map, IsTrue, IfOk};
+ghost use Rattle.std.specs.Prelude.{◌≡◌, ◌+◌, ◌≤◌, ◌↔◌, ℕ, List, Some, length, option_map, IsTrue, IfOk, OnOk, OnErr};
 ghost use Rattle.std.specs.Result.{result_ok};
-ghost use Rattle.std.specs.Str.{chars};
+ghost use Rattle.std.specs.Str.{IsCharBoundary, chars};
 ghost use Rattle.lsp_text.specs.Text.{place_of};
 ghost use Rattle.lsp_text.specs.TextLines.{line_ends};
 ghost use Rattle.lsp_text.specs.LineStarts.{Indexes, IsPlace};
+ghost use Rattle.lsp_text.specs.Splice.{IsSpliced};
 ghost use Rattle.lsp_text.specs.Units.{units_in};
 ghost use Rattle.lsp_text.specs.Positions.{exact_position, denoted};
-
-use std::alloc::{AllocError, Global};
-use std::marker::Model;
 
 use crate::encoding::Encoding;
 use crate::ends::{is_inside_crlf, push_ends};
 use crate::exact::position_in;
 use crate::position::Position;
 use crate::resolve::{InsideCharacter, resolve_in};
+use crate::splice::splice_starts;
 use crate::starts::{Looks, Starts};
 use crate::units::{Utf8, Utf16, Utf32};
+use std::alloc::{AllocError, Global};
+use std::marker::Model;
 
 /// The lines of a text, by the places where they start (LSP 3.17, Position: `\n`, `\r\n` and `\r` end a line). It holds four bytes
 /// a line, and not the text.
@@ -68,16 +69,24 @@ impl Lines {
 
     /// Whether a position can stand at this place of the text: it is a boundary of characters that splits no CRLF.
     pub fn is_place(&self, text: &str, place: usize) -> bool
-        ensures { IsTrue result ↔ IsPlace (chars text.now) place }
+        ensures place { IsTrue result ↔ IsPlace (chars text.now) place }
+        ensures boundary { IsTrue result → IsCharBoundary text.now place }
     {
         text.is_char_boundary(place) && !is_inside_crlf(text.as_bytes(), place)
     }
 
     /// The place that a position denotes in the text that the lines index (LSP 3.17, Position): the end of the text, if it has no such
     /// line; the end of the line's content, if that has no more units. It costs the line's text up to the character, in UTF-8 nothing.
-    pub fn resolve(&self, text: &str, encoding: Encoding, position: Position) -> Result<usize, InsideCharacter>
+    pub fn resolve(
+        &self,
+        text: &str,
+        encoding: Encoding,
+        position: Position,
+    ) -> Result<usize, InsideCharacter>
         requires { Indexes self.now text.now }
-        ensures { result_ok result ≡ option_map (place_of (chars text.now)) (denoted (units_in encoding) (chars text.now) position) }
+        ensures value { result_ok result ≡ option_map (place_of (chars text.now)) (denoted (units_in encoding) (chars text.now) position) }
+        ensures place { IfOk result (IsPlace (chars text.now)) }
+        ensures boundary { IfOk result (IsCharBoundary text.now) }
     {
         let bytes = text.as_bytes();
         match encoding {
@@ -102,5 +111,23 @@ impl Lines {
             Encoding::Utf16 => position_in::<Utf16>(&self.starts, bytes, place),
             Encoding::Utf32 => position_in::<Utf32>(&self.starts, bytes, place),
         }
+    }
+
+    /// Makes the lines those of `text`, which is the text that they indexed with the bytes from `from` to `to` replaced by `len`
+    /// others. Memory is taken first: where it is refused nothing changes. It costs two binary searches, a search of the `len` bytes
+    /// for line ends, and one pass of additions over the starts that follow.
+    pub fn splice(
+        &mut self,
+        text: &str,
+        from: usize,
+        to: usize,
+        len: usize,
+    ) -> Result<(), AllocError>
+        requires spliced { IsSpliced self.old text.now from to len }
+        requires size { length text.now ≤ 2147483648 }
+        ensures ok { OnOk result (Indexes self.new text.now) }
+        ensures err { OnErr result (self.new ≡ self.old) }
+    {
+        splice_starts(&mut self.starts, text.as_bytes(), from, to, len)
     }
 }

@@ -1,17 +1,16 @@
 //! From a position to its place.
-ghost use Rattle.std.specs.Prelude.{◌≡◌, ◌-◌, ◌≤◌, ◌<◌, if◌then◌else◌, length, option_map};
+ghost use Rattle.std.specs.Prelude.{◌≡◌, ◌-◌, ◌≤◌, ◌<◌, if◌then◌else◌, length, option_map, IfOk};
 ghost use Rattle.std.specs.Result.{result_ok};
-ghost use Rattle.std.specs.Str.{IsUtf8, chars};
+ghost use Rattle.std.specs.Str.{IsCharBoundary, IsUtf8, chars};
 ghost use Rattle.lsp_text.specs.Text.{place_of};
 ghost use Rattle.lsp_text.specs.TextLines.{splits_crlf, line_start, line_stop};
-ghost use Rattle.lsp_text.specs.LineStarts.{Indexes};
+ghost use Rattle.lsp_text.specs.LineStarts.{Indexes, IsPlace};
 ghost use Rattle.lsp_text.specs.Positions.{denoted};
-
-use thiserror::Error;
 
 use crate::ends::is_inside_crlf;
 use crate::in_line::InLine;
 use crate::position::Position;
+use thiserror::Error;
 
 /// A position's character lies inside a character of the text: no place has exactly so many units before it in its line, and the
 /// line has more.
@@ -50,10 +49,16 @@ pub fn content(starts: &[u32], bytes: &[u8], line: usize) -> (usize, usize)
 }
 
 /// The place that a position denotes. It costs the line's text up to the character.
-pub fn resolve_in<U: InLine>(starts: &[u32], bytes: &[u8], position: Position) -> Result<usize, InsideCharacter>
+pub fn resolve_in<U: InLine>(
+    starts: &[u32],
+    bytes: &[u8],
+    position: Position,
+) -> Result<usize, InsideCharacter>
     requires utf8 { IsUtf8 bytes.now }
     requires indexed { Indexes starts.now bytes.now }
-    ensures { result_ok result ≡ option_map (place_of (chars bytes.now)) (denoted U.units_of (chars bytes.now) position) }
+    ensures value { result_ok result ≡ option_map (place_of (chars bytes.now)) (denoted U.units_of (chars bytes.now) position) }
+    ensures place { IfOk result (IsPlace (chars bytes.now)) }
+    ensures boundary { IfOk result (IsCharBoundary bytes.now) }
 {
     let line = position.line as usize;
     if line >= starts.len() {

@@ -1,5 +1,5 @@
-use Rattle.std.proofs.Common.{◌++◌, refl}
-use Rattle.lsp_text.proofs.EndLemmas.{ends_of, ends_of-all, Marks-part}
+use Rattle.std.proofs.Common.{refl}
+use Rattle.lsp_text.proofs.EndLemmas.{ends_of-all, Marks-part}
 use Rattle.lsp_text.proofs.ends.push_ends.Goals as goal
 
 pub loop-at-init : goal.loop-at-init
@@ -9,5 +9,5 @@ loop-at-init c =
 
 pub returns : goal.returns
 returns c = record {
-  ok = ends_of-all c.args.bytes.now c.args.low c.args.high c.loop-at.starts.items c.args.starts.now.items c.loop-at.at-iterator c.requires.order c.requires.within c.in-None.ensures.steps.0 c.loop-at.invariant.found
+  ok = ends_of-all c.args.bytes.now c.args.low c.args.high c.loop-at.starts.items c.args.starts.now.items c.loop-at.at-iterator c.requires.order c.requires.within c.in-None.ensures.steps.0 c.loop-at.invariant.found;
 }

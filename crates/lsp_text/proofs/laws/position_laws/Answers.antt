@@ -1,5 +1,6 @@
-use Rattle.lsp_text.proofs.PositionLemmas.{exact_denotes, denoted_whole}
+use Rattle.lsp_text.proofs.PositionLemmas.{exact_denotes, exact_same, denoted_whole}
 use Rattle.lsp_text.proofs.NearLemmas.{exact_near}
+use Rattle.lsp_text.proofs.PastLemmas.{past_line, past_text}
 use Rattle.lsp_text.proofs.laws.position_laws.Goals as goal
 
 pub returns : goal.returns
@@ -7,4 +8,7 @@ returns c = record {
   denotes = exact_denotes;
   whole = λ units text p k h. ((denoted_whole units text p k h).within, (denoted_whole units text p k h).whole);
   near = exact_near;
+  alone = exact_same;
+  past_line = past_line;
+  past_text = past_text;
 }

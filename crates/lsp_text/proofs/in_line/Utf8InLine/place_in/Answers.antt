@@ -11,6 +11,6 @@ returns-then-line-place-lt192 c =
 
 pub returns-else-line-place-ge128 : goal.returns-else-line-place-ge128
 returns-else-line-place-ge128 c = elim c.else-line-place-ge128.branch [
-  else-line-place-ge128-via-then-line-place-ge128+else-line-place-lt192 w ↦ utf8_lead_text c.args.line.now c.requires c.args.character c.if-place-line.false w.if-line-place-lt192.false
+  | else-line-place-ge128-via-then-line-place-ge128+else-line-place-lt192 w ↦ utf8_lead_text c.args.line.now c.requires c.args.character c.if-place-line.false w.if-line-place-lt192.false
   | else-line-place-ge128-via-else-line-place-ge128 w ↦ utf8_ascii_text c.args.line.now c.requires c.args.character c.if-place-line.false w.if-line-place-ge128.false
 ]

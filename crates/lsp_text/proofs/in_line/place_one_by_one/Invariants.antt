@@ -1,6 +1,6 @@
 use Rattle.std.proofs.Common.{◌≡◌, ◌+◌, drop, option_map}
 use Rattle.lsp_text.specs.Leads.{byte_place}
-use Rattle.lsp_text.proofs.in_line.place_by_leads.Given as goal
+use Rattle.lsp_text.proofs.in_line.place_one_by_one.Given as goal
 
 abbrev pub invariant-loop-place : goal.invariant-loop-place
 invariant-loop-place g l =

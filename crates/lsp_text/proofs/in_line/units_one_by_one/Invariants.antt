@@ -1,5 +1,5 @@
 use Rattle.std.proofs.Common.{◌≡◌, ◌*◌, ◌≤◌, take, sum_by}
-use Rattle.lsp_text.proofs.in_line.lead_units_in.Given as goal
+use Rattle.lsp_text.proofs.in_line.units_one_by_one.Given as goal
 
 abbrev pub invariant-loop-byte : goal.invariant-loop-byte
 invariant-loop-byte g l = record {

@@ -1,0 +1,25 @@
+-- A text in which some bytes were replaced.
+use Rattle.std.specs.Prelude.{ℕ, ◌≡◌, ◌+◌, ◌≤◌, List, length, take, drop}
+use Rattle.std.specs.Str.{IsUtf8}
+use Rattle.lsp_text.specs.LineStarts.{line_starts, Indexes}
+
+-- `bytes` is `old` with the bytes from `from` to `to` replaced by `len` others.
+pub record IsReplaced (old bytes : List ℕ) (from to len : ℕ) : Type 0 where
+  pub order : from ≤ to
+  pub within : to ≤ length old
+  pub inserted : from + len ≤ length bytes
+  pub front : take from bytes ≡ take from old
+  pub back : drop (from + len) bytes ≡ drop to old
+
+-- The lines are those of a text that became `bytes` so.
+pub record IsSpliced (lines bytes : List ℕ) (from to len : ℕ) : Type 0 where
+  pub old : List ℕ
+  pub utf8 : IsUtf8 old
+  pub indexed : Indexes lines old
+  pub replaced : IsReplaced old bytes from to len
+
+-- The same of the line starts of bytes.
+pub record Replaces (starts bytes : List ℕ) (from to len : ℕ) : Type 0 where
+  pub old : List ℕ
+  pub starts_are : starts ≡ line_starts old
+  pub replaced : IsReplaced old bytes from to len

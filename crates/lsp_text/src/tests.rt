@@ -1,0 +1,279 @@
+//! Positions of small texts in the three encodings, and lines after an edit, against lines made from scratch.
+ghost use Rattle.std.specs.Prelude.{◌≤◌, length};
+
+use crate::{Encoding, Lines, Position, Starts, Units, Utf8, Utf16, Utf32, line_of};
+use std::alloc::{AllocError, Global};
+use std::process::Abort;
+use std::test::Fail;
+
+const UTF8: Encoding = Encoding::Utf8;
+
+const UTF16: Encoding = Encoding::Utf16;
+
+const UTF32: Encoding = Encoding::Utf32;
+
+fn resolved(
+    alloc: Global,
+    text: &str,
+    encoding: Encoding,
+    line: u32,
+    character: u32,
+) -> Result<Option<usize>, AllocError>
+    requires { length text.now ≤ 1000 }
+{
+    let lines = Lines::new(alloc, text)?;
+    Ok(
+        lines
+            .resolve(text, encoding, Position { line, character })
+            .ok(),
+    )
+}
+
+fn positioned(
+    alloc: Global,
+    text: &str,
+    encoding: Encoding,
+    place: usize,
+) -> Result<Option<(u32, u32)>, AllocError>
+    requires { length text.now ≤ 1000 }
+{
+    let lines = Lines::new(alloc, text)?;
+    if !lines.is_place(text, place) {
+        return Ok(None);
+    }
+    let position = lines.position(text, encoding, place);
+    Ok(Some((position.line, position.character)))
+}
+
+#[test]
+fn positions_denote_places(rt: HostRuntime) -> Result<(), Fail> {
+    let cases = [
+        ("a\rX\nb", UTF16, 1, 0, Some(2)),
+        ("a\rX\nb", UTF16, 1, 1, Some(3)),
+        ("a\rX\nb", UTF16, 2, 0, Some(4)),
+        ("a\r\nb", UTF16, 0, 9, Some(1)),
+        ("a\r\nb", UTF16, 1, 0, Some(3)),
+        ("a\n", UTF16, 1, 0, Some(2)),
+        ("a\n", UTF16, 7, 3, Some(2)),
+        ("", UTF16, 0, 0, Some(0)),
+        ("", UTF8, 4294967295, 4294967295, Some(0)),
+        ("\r", UTF16, 0, 4294967295, Some(0)),
+        ("\r", UTF16, 1, 0, Some(1)),
+        ("\u{1F600}", UTF16, 0, 1, None),
+        ("\u{1F600}", UTF16, 0, 2, Some(4)),
+        ("\u{1F600}", UTF8, 0, 1, None),
+        ("\u{1F600}", UTF8, 0, 2, None),
+        ("\u{1F600}", UTF8, 0, 3, None),
+        ("\u{1F600}", UTF8, 0, 4, Some(4)),
+        ("\u{1F600}", UTF32, 0, 1, Some(4)),
+        ("\u{1F600}", UTF8, 0, 99, Some(4)),
+        ("\u{1F600}", UTF16, 0, 99, Some(4)),
+        ("\u{1F600}", UTF32, 0, 99, Some(4)),
+    ];
+    for (text, encoding, line, character, place) in cases {
+        assert!(rt; text.len() <= 1000);
+        assert_eq!(rt;
+            resolved(rt.alloc(), text, encoding, line, character)?,
+            place,
+            "{text:?} {line} {character}"
+        );
+    }
+    Ok(())
+}
+
+#[test]
+fn places_have_exact_positions(rt: HostRuntime) -> Result<(), Fail> {
+    let cases = [
+        ("a\rX\nb", UTF16, 4, Some((2, 0))),
+        ("a\r\nb", UTF16, 1, Some((0, 1))),
+        ("a\r\nb", UTF16, 2, None),
+        ("a\r\nb", UTF16, 5, None),
+        ("a\n", UTF16, 2, Some((1, 0))),
+        ("", UTF8, 0, Some((0, 0))),
+        ("\r", UTF8, 1, Some((1, 0))),
+        ("\u{1F600}", UTF8, 4, Some((0, 4))),
+        ("\u{1F600}", UTF16, 4, Some((0, 2))),
+        ("\u{1F600}", UTF32, 4, Some((0, 1))),
+        ("\u{1F600}", UTF32, 2, None),
+        ("e\u{301}\u{7F}\u{80}\u{7FF}", UTF16, 8, Some((0, 5))),
+        (
+            "\u{800}\u{FFFF}\u{10000}\u{10FFFF}",
+            UTF8,
+            14,
+            Some((0, 14)),
+        ),
+        (
+            "\u{800}\u{FFFF}\u{10000}\u{10FFFF}",
+            UTF16,
+            14,
+            Some((0, 6)),
+        ),
+        (
+            "\u{800}\u{FFFF}\u{10000}\u{10FFFF}",
+            UTF32,
+            14,
+            Some((0, 4)),
+        ),
+    ];
+    for (text, encoding, place, position) in cases {
+        assert!(rt; text.len() <= 1000);
+        assert_eq!(rt;
+            positioned(rt.alloc(), text, encoding, place)?,
+            position,
+            "{text:?} {place}"
+        );
+    }
+    Ok(())
+}
+
+#[test]
+fn characters_have_units(rt: HostRuntime) -> Result<(), Fail> {
+    let cases = [
+        ('\u{7F}', 1, 1),
+        ('\u{80}', 2, 1),
+        ('\u{7FF}', 2, 1),
+        ('\u{800}', 3, 1),
+        ('\u{FFFF}', 3, 1),
+        ('\u{10000}', 4, 2),
+        ('\u{10FFFF}', 4, 2),
+    ];
+    for (c, bytes, code_units) in cases {
+        assert_eq!(rt; Utf8::units(c), bytes);
+        assert_eq!(rt; Utf16::units(c), code_units);
+        assert_eq!(rt; Utf32::units(c), 1);
+    }
+    Ok(())
+}
+
+#[test]
+fn encodings_have_names(rt: HostRuntime) -> Result<(), Fail> {
+    for encoding in [UTF8, UTF16, UTF32] {
+        assert_eq!(rt; Encoding::of_name(encoding.name()), Some(encoding));
+    }
+    assert_eq!(rt; Encoding::of_name("UTF-8"), None);
+    assert_eq!(rt; Encoding::of_name("utf-8 "), None);
+    assert_eq!(rt; Encoding::of_name(""), None);
+    Ok(())
+}
+
+#[test]
+fn a_line_is_found_with_few_looks(rt: HostRuntime) -> Result<(), Fail> {
+    let mut hundred = String::new(rt.alloc());
+    for _ in 0..100 {
+        hundred.push_str("\n")?;
+    }
+    let cases = [
+        ("a\rX\nb", 4, 2, 2),
+        ("a\r\nb", 2, 0, 2),
+        ("", 0, 0, 1),
+        (hundred.as_str(), 50, 50, 7),
+        (hundred.as_str(), 100, 100, 7),
+        (hundred.as_str(), 1000, 100, 7),
+    ];
+    for (text, place, line, most) in cases {
+        assert!(rt; text.len() <= 1000);
+        let lines = Lines::new(rt.alloc(), text)?;
+        let mut looks = lines.looks();
+        assert_eq!(rt; looks.made(), 0);
+        assert_eq!(rt; line_of(&mut looks, place), line, "{text:?} {place}");
+        assert!(rt; looks.made() <= most);
+    }
+    Ok(())
+}
+
+/// The lines of `old` after an edit, and the text then.
+fn spliced(
+    rt: &impl Abort,
+    alloc: Global,
+    old: &str,
+    from: usize,
+    to: usize,
+    inserted: &str,
+) -> Result<(Lines, String), AllocError>
+    requires old { length old.now ≤ 100000 }
+    requires inserted { length inserted.now ≤ 100000 }
+{
+    assert!(rt; from <= to && old.is_char_boundary(from) && old.is_char_boundary(to));
+    let mut lines = Lines::new(alloc, old)?;
+    let mut text = String::new(alloc);
+    text.push_str(&old[..from])?;
+    text.push_str(inserted)?;
+    text.push_str(&old[to..])?;
+    lines.splice(text.as_str(), from, to, inserted.len())?;
+    Ok((lines, text))
+}
+
+/// Whether both have the same starts.
+fn same_lines(rt: &impl Abort, lines: &Lines, others: &Lines) -> bool {
+    let mut looks = lines.looks();
+    let mut other_looks = others.looks();
+    if lines.count() != others.count() {
+        return false;
+    }
+    for line in 0..lines.count() {
+        assert!(rt; line < looks.len() && line < other_looks.len());
+        if looks.at(line) != other_looks.at(line) {
+            return false;
+        }
+    }
+    true
+}
+
+#[test]
+fn spliced_lines_are_those_of_the_new_text(rt: HostRuntime) -> Result<(), Fail> {
+    let cases = [
+        ("a\rX\nb", 2, 3, "", 2),
+        ("a\r\nb", 3, 3, "Q", 2),
+        ("a\r\nb", 2, 2, "X", 3),
+        ("a\r", 2, 2, "\n", 2),
+        ("\r\n", 0, 1, "", 2),
+        ("a\nb", 0, 3, "", 1),
+        ("\nb", 0, 0, "\r", 2),
+        ("a\nb\nc", 2, 3, "\r", 3),
+        ("a\nb\nc", 1, 4, "x\ny\r\nz\r", 4),
+        ("a\u{1F600}\r\n\u{1F600}b", 5, 7, "\u{1F600}", 1),
+    ];
+    for (old, from, to, inserted, count) in cases {
+        assert!(rt; old.len() <= 1000 && inserted.len() <= 1000);
+        let (lines, text) = spliced(&rt, rt.alloc(), old, from, to, inserted)?;
+        assert!(rt; text.len() <= 100000);
+        let made = Lines::new(rt.alloc(), text.as_str())?;
+        assert_eq!(rt; lines.count(), count, "{old:?} {from} {to} {inserted:?}");
+        assert!(rt;
+            same_lines(&rt, &lines, &made),
+            "{old:?} {from} {to} {inserted:?}"
+        );
+    }
+    Ok(())
+}
+
+#[test]
+fn a_long_line_is_counted_in_blocks(rt: HostRuntime) -> Result<(), Fail> {
+    let mut text = String::new(rt.alloc());
+    for _ in 0..50000 {
+        text.push_str("abcdefgh\u{E9}\u{6F22}\u{1F600}xyz")?;
+    }
+    assert!(rt; text.len() <= 2147483648);
+    let lines = Lines::new(rt.alloc(), text.as_str())?;
+    for (encoding, units) in [(UTF8, 20), (UTF16, 15), (UTF32, 14)] {
+        for turns in [0, 1, 3, 7, 49999, 50000] {
+            let position = Position {
+                line: 0,
+                character: turns * units,
+            };
+            let place = turns as usize * 20;
+            assert_eq!(rt;
+                lines.resolve(text.as_str(), encoding, position).ok(),
+                Some(place)
+            );
+            assert!(rt; lines.is_place(text.as_str(), place));
+            assert_eq!(rt; lines.position(text.as_str(), encoding, place), position);
+        }
+    }
+    let inside = Position {
+        line: 0,
+        character: 49999 * 15 + 11,
+    };
+    assert!(rt; lines.resolve(text.as_str(), UTF16, inside).is_err());
+    Ok(())
+}
