@@ -17,6 +17,7 @@ mod replace;
 mod span;
 #[cfg(test)]
 mod tests;
+mod through;
 
 pub use change::{Change, MAX_NEW_TEXT, fits};
 pub use composed::{MAX_OLD_TEXT, compose, compose_over};
