@@ -123,3 +123,28 @@ whole_parts bytes = if length bytes == 0 then [] else OldPart 0 (length bytes) �
 abbrev pub NoneEmpty : List Part → Type 0
 NoneEmpty [] = Unit {0}
 NoneEmpty (part ∷ parts) = (0 < part_len part) × NoneEmpty parts
+
+-- The parts between two places.
+abbrev pub between_parts : List Part → ℕ → ℕ → List Part
+between_parts parts from to = front_parts (back_parts parts from) (to - from)
+
+-- What a part over the text of other parts is over what those are over; and parts, put behind others one after another.
+abbrev pub through_part : List Part → Part → List Part
+through_part first (OldPart from to) = between_parts first from to
+through_part first (NewPart bytes) = NewPart bytes ∷ []
+
+abbrev pub put_through : List Part → List Part → List Part → List Part
+put_through first made [] = made
+put_through first made (part ∷ second) = put_through first (put_parts made (through_part first part)) second
+
+abbrev pub through_parts : List Part → List Part → List Part
+through_parts first second = put_through first [] second
+
+-- Each part of the old text among them may be cut out of the others.
+abbrev pub IsThrough : List Part → Part → Type 0
+IsThrough first (OldPart from to) = (from ≤ to) × AreCut first from × AreCut (back_parts first from) (to - from)
+IsThrough first (NewPart bytes) = Unit {0}
+
+abbrev pub AreThrough : List Part → List Part → Type 0
+AreThrough first [] = Unit {0}
+AreThrough first (part ∷ second) = IsThrough first part × AreThrough first second

@@ -15,6 +15,9 @@ mod laws;
 mod pieces;
 mod replace;
 mod span;
+#[cfg(test)]
+mod tests;
+mod through;
 
 pub use change::{Change, MAX_NEW_TEXT, fits};
 pub use composed::{MAX_OLD_TEXT, compose, compose_over};

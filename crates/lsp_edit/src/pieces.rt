@@ -203,4 +203,20 @@ impl<'a> Pieces<'a> {
     {
         text_of_spans(self.alloc, self.before, &self.spans, self.len)
     }
+
+    /// The text as it is now and its lines, handed over.
+    pub fn into_text(self) -> Result<(String, Lines), AllocError>
+        ensures { IfOk result (λ made. (string_bytes made.0 ≡ edited_bytes self.entry) × Indexes made.1 (string_bytes made.0)) }
+    {
+        let Pieces {
+            alloc,
+            before,
+            spans,
+            len,
+            current,
+            ..
+        } = self;
+        let Current { text, lines } = Current::or_new(current, alloc, before, &spans, len)?;
+        Ok((text, lines))
+    }
 }

@@ -7,7 +7,7 @@ use crate::span::Span;
 use std::alloc::{AllocError, Global};
 
 /// Puts a span behind others. Two runs of the old text that touch become one.
-fn put<'a>(spans: &mut Vec<Span<'a>>, span: Span<'a>) -> Result<(), AllocError>
+pub fn put<'a>(spans: &mut Vec<Span<'a>>, span: Span<'a>) -> Result<(), AllocError>
     ensures { OnOk result (parts_of spans.new.items ≡ put_part (parts_of spans.old.items) (part_of span.entry)) }
 {
     match spans.pop() {
@@ -24,7 +24,7 @@ fn put<'a>(spans: &mut Vec<Span<'a>>, span: Span<'a>) -> Result<(), AllocError>
 }
 
 /// Puts the first bytes of spans, up to a place, behind others. A span that the place lies in is cut.
-fn push_front<'a>(
+pub fn push_front<'a>(
     out: &mut Vec<Span<'a>>,
     spans: &[Span<'a>],
     place: usize,
@@ -48,7 +48,7 @@ fn push_front<'a>(
 }
 
 /// Puts the bytes of spans from a place on behind others. A span that the place lies in is cut.
-fn push_back<'a>(
+pub fn push_back<'a>(
     out: &mut Vec<Span<'a>>,
     spans: &[Span<'a>],
     place: usize,

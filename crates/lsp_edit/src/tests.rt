@@ -1,0 +1,225 @@
+//! Batches on small texts: what they leave, their canonical batches and their faults. Ranges are counted in UTF-16.
+
+use crate::{Change, EditFault, MAX_OLD_TEXT, Pieces, Side, compose, fits};
+use lsp_text::{Encoding, Position, Range};
+use std::alloc::{AllocError, Global};
+use std::test::Fail;
+
+/// A change: the range by line and character, and the text. `ALL` as the first line is the whole text.
+type Edit = (u32, u32, u32, u32, &'static str);
+
+const ALL: u32 = 4294967295;
+
+fn change(alloc: Global, edit: Edit) -> Result<Change, AllocError> {
+    let (line, character, stop_line, stop_character, text) = edit;
+    let range = if line == ALL {
+        None
+    } else {
+        Some(Range {
+            start: Position { line, character },
+            stop: Position {
+                line: stop_line,
+                character: stop_character,
+            },
+        })
+    };
+    let text = String::from_str(alloc, text)?;
+    Ok(Change { range, text })
+}
+
+fn batch(alloc: Global, edits: &[Edit]) -> Result<Vec<Change>, AllocError> {
+    let mut changes = Vec::new(alloc);
+    for edit in edits {
+        changes.push(change(alloc, *edit)?)?;
+    }
+    Ok(changes)
+}
+
+/// What a batch leaves of a text and its canonical batch, or its fault.
+fn left(
+    alloc: Global,
+    before: &str,
+    changes: &[Change],
+) -> Result<(String, Vec<Change>), EditFault> {
+    if before.len() > MAX_OLD_TEXT || !fits(changes) {
+        return Err(EditFault::NoMemory);
+    }
+    let pieces = compose(alloc, before, Encoding::Utf16, changes)?;
+    let text = pieces.text()?;
+    let canonical = pieces.canonical(Encoding::Utf16)?;
+    Ok((text, canonical))
+}
+
+#[test]
+fn batches_have_canonical_batches(rt: HostRuntime) -> Result<(), Fail> {
+    let cases: [(&str, &[Edit], &str, &[Edit]); 16] = [
+        (
+            "abc",
+            &[(0, 1, 0, 2, ""), (0, 1, 0, 1, "X")],
+            "aXc",
+            &[(0, 1, 0, 2, "X")],
+        ),
+        (
+            "abc",
+            &[(0, 2, 0, 2, "X"), (0, 1, 0, 2, "")],
+            "aXc",
+            &[(0, 1, 0, 2, "X")],
+        ),
+        ("aa", &[(0, 0, 0, 1, "")], "a", &[(0, 0, 0, 1, "")]),
+        ("aa", &[(0, 1, 0, 2, "")], "a", &[(0, 1, 0, 2, "")]),
+        ("aa", &[(ALL, 0, 0, 0, "a")], "a", &[(0, 0, 0, 2, "a")]),
+        (
+            "abcde",
+            &[(0, 1, 0, 2, "X"), (0, 3, 0, 4, "Y"), (0, 2, 0, 3, "")],
+            "aXYe",
+            &[(0, 1, 0, 4, "XY")],
+        ),
+        (
+            "a\rX\nb",
+            &[(1, 0, 1, 1, ""), (1, 0, 1, 0, "Q")],
+            "a\r\nQb",
+            &[(2, 0, 2, 0, "Q"), (1, 0, 1, 1, "")],
+        ),
+        (
+            "a\r\nb",
+            &[(0, 1, 1, 0, "\r")],
+            "a\rb",
+            &[(0, 1, 1, 0, "\r")],
+        ),
+        (
+            "a\r\nb",
+            &[(0, 1, 1, 0, "\r\n")],
+            "a\r\nb",
+            &[(0, 1, 1, 0, "\r\n")],
+        ),
+        (
+            "abcdefgh",
+            &[(0, 0, 0, 3, ""), (0, 5, 0, 5, "xyz")],
+            "defghxyz",
+            &[(0, 8, 0, 8, "xyz"), (0, 0, 0, 3, "")],
+        ),
+        (
+            "abc",
+            &[(ALL, 0, 0, 0, "abc")],
+            "abc",
+            &[(0, 0, 0, 3, "abc")],
+        ),
+        ("abc", &[(ALL, 0, 0, 0, "")], "", &[(0, 0, 0, 3, "")]),
+        ("", &[(ALL, 0, 0, 0, "")], "", &[]),
+        ("abc", &[(0, 1, 0, 1, "X"), (0, 1, 0, 2, "")], "abc", &[]),
+        ("a\n", &[(7, 3, 7, 3, "b")], "a\nb", &[(1, 0, 1, 0, "b")]),
+        (
+            "\u{1F600}",
+            &[(0, 2, 0, 2, "e\u{301}"), (0, 0, 0, 0, "x")],
+            "x\u{1F600}e\u{301}",
+            &[(0, 2, 0, 2, "e\u{301}"), (0, 0, 0, 0, "x")],
+        ),
+    ];
+    for (before, edits, text, canonical) in cases {
+        let changes = batch(rt.alloc(), edits)?;
+        let (after, written) = left(rt.alloc(), before, &changes)?;
+        assert_eq!(rt; after.as_str(), text, "{before:?}");
+        let wanted = batch(rt.alloc(), canonical)?;
+        assert_eq!(rt; written.as_slice(), wanted.as_slice(), "{before:?}");
+    }
+    Ok(())
+}
+
+#[test]
+fn the_first_faulty_change_is_told(rt: HostRuntime) -> Result<(), Fail> {
+    let start = Side::Start;
+    let stop = Side::Stop;
+    let cases: [(&str, &[Edit], EditFault); 5] = [
+        (
+            "abc",
+            &[(0, 0, 0, 1, "Z"), (0, 2, 0, 1, "")],
+            EditFault::ReversedRange { change: 1 },
+        ),
+        (
+            "\u{1F600}",
+            &[(0, 1, 0, 1, "")],
+            EditFault::InsideCharacter {
+                change: 0,
+                side: start,
+            },
+        ),
+        (
+            "\u{1F600}",
+            &[(0, 2, 0, 1, "")],
+            EditFault::InsideCharacter {
+                change: 0,
+                side: stop,
+            },
+        ),
+        (
+            "\u{1F600}a",
+            &[
+                (0, 0, 0, 2, ""),
+                (0, 0, 0, 0, "\u{1F600}"),
+                (0, 1, 0, 1, ""),
+            ],
+            EditFault::InsideCharacter {
+                change: 2,
+                side: start,
+            },
+        ),
+        (
+            "ab\ncd",
+            &[(1, 0, 0, 2, "")],
+            EditFault::ReversedRange { change: 0 },
+        ),
+    ];
+    for (before, edits, fault) in cases {
+        let changes = batch(rt.alloc(), edits)?;
+        assert_eq!(rt;
+            left(rt.alloc(), before, &changes).err(),
+            Some(fault),
+            "{before:?}"
+        );
+    }
+    Ok(())
+}
+
+#[test]
+fn a_change_after_a_fault_is_applied(rt: HostRuntime) -> Result<(), Fail> {
+    let first = change(rt.alloc(), (0, 2, 0, 1, ""))?;
+    let second = change(rt.alloc(), (0, 0, 0, 1, "Z"))?;
+    let mut pieces = Pieces::start(rt.alloc(), "abc")?;
+    assert!(rt; pieces.has_room(&first));
+    assert_eq!(rt;
+        pieces.apply(Encoding::Utf16, &first),
+        Err(EditFault::ReversedRange { change: 0 })
+    );
+    assert!(rt; pieces.has_room(&second));
+    assert_eq!(rt; pieces.apply(Encoding::Utf16, &second), Ok(()));
+    assert_eq!(rt; pieces.text()?.as_str(), "Zbc");
+    Ok(())
+}
+
+#[test]
+fn spans_are_few(rt: HostRuntime) -> Result<(), Fail> {
+    let mut before = String::new(rt.alloc());
+    let mut changes = Vec::new(rt.alloc());
+    for k in 0..50 {
+        before.push_str("aa")?;
+        changes.push(change(rt.alloc(), (0, 2 * k, 0, 2 * k + 1, "b"))?)?;
+    }
+    let all = change(rt.alloc(), (0, 0, 0, 100, "c"))?;
+    assert!(rt; before.len() <= MAX_OLD_TEXT);
+    let mut pieces = Pieces::start(rt.alloc(), &before)?;
+    assert_eq!(rt; pieces.spans().len(), 1);
+    let mut spans = 2;
+    for change in &changes {
+        assert!(rt; pieces.has_room(change));
+        assert_eq!(rt; pieces.apply(Encoding::Utf16, change), Ok(()));
+        assert_eq!(rt; pieces.spans().len(), spans);
+        spans = if spans < 1000 { spans + 2 } else { spans };
+    }
+    let canonical = pieces.canonical(Encoding::Utf16)?;
+    assert_eq!(rt; canonical.len(), 50);
+    assert!(rt; pieces.has_room(&all));
+    assert_eq!(rt; pieces.apply(Encoding::Utf16, &all), Ok(()));
+    assert_eq!(rt; pieces.spans().len(), 1);
+    assert_eq!(rt; pieces.canonical(Encoding::Utf16)?.len(), 1);
+    Ok(())
+}
