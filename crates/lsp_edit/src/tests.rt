@@ -50,72 +50,74 @@ fn left(
     Ok((text, canonical))
 }
 
+/// A text, a batch, the text that it leaves, and its canonical batch.
+const BATCHES: [(&str, &[Edit], &str, &[Edit]); 16] = [
+    (
+        "abc",
+        &[(0, 1, 0, 2, ""), (0, 1, 0, 1, "X")],
+        "aXc",
+        &[(0, 1, 0, 2, "X")],
+    ),
+    (
+        "abc",
+        &[(0, 2, 0, 2, "X"), (0, 1, 0, 2, "")],
+        "aXc",
+        &[(0, 1, 0, 2, "X")],
+    ),
+    ("aa", &[(0, 0, 0, 1, "")], "a", &[(0, 0, 0, 1, "")]),
+    ("aa", &[(0, 1, 0, 2, "")], "a", &[(0, 1, 0, 2, "")]),
+    ("aa", &[(ALL, 0, 0, 0, "a")], "a", &[(0, 0, 0, 2, "a")]),
+    (
+        "abcde",
+        &[(0, 1, 0, 2, "X"), (0, 3, 0, 4, "Y"), (0, 2, 0, 3, "")],
+        "aXYe",
+        &[(0, 1, 0, 4, "XY")],
+    ),
+    (
+        "a\rX\nb",
+        &[(1, 0, 1, 1, ""), (1, 0, 1, 0, "Q")],
+        "a\r\nQb",
+        &[(2, 0, 2, 0, "Q"), (1, 0, 1, 1, "")],
+    ),
+    (
+        "a\r\nb",
+        &[(0, 1, 1, 0, "\r")],
+        "a\rb",
+        &[(0, 1, 1, 0, "\r")],
+    ),
+    (
+        "a\r\nb",
+        &[(0, 1, 1, 0, "\r\n")],
+        "a\r\nb",
+        &[(0, 1, 1, 0, "\r\n")],
+    ),
+    (
+        "abcdefgh",
+        &[(0, 0, 0, 3, ""), (0, 5, 0, 5, "xyz")],
+        "defghxyz",
+        &[(0, 8, 0, 8, "xyz"), (0, 0, 0, 3, "")],
+    ),
+    (
+        "abc",
+        &[(ALL, 0, 0, 0, "abc")],
+        "abc",
+        &[(0, 0, 0, 3, "abc")],
+    ),
+    ("abc", &[(ALL, 0, 0, 0, "")], "", &[(0, 0, 0, 3, "")]),
+    ("", &[(ALL, 0, 0, 0, "")], "", &[]),
+    ("abc", &[(0, 1, 0, 1, "X"), (0, 1, 0, 2, "")], "abc", &[]),
+    ("a\n", &[(7, 3, 7, 3, "b")], "a\nb", &[(1, 0, 1, 0, "b")]),
+    (
+        "\u{1F600}",
+        &[(0, 2, 0, 2, "e\u{301}"), (0, 0, 0, 0, "x")],
+        "x\u{1F600}e\u{301}",
+        &[(0, 2, 0, 2, "e\u{301}"), (0, 0, 0, 0, "x")],
+    ),
+];
+
 #[test]
 fn batches_have_canonical_batches(rt: HostRuntime) -> Result<(), Fail> {
-    let cases: [(&str, &[Edit], &str, &[Edit]); 16] = [
-        (
-            "abc",
-            &[(0, 1, 0, 2, ""), (0, 1, 0, 1, "X")],
-            "aXc",
-            &[(0, 1, 0, 2, "X")],
-        ),
-        (
-            "abc",
-            &[(0, 2, 0, 2, "X"), (0, 1, 0, 2, "")],
-            "aXc",
-            &[(0, 1, 0, 2, "X")],
-        ),
-        ("aa", &[(0, 0, 0, 1, "")], "a", &[(0, 0, 0, 1, "")]),
-        ("aa", &[(0, 1, 0, 2, "")], "a", &[(0, 1, 0, 2, "")]),
-        ("aa", &[(ALL, 0, 0, 0, "a")], "a", &[(0, 0, 0, 2, "a")]),
-        (
-            "abcde",
-            &[(0, 1, 0, 2, "X"), (0, 3, 0, 4, "Y"), (0, 2, 0, 3, "")],
-            "aXYe",
-            &[(0, 1, 0, 4, "XY")],
-        ),
-        (
-            "a\rX\nb",
-            &[(1, 0, 1, 1, ""), (1, 0, 1, 0, "Q")],
-            "a\r\nQb",
-            &[(2, 0, 2, 0, "Q"), (1, 0, 1, 1, "")],
-        ),
-        (
-            "a\r\nb",
-            &[(0, 1, 1, 0, "\r")],
-            "a\rb",
-            &[(0, 1, 1, 0, "\r")],
-        ),
-        (
-            "a\r\nb",
-            &[(0, 1, 1, 0, "\r\n")],
-            "a\r\nb",
-            &[(0, 1, 1, 0, "\r\n")],
-        ),
-        (
-            "abcdefgh",
-            &[(0, 0, 0, 3, ""), (0, 5, 0, 5, "xyz")],
-            "defghxyz",
-            &[(0, 8, 0, 8, "xyz"), (0, 0, 0, 3, "")],
-        ),
-        (
-            "abc",
-            &[(ALL, 0, 0, 0, "abc")],
-            "abc",
-            &[(0, 0, 0, 3, "abc")],
-        ),
-        ("abc", &[(ALL, 0, 0, 0, "")], "", &[(0, 0, 0, 3, "")]),
-        ("", &[(ALL, 0, 0, 0, "")], "", &[]),
-        ("abc", &[(0, 1, 0, 1, "X"), (0, 1, 0, 2, "")], "abc", &[]),
-        ("a\n", &[(7, 3, 7, 3, "b")], "a\nb", &[(1, 0, 1, 0, "b")]),
-        (
-            "\u{1F600}",
-            &[(0, 2, 0, 2, "e\u{301}"), (0, 0, 0, 0, "x")],
-            "x\u{1F600}e\u{301}",
-            &[(0, 2, 0, 2, "e\u{301}"), (0, 0, 0, 0, "x")],
-        ),
-    ];
-    for (before, edits, text, canonical) in cases {
+    for (before, edits, text, canonical) in BATCHES {
         let changes = batch(rt.alloc(), edits)?;
         let (after, written) = left(rt.alloc(), before, &changes)?;
         assert_eq!(rt; after.as_str(), text, "{before:?}");
@@ -125,51 +127,51 @@ fn batches_have_canonical_batches(rt: HostRuntime) -> Result<(), Fail> {
     Ok(())
 }
 
+/// A text, a batch with a change that has no result, and its fault.
+const FAULTS: [(&str, &[Edit], EditFault); 5] = [
+    (
+        "abc",
+        &[(0, 0, 0, 1, "Z"), (0, 2, 0, 1, "")],
+        EditFault::ReversedRange { change: 1 },
+    ),
+    (
+        "\u{1F600}",
+        &[(0, 1, 0, 1, "")],
+        EditFault::InsideCharacter {
+            change: 0,
+            side: Side::Start,
+        },
+    ),
+    (
+        "\u{1F600}",
+        &[(0, 2, 0, 1, "")],
+        EditFault::InsideCharacter {
+            change: 0,
+            side: Side::Stop,
+        },
+    ),
+    (
+        "\u{1F600}a",
+        &[
+            (0, 0, 0, 2, ""),
+            (0, 0, 0, 0, "\u{1F600}"),
+            (0, 1, 0, 1, ""),
+        ],
+        EditFault::InsideCharacter {
+            change: 2,
+            side: Side::Start,
+        },
+    ),
+    (
+        "ab\ncd",
+        &[(1, 0, 0, 2, "")],
+        EditFault::ReversedRange { change: 0 },
+    ),
+];
+
 #[test]
 fn the_first_faulty_change_is_told(rt: HostRuntime) -> Result<(), Fail> {
-    let start = Side::Start;
-    let stop = Side::Stop;
-    let cases: [(&str, &[Edit], EditFault); 5] = [
-        (
-            "abc",
-            &[(0, 0, 0, 1, "Z"), (0, 2, 0, 1, "")],
-            EditFault::ReversedRange { change: 1 },
-        ),
-        (
-            "\u{1F600}",
-            &[(0, 1, 0, 1, "")],
-            EditFault::InsideCharacter {
-                change: 0,
-                side: start,
-            },
-        ),
-        (
-            "\u{1F600}",
-            &[(0, 2, 0, 1, "")],
-            EditFault::InsideCharacter {
-                change: 0,
-                side: stop,
-            },
-        ),
-        (
-            "\u{1F600}a",
-            &[
-                (0, 0, 0, 2, ""),
-                (0, 0, 0, 0, "\u{1F600}"),
-                (0, 1, 0, 1, ""),
-            ],
-            EditFault::InsideCharacter {
-                change: 2,
-                side: start,
-            },
-        ),
-        (
-            "ab\ncd",
-            &[(1, 0, 0, 2, "")],
-            EditFault::ReversedRange { change: 0 },
-        ),
-    ];
-    for (before, edits, fault) in cases {
+    for (before, edits, fault) in FAULTS {
         let changes = batch(rt.alloc(), edits)?;
         assert_eq!(rt;
             left(rt.alloc(), before, &changes).err(),
