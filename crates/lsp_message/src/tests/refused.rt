@@ -1,0 +1,70 @@
+//! Calls that run out of memory once, and are made again.
+
+use super::error_reply;
+use crate::{
+    ErrorCode, Id, Message, Offers, Outgoing, ParamsFault, ReadFault, SyncKind, params_change,
+    read, write,
+};
+use serde_json::Value;
+use std::test::Fail;
+
+#[test]
+fn refused_read(rt: HostRuntime) -> Result<(), Fail> {
+    let alloc = rt.alloc();
+    let body = b"{\"id\":\"q\",\"jsonrpc\":\"2.0\",\"method\":\"m\"}";
+    let mut refused = 0;
+    let mut outcome = read(alloc, body);
+    if outcome == Err(ReadFault::NoMemory) {
+        refused += 1;
+        outcome = read(alloc, body);
+    }
+    assert!(rt;
+        matches!(
+            outcome,
+            Ok(Message::Request {
+                id: Id::Text(_),
+                params: None,
+                ..
+            })
+        )
+    );
+    println!(rt; "refused {refused}")?;
+    Ok(())
+}
+
+#[test]
+fn refused_params_change(rt: HostRuntime) -> Result<(), Fail> {
+    let alloc = rt.alloc();
+    let params =
+        "{\"contentChanges\":[{\"text\":\"a\"}],\"textDocument\":{\"uri\":\"u\",\"version\":2}}";
+    let mut refused = 0;
+    // The value goes with a refused call, so it is read again.
+    let mut made = Value::from_str(alloc, params);
+    if made.as_ref().is_err_and(|error| error.is_memory()) {
+        refused += 1;
+        made = Value::from_str(alloc, params);
+    }
+    let mut outcome = params_change(alloc, Some(made?));
+    if outcome == Err(ParamsFault::NoMemory) {
+        refused += 1;
+        outcome = params_change(alloc, Some(Value::from_str(alloc, params)?));
+    }
+    assert!(rt; outcome.is_ok_and(|params| params.version == 2 && params.changes.len() == 1));
+    println!(rt; "refused {refused}")?;
+    Ok(())
+}
+
+#[test]
+fn refused_write(rt: HostRuntime) -> Result<(), Fail> {
+    let alloc = rt.alloc();
+    let message = error_reply(Some(Id::Whole(7)), ErrorCode::InvalidRequest);
+    let mut refused = 0;
+    let mut outcome = write(alloc, &message);
+    if outcome.is_err() {
+        refused += 1;
+        outcome = write(alloc, &message);
+    }
+    assert!(rt; outcome.is_ok_and(|body| body.starts_with(b"{\"error\":{\"code\":-32600")));
+    println!(rt; "refused {refused}")?;
+    Ok(())
+}
