@@ -24,9 +24,10 @@ pub const FRAMES: [&[u8]; 17] = [
 ];
 
 /// Streams that begin with no header.
-pub const BAD_HEADERS: [(&[u8], u64); 22] = [
+pub const BAD_HEADERS: [(&[u8], u64); 23] = [
     (b"Content-Length 2", 14),
     (b"Content-Length : 2", 14),
+    (b"Content-Length\r: 2", 14),
     (b"Content-Length: 2\n", 17),
     (b"Content-Length: 2\r[]", 18),
     (b"Content-Length: 2\r\r\n", 18),
