@@ -21,32 +21,36 @@ pub(crate) enum Stage {
 }
 
 /// Takes the bytes of a piece that belong to the frame that is coming in. After an `Err` what is held is what
-/// was held before.
+/// was held before, and the stage is that of before.
 pub(crate) fn take_piece(
     held: &mut Vec<u8>,
-    stage: Stage,
+    stage: &mut Stage,
     piece: &[u8],
     max_body: usize,
-) -> Result<(usize, Stage), Stop>
+) -> Result<usize, Stop>
     requires small { max_body ≤ 1073741824 }
-    requires at_stage { IsAtStage max_body held.old.items stage }
-    requires sound { has_failed stage ≡ false }
-    ensures taken { IfOk result (λ got. got.0 ≤ length piece.now) }
-    ensures held { IfOk result (λ got. held.new.items ≡ held.old.items ++ take got.0 piece.now) }
-    ensures stage { IfOk result (λ got. IsAtStage max_body held.new.items got.1) }
-    ensures sound { IfOk result (λ got. has_failed got.1 ≡ false) }
-    ensures stops { IfOk result (λ got. got.0 < length piece.now → IsFrame max_body held.new.items) }
-    ensures whole { IsFrame max_body held.old.items → IsOkAnd result (λ got. got.0 ≡ 0) }
-    ensures empty { length piece.now ≡ 0 → IsOkAnd result (λ got. got.0 ≡ 0) }
+    requires at_stage { IsAtStage max_body held.old.items stage.old }
+    requires sound { has_failed stage.old ≡ false }
+    ensures taken { IfOk result (λ k. k ≤ length piece.now) }
+    ensures held { IfOk result (λ k. held.new.items ≡ held.old.items ++ take k piece.now) }
+    ensures stage { OnOk result (IsAtStage max_body held.new.items stage.new) }
+    ensures sound { OnOk result (has_failed stage.new ≡ false) }
+    ensures stops { IfOk result (λ k. k < length piece.now → IsFrame max_body held.new.items) }
+    ensures whole { IsFrame max_body held.old.items → IsOkAnd result (λ k. k ≡ 0) }
+    ensures empty { length piece.now ≡ 0 → IsOkAnd result (λ k. k ≡ 0) }
     ensures err { OnErr result (held.new.items ≡ held.old.items) }
+    ensures kept { OnErr result (stage.new ≡ stage.old) }
     ensures fault { IfErr result (IsHeaderStop max_body (held.old.items ++ piece.now)) }
 {
-    match stage {
-        Stage::Header(header) => take_from_header(held, header, piece, max_body),
-        Stage::Body { start, end } => match take_body(held, start, end, piece, max_body) {
-            Ok(taken) => Ok((taken, stage)),
+    match *stage {
+        Stage::Header(header) => match take_from_header(held, header, piece, max_body) {
+            Ok((taken, next)) => {
+                *stage = next;
+                Ok(taken)
+            }
             Err(stop) => Err(stop),
         },
+        Stage::Body { start, end } => take_body(held, start, end, piece, max_body),
         Stage::Failed => unreachable!(),
     }
 }
