@@ -1,11 +1,12 @@
 //! The one spelling in which frames are written, and most are read.
 
-ghost use Rattle.std.specs.Prelude.{◌≡◌, ◌<◌, ◌≤◌, ◌^◌, ℕ, true, length, take, IfOk, IfErr, OnOk, IfSome, Err};
+ghost use Rattle.std.specs.Prelude.{◌≡◌, ◌<◌, ◌≤◌, ◌^◌, ℕ, true, false, length, take, slice_index, IfOk, IfErr, OnOk, IfSome, IfNone, Err};
 ghost use Rattle.std.specs.List.{list_all};
 ghost use Rattle.lsp_frame.specs.Frame.{frame, Spells};
 ghost use Rattle.lsp_frame.specs.Verdict.{is_digit};
 ghost use Rattle.lsp_frame.specs.Progress.{BeginsWritten};
 ghost use Rattle.lsp_frame.specs.Encode.{IsEncodeFault};
+ghost use Rattle.lsp_frame.specs.declared.written.WrittenHeader.{WrittenHeader};
 ghost use Rattle.lsp_frame.specs.declared.written.EncodeFault.TheVariants.{BodyTooLong, NoMemory};
 
 use crate::header::first;
@@ -54,10 +55,12 @@ pub(crate) struct WrittenHeader {
     pub(crate) body: usize,
 }
 
-/// The header with which the bytes begin, where it is written so and good.
+/// The header with which the bytes begin, where it is written so and good. At most the 30 bytes are read that such a
+/// header may have.
 pub(crate) fn written_header(bytes: &[u8], max_body: usize) -> Option<WrittenHeader>
     requires { max_body < 2 ^ 32 }
-    ensures { IfSome result (BeginsWritten max_body bytes.now) }
+    ensures some { IfSome result (BeginsWritten max_body bytes.now) }
+    ensures none { IfNone result ((header : WrittenHeader) → BeginsWritten max_body bytes.now header → ⊥) }
 {
     let rest = bytes.strip_prefix(NAME)?;
     let (digits, behind) = rest.split_at(digits_len(first(rest, MOST_DIGITS)));
@@ -73,6 +76,7 @@ pub(crate) fn written_header(bytes: &[u8], max_body: usize) -> Option<WrittenHea
 fn digits_len(bytes: &[u8]) -> usize
     ensures within { result ≤ length bytes.now }
     ensures digits { list_all is_digit (take result bytes.now) ≡ true }
+    ensures last { result < length bytes.now → is_digit (slice_index bytes.now result) ≡ false }
 {
     for (i, b) in bytes.iter().enumerate() {
         if *b < b'0' || *b > b'9' {
