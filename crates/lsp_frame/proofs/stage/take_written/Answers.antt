@@ -1,14 +1,11 @@
-use Rattle.std.proofs.Common.{◌≡◌, ◌+◌, ◌∙◌, ℕ, List, take, length, ap, sym, subst, arith}
+use Rattle.std.proofs.Common.{◌≡◌, ◌+◌, ℕ, take, length, ap, arith}
 use Rattle.std.proofs.lemmas.List.{length-take}
-use Rattle.lsp_frame.specs.Stream.{IsFrame}
-use Rattle.lsp_frame.specs.Progress.{IsInBody}
 use Rattle.lsp_frame.proofs.FrameLemmas.{body_frame}
 use Rattle.lsp_frame.proofs.WrittenHeaderLemmas.{written_in_body}
 use Rattle.lsp_frame.proofs.stage.take_written.Goals as goal
 
 pub returns-clause-stage : goal.returns-clause-stage
 returns-clause-stage c =
-    let end : ℕ = c.args.header.len + c.args.header.body in
     let items : c.extend_from_slice.new.self.items ≡ take (c.args.header.len + c.args.header.body) c.args.piece.now = rw (c.if-is_err.ensures.negation, c.requires.nothing_held, c.first-frame.ensures) at c.extend_from_slice.ensures.items in
     rw items (written_in_body c.args.max_body c.args.piece.now c.args.header c.requires.written)
 
