@@ -1,9 +1,9 @@
 -- What is known of a header that is coming in.
 use Rattle.std.specs.Prelude.{ℕ, ◌≡◌, ◌+◌, ◌≤◌, ◌<◌, Bool, true, false, not, nat_lt, if◌then◌else◌, List, [], ◌∷◌, ◌++◌, length, take, codes, Result, Ok, Err}
-use Rattle.std.specs.List.{AllByRecursion}
+use Rattle.std.specs.List.{AllByRecursion, list_all}
 use Rattle.lsp_frame.specs.Header.{Line, IsLine, AreLines, IsNameByte, lines_bytes, header_of, line_bytes, BeginsHeader}
 use Rattle.lsp_frame.specs.Charset.{trimmed, is_text, has_good_charset}
-use Rattle.lsp_frame.specs.Verdict.{values_of, is_number, number, judge}
+use Rattle.lsp_frame.specs.Verdict.{values_of, is_digit, is_number, number, judge}
 use Rattle.lsp_frame.specs.declared.fault.HeaderFault.{HeaderFault}
 use Rattle.lsp_frame.specs.declared.fault.HeaderFault.TheVariants.{MissingLength, RepeatedHeader, BadLength, BodyTooLong, BadCharset, BadHeader}
 use Rattle.lsp_frame.specs.declared.shape.Shape.{Shape}
@@ -18,6 +18,7 @@ use Rattle.lsp_frame.specs.declared.header.Stop.{Stop}
 use Rattle.lsp_frame.specs.declared.header.Stop.TheVariants as stop
 use Rattle.lsp_frame.specs.declared.stage.Stage.{Stage}
 use Rattle.lsp_frame.specs.declared.stage.Stage.TheVariants as stage
+use Rattle.lsp_frame.specs.declared.written.WrittenHeader.{WrittenHeader}
 use Rattle.lsp_frame.specs.Faults.{IsDecidedAt}
 
 -- what is here of the line that is coming in
@@ -154,6 +155,18 @@ pub record IsWhole (max_body : ℕ) (held : List ℕ) (notes : Notes) : Type 0 w
   pub is : held ≡ header_of lines
   pub short : length held ≤ 8192
   pub noted : notes ≡ notes_of max_body lines
+
+-- The bytes begin with a good header in the written spelling.
+pub record BeginsWritten (max_body : ℕ) (bytes : List ℕ) (header : WrittenHeader) : Type 0 where
+  pub digits : List ℕ
+  pub rest : List ℕ
+  pub is : bytes ≡ codes "Content-Length: " ++ digits ++ codes "\r\n\r\n" ++ rest
+  pub some : 0 < length digits
+  pub few : length digits ≤ 10
+  pub each : list_all is_digit digits ≡ true
+  pub len : header.len ≡ 20 + length digits
+  pub body : header.body ≡ number digits
+  pub small : header.body ≤ max_body
 
 -- the stages of a frame
 pub record IsInHeader (max_body : ℕ) (held : List ℕ) (header : Header) : Type 0 where

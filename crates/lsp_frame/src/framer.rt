@@ -76,11 +76,9 @@ impl Framer {
         if let Stage::Failed = self.stage {
             return Err(FrameFault::Failed);
         }
-        match take_piece(&mut self.held, self.stage, piece, self.limits.max_body()) {
-            Ok((taken, stage)) => {
-                self.stage = stage;
-                Ok(taken)
-            }
+        let max_body = self.limits.max_body();
+        match take_piece(&mut self.held, &mut self.stage, piece, max_body) {
+            Ok(taken) => Ok(taken),
             Err(Stop::Fault(fault, at)) => {
                 self.stage = Stage::Failed;
                 Err(fault.at(self.place.saturating_add(at as u64)))

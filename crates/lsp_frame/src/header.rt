@@ -1,6 +1,6 @@
 //! A header that is coming in, line by line.
 
-ghost use Rattle.std.specs.Prelude.{◌≡◌, ◌≢◌, ◌+◌, ◌<◌, ◌≤◌, ◌^◌, ℕ, false, [], ◌++◌, length, take, slice_index, IfOk, IfErr, OnOk, OnErr};
+ghost use Rattle.std.specs.Prelude.{◌≡◌, ◌≢◌, ◌+◌, ◌-◌, ◌<◌, ◌≤◌, ◌^◌, ℕ, false, [], ◌++◌, length, take, slice_index, IfOk, IfErr, OnOk, OnErr};
 ghost use Rattle.lsp_frame.specs.Header.{Line, IsLine, line_bytes};
 ghost use Rattle.lsp_frame.specs.Progress.{IsSoFar, IsLineStop, IsHeaderStop, is_over};
 ghost use Rattle.lsp_frame.specs.declared.shape.Shape.TheVariants as shape;
@@ -74,6 +74,7 @@ fn line_len(window: &[u8]) -> usize
     ensures some { 0 < result }
     ensures within { result ≤ length window.now }
     ensures one_line { (k : ℕ) → k + 1 < result → slice_index window.now k ≢ 10 }
+    ensures line_end { result < length window.now → slice_index window.now (result - 1) ≡ 10 }
 {
     match memchr(b'\n', window) {
         Some(at) => at + 1,

@@ -123,7 +123,7 @@ fn are_digits(bytes: &[u8]) -> bool
 }
 
 /// The number that the digits write, unless it is greater than `most`.
-fn number_within(digits: &[u8], most: usize) -> Option<usize>
+pub(crate) fn number_within(digits: &[u8], most: usize) -> Option<usize>
     requires digits { list_all is_digit digits.now ≡ true }
     requires most { most < 2 ^ 32 }
     ensures { result ≡ (if nat_lt most (number digits.now) then None else Some (number digits.now)) }

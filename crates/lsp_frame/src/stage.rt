@@ -1,12 +1,13 @@
 //! The stages of a frame that is coming in.
 
-ghost use Rattle.std.specs.Prelude.{◌≡◌, ◌+◌, ◌<◌, ◌≤◌, ◌^◌, ℕ, ◌++◌, length, take, IfOk, IfErr, OnOk, OnErr, IsOkAnd, Ok, false};
+ghost use Rattle.std.specs.Prelude.{◌≡◌, ◌+◌, ◌<◌, ◌≤◌, ◌^◌, ℕ, [], ◌++◌, length, take, IfOk, IfErr, OnOk, OnErr, IsOkAnd, Ok, false};
 ghost use Rattle.lsp_frame.specs.Stream.{IsFrame};
-ghost use Rattle.lsp_frame.specs.Progress.{IsWhole, IsInHeader, IsInBody, IsAtStage, IsHeaderStop, has_failed};
+ghost use Rattle.lsp_frame.specs.Progress.{IsWhole, IsInHeader, IsInBody, IsAtStage, IsHeaderStop, BeginsWritten, has_failed};
 ghost use Rattle.lsp_frame.specs.declared.header.Stop.TheVariants as stop;
 
 use crate::header::{Header, Stop, first, take_header};
 use crate::notes::Notes;
+use crate::written::{WrittenHeader, written_header};
 
 /// What of a frame is held.
 #[derive(Clone, Copy)]
@@ -20,32 +21,36 @@ pub(crate) enum Stage {
 }
 
 /// Takes the bytes of a piece that belong to the frame that is coming in. After an `Err` what is held is what
-/// was held before.
+/// was held before, and the stage is that of before.
 pub(crate) fn take_piece(
     held: &mut Vec<u8>,
-    stage: Stage,
+    stage: &mut Stage,
     piece: &[u8],
     max_body: usize,
-) -> Result<(usize, Stage), Stop>
+) -> Result<usize, Stop>
     requires small { max_body ≤ 1073741824 }
-    requires at_stage { IsAtStage max_body held.old.items stage }
-    requires sound { has_failed stage ≡ false }
-    ensures taken { IfOk result (λ got. got.0 ≤ length piece.now) }
-    ensures held { IfOk result (λ got. held.new.items ≡ held.old.items ++ take got.0 piece.now) }
-    ensures stage { IfOk result (λ got. IsAtStage max_body held.new.items got.1) }
-    ensures sound { IfOk result (λ got. has_failed got.1 ≡ false) }
-    ensures stops { IfOk result (λ got. got.0 < length piece.now → IsFrame max_body held.new.items) }
-    ensures whole { IsFrame max_body held.old.items → IsOkAnd result (λ got. got.0 ≡ 0) }
-    ensures empty { length piece.now ≡ 0 → IsOkAnd result (λ got. got.0 ≡ 0) }
+    requires at_stage { IsAtStage max_body held.old.items stage.old }
+    requires sound { has_failed stage.old ≡ false }
+    ensures taken { IfOk result (λ k. k ≤ length piece.now) }
+    ensures held { IfOk result (λ k. held.new.items ≡ held.old.items ++ take k piece.now) }
+    ensures stage { OnOk result (IsAtStage max_body held.new.items stage.new) }
+    ensures sound { OnOk result (has_failed stage.new ≡ false) }
+    ensures stops { IfOk result (λ k. k < length piece.now → IsFrame max_body held.new.items) }
+    ensures whole { IsFrame max_body held.old.items → IsOkAnd result (λ k. k ≡ 0) }
+    ensures empty { length piece.now ≡ 0 → IsOkAnd result (λ k. k ≡ 0) }
     ensures err { OnErr result (held.new.items ≡ held.old.items) }
+    ensures kept { OnErr result (stage.new ≡ stage.old) }
     ensures fault { IfErr result (IsHeaderStop max_body (held.old.items ++ piece.now)) }
 {
-    match stage {
-        Stage::Header(header) => take_from_header(held, header, piece, max_body),
-        Stage::Body { start, end } => match take_body(held, start, end, piece, max_body) {
-            Ok(taken) => Ok((taken, stage)),
+    match *stage {
+        Stage::Header(header) => match take_from_header(held, header, piece, max_body) {
+            Ok((taken, next)) => {
+                *stage = next;
+                Ok(taken)
+            }
             Err(stop) => Err(stop),
         },
+        Stage::Body { start, end } => take_body(held, start, end, piece, max_body),
         Stage::Failed => unreachable!(),
     }
 }
@@ -73,6 +78,11 @@ fn take_from_header(
         return Ok((0, Stage::Header(header)));
     }
     let before = held.len();
+    if before == 0 {
+        if let Some(written) = written_header(piece, max_body) {
+            return take_written(held, written, piece, max_body);
+        }
+    }
     let mut header = header;
     let taken = match take_header(held, &mut header, piece, max_body) {
         Ok(taken) => taken,
@@ -91,6 +101,32 @@ fn take_from_header(
             Err(stop)
         }
     }
+}
+
+/// Takes the bytes of a frame whose header a piece begins with, in the written spelling.
+fn take_written(
+    held: &mut Vec<u8>,
+    header: WrittenHeader,
+    piece: &[u8],
+    max_body: usize,
+) -> Result<(usize, Stage), Stop>
+    requires nothing_held { held.old.items ≡ [] }
+    requires written { BeginsWritten max_body piece.now header }
+    requires small { max_body ≤ 1073741824 }
+    ensures taken { IfOk result (λ got. got.0 ≤ length piece.now) }
+    ensures held { IfOk result (λ got. held.new.items ≡ held.old.items ++ take got.0 piece.now) }
+    ensures stage { IfOk result (λ got. IsAtStage max_body held.new.items got.1) }
+    ensures sound { IfOk result (λ got. has_failed got.1 ≡ false) }
+    ensures stops { IfOk result (λ got. got.0 < length piece.now → IsFrame max_body held.new.items) }
+    ensures err { IfErr result (λ why. (held.new.items ≡ held.old.items) × (why ≡ stop.NoMemory)) }
+{
+    let start = header.len;
+    let end = start + header.body;
+    let frame = first(piece, end);
+    if held.extend_from_slice(frame).is_err() {
+        return Err(Stop::NoMemory);
+    }
+    Ok((frame.len(), Stage::Body { start, end }))
 }
 
 /// Takes the bytes of the body behind a header that is whole.

@@ -1,11 +1,17 @@
-//! The one spelling in which frames are written.
+//! The one spelling in which frames are written, and most are read.
 
-ghost use Rattle.std.specs.Prelude.{◌≡◌, ◌<◌, ◌≤◌, ℕ, length, IfOk, IfErr, OnOk, Err};
+ghost use Rattle.std.specs.Prelude.{◌≡◌, ◌<◌, ◌≤◌, ◌^◌, ℕ, true, false, length, take, slice_index, IfOk, IfErr, OnOk, IfSome, IfNone, Err};
+ghost use Rattle.std.specs.List.{list_all};
 ghost use Rattle.lsp_frame.specs.Frame.{frame, Spells};
+ghost use Rattle.lsp_frame.specs.Verdict.{is_digit};
+ghost use Rattle.lsp_frame.specs.Progress.{BeginsWritten};
 ghost use Rattle.lsp_frame.specs.Encode.{IsEncodeFault};
+ghost use Rattle.lsp_frame.specs.declared.written.WrittenHeader.{WrittenHeader};
 ghost use Rattle.lsp_frame.specs.declared.written.EncodeFault.TheVariants.{BodyTooLong, NoMemory};
 
+use crate::header::first;
 use crate::limits::Limits;
+use crate::notes::number_within;
 use itoa::Buffer;
 use std::alloc::{AllocError, Global};
 use thiserror::Error;
@@ -38,6 +44,47 @@ fn written_bytes(alloc: Global, body: &[u8]) -> Result<Vec<u8>, AllocError>
 const NAME: &[u8] = b"Content-Length: ";
 
 const END: &[u8] = b"\r\n\r\n";
+
+/// The most digits of a length that are read at once. No limit on a body has more.
+const MOST_DIGITS: usize = 10;
+
+/// A header in the written spelling: its length and that of the body behind it.
+#[derive(Clone, Copy)]
+pub(crate) struct WrittenHeader {
+    pub(crate) len: usize,
+    pub(crate) body: usize,
+}
+
+/// The header with which the bytes begin, where it is written so and good. At most the 30 bytes are read that such a
+/// header may have.
+pub(crate) fn written_header(bytes: &[u8], max_body: usize) -> Option<WrittenHeader>
+    requires { max_body < 2 ^ 32 }
+    ensures some { IfSome result (BeginsWritten max_body bytes.now) }
+    ensures none { IfNone result ((header : WrittenHeader) → BeginsWritten max_body bytes.now header → ⊥) }
+{
+    let rest = bytes.strip_prefix(NAME)?;
+    let (digits, behind) = rest.split_at(digits_len(first(rest, MOST_DIGITS)));
+    if digits.is_empty() || !behind.starts_with(END) {
+        return None;
+    }
+    let body = number_within(digits, max_body)?;
+    let len = NAME.len() + digits.len() + END.len();
+    Some(WrittenHeader { len, body })
+}
+
+/// How many digits the bytes begin with.
+fn digits_len(bytes: &[u8]) -> usize
+    ensures within { result ≤ length bytes.now }
+    ensures digits { list_all is_digit (take result bytes.now) ≡ true }
+    ensures last { result < length bytes.now → is_digit (slice_index bytes.now result) ≡ false }
+{
+    for (i, b) in bytes.iter().enumerate() {
+        if *b < b'0' || *b > b'9' {
+            return i;
+        }
+    }
+    bytes.len()
+}
 
 /// Why a body has no frame.
 #[derive(Clone, Copy, Debug, PartialEq, Eq, Error)]
