@@ -1,9 +1,32 @@
 //! Calls that run out of memory once, and are made again.
+ghost use Rattle.std.specs.Prelude.{◌≤◌, length};
 
 use crate::{Lines, Starts};
 use std::alloc::{AllocError, Global};
 use std::process::Abort;
 use std::test::Fail;
+
+/// Texts and their line starts: enough that `new` takes memory more often than the edits below do.
+const TEXTS: [(&str, &[usize]); 6] = [
+    ("\n\n\n\n\n\n\n\n", &[0, 1, 2, 3, 4, 5, 6, 7, 8]),
+    ("\r\r\r\r\r\r\r\r", &[0, 1, 2, 3, 4, 5, 6, 7, 8]),
+    (
+        "\n\r\n\r\n\r\n\r\n\r\n\r\n\r",
+        &[0, 1, 3, 5, 7, 9, 11, 13, 14],
+    ),
+    (
+        "a\nb\r\nc\rd\n\n\r\n\u{1F600}\n\r",
+        &[0, 2, 5, 7, 9, 10, 12, 17, 18],
+    ),
+    (
+        "a\u{301}\nb\nc\nd\ne\nf\ng\nh\n",
+        &[0, 4, 6, 8, 10, 12, 14, 16, 18],
+    ),
+    (
+        "\r\n\r\n\r\n\r\n\r\n\r\n\r\n\r\n",
+        &[0, 2, 4, 6, 8, 10, 12, 14, 16],
+    ),
+];
 
 /// An edit, with the line starts before and after it.
 struct Edit {
@@ -57,18 +80,25 @@ fn starts_are(rt: &impl Abort, lines: &Lines, starts: &[usize]) -> bool {
     true
 }
 
+/// The lines of a text, and how many times `new` ran out of memory.
+fn made(alloc: Global, text: &str) -> Result<(Lines, usize), AllocError>
+    requires { length text.now ≤ 1000 }
+{
+    match Lines::new(alloc, text) {
+        Ok(lines) => Ok((lines, 0)),
+        Err(_) => Ok((Lines::new(alloc, text)?, 1)),
+    }
+}
+
 #[test]
 fn refused_lines_new(rt: HostRuntime) -> Result<(), Fail> {
-    let text = "a\nb\r\nc\rd\n\n\r\n\u{1F600}\n\r";
     let mut refused: usize = 0;
-    let lines = match Lines::new(rt.alloc(), text) {
-        Ok(lines) => lines,
-        Err(_) => {
-            refused = refused.saturating_add(1);
-            Lines::new(rt.alloc(), text)?
-        }
-    };
-    assert!(rt; starts_are(&rt, &lines, &[0, 2, 5, 7, 9, 10, 12, 17, 18]));
+    for (text, starts) in TEXTS {
+        assert!(rt; text.len() <= 1000);
+        let (lines, again) = made(rt.alloc(), text)?;
+        refused = refused.saturating_add(again);
+        assert!(rt; starts_are(&rt, &lines, starts), "{text:?}");
+    }
     println!(rt; "refused {refused}")?;
     Ok(())
 }
