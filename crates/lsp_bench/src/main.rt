@@ -1,11 +1,14 @@
 //! Times the layers on made input. `lsp_bench MB` frames streams of that many megabytes, 1 where no number is
-//! given: the times go to standard error, and what was read to standard output.
+//! given: the times go to standard error, and what was read to standard output. Words as `text=64` give the
+//! other sizes: megabytes of `text`, `lookups` in each text, `lines` of the text that is edited, `edits` at each place.
 #![tactic(auto)]
 
 mod frames;
+mod lines;
 
 use anyhow::{Context, Result};
 use frames::{copied, made_stream, read_stream};
+use lines::Sizes;
 use std::alloc::Global;
 use std::env;
 use std::rt::Runtime;
@@ -41,7 +44,25 @@ fn main(rt: HostRuntime) -> Result<()> {
             )?;
         }
     }
-    Ok(())
+    lines::measure(
+        &rt,
+        Sizes {
+            megabytes: size(&rt, "text=", 1)?,
+            lookups: size(&rt, "lookups=", 1_000)?,
+            lines: size(&rt, "lines=", 1_000)?,
+            edits: size(&rt, "edits=", 10)?,
+        },
+    )
+}
+
+/// The number behind a name among the arguments, or what stands for it.
+fn size(rt: &(impl Runtime + AllocGlobal), name: &str, default: u32) -> Result<u32> {
+    for word in env::args(rt)? {
+        if let Some(number) = word.as_str().strip_prefix(name) {
+            return number.parse().context("reading a size");
+        }
+    }
+    Ok(default)
 }
 
 /// The first argument, or 1.

@@ -1,11 +1,11 @@
 -- Small texts, computed on the definitions.
-use Rattle.std.proofs.Common.{◌≡◌, ℕ, true, false, List, [], ◌∷◌, Option, Some, None, refl}
+use Rattle.std.proofs.Common.{◌≡◌, ℕ, true, List, [], ◌∷◌, Some, None, refl}
 use Rattle.lsp_text.specs.declared.position.Position.{Position}
 use Rattle.lsp_text.specs.declared.encoding.Encoding.TheVariants.{Utf8, Utf16, Utf32}
 use Rattle.std.proofs.Math.Utf8.{encode}
 use Rattle.lsp_text.specs.Text.{place_of}
-use Rattle.lsp_text.specs.TextLines.{splits_crlf, line_at, line_ends, line_start, line_stop}
-use Rattle.lsp_text.specs.LineStarts.{line_starts, start_places}
+use Rattle.lsp_text.specs.TextLines.{splits_crlf}
+use Rattle.lsp_text.specs.LineStarts.{line_starts}
 use Rattle.lsp_text.specs.Units.{units_in}
 use Rattle.lsp_text.specs.Positions.{exact_position, denoted}
 

@@ -1,7 +1,10 @@
 //! Lines and positions of a text: what "line 3, character 7" means, in the three encodings of LSP 3.17.
 //!
-//! - `position`: a place as the protocol writes it, and a range of two.
-//! - `encoding`: what a character of a line counts.
+//! - `position`, `encoding`, `units`: a place as the protocol writes it, and what a character of a line counts.
+//! - `lines`: the line starts that are kept for a text, and the calls on them. Their work is in `ends` (the search for line ends),
+//!   `resolve` (from a position to its place), `exact` (and back), `in_line` (units in the bytes of one line) and `splice` (after an edit).
+//! - `starts`: the line of a place, by a binary search over any row of starts whose looks are counted.
+//! - `laws`: what holds of the definitions alone. These stand in `specs/`: `Text`, `TextLines`, `Units`, `Positions`, in this order.
 #![tactic(auto)]
 
 mod encoding;

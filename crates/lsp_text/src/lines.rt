@@ -115,7 +115,7 @@ impl Lines {
 
     /// Makes the lines those of `text`, which is the text that they indexed with the bytes from `from` to `to` replaced by `len`
     /// others. Memory is taken first: where it is refused nothing changes. It costs two binary searches, a search of the `len` bytes
-    /// for line ends, and one pass of additions over the starts that follow.
+    /// for line ends, and one pass of additions over the starts that follow; where lines come or go these are also moved once.
     pub fn splice(
         &mut self,
         text: &str,

@@ -56,7 +56,7 @@ pub struct Looks<'a> {
 
 impl<'a> Looks<'a> {
     /// No look was made yet.
-    pub fn new(starts: &'a [u32]) -> Self
+    pub(crate) fn new(starts: &'a [u32]) -> Self
         requires { AreStarts starts.now }
         ensures starts { result.starts.now ≡ starts.now }
         ensures made { result.made ≡ 0 }

@@ -1,6 +1,10 @@
 //! Positions of small texts in the three encodings, and lines after an edit, against lines made from scratch.
 ghost use Rattle.std.specs.Prelude.{◌≤◌, length};
 
+mod pictures;
+mod plain;
+mod refused;
+
 use crate::{Encoding, Lines, Position, Starts, Units, Utf8, Utf16, Utf32, line_of};
 use std::alloc::{AllocError, Global};
 use std::process::Abort;
