@@ -7,3 +7,4 @@ pub mod FaultLemmas
 pub mod StreamLemmas
 pub mod WordLemmas
 pub mod WrittenLemmas
+pub mod LawLemmas
