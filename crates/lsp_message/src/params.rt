@@ -1,9 +1,9 @@
 //! The typed parameters of the three document messages (LSP 3.17, DidOpen, DidChange, DidClose Text Document Notification).
 
-ghost use Rattle.std.specs.Prelude.{◌≡◌, None, Some, IfOk, IfErr, map, option_map, Err};
+ghost use Rattle.std.specs.Prelude.{◌≡◌, ◌<◌, None, Some, IfOk, IfErr, map, option_map, Err, vec_len};
 ghost use Rattle.serde_json.specs.View.{view, items_view, members_view};
 ghost use Rattle.lsp_message.specs.declared.params.ParamsFault.TheVariants.{InvalidParams, NoMemory};
-ghost use Rattle.lsp_message.specs.Params.{open_of, change_of, close_of, open_by, edit_in, edits_in, document_in, document_and_changes, change_by, version_in, coordinate_in, position_in, range_in, range_of};
+ghost use Rattle.lsp_message.specs.Params.{open_of, change_of, close_of, open_by, edit_in, edits_in, document_in, document_and_changes, change_by, version_in, coordinate_in, position_in, range_in, range_of, TakesMemoryBy, TakesMemory};
 ghost use Rattle.lsp_message.specs.Seen.{open_view, change_view, close_view, edit_view};
 
 use crate::members::{array, member, object, take, text};
@@ -76,6 +76,7 @@ pub fn params_open(_alloc: Global, params: Option<Value>) -> Result<OpenParams, 
 pub fn params_change(alloc: Global, params: Option<Value>) -> Result<ChangeParams, ParamsFault>
     ensures ok { IfOk result (λ p. change_of (option_map view params) ≡ Some (change_view p)) }
     ensures invalid { result ≡ Err ParamsFault.InvalidParams → change_of (option_map view params) ≡ None }
+    ensures memory { result ≡ Err ParamsFault.NoMemory → TakesMemory (option_map view params) }
 {
     let (document, changes) = document_and_changes(params).ok_or(ParamsFault::InvalidParams)?;
     change_by(alloc, document, changes)
@@ -184,6 +185,8 @@ fn change_by(
     ensures ok { IfOk result (λ p. change_by (members_view document.entries) (items_view changes.items) ≡ Some (change_view p)) }
     ensures invalid { result ≡ Err ParamsFault.InvalidParams
         → change_by (members_view document.entries) (items_view changes.items) ≡ None }
+    ensures memory { result ≡ Err ParamsFault.NoMemory
+        → TakesMemoryBy (members_view document.entries) (items_view changes.items) }
 {
     let uri = text(take(&mut document, "uri")).ok_or(ParamsFault::InvalidParams)?;
     let version = version_in(take(&mut document, "version")).ok_or(ParamsFault::InvalidParams)?;
@@ -209,6 +212,7 @@ fn document_and_changes(params: Option<Value>) -> Option<(Map<String, Value>, Ve
 fn edits_in(alloc: Global, values: Vec<Value>) -> Result<Vec<Change>, ParamsFault>
     ensures ok { IfOk result (λ changes. edits_in (items_view values.items) ≡ Some (map edit_view changes.items)) }
     ensures invalid { result ≡ Err ParamsFault.InvalidParams → edits_in (items_view values.items) ≡ None }
+    ensures memory { result ≡ Err ParamsFault.NoMemory → 0 < vec_len values }
 {
     let mut changes = Vec::with_capacity(alloc, values.len())?;
     for value in values {
