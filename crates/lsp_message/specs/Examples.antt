@@ -15,14 +15,14 @@ pub record HoldsOnExamples : Type 0 where
   pub a_method_of_no_text : reading (codes "{\"id\":5,\"jsonrpc\":\"2.0\",\"method\":1}") ≡ not_a_message (Some (whole (pos 5)))
   -- answers
   pub a_null_error :
-    reading (codes "{\"error\":null,\"id\":1,\"jsonrpc\":\"2.0\",\"result\":null}") ≡ message (response (Some (whole (pos 1))) (given null))
+      reading (codes "{\"error\":null,\"id\":1,\"jsonrpc\":\"2.0\",\"result\":null}") ≡ message (response (Some (whole (pos 1))) (given null))
   pub an_error_and_a_result :
-    reading (codes "{\"error\":{},\"id\":1,\"jsonrpc\":\"2.0\",\"result\":1}") ≡ message (response (Some (whole (pos 1))) failed)
+      reading (codes "{\"error\":{},\"id\":1,\"jsonrpc\":\"2.0\",\"result\":1}") ≡ message (response (Some (whole (pos 1))) failed)
   pub an_error_without_id : reading (codes "{\"error\":{},\"id\":null,\"jsonrpc\":\"2.0\"}") ≡ message (response None failed)
   -- the greatest id
   pub the_greatest_id :
-    reading (codes "{\"id\":9223372036854775807,\"jsonrpc\":\"2.0\",\"method\":\"x\"}")
-    ≡ message (request (whole (pos 9223372036854775807)) (codes "x") None)
+      reading (codes "{\"id\":9223372036854775807,\"jsonrpc\":\"2.0\",\"method\":\"x\"}")
+      ≡ message (request (whole (pos 9223372036854775807)) (codes "x") None)
   pub an_id_above : reading (codes "{\"id\":9223372036854775808,\"jsonrpc\":\"2.0\",\"method\":\"x\"}") ≡ not_a_message None
   pub a_cut_body : reading (codes "{\"id\":1,") ≡ not_json
   -- the greatest version and character, and a line below the first

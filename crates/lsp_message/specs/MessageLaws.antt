@@ -42,39 +42,39 @@ pub record RefusedRows : Type 0 where
   pub version : (ms : Members) → (IsTwo ms → ⊥) → message_of (object ms) ≡ not_a_message (id_found (id_of ms))
   -- a method that is no string
   pub method :
-    (ms : Members) (method : Data) → IsTwo ms → method_of ms ≡ Some method → as_str method ≡ None →
-    message_of (object ms) ≡ not_a_message (id_found (id_of ms))
+      (ms : Members) (method : Data) → IsTwo ms → method_of ms ≡ Some method → as_str method ≡ None →
+      message_of (object ms) ≡ not_a_message (id_found (id_of ms))
   -- a call with an id that is neither a whole number nor a string
   pub call_id :
-    (ms : Members) (name : List ℕ) (id : Data) → IsTwo ms → text_in (method_of ms) ≡ Some name →
-    id_of ms ≡ Some id → id_in id ≡ None → message_of (object ms) ≡ not_a_message None
+      (ms : Members) (name : List ℕ) (id : Data) → IsTwo ms → text_in (method_of ms) ≡ Some name →
+      id_of ms ≡ Some id → id_in id ≡ None → message_of (object ms) ≡ not_a_message None
   -- neither a method nor an id
   pub no_id : (ms : Members) → IsTwo ms → method_of ms ≡ None → id_of ms ≡ None → message_of (object ms) ≡ not_a_message None
   -- an answer with an id that is neither null nor a whole number nor a string
   pub answer_id :
-    (ms : Members) (id : Data) → IsTwo ms → method_of ms ≡ None → id_of ms ≡ Some id → is_null id ≡ false → id_in id ≡ None →
-    message_of (object ms) ≡ not_a_message None
+      (ms : Members) (id : Data) → IsTwo ms → method_of ms ≡ None → id_of ms ≡ Some id → is_null id ≡ false → id_in id ≡ None →
+      message_of (object ms) ≡ not_a_message None
   -- an answer with neither an error nor a result
   pub no_outcome :
-    (ms : Members) (id : Option IdData) → IsTwo ms → method_of ms ≡ None → NamesRequest (id_of ms) id →
-    is_missing (error_of ms) ≡ true → result_of ms ≡ None → message_of (object ms) ≡ not_a_message id
+      (ms : Members) (id : Option IdData) → IsTwo ms → method_of ms ≡ None → NamesRequest (id_of ms) id →
+      is_missing (error_of ms) ≡ true → result_of ms ≡ None → message_of (object ms) ≡ not_a_message id
 
 -- Objects that are a message, whatever else they hold.
 pub record MessageRows : Type 0 where
   pub notifications :
-    (ms : Members) (name : List ℕ) → IsTwo ms → text_in (method_of ms) ≡ Some name → id_of ms ≡ None →
-    message_of (object ms) ≡ message (notification name (params_of ms))
+      (ms : Members) (name : List ℕ) → IsTwo ms → text_in (method_of ms) ≡ Some name → id_of ms ≡ None →
+      message_of (object ms) ≡ message (notification name (params_of ms))
   pub requests :
-    (ms : Members) (name : List ℕ) (id : IdData) → IsTwo ms → text_in (method_of ms) ≡ Some name → id_found (id_of ms) ≡ Some id →
-    message_of (object ms) ≡ message (request id name (params_of ms))
+      (ms : Members) (name : List ℕ) (id : IdData) → IsTwo ms → text_in (method_of ms) ≡ Some name → id_found (id_of ms) ≡ Some id →
+      message_of (object ms) ≡ message (request id name (params_of ms))
   -- An error that isn't null tells a failure, whatever the result is.
   pub failures :
-    (ms : Members) (id : Option IdData) → IsTwo ms → method_of ms ≡ None → NamesRequest (id_of ms) id →
-    is_missing (error_of ms) ≡ false → message_of (object ms) ≡ message (response id failed)
+      (ms : Members) (id : Option IdData) → IsTwo ms → method_of ms ≡ None → NamesRequest (id_of ms) id →
+      is_missing (error_of ms) ≡ false → message_of (object ms) ≡ message (response id failed)
   -- A result counts also where it is null.
   pub results :
-    (ms : Members) (id : Option IdData) (result : Data) → IsTwo ms → method_of ms ≡ None → NamesRequest (id_of ms) id →
-    is_missing (error_of ms) ≡ true → result_of ms ≡ Some result → message_of (object ms) ≡ message (response id (given result))
+      (ms : Members) (id : Option IdData) (result : Data) → IsTwo ms → method_of ms ≡ None → NamesRequest (id_of ms) id →
+      is_missing (error_of ms) ≡ true → result_of ms ≡ Some result → message_of (object ms) ≡ message (response id (given result))
 
 -- An id is a number that 64 bits with a sign hold, written without a fraction and an exponent, or a string.
 abbrev pub IsIdOf : IdData → Data → Type 0
@@ -109,7 +109,7 @@ pub record NamedLaw : Type 0 where
   pub messages : (ms others : Members) → AgreeOn message_names ms others → message_of (object ms) ≡ message_of (object others)
   pub opened : (ms others : Members) → AgreeOn open_names ms others → open_by ms ≡ open_by others
   pub changed :
-    (ms others : Members) (changes : Items) → AgreeOn (codes "uri" ∷ codes "version" ∷ []) ms others →
-    change_by ms changes ≡ change_by others changes
+      (ms others : Members) (changes : Items) → AgreeOn (codes "uri" ∷ codes "version" ∷ []) ms others →
+      change_by ms changes ≡ change_by others changes
   pub closed : (ms others : Members) → AgreeOn (codes "uri" ∷ []) ms others → close_by ms ≡ close_by others
   pub edits : (ms others : Members) → AgreeOn (codes "text" ∷ codes "range" ∷ []) ms others → edit_by ms ≡ edit_by others

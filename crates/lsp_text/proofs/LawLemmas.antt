@@ -31,12 +31,14 @@ ends_law bytes utf8 = (refl, place_end (chars bytes) ∙ ap length (encodes-char
 pub boundary_law : BoundaryLaw
 boundary_law bytes place utf8 boundary =
     let found = index_at bytes place utf8 boundary in
-    let at = found.place_is in
-    (found.index, record {
-      within = found.within;
-      place_is = found.place_is;
-      alone = λ other within same. place_one (chars bytes) other found.index within found.within (same ∙ sym at);
-    })
+    let at = found.place_is in (
+      found.index,
+      record {
+        within = found.within;
+        place_is = found.place_is;
+        alone = λ other within same. place_one (chars bytes) other found.index within found.within (same ∙ sym at);
+      },
+    )
 
 pub unit_law : UnitLaw
 unit_law Utf8 c = let b = utf8_bounds c in let l = len_utf8_bounds c in (b.0, omega arith)
@@ -92,7 +94,8 @@ named_by Utf16 = refl
 named_by Utf32 = refl
 
 pub name_law : NameLaw
-name_law name encoding =
-    (named name encoding (bytes_eq name (codes "utf-8")) (bytes_eq name (codes "utf-16")) (bytes_eq name (codes "utf-32"))
-    (bytes_eq-Decides name (codes "utf-8")).0 (bytes_eq-Decides name (codes "utf-16")).0 (bytes_eq-Decides name (codes "utf-32")).0,
-    λ same. ap encoding_named same ∙ named_by encoding)
+name_law name encoding = (
+  named name encoding (bytes_eq name (codes "utf-8")) (bytes_eq name (codes "utf-16")) (bytes_eq name (codes "utf-32"))
+      (bytes_eq-Decides name (codes "utf-8")).0 (bytes_eq-Decides name (codes "utf-16")).0 (bytes_eq-Decides name (codes "utf-32")).0,
+  λ same. ap encoding_named same ∙ named_by encoding,
+)
