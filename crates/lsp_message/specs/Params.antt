@@ -111,7 +111,8 @@ HasChange (item d ds) = ⊤
 
 -- Memory is taken for the changes alone, and only where there are some and the document has a URI and a version.
 abbrev pub TakesMemoryBy : Members → Items → Type 0
-TakesMemoryBy document changes = IsSome (text_in (get_member (codes "uri") document)) × IsSome (version_in (get_member (codes "version") document)) × HasChange changes
+TakesMemoryBy document changes =
+    IsSome (text_in (get_member (codes "uri") document)) × IsSome (version_in (get_member (codes "version") document)) × HasChange changes
 
 abbrev pub TakesMemory : Option Data → Type 0
 TakesMemory params = IsSomeAnd (document_and_changes params) (λ p. TakesMemoryBy p.0 p.1)
