@@ -1,9 +1,8 @@
 -- The laws over frames, streams and faults.
-use Rattle.std.proofs.Common.{◌≡◌, ℕ, ◌+◌, ◌^◌, ◌<◌, ◌≤◌, List, [], ◌++◌, length, sym, ◌∙◌, ap, subst, append-nil, arith}
+use Rattle.std.proofs.Common.{◌≡◌, ℕ, ◌+◌, ◌<◌, [], ◌++◌, length, sym, ap, subst, append-nil, arith}
 use Rattle.std.proofs.lemmas.List.{length-append}
 use Rattle.lsp_frame.specs.Header.{header_of}
 use Rattle.lsp_frame.specs.Frame.{frame, Spells}
-use Rattle.lsp_frame.specs.Faults.{IsDecidedAt}
 use Rattle.lsp_frame.specs.Laws.{SpellingLaw, BoundLaw, FramesLaw, FaultLaw, InjectiveLaw}
 use Rattle.lsp_frame.proofs.FrameLemmas.{judge_within}
 use Rattle.lsp_frame.proofs.StreamLemmas.{Way, SameFrame, same_frame, same_frames, way_of, not_before, same_kind}

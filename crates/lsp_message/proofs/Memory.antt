@@ -1,5 +1,5 @@
 -- When memory is taken for the changes of a message.
-use Rattle.std.proofs.Common.{ℕ, ◌<◌, List, [], ◌∷◌, length, vec_len, Vec, Global, arith}
+use Rattle.std.proofs.Common.{◌<◌, List, [], ◌∷◌, length, vec_len, Vec, Global, arith}
 use Rattle.serde_json.specs.View.{items_view}
 use Rattle.serde_json.specs.declared.value.Value.{Value}
 use Rattle.lsp_message.specs.Params.{HasChange}

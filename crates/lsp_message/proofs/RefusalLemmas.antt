@@ -1,8 +1,8 @@
 -- What an id that was told, or none, says of the object; and what is looked at.
-use Rattle.std.proofs.Common.{◌≡◌, ℕ, Bool, true, false, not, List, Option, Some, None, refl, ap, ◌∙◌}
+use Rattle.std.proofs.Common.{◌≡◌, ℕ, Bool, true, false, not, List, Option, Some, None, refl}
 use Rattle.std.specs.Prelude.{if◌then◌else◌}
 use Rattle.std.specs.Option.{option_map_or}
-use Rattle.serde_json.specs.Data.{Data, Members}
+use Rattle.serde_json.specs.Data.{Data}
 use Rattle.lsp_message.specs.Values.{text_in, is_null}
 use Rattle.lsp_message.specs.Message.{IdData, given, failed, request, notification, response, Reading, not_a_message, message, id_in, id_found, call_of, outcome_of, answer_of, message_with, message_by, is_version_two}
 use Rattle.lsp_message.specs.MessageLaws.{NotificationLaw, RefusalLaw, NamedLaw, version_of, method_of, id_of, params_of, error_of, result_of}

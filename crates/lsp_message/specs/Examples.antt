@@ -1,5 +1,5 @@
 -- Bodies, and what the definitions read them as.
-use Rattle.std.specs.Prelude.{ℕ, ◌≡◌, pos, negsuc, List, [], ◌∷◌, Option, Some, None, option_and_then, codes}
+use Rattle.std.specs.Prelude.{ℕ, ◌≡◌, pos, negsuc, List, Option, Some, None, option_and_then, codes}
 use Rattle.serde_json.specs.Data.{null, number, unsigned, negative}
 use Rattle.lsp_message.specs.Message.{whole, given, failed, request, response, not_json, not_a_message, message, value_of, reading}
 use Rattle.lsp_message.specs.Params.{EditData, version_in, coordinate_in, edit_in}

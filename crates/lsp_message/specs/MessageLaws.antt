@@ -1,5 +1,5 @@
 -- Laws over what an object is read as: the rows of the table of messages, each by itself, and what is looked at.
-use Rattle.std.specs.Prelude.{ℕ, ℤ, ◌≡◌, ◌↔◌, true, false, List, [], ◌∷◌, Option, Some, None, codes, ⊤}
+use Rattle.std.specs.Prelude.{ℕ, ◌≡◌, ◌↔◌, true, false, List, [], ◌∷◌, Option, Some, None, codes, ⊤}
 use Rattle.serde_json.specs.Data.{Num, Data, null, number, string, object, Items, Members}
 use Rattle.serde_json.specs.Find.{get_member, as_object, as_str, as_i64}
 use Rattle.lsp_message.specs.Values.{text_in, is_null, is_missing}

@@ -1,8 +1,8 @@
 -- Small texts, computed on the definitions.
-use Rattle.std.proofs.Common.{◌≡◌, ℕ, zero, suc, ◌≤◌, false, true, refl, sym, ◌∙◌, arith}
+use Rattle.std.proofs.Common.{zero, suc, refl, arith}
 use Rattle.std.proofs.Math.Utf8.{encode}
 use Rattle.lsp_text.specs.LineStarts.{IsPlace}
-use Rattle.lsp_text.specs.Examples.{HoldsOnExamples, two_lines, one_return, smile}
+use Rattle.lsp_text.specs.Examples.{HoldsOnExamples, two_lines, smile}
 
 no_place_in_two : IsPlace two_lines 2 → ⊥
 unfolding encode

@@ -1,7 +1,7 @@
 -- The laws over places, names, units and lines.
-use Rattle.std.proofs.Common.{◌≡◌, ℕ, suc, ◌+◌, ◌-◌, ◌<◌, ◌≤◌, List, length, get_or, slice_index, refl, sym, ap, ◌∙◌, arith, ⊎_elim}
-use Rattle.std.specs.Prelude.{Bool, true, false, Option, Some, None, ◌↔◌, codes, encode_utf8_all, if◌then◌else◌}
-use Rattle.std.specs.Str.{chars, IsUtf8, IsCharBoundary, bytes_eq}
+use Rattle.std.proofs.Common.{◌≡◌, ℕ, ◌+◌, ◌<◌, ◌≤◌, List, length, slice_index, refl, sym, ap, ◌∙◌, arith, ⊎_elim}
+use Rattle.std.specs.Prelude.{Bool, true, false, Some, None, codes, if◌then◌else◌}
+use Rattle.std.specs.Str.{chars, bytes_eq}
 use Rattle.std.proofs.lemmas.Bool.{cases_lt}
 use Rattle.std.proofs.lemmas.List.{length-map, get_or-map}
 use Rattle.std.proofs.lemmas.Slice.Eq.{bytes_eq-Decides}
@@ -11,7 +11,6 @@ use Rattle.lsp_text.specs.declared.encoding.Encoding.TheVariants.{Utf8, Utf16, U
 use Rattle.lsp_text.specs.Text.{place_of}
 use Rattle.lsp_text.specs.TextLines.{line_at, line_ends, line_start}
 use Rattle.lsp_text.specs.LineStarts.{line_starts, start_places}
-use Rattle.lsp_text.specs.Starts.{IsLineOf}
 use Rattle.lsp_text.specs.Units.{name_of, encoding_named}
 use Rattle.lsp_text.specs.UnitLaws.{utf8_bounds, utf16_bounds, utf32_bounds}
 use Rattle.lsp_text.specs.PlaceLaws.{RisingLaw, EndsLaw, BoundaryLaw}

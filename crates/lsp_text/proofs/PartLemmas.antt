@@ -1,15 +1,15 @@
 -- The lines of a text part it.
-use Rattle.std.proofs.Common.{◌≡◌, ◌≢◌, ℕ, zero, suc, ◌+◌, ◌-◌, ◌≤◌, ◌<◌, ◌⊎◌, Bool, true, false, not, ◌&&◌, ◌||◌, ◌==◌, cond, List, [], ◌∷◌, length, take, drop, get_or, slice_index, inl, inr, refl, sym, ap, ◌∙◌, arith, ⊎_elim, eqb-true, eq-eqb, subst}
+use Rattle.std.proofs.Common.{◌≡◌, ◌≢◌, ℕ, zero, suc, ◌+◌, ◌-◌, ◌≤◌, ◌<◌, true, false, not, ◌&&◌, ◌==◌, cond, List, [], ◌∷◌, length, take, drop, get_or, slice_index, inl, inr, sym, ap, ◌∙◌, arith, ⊎_elim, eqb-true, eq-eqb}
 use Rattle.std.proofs.Math.Seq.{drop-cons}
 use Rattle.std.specs.List.{prefix_len}
 use Rattle.std.proofs.lemmas.List.{get_or-drop}
 use Rattle.std.proofs.lemmas.List.Sums.{prefix_len_passes}
 use Rattle.std.proofs.lemmas.Bool.{cases_Bool, and_parts, or_cases, not-true, false≢true}
-use Rattle.lsp_text.specs.TextLines.{line_feed, carriage_return, ends_line, splits_crlf, line_at, line_ends, line_start, line_stop}
+use Rattle.lsp_text.specs.TextLines.{line_feed, carriage_return, ends_line, splits_crlf, line_ends, line_start, line_stop}
 use Rattle.lsp_text.specs.LineLaws.{IsLineEnd, line_end_of, LinesPart}
 use Rattle.lsp_text.proofs.LineLemmas.{line_rises}
 use Rattle.lsp_text.proofs.InLineLemmas.{is_inside_line, line_length}
-use Rattle.lsp_text.proofs.StartRowLemmas.{first_starts, next_start, IsNextStart}
+use Rattle.lsp_text.proofs.StartRowLemmas.{first_starts, next_start}
 use Rattle.lsp_text.proofs.ContentLemmas.{stop_is, stop_behind, last_stop}
 
 -- the characters of a line's content

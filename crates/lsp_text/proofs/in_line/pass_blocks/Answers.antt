@@ -1,4 +1,4 @@
-use Rattle.std.proofs.Common.{sym, ◌∙◌, arith}
+use Rattle.std.proofs.Common.{◌∙◌, arith}
 use Rattle.lsp_text.proofs.BlockLemmas.{pass_block}
 use Rattle.lsp_text.proofs.in_line.pass_blocks.Goals as goal
 
