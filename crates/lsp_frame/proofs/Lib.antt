@@ -8,3 +8,4 @@ pub mod StreamLemmas
 pub mod WordLemmas
 pub mod WrittenLemmas
 pub mod WrittenHeaderLemmas
+pub mod LawLemmas

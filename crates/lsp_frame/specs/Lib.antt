@@ -7,3 +7,4 @@ pub mod Encode
 pub mod Faults
 pub mod Stream
 pub mod Progress
+pub mod Laws

@@ -12,10 +12,10 @@ use crate::stage::{Stage, take_piece};
 use std::alloc::Global;
 use std::marker::Model;
 
-/// Takes a stream apart into its frames, in whatever pieces it comes.
+/// Takes a stream apart into its frames, in whatever pieces it comes (LSP 3.17, Base Protocol, Header Part).
 ///
-/// It holds at most one frame, so no more than 8,192 bytes and those of `max_body`. Clauses see the number of
-/// bytes that were given up or skipped, the bytes held, whether the stream was found faulty, and the limits.
+/// It holds at most one frame, so no more than 8,192 bytes and those of `max_body`; the memory that it takes for them may be twice
+/// that. Clauses see the number of bytes that were given up or skipped, the bytes held, whether the stream was found faulty, and the limits.
 #[derive(Drop)]
 pub struct Framer {
     limits: Limits,

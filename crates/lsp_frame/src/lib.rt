@@ -5,11 +5,13 @@
 //! - `framer`: the frames of a stream that comes in pieces, over `stage`, `written`, `header`, `shape`, `notes` and `words`.
 //! - `fault`: what can be wrong with them.
 //! - `stream`: the frames of a whole stream, and that they don't depend on how it was cut.
+//! - `laws`: what holds of frames, streams and faults by their definitions.
 #![tactic(auto)]
 
 mod fault;
 mod framer;
 mod header;
+mod laws;
 mod limits;
 mod notes;
 mod shape;
@@ -20,6 +22,7 @@ mod written;
 
 pub use fault::FrameFault;
 pub use framer::Framer;
+pub use laws::frame_laws;
 pub use limits::{BadLimits, Limits};
 pub use stream::{Frames, read_frames};
 pub use written::{EncodeFault, encode, frame};

@@ -37,9 +37,9 @@ pub struct BadLimits {
 }
 
 impl Limits {
-    /// The least and the greatest `max_body`, in bytes.
+    /// The least `max_body`, in bytes.
     pub const LEAST_BODY: usize = 4_096;
-
+    /// The greatest `max_body`, in bytes.
     pub const GREATEST_BODY: usize = 1_073_741_824;
     /// The greatest `max_text`, in bytes. The least is 0.
     pub const GREATEST_TEXT: usize = 1_073_741_824;
@@ -48,7 +48,8 @@ impl Limits {
     /// The greatest `max_changes`. The least is 1.
     pub const GREATEST_CHANGES: usize = 1_048_576;
 
-    /// The limits, or which of them is the first out of its range.
+    /// The limits, or which of them is the first out of its range: 4,096 to 1,073,741,824 bytes of a body, up to 1,073,741,824 bytes of
+    /// a text, 1 to 65,536 documents, 1 to 1,048,576 changes.
     pub fn new(
         max_body: usize,
         max_text: usize,

@@ -13,11 +13,14 @@ use std::alloc::{AllocError, Global};
 /// The bodies of the frames of a stream, and the fault that was found behind them.
 #[derive(Debug, Drop)]
 pub struct Frames {
+    /// The bodies, in the order of the stream.
     pub bodies: Vec<Vec<u8>>,
+    /// The fault behind them. A part of a frame at the stream's end is none.
     pub fault: Option<FrameFault>,
 }
 
-/// The frames of a stream that comes in these pieces. Linear in the stream.
+/// The frames of a stream that comes in these pieces, up to a fault (LSP 3.17, Base Protocol). Fails only where memory runs out.
+/// Linear in the stream.
 pub fn read_frames(alloc: Global, limits: Limits, pieces: &[Vec<u8>]) -> Result<Frames, AllocError>
     // They are those of the pieces put together.
     ensures read { IfOk result (λ frames.

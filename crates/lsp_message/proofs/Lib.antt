@@ -3,3 +3,7 @@ pub mod Sound
 pub mod Bodies
 pub mod ReadBack
 pub mod Proper
+pub mod Memory
+pub mod MessageLemmas
+pub mod RefusalLemmas
+pub mod Examples

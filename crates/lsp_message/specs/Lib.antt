@@ -5,3 +5,5 @@ pub mod Agreement
 pub mod Outgoing
 pub mod Sent
 pub mod Seen
+pub mod MessageLaws
+pub mod Examples

@@ -16,7 +16,9 @@ use std::alloc::Global;
 /// The encodings that a client offers (LSP 3.17, `general.positionEncodings`). UTF-16 is always among them.
 #[derive(Clone, Copy, Debug, PartialEq, Eq, Hash)]
 pub struct Offers {
+    /// `utf-8` is among the names.
     pub utf8: bool,
+    /// `utf-32` is among the names.
     pub utf32: bool,
 }
 
@@ -64,17 +66,20 @@ impl SyncKind {
     }
 }
 
-/// What a server's result of `initialize` announces. An encoding whose name is unknown is `None`.
+/// What a server's result of `initialize` announces (LSP 3.17, ServerCapabilities: `positionEncoding`, `textDocumentSync`).
 #[derive(Clone, Copy, Debug, PartialEq, Eq, Hash)]
 pub struct Announced {
+    /// The server wants to be told of documents that open and close.
     pub open_close: bool,
     pub kind: SyncKind,
+    /// UTF-16 where none is named, and `None` where the name is unknown.
     pub encoding: Option<Encoding>,
 }
 
-/// Reads the params of an `initialize`. Takes no memory.
+/// Reads the params of an `initialize`. Takes no memory: the allocator is there so that all five calls look alike.
 ///
-/// Linear in the number of encodings that are named.
+/// Refused are params that are no object, a step on the way to the names that is there and no object, and names that are no list of
+/// strings. Linear in the number of encodings that are named.
 pub fn params_initialize(_alloc: Global, params: Option<Value>) -> Result<Offers, ParamsFault>
     ensures ok { IfOk result (λ offers. offers_of (option_map view params) ≡ Some offers) }
     ensures err { IfErr result (λ e. (e ≡ InvalidParams) × (offers_of (option_map view params) ≡ None)) }
@@ -82,7 +87,7 @@ pub fn params_initialize(_alloc: Global, params: Option<Value>) -> Result<Offers
     offers_of(params.as_ref()).ok_or(ParamsFault::InvalidParams)
 }
 
-/// Reads the result of an `initialize`. Takes no memory.
+/// Reads the result of an `initialize`. Takes no memory. Refused is a result without capabilities, and a member of the wrong type.
 pub fn result_initialize(_alloc: Global, value: Value) -> Result<Announced, ParamsFault>
     ensures ok { IfOk result (λ announced. announced_of (view value) ≡ Some announced) }
     ensures err { IfErr result (λ e. (e ≡ InvalidParams) × (announced_of (view value) ≡ None)) }

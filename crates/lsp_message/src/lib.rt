@@ -4,9 +4,13 @@
 //! - `params`: the typed parameters of the document messages.
 //! - `agreement`: what a client offers and what a server announces.
 //! - `members`: the members of an object, taken out of it one by one.
+//! - `outgoing`: the messages that are written, and the errors of replies.
+//! - `writer`: their JSON values, and their one text.
+//! - `laws`: what holds of bodies and messages by their definitions.
 #![tactic(auto)]
 
 mod agreement;
+mod laws;
 mod members;
 mod message;
 mod outgoing;
@@ -16,6 +20,7 @@ mod tests;
 mod writer;
 
 pub use agreement::{Announced, Offers, SyncKind, params_initialize, result_initialize};
+pub use laws::message_laws;
 pub use message::{Id, Message, Outcome, ReadFault, read};
 pub use outgoing::{ErrorCode, Outgoing};
 pub use params::{

@@ -14,30 +14,36 @@ use thiserror::Error;
 /// The id of a request, which its response repeats.
 #[derive(Debug, PartialEq, Eq, Drop)]
 pub enum Id {
+    /// A whole number that 64 bits with a sign hold, written without a fraction and an exponent.
     Whole(i64),
+    /// A string, which may be empty.
     Text(String),
 }
 
 /// How a request went: the value of a response's `result`, or that it has an `error`.
 #[derive(Debug, PartialEq, Drop)]
 pub enum Outcome {
+    /// The result, which may be null.
     Given(Value),
+    /// An error that isn't null. What it says is not kept.
     Failed,
 }
 
 /// A message of JSON-RPC 2.0. `params` is the member's value, whatever it is.
 #[derive(Debug, PartialEq, Drop)]
 pub enum Message {
+    /// A call with an id, which is owed a response.
     Request {
         id: Id,
         method: String,
         params: Option<Value>,
     },
+    /// A call without an id.
     Notification {
         method: String,
         params: Option<Value>,
     },
-    /// The id is `None` where the member is null.
+    /// An answer to a request. The id is `None` where the member is null.
     Response {
         id: Option<Id>,
         outcome: Outcome,
@@ -47,11 +53,13 @@ pub enum Message {
 /// Why a body was not read as a message.
 #[derive(Debug, PartialEq, Eq, Drop, Error)]
 pub enum ReadFault {
+    /// The bytes are no UTF-8, or not one JSON value, or nest deeper than 127 arrays and objects, or hold a number that no float holds.
     #[error("the body is no JSON")]
     NotJson,
     /// The body is JSON and no message. The id is the one that a reply may name, if there is one.
     #[error("the body is no message")]
     NotAMessage { id: Option<Id> },
+    /// Memory ran out. It says nothing of the body.
     #[error("out of memory")]
     NoMemory,
 }
@@ -70,7 +78,7 @@ impl From<serde_json::Error> for ReadFault {
     }
 }
 
-/// Reads a body.
+/// Reads a body: the message that it is, or why it is none (LSP 3.17, Base Protocol, Content Part).
 ///
 /// One parse, linear in the body; texts are moved out of what was parsed.
 pub fn read(alloc: Global, body: &[u8]) -> Result<Message, ReadFault>

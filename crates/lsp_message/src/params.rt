@@ -1,9 +1,9 @@
 //! The typed parameters of the three document messages (LSP 3.17, DidOpen, DidChange, DidClose Text Document Notification).
 
-ghost use Rattle.std.specs.Prelude.{◌≡◌, None, Some, IfOk, IfErr, map, option_map, Err};
+ghost use Rattle.std.specs.Prelude.{◌≡◌, ◌<◌, None, Some, IfOk, IfErr, map, option_map, Err, vec_len};
 ghost use Rattle.serde_json.specs.View.{view, items_view, members_view};
 ghost use Rattle.lsp_message.specs.declared.params.ParamsFault.TheVariants.{InvalidParams, NoMemory};
-ghost use Rattle.lsp_message.specs.Params.{open_of, change_of, close_of, open_by, edit_in, edits_in, document_in, document_and_changes, change_by, version_in, coordinate_in, position_in, range_in, range_of};
+ghost use Rattle.lsp_message.specs.Params.{open_of, change_of, close_of, open_by, edit_in, edits_in, document_in, document_and_changes, change_by, version_in, coordinate_in, position_in, range_in, range_of, TakesMemoryBy, TakesMemory};
 ghost use Rattle.lsp_message.specs.Seen.{open_view, change_view, close_view, edit_view};
 
 use crate::members::{array, member, object, take, text};
@@ -16,16 +16,21 @@ use thiserror::Error;
 /// The params of a `textDocument/didOpen`.
 #[derive(Debug, PartialEq, Eq, Drop)]
 pub struct OpenParams {
+    /// The document's URI, as it was sent.
     pub uri: String,
+    /// The protocol's `languageId`.
     pub language: String,
     pub version: i32,
+    /// The whole text.
     pub text: String,
 }
 
 /// The params of a `textDocument/didChange`. The changes apply in order, each to the text that the one before left.
 #[derive(Debug, PartialEq, Eq, Drop)]
 pub struct ChangeParams {
+    /// The document's URI, as it was sent.
     pub uri: String,
+    /// The version of the document behind the changes.
     pub version: i32,
     pub changes: Vec<Change>,
 }
@@ -33,6 +38,7 @@ pub struct ChangeParams {
 /// The params of a `textDocument/didClose`.
 #[derive(Debug, PartialEq, Eq, Drop)]
 pub struct CloseParams {
+    /// The document's URI, as it was sent.
     pub uri: String,
 }
 
@@ -42,6 +48,7 @@ pub enum ParamsFault {
     /// A member is missing, has the wrong type, or is a number out of range.
     #[error("invalid params")]
     InvalidParams,
+    /// Memory ran out. Only the list of changes takes some.
     #[error("out of memory")]
     NoMemory,
 }
@@ -62,7 +69,10 @@ impl<T: Drop> From<AllocFailed<T>> for ParamsFault {
     }
 }
 
-/// Reads the params of a `textDocument/didOpen`. The texts are moved out of them; nothing is copied.
+/// Reads the params of a `textDocument/didOpen`. The texts are moved out of them; nothing is copied. Takes no memory: the allocator is
+/// there so that all five calls look alike.
+///
+/// Refused is a member that is missing, has the wrong type or is out of range; one that isn't named is not looked at.
 pub fn params_open(_alloc: Global, params: Option<Value>) -> Result<OpenParams, ParamsFault>
     ensures ok { IfOk result (λ p. open_of (option_map view params) ≡ Some (open_view p)) }
     ensures err { IfErr result (λ e. (e ≡ InvalidParams) × (open_of (option_map view params) ≡ None)) }
@@ -72,16 +82,18 @@ pub fn params_open(_alloc: Global, params: Option<Value>) -> Result<OpenParams, 
 
 /// Reads the params of a `textDocument/didChange`. The texts are moved out of them; nothing is copied.
 ///
-/// Linear in the number of changes.
+/// Refused as at `params_open`. Memory is taken for the list of changes alone, once the document's URI and version are read. Linear in
+/// the number of changes.
 pub fn params_change(alloc: Global, params: Option<Value>) -> Result<ChangeParams, ParamsFault>
     ensures ok { IfOk result (λ p. change_of (option_map view params) ≡ Some (change_view p)) }
     ensures invalid { result ≡ Err ParamsFault.InvalidParams → change_of (option_map view params) ≡ None }
+    ensures memory { result ≡ Err ParamsFault.NoMemory → TakesMemory (option_map view params) }
 {
     let (document, changes) = document_and_changes(params).ok_or(ParamsFault::InvalidParams)?;
     change_by(alloc, document, changes)
 }
 
-/// Reads the params of a `textDocument/didClose`. The URI is moved out of them.
+/// Reads the params of a `textDocument/didClose`. The URI is moved out of them. Takes no memory. Refused as at `params_open`.
 pub fn params_close(_alloc: Global, params: Option<Value>) -> Result<CloseParams, ParamsFault>
     ensures ok { IfOk result (λ p. close_of (option_map view params) ≡ Some (close_view p)) }
     ensures err { IfErr result (λ e. (e ≡ InvalidParams) × (close_of (option_map view params) ≡ None)) }
@@ -184,6 +196,8 @@ fn change_by(
     ensures ok { IfOk result (λ p. change_by (members_view document.entries) (items_view changes.items) ≡ Some (change_view p)) }
     ensures invalid { result ≡ Err ParamsFault.InvalidParams
         → change_by (members_view document.entries) (items_view changes.items) ≡ None }
+    ensures memory { result ≡ Err ParamsFault.NoMemory
+        → TakesMemoryBy (members_view document.entries) (items_view changes.items) }
 {
     let uri = text(take(&mut document, "uri")).ok_or(ParamsFault::InvalidParams)?;
     let version = version_in(take(&mut document, "version")).ok_or(ParamsFault::InvalidParams)?;
@@ -209,6 +223,7 @@ fn document_and_changes(params: Option<Value>) -> Option<(Map<String, Value>, Ve
 fn edits_in(alloc: Global, values: Vec<Value>) -> Result<Vec<Change>, ParamsFault>
     ensures ok { IfOk result (λ changes. edits_in (items_view values.items) ≡ Some (map edit_view changes.items)) }
     ensures invalid { result ≡ Err ParamsFault.InvalidParams → edits_in (items_view values.items) ≡ None }
+    ensures memory { result ≡ Err ParamsFault.NoMemory → 0 < vec_len values }
 {
     let mut changes = Vec::with_capacity(alloc, values.len())?;
     for value in values {

@@ -1,9 +1,10 @@
 //! Messages as JSON values, and their one text.
 
-ghost use Rattle.std.specs.Prelude.{◌≡◌, Some, None, IfOk, map, option_map, string_bytes};
+ghost use Rattle.std.specs.Prelude.{◌≡◌, Some, None, All, IfOk, IfSome, OnOk, FitsSigned, map, option_map, string_bytes};
+ghost use Rattle.std.specs.Int.{w32};
 ghost use Rattle.serde_json.specs.View.{view};
 ghost use Rattle.lsp_message.specs.Outgoing as spec;
-ghost use Rattle.lsp_message.specs.Sent.{IsProper, IsReadAsSent, IsReadBack};
+ghost use Rattle.lsp_message.specs.Sent.{IsProper, IsProperId, IsProperOpen, IsProperChange, IsProperRange, IsProperPosition, IsReadAsSent, IsReadBack};
 ghost use Rattle.lsp_message.specs.Seen.{id_view, open_view, edit_view, change_view, close_view, outgoing_view};
 
 use crate::agreement::{Offers, SyncKind};
@@ -27,12 +28,15 @@ pub fn write(alloc: Global, message: &Outgoing) -> Result<Vec<u8>, AllocError>
     ensures read_back { (m : spec.OutgoingData) → IsProper m → IsReadBack m }
     ensures unique { (m n : spec.OutgoingData) → IsProper m → IsProper n
         → spec.body_of m ≡ spec.body_of n → m ≡ n }
+    // The message that was written is one of them.
+    ensures proper { OnOk result (IsProper (outgoing_view message.now)) }
 {
     value_of(alloc, message)?.to_vec(alloc)
 }
 
 fn value_of(alloc: Global, message: &Outgoing) -> Result<Value, AllocError>
-    ensures { IfOk result (λ v. view v ≡ spec.value_of (outgoing_view message.now)) }
+    ensures value { IfOk result (λ v. view v ≡ spec.value_of (outgoing_view message.now)) }
+    ensures proper { OnOk result (IsProper (outgoing_view message.now)) }
 {
     match message {
         Outgoing::Initialize(offers) => {
@@ -75,14 +79,16 @@ fn notification_with(alloc: Global, method: &str, params: Value) -> Result<Value
 }
 
 fn reply(alloc: Global, id: &Id, outcome: Value) -> Result<Value, AllocError>
-    ensures { IfOk result (λ v. view v ≡ spec.result_value (id_view id.now) (view outcome)) }
+    ensures value { IfOk result (λ v. view v ≡ spec.result_value (id_view id.now) (view outcome)) }
+    ensures proper { OnOk result (IsProperId (id_view id.now)) }
 {
     let id = id_value(alloc, id)?;
     json!(in alloc; {"id": id, "jsonrpc": "2.0", "result": outcome})
 }
 
 fn error_reply(alloc: Global, id: &Option<Id>, error: ErrorCode) -> Result<Value, AllocError>
-    ensures { IfOk result (λ v. view v ≡ spec.error_reply_value (option_map id_view id.now) error) }
+    ensures value { IfOk result (λ v. view v ≡ spec.error_reply_value (option_map id_view id.now) error) }
+    ensures proper { OnOk result (IfSome (option_map id_view id.now) IsProperId) }
 {
     let error = error_value(alloc, error)?;
     let id = match id {
@@ -99,7 +105,8 @@ fn error_value(alloc: Global, error: ErrorCode) -> Result<Value, AllocError>
 }
 
 fn id_value(alloc: Global, id: &Id) -> Result<Value, AllocError>
-    ensures { IfOk result (λ v. view v ≡ spec.id_value (id_view id.now)) }
+    ensures value { IfOk result (λ v. view v ≡ spec.id_value (id_view id.now)) }
+    ensures proper { OnOk result (IsProperId (id_view id.now)) }
 {
     match id {
         Id::Whole(n) => Ok(Value::from(*n)),
@@ -134,33 +141,39 @@ fn names_of(alloc: Global, offers: Offers) -> Result<Vec<Value>, AllocError>
 }
 
 fn open_params(alloc: Global, params: &OpenParams) -> Result<Value, AllocError>
-    ensures { IfOk result (λ v. view v ≡ spec.open_params (open_view params.now)) }
+    ensures value { IfOk result (λ v. view v ≡ spec.open_params (open_view params.now)) }
+    ensures proper { OnOk result (IsProperOpen (open_view params.now)) }
 {
     let document = opened_document(alloc, params)?;
     json!(in alloc; {"textDocument": document})
 }
 
 fn opened_document(alloc: Global, params: &OpenParams) -> Result<Value, AllocError>
-    ensures { IfOk result (λ v. view v ≡ spec.opened_document (open_view params.now)) }
+    ensures value { IfOk result (λ v. view v ≡ spec.opened_document (open_view params.now)) }
+    ensures proper { OnOk result (IsProperOpen (open_view params.now)) }
 {
+    let version = params.version;
     json!(in alloc; {
         "languageId": &params.language,
         "text": &params.text,
         "uri": &params.uri,
-        "version": params.version
+        "version": version
     })
 }
 
 fn change_params(alloc: Global, params: &ChangeParams) -> Result<Value, AllocError>
-    ensures { IfOk result (λ v. view v ≡ spec.change_params (change_view params.now)) }
+    ensures value { IfOk result (λ v. view v ≡ spec.change_params (change_view params.now)) }
+    ensures proper { OnOk result (IsProperChange (change_view params.now)) }
 {
     let changes = edits_value(alloc, &params.changes)?;
-    let document = versioned_document(alloc, &params.uri, params.version)?;
+    let version = params.version;
+    let document = versioned_document(alloc, &params.uri, version)?;
     json!(in alloc; {"contentChanges": changes, "textDocument": document})
 }
 
 fn versioned_document(alloc: Global, uri: &String, version: i32) -> Result<Value, AllocError>
-    ensures { IfOk result (λ v. view v ≡ spec.versioned_document (string_bytes uri.now) version) }
+    ensures value { IfOk result (λ v. view v ≡ spec.versioned_document (string_bytes uri.now) version) }
+    ensures proper { OnOk result (FitsSigned w32 version) }
 {
     json!(in alloc; {"uri": uri, "version": version})
 }
@@ -172,7 +185,8 @@ fn close_params(alloc: Global, params: &CloseParams) -> Result<Value, AllocError
 }
 
 fn edits_value(alloc: Global, changes: &[Change]) -> Result<Vec<Value>, AllocError>
-    ensures { IfOk result (λ values. map view values.items ≡ map spec.edit_value (map edit_view changes.now)) }
+    ensures value { IfOk result (λ values. map view values.items ≡ map spec.edit_value (map edit_view changes.now)) }
+    ensures proper { OnOk result (All (λ change. IfSome change.range IsProperRange) changes.now) }
 {
     let mut values = Vec::with_capacity(alloc, changes.len())?;
     for change in changes {
@@ -182,7 +196,8 @@ fn edits_value(alloc: Global, changes: &[Change]) -> Result<Vec<Value>, AllocErr
 }
 
 fn edit_value(alloc: Global, change: &Change) -> Result<Value, AllocError>
-    ensures { IfOk result (λ v. view v ≡ spec.edit_value (edit_view change.now)) }
+    ensures value { IfOk result (λ v. view v ≡ spec.edit_value (edit_view change.now)) }
+    ensures proper { OnOk result (IfSome change.now.range IsProperRange) }
 {
     match change.range {
         Some(range) => {
@@ -194,7 +209,8 @@ fn edit_value(alloc: Global, change: &Change) -> Result<Value, AllocError>
 }
 
 fn range_value(alloc: Global, range: Range) -> Result<Value, AllocError>
-    ensures { IfOk result (λ v. view v ≡ spec.range_value range) }
+    ensures value { IfOk result (λ v. view v ≡ spec.range_value range) }
+    ensures proper { OnOk result (IsProperRange range) }
 {
     let start = position_value(alloc, range.start)?;
     let stop = position_value(alloc, range.stop)?;
@@ -202,7 +218,8 @@ fn range_value(alloc: Global, range: Range) -> Result<Value, AllocError>
 }
 
 fn position_value(alloc: Global, position: Position) -> Result<Value, AllocError>
-    ensures { IfOk result (λ v. view v ≡ spec.position_value position) }
+    ensures value { IfOk result (λ v. view v ≡ spec.position_value position) }
+    ensures proper { OnOk result (IsProperPosition position) }
 {
     json!(in alloc; {"character": position.character, "line": position.line})
 }

@@ -20,4 +20,5 @@ pub mod SpliceLemmas
 pub mod PastLemmas
 pub mod PartLemmas
 pub mod SearchLemmas
-mod Examples
+pub mod Examples
+pub mod LawLemmas

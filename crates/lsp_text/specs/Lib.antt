@@ -9,3 +9,7 @@ pub mod UnitLaws
 pub mod LeadLaws
 pub mod Splice
 pub mod LineLaws
+pub mod PlaceLaws
+pub mod EncodingLaws
+pub mod PositionLaws
+pub mod Examples

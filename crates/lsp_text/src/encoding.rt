@@ -1,3 +1,5 @@
+//! The encodings in which a position's character is counted.
+
 ghost use Rattle.std.specs.Prelude.{◌≡◌, Some};
 ghost use Rattle.lsp_text.specs.Units.{name_of, encoding_named};
 

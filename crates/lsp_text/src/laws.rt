@@ -1,26 +1,44 @@
 //! Laws over the definitions alone, that no call of this crate makes by itself.
 
-ghost use Rattle.std.specs.Prelude.{ℕ, ◌<◌, ◌≤◌, ◌≡◌, false, List, length, take, Some};
-ghost use Rattle.lsp_text.specs.declared.position.Position.{Position};
-ghost use Rattle.lsp_text.specs.TextLines.{splits_crlf, line_ends, line_start, line_stop};
+ghost use Rattle.std.specs.Prelude.{ℕ, List};
+ghost use Rattle.lsp_text.specs.EncodingLaws.{NameLaw, UnitLaw};
+ghost use Rattle.lsp_text.specs.Examples.{HoldsOnExamples};
 ghost use Rattle.lsp_text.specs.LineLaws.{LinesPart};
-ghost use Rattle.lsp_text.specs.Units.{units_between};
-ghost use Rattle.lsp_text.specs.Positions.{exact_position, denoted};
+ghost use Rattle.lsp_text.specs.PlaceLaws.{RisingLaw, EndsLaw, BoundaryLaw, IndexLaw};
+ghost use Rattle.lsp_text.specs.PositionLaws.{DenotesLaw, WholeLaw, NearLaw, AloneLaw, PastLineLaw, PastTextLaw, FoundLaw};
 
 /// What holds of positions in every text, whatever units its characters have, one at least. It does nothing: its contract says that
 /// an exact position denotes its index, that what a position denotes is an index of the text that splits no CRLF, that an exact
 /// position goes by the characters before it alone and belongs to one index, that a position past a line's content denotes its end,
-/// and that one past the last line denotes the end of the text.
+/// and that one past the last line denotes the end of the text. It also says what the definitions give on small texts.
 pub fn position_laws()
-    ensures denotes { (units : ℕ → ℕ) → ((c : ℕ) → 1 ≤ units c) → (text : List ℕ) (k : ℕ) → k ≤ length text → splits_crlf text k ≡ false → denoted units text (exact_position units text k) ≡ Some k }
-    ensures whole { (units : ℕ → ℕ) (text : List ℕ) (p : Position) (k : ℕ) → denoted units text p ≡ Some k → (k ≤ length text) × (splits_crlf text k ≡ false) }
-    ensures near { (units : ℕ → ℕ) (text other : List ℕ) (k : ℕ) → take k text ≡ take k other → k ≤ length text → k ≤ length other → splits_crlf text k ≡ false → splits_crlf other k ≡ false → exact_position units text k ≡ exact_position units other k }
-    ensures alone { (units : ℕ → ℕ) → ((c : ℕ) → 1 ≤ units c) → (text : List ℕ) (j k : ℕ) → j ≤ length text → splits_crlf text j ≡ false → k ≤ length text → splits_crlf text k ≡ false → exact_position units text j ≡ exact_position units text k → j ≡ k }
-    ensures past_line { (units : ℕ → ℕ) (text : List ℕ) (p : Position) → p.line ≤ line_ends text → units_between units text (line_start text p.line) (line_stop text p.line) ≤ p.character → denoted units text p ≡ Some (line_stop text p.line) }
-    ensures past_text { (units : ℕ → ℕ) (text : List ℕ) (p : Position) → line_ends text < p.line → denoted units text p ≡ Some (length text) }
+    ensures denotes { DenotesLaw }
+    ensures whole { WholeLaw }
+    ensures near { NearLaw }
+    ensures alone { AloneLaw }
+    ensures past_line { PastLineLaw }
+    ensures past_text { PastTextLaw }
+    ensures examples { HoldsOnExamples }
 {}
 
-/// What holds of the lines of every text: together they are the text. It does nothing.
+/// What holds of the lines of every text: together they are the text, and the line that `line_of` finds among the places of their
+/// starts is the line of the index at that place. It does nothing.
 pub fn line_laws()
-    ensures { (text : List ℕ) → LinesPart text }
+    ensures parts { (text : List ℕ) → LinesPart text }
+    ensures found { FoundLaw }
+{}
+
+/// What holds of the places of every text's indexes among its bytes: they rise strictly, from 0 to the number of bytes, and are the
+/// boundaries of characters, each the place of exactly one index. It does nothing.
+pub fn place_laws()
+    ensures rising { RisingLaw }
+    ensures ends { EndsLaw }
+    ensures boundary { BoundaryLaw }
+    ensures index { IndexLaw }
+{}
+
+/// What holds of the encodings: each is found by its name and by no other, and a character has 1 to 4 units. It does nothing.
+pub fn encoding_laws()
+    ensures name { NameLaw }
+    ensures units { UnitLaw }
 {}

@@ -22,7 +22,7 @@ mod tests;
 mod units;
 
 pub use encoding::Encoding;
-pub use laws::{line_laws, position_laws};
+pub use laws::{encoding_laws, line_laws, place_laws, position_laws};
 pub use lines::Lines;
 pub use position::{Position, Range};
 pub use resolve::InsideCharacter;

@@ -39,7 +39,7 @@ impl Model for Lines {
 }
 
 impl Lines {
-    /// The lines of a text, in time linear in its bytes.
+    /// The lines of a text of at most 2,147,483,648 bytes, in time linear in them. Fails only where memory runs out.
     pub fn new(alloc: Global, text: &str) -> Result<Self, AllocError>
         requires { length text.now ≤ 2147483648 }
         ensures { IfOk result (λ lines. Indexes lines text.now) }
@@ -51,7 +51,7 @@ impl Lines {
         Ok(Lines { starts })
     }
 
-    /// How many lines there are: one more than line ends, at least one.
+    /// How many lines there are: one more than line ends, at least one. In constant time.
     pub fn count(&self) -> usize
         ensures count { result ≡ length self.now }
         ensures line_ends { (text : List ℕ) → Indexes self.now text → result ≡ line_ends (chars text) + 1 }
@@ -59,7 +59,7 @@ impl Lines {
         self.starts.len()
     }
 
-    /// The line starts, to be looked up with each look counted.
+    /// The line starts, to be looked up with each look counted. Nothing is copied.
     pub fn looks(&self) -> Looks<'_>
         ensures starts { ⟦<Looks<'static> as Starts>⟧.starts result ≡ self.now }
         ensures made { ⟦<Looks<'static> as Starts>⟧.looks result ≡ 0 }
@@ -68,6 +68,7 @@ impl Lines {
     }
 
     /// Whether a position can stand at this place of the text: it is a boundary of characters that splits no CRLF.
+    /// A place is counted in bytes of UTF-8. In constant time.
     pub fn is_place(&self, text: &str, place: usize) -> bool
         ensures place { IsTrue result ↔ IsPlace (chars text.now) place }
         ensures boundary { IsTrue result → IsCharBoundary text.now place }
@@ -76,7 +77,8 @@ impl Lines {
     }
 
     /// The place that a position denotes in the text that the lines index (LSP 3.17, Position): the end of the text, if it has no such
-    /// line; the end of the line's content, if that has no more units. It costs the line's text up to the character, in UTF-8 nothing.
+    /// line; the end of the line's content, if that has no more units than the position's character. It is refused where the character
+    /// lies inside a character of the text. It costs the line's text up to the character, in UTF-8 nothing.
     pub fn resolve(
         &self,
         text: &str,

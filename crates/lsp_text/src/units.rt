@@ -10,11 +10,12 @@ pub trait Units {
     /// The units of a character.
     ghost units_of: { ℕ → ℕ };
 
-    /// The units of a character: 1 to 4.
+    /// The units of a character: 1 to 4, and no more than its bytes of UTF-8. In constant time.
     fn units(c: char) -> u32
         ensures { result ≡ units_of c };
 
-    /// A character has a unit at least, and no more units than bytes of UTF-8, of which it has 1 to 4.
+    /// A character has a unit at least, and no more units than bytes of UTF-8. It has 1 to 4 of these, so it has 1 to 4 units; and the
+    /// units of a text that fits a `u32` by its bytes fit one too, in which positions count them.
     ghost bounds: { (c : ℕ) → (1 ≤ units_of c) × (units_of c ≤ len_utf8 c) };
 }
 

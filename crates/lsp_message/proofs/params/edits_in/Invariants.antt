@@ -1,4 +1,4 @@
-use Rattle.std.proofs.Common.{◌≡◌, ◌++◌, map, option_map}
+use Rattle.std.proofs.Common.{◌≡◌, ◌≤◌, ◌++◌, length, map, option_map}
 use Rattle.std.specs.Vec.Iter.{into_iter_items}
 use Rattle.serde_json.specs.View.{items_view}
 use Rattle.lsp_message.specs.Params.{edits_in}
@@ -11,4 +11,5 @@ invariant-loop-value l = record {
   going : (goal.iterator-loop-value).can_next l.value-iterator;
   ending : (goal.iterator-loop-value).is_finite l.value-iterator;
   so_far : option_map (λ es. map edit_view l.changes.items ++ es) (edits_in (items_view (into_iter_items l.value-iterator))) ≡ edits_in (items_view l.fn.values.items);
+  fewer : length (into_iter_items l.value-iterator) ≤ length l.fn.values.items;
 }

@@ -9,7 +9,7 @@ use Rattle.lsp_message.proofs.writer.write.Goals as goal
 
 pub returns-clause-body : goal.returns-clause-body
 returns-clause-body c =
-    let seen = c.in_ok-value_of.ensures in
+    let seen = c.in_ok-value_of.ensures.value in
     let no_float : has_float (view c.in_ok-value_of.field-0) ≡ false = ap has_float seen ∙ has_float-value_of (outgoing_view c.args.message.now) in
     IfOk-weaker c.to_vec.result _ _ (λ body text. text no_float ∙ ap compact_text seen) c.to_vec.ensures.text
 

@@ -1,6 +1,7 @@
 use Rattle.lsp_text.proofs.PositionLemmas.{exact_denotes, exact_same, denoted_whole}
 use Rattle.lsp_text.proofs.NearLemmas.{exact_near}
 use Rattle.lsp_text.proofs.PastLemmas.{past_line, past_text}
+use Rattle.lsp_text.proofs.Examples.{holds_on_examples}
 use Rattle.lsp_text.proofs.laws.position_laws.Goals as goal
 
 pub returns : goal.returns
@@ -11,4 +12,5 @@ returns c = record {
   alone = exact_same;
   past_line = past_line;
   past_text = past_text;
+  examples = holds_on_examples;
 }

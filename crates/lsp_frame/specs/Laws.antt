@@ -1,0 +1,54 @@
+-- Laws over frames, streams and faults, whatever the limit on bodies is.
+use Rattle.std.specs.Prelude.{ℕ, ◌≡◌, ◌+◌, ◌^◌, ◌≤◌, ◌<◌, List, [], ◌++◌, length, Option}
+use Rattle.lsp_frame.specs.Frame.{frame, Spells, IsHopeless}
+use Rattle.lsp_frame.specs.Faults.{IsDecidedAt}
+use Rattle.lsp_frame.specs.Stream.{HasFrames, IsRead}
+use Rattle.lsp_frame.specs.declared.fault.HeaderFault.{HeaderFault}
+use Rattle.lsp_frame.specs.declared.fault.FrameFault.{FrameFault}
+
+-- No spelling is a proper front of another, and a spelling has one body.
+abbrev pub SpellingLaw : Type 0
+SpellingLaw =
+    (max_body : ℕ) (spelling more body other : List ℕ) →
+    Spells max_body spelling body → Spells max_body (spelling ++ more) other → (more ≡ []) × (body ≡ other)
+
+-- A frame has at most 8,192 bytes more than the limit.
+abbrev pub BoundLaw : Type 0
+BoundLaw = (max_body : ℕ) (spelling body : List ℕ) → Spells max_body spelling body → length spelling ≤ 8192 + max_body
+
+-- The frames of a stream are one list, and what is left behind them is one.
+abbrev pub FramesLaw : Type 0
+FramesLaw =
+    (max_body : ℕ) (stream : List ℕ) (bodies others : List (List ℕ)) (rest other : List ℕ) →
+    HasFrames max_body stream bodies rest → HasFrames max_body stream others other → (bodies ≡ others) × (rest ≡ other)
+
+-- The same with the fault behind them, or that there is none.
+abbrev pub ReadingLaw : Type 0
+ReadingLaw =
+    (max_body : ℕ) (stream : List ℕ) (bodies others : List (List ℕ)) (fault other : Option FrameFault) →
+    IsRead max_body stream bodies fault → IsRead max_body stream others other → (bodies ≡ others) × (fault ≡ other)
+
+-- At most one fault is decided, at one byte.
+abbrev pub FaultLaw : Type 0
+FaultLaw =
+    (max_body : ℕ) (bytes : List ℕ) (j k : ℕ) (fault other : HeaderFault) →
+    IsDecidedAt max_body bytes j fault → IsDecidedAt max_body bytes k other → (j ≡ k) × (fault ≡ other)
+
+-- More bytes don't change the decision.
+abbrev pub StayingLaw : Type 0
+StayingLaw =
+    (max_body : ℕ) (bytes more : List ℕ) (k : ℕ) (fault : HeaderFault) →
+    IsDecidedAt max_body bytes k fault → IsDecidedAt max_body (bytes ++ more) k fault
+
+-- Where a fault is decided no frame begins, whatever may follow.
+abbrev pub HopelessLaw : Type 0
+HopelessLaw =
+    (max_body : ℕ) (bytes : List ℕ) (k : ℕ) (fault : HeaderFault) → IsDecidedAt max_body bytes k fault → IsHopeless max_body bytes
+
+-- A written frame spells its body under each limit that lets the body pass.
+abbrev pub WrittenLaw : Type 0
+WrittenLaw = (max_body : ℕ) (body : List ℕ) → length body ≤ max_body → length body < 2 ^ 64 → Spells max_body (frame body) body
+
+-- Two bodies with one written frame are one.
+abbrev pub InjectiveLaw : Type 0
+InjectiveLaw = (body other : List ℕ) → length body < 2 ^ 64 → length other < 2 ^ 64 → frame body ≡ frame other → body ≡ other

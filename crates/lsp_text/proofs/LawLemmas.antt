@@ -1,0 +1,100 @@
+-- The laws over places, names, units and lines.
+use Rattle.std.proofs.Common.{◌≡◌, ℕ, ◌+◌, ◌<◌, ◌≤◌, List, length, slice_index, refl, sym, ap, ◌∙◌, arith, ⊎_elim}
+use Rattle.std.specs.Prelude.{Bool, true, false, Some, None, codes, if◌then◌else◌}
+use Rattle.std.specs.Str.{chars, bytes_eq}
+use Rattle.std.proofs.lemmas.Bool.{cases_lt}
+use Rattle.std.proofs.lemmas.List.{length-map, get_or-map}
+use Rattle.std.proofs.lemmas.Slice.Eq.{bytes_eq-Decides}
+use Rattle.std.proofs.lemmas.Str.{encodes-chars, len_utf8_bounds}
+use Rattle.lsp_text.specs.declared.encoding.Encoding.{Encoding}
+use Rattle.lsp_text.specs.declared.encoding.Encoding.TheVariants.{Utf8, Utf16, Utf32}
+use Rattle.lsp_text.specs.Text.{place_of}
+use Rattle.lsp_text.specs.TextLines.{line_at, line_ends, line_start}
+use Rattle.lsp_text.specs.LineStarts.{line_starts, start_places}
+use Rattle.lsp_text.specs.Units.{name_of, encoding_named}
+use Rattle.lsp_text.specs.UnitLaws.{utf8_bounds, utf16_bounds, utf32_bounds}
+use Rattle.lsp_text.specs.PlaceLaws.{RisingLaw, EndsLaw, BoundaryLaw}
+use Rattle.lsp_text.specs.EncodingLaws.{NameLaw, UnitLaw}
+use Rattle.lsp_text.specs.PositionLaws.{FoundLaw}
+use Rattle.lsp_text.proofs.PlaceLemmas.{place_rises, place_order, place_one, place_end, index_at}
+use Rattle.lsp_text.proofs.LineLemmas.{line_rises, line_has_start, in_content_line}
+use Rattle.lsp_text.proofs.StartRowLemmas.{length-line_starts, start_at}
+use Rattle.lsp_text.proofs.ExactLemmas.{start_before}
+
+pub rising_law : RisingLaw
+rising_law text j k before within = omega (arith, place_rises text j k (omega arith) within)
+
+pub ends_law : EndsLaw
+ends_law bytes utf8 = (refl, place_end (chars bytes) ∙ ap length (encodes-chars bytes utf8))
+
+pub boundary_law : BoundaryLaw
+boundary_law bytes place utf8 boundary =
+    let found = index_at bytes place utf8 boundary in
+    let at = found.place_is in (
+      found.index,
+      record {
+        within = found.within;
+        place_is = found.place_is;
+        alone = λ other within same. place_one (chars bytes) other found.index within found.within (same ∙ sym at);
+      },
+    )
+
+pub unit_law : UnitLaw
+unit_law Utf8 c = let b = utf8_bounds c in let l = len_utf8_bounds c in (b.0, omega arith)
+unit_law Utf16 c = let b = utf16_bounds c in let l = len_utf8_bounds c in (b.0, omega arith)
+unit_law Utf32 c = let b = utf32_bounds c in let l = len_utf8_bounds c in (b.0, omega arith)
+
+-- The line of a text whose start is the last at or before the place of an index is the index's line.
+pub found_law : FoundLaw
+found_law text k line within found =
+    let lines = start_places text in
+    let count : length lines ≡ line_ends text + 1 = omega (arith, length-map (line_starts text) (place_of text), length-line_starts text) in
+    let inside = found.within in
+    let there : line ≤ line_ends text = omega (arith, count) in
+    let start = line_has_start text line there in
+    let low : line_start text line ≤ k =
+    place_order text (line_start text line) k (omega (arith, start.in_row)) (omega (arith, start_place text line there, found.at_most)) in
+    let rises : line_at text (line_start text line) ≤ line_at text k = line_rises text (line_start text line) k low in
+    let here : line_at text (line_start text line) ≡ line = in_content_line text line (line_start text line) start.passes in
+    ⊎_elim
+    (λ (h : line < line_at text k).
+    let m = line_at text k in
+    let up : m ≤ line_ends text = line_rises text k (length text) within in
+    let before : line_start text m ≤ k = start_before text k within in
+    let above : place_of text k < slice_index lines m = found.greatest m h (omega (arith, count)) in
+    absurd (omega (arith, start_place text m up, place_rises text (line_start text m) k before within)))
+    (λ (h : line_at text k ≤ line). omega arith)
+    (cases_lt line (line_at text k))
+  where
+    start_place : (text : List ℕ) (line : ℕ) → line ≤ line_ends text → slice_index (start_places text) line ≡ place_of text (line_start text line)
+    start_place text line there =
+        get_or-map (place_of text) (line_starts text) line 0 0 (omega (arith, length-line_starts text)) ∙ ap (place_of text) (start_at text line there)
+
+-- ---- names
+
+-- the encoding of a name, by what the name is equal to
+named : (name : List ℕ) (encoding : Encoding) (first second third : Bool) →
+    (first ≡ true → name ≡ codes "utf-8") → (second ≡ true → name ≡ codes "utf-16") → (third ≡ true → name ≡ codes "utf-32") →
+    (if first then Some Utf8 else if second then Some Utf16 else if third then Some Utf32 else None) ≡ Some encoding → name ≡ name_of encoding
+named name Utf8 true second third one two three found = one refl
+named name Utf16 true second third one two three found = cc
+named name Utf32 true second third one two three found = cc
+named name Utf8 false true third one two three found = cc
+named name Utf16 false true third one two three found = two refl
+named name Utf32 false true third one two three found = cc
+named name Utf8 false false true one two three found = cc
+named name Utf16 false false true one two three found = cc
+named name Utf32 false false true one two three found = three refl
+named name encoding false false false one two three found = cc
+
+named_by : (encoding : Encoding) → encoding_named (name_of encoding) ≡ Some encoding
+named_by Utf8 = refl
+named_by Utf16 = refl
+named_by Utf32 = refl
+
+pub name_law : NameLaw
+name_law name encoding = (
+  named name encoding (bytes_eq name (codes "utf-8")) (bytes_eq name (codes "utf-16")) (bytes_eq name (codes "utf-32"))
+      (bytes_eq-Decides name (codes "utf-8")).0 (bytes_eq-Decides name (codes "utf-16")).0 (bytes_eq-Decides name (codes "utf-32")).0,
+  λ same. ap encoding_named same ∙ named_by encoding,
+)

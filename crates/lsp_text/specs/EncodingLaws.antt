@@ -1,0 +1,12 @@
+-- Laws over the names of encodings and the units of characters.
+use Rattle.std.specs.Prelude.{ℕ, ◌≡◌, ◌≤◌, ◌↔◌, List, Some}
+use Rattle.lsp_text.specs.declared.encoding.Encoding.{Encoding}
+use Rattle.lsp_text.specs.Units.{units_in, name_of, encoding_named}
+
+-- An encoding is found by its name, and by no other.
+abbrev pub NameLaw : Type 0
+NameLaw = (name : List ℕ) (encoding : Encoding) → (encoding_named name ≡ Some encoding) ↔ (name ≡ name_of encoding)
+
+-- A character has 1 to 4 units.
+abbrev pub UnitLaw : Type 0
+UnitLaw = (encoding : Encoding) (c : ℕ) → (1 ≤ units_in encoding c) × (units_in encoding c ≤ 4)
