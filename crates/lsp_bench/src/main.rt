@@ -3,9 +3,11 @@
 #![tactic(auto)]
 
 mod frames;
+mod messages;
 
 use anyhow::{Context, Result};
 use frames::{copied, made_stream, read_stream};
+use messages::time_messages;
 use std::alloc::Global;
 use std::env;
 use std::rt::Runtime;
@@ -41,7 +43,7 @@ fn main(rt: HostRuntime) -> Result<()> {
             )?;
         }
     }
-    Ok(())
+    time_messages(&rt, megabytes)
 }
 
 /// The first argument, or 1.
