@@ -3,3 +3,4 @@ pub mod Sound
 pub mod Bodies
 pub mod ReadBack
 pub mod Proper
+pub mod Tokens

@@ -5,3 +5,4 @@ pub mod Agreement
 pub mod Outgoing
 pub mod Sent
 pub mod Seen
+pub mod Tokens
