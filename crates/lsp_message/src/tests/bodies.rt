@@ -1,6 +1,6 @@
 //! What each body is read as, printed by `Debug`.
 
-use crate::{Message, ReadFault, read};
+use crate::{Message, ParamsFault, ReadFault, read};
 use std::alloc::{AllocError, Global};
 use std::test::Fail;
 
@@ -278,5 +278,32 @@ fn a_message_nests_127_deep(rt: HostRuntime) -> Result<(), Fail> {
         assert_eq!(rt; outcome.is_ok(), fits, "{depth}");
         assert_eq!(rt; outcome == Err(ReadFault::NotJson), !fits, "{depth}");
     }
+    Ok(())
+}
+
+#[test]
+fn faults_have_their_texts(rt: HostRuntime) -> Result<(), Fail> {
+    let alloc = rt.alloc();
+    let no_message = ReadFault::NotAMessage { id: None };
+    assert_eq!(rt;
+        ReadFault::NotJson.to_string(alloc)?.as_str(),
+        "the body is no JSON"
+    );
+    assert_eq!(rt;
+        no_message.to_string(alloc)?.as_str(),
+        "the body is no message"
+    );
+    assert_eq!(rt;
+        ReadFault::NoMemory.to_string(alloc)?.as_str(),
+        "out of memory"
+    );
+    assert_eq!(rt;
+        ParamsFault::InvalidParams.to_string(alloc)?.as_str(),
+        "invalid params"
+    );
+    assert_eq!(rt;
+        ParamsFault::NoMemory.to_string(alloc)?.as_str(),
+        "out of memory"
+    );
     Ok(())
 }
