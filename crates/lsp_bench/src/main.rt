@@ -5,10 +5,12 @@
 
 mod frames;
 mod lines;
+mod messages;
 
 use anyhow::{Context, Result};
 use frames::{copied, made_stream, read_stream};
 use lines::Sizes;
+use messages::time_messages;
 use std::alloc::Global;
 use std::env;
 use std::rt::Runtime;
@@ -52,7 +54,8 @@ fn main(rt: HostRuntime) -> Result<()> {
             lines: size(&rt, "lines=", 1_000)?,
             edits: size(&rt, "edits=", 10)?,
         },
-    )
+    )?;
+    time_messages(&rt, megabytes)
 }
 
 /// The number behind a name among the arguments, or what stands for it.

@@ -1,13 +1,12 @@
--- The value of each written message: it has no float, is not deep, and its text is read back as it.
-use Rattle.std.proofs.Common.{◌≡◌, ℕ, ◌^◌, ◌<◌, ◌≤◌, suc, pos, negsuc, List, [], ◌∷◌, map, Bool, true, false, ◌||◌, Option, Some, None, FitsSigned, IsUtf8, IfSome, All, codes, refl, arith}
+-- The value of each written message: it is not deep, and its text is read back as it.
+use Rattle.std.proofs.Common.{◌≡◌, ℕ, ◌^◌, ◌<◌, ◌≤◌, suc, List, [], ◌∷◌, map, true, Option, Some, None, FitsSigned, IsUtf8, IfSome, All, codes, refl, arith}
 use Rattle.std.specs.Int.{w32}
 use Rattle.std.specs.Prelude.{ℤ}
 use Rattle.json.proofs.Printed.Utf8.{IsUtf8-are_ascii}
 use Rattle.serde_json.specs.Data.{Data, number, string, array, object, no_members, member, depth, items_depth}
-use Rattle.serde_json.specs.Find.{of_integer, is_float}
+use Rattle.serde_json.specs.Find.{of_integer}
 use Rattle.serde_json.specs.Read.{read, max_depth}
 use Rattle.serde_json.specs.View.{items_of}
-use Rattle.serde_json.specs.Written.{has_float, items_have_float}
 use Rattle.lsp_text.specs.declared.encoding.Encoding.{Encoding}
 use Rattle.lsp_text.specs.declared.encoding.Encoding.TheVariants.{Utf8, Utf16, Utf32}
 use Rattle.lsp_text.specs.declared.position.Position.{Position}
@@ -24,54 +23,6 @@ use Rattle.lsp_message.specs.Outgoing as spec
 use Rattle.lsp_message.specs.Outgoing.{OutgoingData}
 use Rattle.lsp_message.specs.Sent.{IsProper, IsProperId, IsProperOpen, IsProperChange, IsProperEdit, IsProperRange, IsProperPosition}
 use Rattle.lsp_message.proofs.Sound.{Sound, SoundItems, sound_null, sound_boolean, sound_string, sound_unsigned, sound_integer, sound_array, sound_object, sound_item, sound_no_items, read-compact_text}
-
--- ---- no float
-
-is_float-of_integer : (z : ℤ) → is_float (of_integer z) ≡ false
-is_float-of_integer (pos n) = refl
-is_float-of_integer (negsuc n) = refl
-
-either_false : (a b : Bool) → a ≡ false → b ≡ false → (a || b) ≡ false
-either_false a b f g = rw (f, g) refl
-
-items_have_float-strings : {X : Type 0} (f : X → List ℕ) (xs : List X) → items_have_float (items_of (map (λ x. string (f x)) xs)) ≡ false
-items_have_float-strings f [] = refl
-items_have_float-strings f (x ∷ xs) = items_have_float-strings f xs
-
-has_float-edit_value : (r : Option Range) (s : List ℕ) → has_float (spec.edit_value (record { range = r; text = s })) ≡ false
-has_float-edit_value None s = refl
-has_float-edit_value (Some r) s = refl
-
-items_have_float-edits : (es : List EditData) → items_have_float (items_of (map spec.edit_value es)) ≡ false
-items_have_float-edits [] = refl
-items_have_float-edits (e ∷ es) = either_false _ _ (has_float-edit_value e.range e.text) (items_have_float-edits es)
-
-has_float-id_value : (id : IdData) → has_float (spec.id_value id) ≡ false
-has_float-id_value (whole n) = is_float-of_integer n
-has_float-id_value (text s) = refl
-
-has_float-id_or_null : (id : Option IdData) → has_float (spec.id_or_null id) ≡ false
-has_float-id_or_null None = refl
-has_float-id_or_null (Some id) = has_float-id_value id
-
-has_float-error_value : (e : ErrorCode) → has_float (spec.error_value e) ≡ false
-has_float-error_value ParseError = refl
-has_float-error_value InvalidRequest = refl
-has_float-error_value MethodNotFound = refl
-has_float-error_value InvalidParams = refl
-has_float-error_value ServerNotInitialized = refl
-
-pub has_float-value_of : (m : OutgoingData) → has_float (spec.value_of m) ≡ false
-has_float-value_of (spec.initialize offers) = rw (items_have_float-strings name_of) refl
-has_float-value_of spec.initialized = refl
-has_float-value_of (spec.did_open p) = rw (is_float-of_integer p.version) refl
-has_float-value_of (spec.did_change p) = rw (items_have_float-edits p.changes, is_float-of_integer p.version) refl
-has_float-value_of (spec.did_close p) = refl
-has_float-value_of spec.shutdown = refl
-has_float-value_of spec.exit = refl
-has_float-value_of (spec.initialize_result id encoding kind) = rw (has_float-id_value id) refl
-has_float-value_of (spec.shutdown_result id) = rw (has_float-id_value id) refl
-has_float-value_of (spec.error_reply id error) = rw (has_float-error_value error, has_float-id_or_null id) refl
 
 -- ---- the depth
 

@@ -7,3 +7,4 @@ pub mod Sent
 pub mod Seen
 pub mod MessageLaws
 pub mod Examples
+pub mod Tokens

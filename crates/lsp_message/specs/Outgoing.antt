@@ -86,8 +86,11 @@ error_reply_value id error = object (member (codes "error") (error_value error) 
 abbrev pub names_of : Offers → List Data
 names_of offers = map (λ encoding. string (name_of encoding)) (filter (is_offered offers) (Utf8 ∷ Utf16 ∷ Utf32 ∷ []))
 
+abbrev pub general_value : Offers → Data
+general_value offers = object (member (codes "positionEncodings") (array (items_of (names_of offers))) no_members)
+
 abbrev pub capabilities_value : Offers → Data
-capabilities_value offers = object (member (codes "general") (object (member (codes "positionEncodings") (array (items_of (names_of offers))) no_members)) no_members)
+capabilities_value offers = object (member (codes "general") (general_value offers) no_members)
 
 abbrev pub initialize_params : Offers → Data
 initialize_params offers = object (member (codes "capabilities") (capabilities_value offers) (member (codes "processId") null (member (codes "rootUri") null no_members)))
@@ -119,8 +122,11 @@ versioned_document uri version = object (member (codes "uri") (string uri) (memb
 abbrev pub change_params : ChangeData → Data
 change_params p = object (member (codes "contentChanges") (array (items_of (map edit_value p.changes))) (member (codes "textDocument") (versioned_document p.uri p.version) no_members))
 
+abbrev pub closed_document : List ℕ → Data
+closed_document uri = object (member (codes "uri") (string uri) no_members)
+
 abbrev pub close_params : CloseData → Data
-close_params p = object (member (codes "textDocument") (object (member (codes "uri") (string p.uri) no_members)) no_members)
+close_params p = object (member (codes "textDocument") (closed_document p.uri) no_members)
 
 abbrev pub kind_number : SyncKind → ℕ
 kind_number Off = 0

@@ -3,6 +3,8 @@
 //! - `message`: which message a body is.
 //! - `params`: the typed parameters of the document messages.
 //! - `agreement`: what a client offers and what a server announces.
+//! - `outgoing`: the messages that are written, and the errors of replies.
+//! - `writer`: the one text of each of them, written a token at a time.
 //! - `members`: the members of an object, taken out of it one by one.
 //! - `outgoing`: the messages that are written, and the errors of replies.
 //! - `writer`: their JSON values, and their one text.

@@ -1,5 +1,6 @@
 //! Tables of bodies, parameters and written texts, and the messages that they are made of.
 
+mod agreement;
 mod bodies;
 mod params;
 mod refused;

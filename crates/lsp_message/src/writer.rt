@@ -1,25 +1,31 @@
-//! Messages as JSON values, and their one text.
+//! The one text of each message, written a token at a time.
 
-ghost use Rattle.std.specs.Prelude.{◌≡◌, Some, None, All, IfOk, IfSome, OnOk, FitsSigned, map, option_map, string_bytes};
-ghost use Rattle.std.specs.Int.{w32};
-ghost use Rattle.serde_json.specs.View.{view};
+ghost use Rattle.std.specs.Prelude.{◌≡◌, ◌∷◌, ◌++◌, [], IfOk, OnOk, map, option_map, string_bytes, codes, decimal};
+ghost use Rattle.std.specs.Fmt.{signed_decimal};
+ghost use Rattle.json.specs.Token as token;
+ghost use Rattle.serde_json.specs.Data.{array};
+ghost use Rattle.serde_json.specs.View.{items_of};
 ghost use Rattle.lsp_message.specs.Outgoing as spec;
-ghost use Rattle.lsp_message.specs.Sent.{IsProper, IsProperId, IsProperOpen, IsProperChange, IsProperRange, IsProperPosition, IsReadAsSent, IsReadBack};
+ghost use Rattle.lsp_message.specs.Sent.{IsProper, IsReadAsSent, IsReadBack};
 ghost use Rattle.lsp_message.specs.Seen.{id_view, open_view, edit_view, change_view, close_view, outgoing_view};
+ghost use Rattle.lsp_message.specs.Tokens.{Appends, tokens_of, version_tokens, offer_tokens, range_tokens};
 
 use crate::agreement::{Offers, SyncKind};
 use crate::message::Id;
 use crate::outgoing::{ErrorCode, Outgoing};
 use crate::params::{ChangeParams, CloseParams, OpenParams};
+use json::Writer;
 use lsp_edit::Change;
 use lsp_text::{Encoding, Position, Range};
-use serde_json::{Value, json};
 use std::alloc::{AllocError, Global};
+
+/// Most messages fit into this many bytes.
+const USUAL_LENGTH: usize = 256;
 
 /// The body of a message: its compact JSON text, members in the order of their names' bytes.
 ///
-/// Fails only where memory runs out. Linear in the body. The other end reads the body as the same message, and its typed parameters
-/// or result as those that were written; no other message has the same body.
+/// Fails only where memory runs out. Linear in the body; no text is copied but into it. The other end reads the body as the same
+/// message, and its typed parameters or result as those that were written; no other message has the same body.
 pub fn write(alloc: Global, message: &Outgoing) -> Result<Vec<u8>, AllocError>
     ensures body { IfOk result (λ body. body.items ≡ spec.body_of (outgoing_view message.now)) }
 
@@ -28,218 +34,396 @@ pub fn write(alloc: Global, message: &Outgoing) -> Result<Vec<u8>, AllocError>
     ensures read_back { (m : spec.OutgoingData) → IsProper m → IsReadBack m }
     ensures unique { (m n : spec.OutgoingData) → IsProper m → IsProper n
         → spec.body_of m ≡ spec.body_of n → m ≡ n }
-    // The message that was written is one of them.
-    ensures proper { OnOk result (IsProper (outgoing_view message.now)) }
 {
-    value_of(alloc, message)?.to_vec(alloc)
+    let mut writer = Writer::new(Vec::with_capacity(alloc, USUAL_LENGTH)?);
+    write_message(&mut writer, message)?;
+    Ok(writer.into_inner())
 }
 
-fn value_of(alloc: Global, message: &Outgoing) -> Result<Value, AllocError>
-    ensures value { IfOk result (λ v. view v ≡ spec.value_of (outgoing_view message.now)) }
-    ensures proper { OnOk result (IsProper (outgoing_view message.now)) }
+fn write_message(writer: &mut Writer, message: &Outgoing) -> Result<(), AllocError>
+    ensures { OnOk result (Appends writer.old writer.new (tokens_of (spec.value_of (outgoing_view message.now)))) }
 {
     match message {
-        Outgoing::Initialize(offers) => {
-            request_with(alloc, 1, "initialize", initialize_params(alloc, *offers)?)
-        }
-        Outgoing::Initialized => notification_with(alloc, "initialized", json!(in alloc; {})?),
-        Outgoing::DidOpen(params) => {
-            notification_with(alloc, "textDocument/didOpen", open_params(alloc, params)?)
-        }
-        Outgoing::DidChange(params) => {
-            notification_with(
-                alloc,
-                "textDocument/didChange",
-                change_params(alloc, params)?,
-            )
-        }
-        Outgoing::DidClose(params) => {
-            notification_with(alloc, "textDocument/didClose", close_params(alloc, params)?)
-        }
-        Outgoing::Shutdown => json!(in alloc; {"id": 2u32, "jsonrpc": "2.0", "method": "shutdown"}),
-        Outgoing::Exit => json!(in alloc; {"jsonrpc": "2.0", "method": "exit"}),
+        Outgoing::Initialize(offers) => write_initialize(writer, *offers),
+        Outgoing::Initialized => write_initialized(writer),
+        Outgoing::DidOpen(params) => write_open(writer, params),
+        Outgoing::DidChange(params) => write_change(writer, params),
+        Outgoing::DidClose(params) => write_close(writer, params),
+        Outgoing::Shutdown => write_shutdown(writer),
+        Outgoing::Exit => write_exit(writer),
         Outgoing::InitializeResult { id, encoding, kind } => {
-            reply(alloc, id, initialize_value(alloc, *encoding, *kind)?)
+            write_initialize_result(writer, id, *encoding, *kind)
         }
-        Outgoing::ShutdownResult { id } => reply(alloc, id, Value::Null),
-        Outgoing::ErrorReply { id, error } => error_reply(alloc, id, *error),
+        Outgoing::ShutdownResult { id } => write_shutdown_result(writer, id),
+        Outgoing::ErrorReply { id, error } => write_error_reply(writer, id, *error),
     }
 }
 
-fn request_with(alloc: Global, id: u32, method: &str, params: Value) -> Result<Value, AllocError>
-    ensures { IfOk result (λ v. view v ≡ spec.request_value id method.now (Some (view params))) }
+fn write_initialize(writer: &mut Writer, offers: Offers) -> Result<(), AllocError>
+    ensures { OnOk result (Appends writer.old writer.new (tokens_of (spec.value_of (spec.initialize offers)))) }
 {
-    json!(in alloc; {"id": id, "jsonrpc": "2.0", "method": method, "params": params})
+    writer.begin_object()?;
+    number_member(writer, "id", 1)?;
+    call_members(writer, "initialize")?;
+    writer.key("params")?;
+    initialize_params(writer, offers)?;
+    writer.end_object()
 }
 
-fn notification_with(alloc: Global, method: &str, params: Value) -> Result<Value, AllocError>
-    ensures { IfOk result (λ v. view v ≡ spec.notification_value method.now (Some (view params))) }
+fn write_initialized(writer: &mut Writer) -> Result<(), AllocError>
+    ensures { OnOk result (Appends writer.old writer.new (tokens_of (spec.value_of spec.initialized))) }
 {
-    json!(in alloc; {"jsonrpc": "2.0", "method": method, "params": params})
+    writer.begin_object()?;
+    call_members(writer, "initialized")?;
+    writer.key("params")?;
+    writer.begin_object()?;
+    writer.end_object()?;
+    writer.end_object()
 }
 
-fn reply(alloc: Global, id: &Id, outcome: Value) -> Result<Value, AllocError>
-    ensures value { IfOk result (λ v. view v ≡ spec.result_value (id_view id.now) (view outcome)) }
-    ensures proper { OnOk result (IsProperId (id_view id.now)) }
+fn write_open(writer: &mut Writer, params: &OpenParams) -> Result<(), AllocError>
+    ensures { OnOk result (Appends writer.old writer.new (tokens_of (spec.value_of (spec.did_open (open_view params.now))))) }
 {
-    let id = id_value(alloc, id)?;
-    json!(in alloc; {"id": id, "jsonrpc": "2.0", "result": outcome})
+    writer.begin_object()?;
+    call_members(writer, "textDocument/didOpen")?;
+    writer.key("params")?;
+    open_params(writer, params)?;
+    writer.end_object()
 }
 
-fn error_reply(alloc: Global, id: &Option<Id>, error: ErrorCode) -> Result<Value, AllocError>
-    ensures value { IfOk result (λ v. view v ≡ spec.error_reply_value (option_map id_view id.now) error) }
-    ensures proper { OnOk result (IfSome (option_map id_view id.now) IsProperId) }
+fn write_change(writer: &mut Writer, params: &ChangeParams) -> Result<(), AllocError>
+    ensures { OnOk result (Appends writer.old writer.new (tokens_of (spec.value_of (spec.did_change (change_view params.now))))) }
 {
-    let error = error_value(alloc, error)?;
-    let id = match id {
-        Some(id) => id_value(alloc, id)?,
-        None => Value::Null,
-    };
-    json!(in alloc; {"error": error, "id": id, "jsonrpc": "2.0"})
+    writer.begin_object()?;
+    call_members(writer, "textDocument/didChange")?;
+    writer.key("params")?;
+    change_params(writer, params)?;
+    writer.end_object()
 }
 
-fn error_value(alloc: Global, error: ErrorCode) -> Result<Value, AllocError>
-    ensures { IfOk result (λ v. view v ≡ spec.error_value error) }
+fn write_close(writer: &mut Writer, params: &CloseParams) -> Result<(), AllocError>
+    ensures { OnOk result (Appends writer.old writer.new (tokens_of (spec.value_of (spec.did_close (close_view params.now))))) }
 {
-    json!(in alloc; {"code": error.code(), "message": error.text()})
+    writer.begin_object()?;
+    call_members(writer, "textDocument/didClose")?;
+    writer.key("params")?;
+    close_params(writer, params)?;
+    writer.end_object()
 }
 
-fn id_value(alloc: Global, id: &Id) -> Result<Value, AllocError>
-    ensures value { IfOk result (λ v. view v ≡ spec.id_value (id_view id.now)) }
-    ensures proper { OnOk result (IsProperId (id_view id.now)) }
+fn write_shutdown(writer: &mut Writer) -> Result<(), AllocError>
+    ensures { OnOk result (Appends writer.old writer.new (tokens_of (spec.value_of spec.shutdown))) }
+{
+    writer.begin_object()?;
+    number_member(writer, "id", 2)?;
+    call_members(writer, "shutdown")?;
+    writer.end_object()
+}
+
+fn write_exit(writer: &mut Writer) -> Result<(), AllocError>
+    ensures { OnOk result (Appends writer.old writer.new (tokens_of (spec.value_of spec.exit))) }
+{
+    writer.begin_object()?;
+    call_members(writer, "exit")?;
+    writer.end_object()
+}
+
+fn write_initialize_result(
+    writer: &mut Writer,
+    id: &Id,
+    encoding: Encoding,
+    kind: SyncKind,
+) -> Result<(), AllocError>
+    ensures { OnOk result (Appends writer.old writer.new
+        (tokens_of (spec.value_of (spec.initialize_result (id_view id.now) encoding kind)))) }
+{
+    writer.begin_object()?;
+    writer.key("id")?;
+    write_id(writer, id)?;
+    text_member(writer, "jsonrpc", "2.0")?;
+    writer.key("result")?;
+    initialize_value(writer, encoding, kind)?;
+    writer.end_object()
+}
+
+fn write_shutdown_result(writer: &mut Writer, id: &Id) -> Result<(), AllocError>
+    ensures { OnOk result (Appends writer.old writer.new
+        (tokens_of (spec.value_of (spec.shutdown_result (id_view id.now))))) }
+{
+    writer.begin_object()?;
+    writer.key("id")?;
+    write_id(writer, id)?;
+    text_member(writer, "jsonrpc", "2.0")?;
+    writer.key("result")?;
+    writer.null()?;
+    writer.end_object()
+}
+
+fn write_error_reply(
+    writer: &mut Writer,
+    id: &Option<Id>,
+    error: ErrorCode,
+) -> Result<(), AllocError>
+    ensures { OnOk result (Appends writer.old writer.new
+        (tokens_of (spec.value_of (spec.error_reply (option_map id_view id.now) error)))) }
+{
+    writer.begin_object()?;
+    writer.key("error")?;
+    error_value(writer, error)?;
+    writer.key("id")?;
+    write_id_or_null(writer, id)?;
+    text_member(writer, "jsonrpc", "2.0")?;
+    writer.end_object()
+}
+
+fn error_value(writer: &mut Writer, error: ErrorCode) -> Result<(), AllocError>
+    ensures { OnOk result (Appends writer.old writer.new (tokens_of (spec.error_value error))) }
+{
+    writer.begin_object()?;
+    integer_member(writer, "code", error.code())?;
+    text_member(writer, "message", error.text())?;
+    writer.end_object()
+}
+
+fn write_id(writer: &mut Writer, id: &Id) -> Result<(), AllocError>
+    ensures { OnOk result (Appends writer.old writer.new (tokens_of (spec.id_value (id_view id.now)))) }
 {
     match id {
-        Id::Whole(n) => Ok(Value::from(*n)),
-        Id::Text(text) => Value::try_from_str(alloc, text.as_str()),
+        Id::Whole(number) => writer.i64(*number),
+        Id::Text(text) => writer.string(text.as_str()),
     }
 }
 
-fn initialize_params(alloc: Global, offers: Offers) -> Result<Value, AllocError>
-    ensures { IfOk result (λ v. view v ≡ spec.initialize_params offers) }
+fn write_id_or_null(writer: &mut Writer, id: &Option<Id>) -> Result<(), AllocError>
+    ensures { OnOk result (Appends writer.old writer.new (tokens_of (spec.id_or_null (option_map id_view id.now)))) }
 {
-    let capabilities = capabilities_value(alloc, offers)?;
-    json!(in alloc; {"capabilities": capabilities, "processId": null, "rootUri": null})
-}
-
-fn capabilities_value(alloc: Global, offers: Offers) -> Result<Value, AllocError>
-    ensures { IfOk result (λ v. view v ≡ spec.capabilities_value offers) }
-{
-    let names = names_of(alloc, offers)?;
-    json!(in alloc; {"general": {"positionEncodings": names}})
-}
-
-fn names_of(alloc: Global, offers: Offers) -> Result<Vec<Value>, AllocError>
-    ensures { IfOk result (λ names. map view names.items ≡ spec.names_of offers) }
-{
-    let mut names = Vec::with_capacity(alloc, 3)?;
-    for encoding in [Encoding::Utf8, Encoding::Utf16, Encoding::Utf32] {
-        if offers.includes(encoding) {
-            names.push(Value::try_from_str(alloc, encoding.name())?)?;
-        }
+    match id {
+        Some(id) => write_id(writer, id),
+        None => writer.null(),
     }
-    Ok(names)
 }
 
-fn open_params(alloc: Global, params: &OpenParams) -> Result<Value, AllocError>
-    ensures value { IfOk result (λ v. view v ≡ spec.open_params (open_view params.now)) }
-    ensures proper { OnOk result (IsProperOpen (open_view params.now)) }
+/// The members that begin each call but for its id.
+fn call_members(writer: &mut Writer, method: &str) -> Result<(), AllocError>
+    ensures { OnOk result (Appends writer.old writer.new
+        (version_tokens ++ token.key (codes "method") ∷ token.string method.now ∷ [])) }
 {
-    let document = opened_document(alloc, params)?;
-    json!(in alloc; {"textDocument": document})
+    text_member(writer, "jsonrpc", "2.0")?;
+    text_member(writer, "method", method)
 }
 
-fn opened_document(alloc: Global, params: &OpenParams) -> Result<Value, AllocError>
-    ensures value { IfOk result (λ v. view v ≡ spec.opened_document (open_view params.now)) }
-    ensures proper { OnOk result (IsProperOpen (open_view params.now)) }
+fn text_member(writer: &mut Writer, name: &str, text: &str) -> Result<(), AllocError>
+    ensures { OnOk result (Appends writer.old writer.new (token.key name.now ∷ token.string text.now ∷ [])) }
 {
-    let version = params.version;
-    json!(in alloc; {
-        "languageId": &params.language,
-        "text": &params.text,
-        "uri": &params.uri,
-        "version": version
-    })
+    writer.key(name)?;
+    writer.string(text)
 }
 
-fn change_params(alloc: Global, params: &ChangeParams) -> Result<Value, AllocError>
-    ensures value { IfOk result (λ v. view v ≡ spec.change_params (change_view params.now)) }
-    ensures proper { OnOk result (IsProperChange (change_view params.now)) }
+fn number_member(writer: &mut Writer, name: &str, number: u32) -> Result<(), AllocError>
+    ensures { OnOk result (Appends writer.old writer.new (token.key name.now ∷ token.number (decimal number) ∷ [])) }
 {
-    let changes = edits_value(alloc, &params.changes)?;
-    let version = params.version;
-    let document = versioned_document(alloc, &params.uri, version)?;
-    json!(in alloc; {"contentChanges": changes, "textDocument": document})
+    writer.key(name)?;
+    writer.u64(u64::from(number))
 }
 
-fn versioned_document(alloc: Global, uri: &String, version: i32) -> Result<Value, AllocError>
-    ensures value { IfOk result (λ v. view v ≡ spec.versioned_document (string_bytes uri.now) version) }
-    ensures proper { OnOk result (FitsSigned w32 version) }
+fn integer_member(writer: &mut Writer, name: &str, number: i32) -> Result<(), AllocError>
+    ensures { OnOk result (Appends writer.old writer.new
+        (token.key name.now ∷ token.number (signed_decimal number) ∷ [])) }
 {
-    json!(in alloc; {"uri": uri, "version": version})
+    writer.key(name)?;
+    writer.i64(i64::from(number))
 }
 
-fn close_params(alloc: Global, params: &CloseParams) -> Result<Value, AllocError>
-    ensures { IfOk result (λ v. view v ≡ spec.close_params (close_view params.now)) }
+fn initialize_params(writer: &mut Writer, offers: Offers) -> Result<(), AllocError>
+    ensures { OnOk result (Appends writer.old writer.new (tokens_of (spec.initialize_params offers))) }
 {
-    json!(in alloc; {"textDocument": {"uri": &params.uri}})
+    writer.begin_object()?;
+    writer.key("capabilities")?;
+    capabilities_value(writer, offers)?;
+    writer.key("processId")?;
+    writer.null()?;
+    writer.key("rootUri")?;
+    writer.null()?;
+    writer.end_object()
 }
 
-fn edits_value(alloc: Global, changes: &[Change]) -> Result<Vec<Value>, AllocError>
-    ensures value { IfOk result (λ values. map view values.items ≡ map spec.edit_value (map edit_view changes.now)) }
-    ensures proper { OnOk result (All (λ change. IfSome change.range IsProperRange) changes.now) }
+fn capabilities_value(writer: &mut Writer, offers: Offers) -> Result<(), AllocError>
+    ensures { OnOk result (Appends writer.old writer.new (tokens_of (spec.capabilities_value offers))) }
 {
-    let mut values = Vec::with_capacity(alloc, changes.len())?;
+    writer.begin_object()?;
+    writer.key("general")?;
+    general_value(writer, offers)?;
+    writer.end_object()
+}
+
+fn general_value(writer: &mut Writer, offers: Offers) -> Result<(), AllocError>
+    ensures { OnOk result (Appends writer.old writer.new (tokens_of (spec.general_value offers))) }
+{
+    writer.begin_object()?;
+    writer.key("positionEncodings")?;
+    names_value(writer, offers)?;
+    writer.end_object()
+}
+
+fn names_value(writer: &mut Writer, offers: Offers) -> Result<(), AllocError>
+    ensures { OnOk result (Appends writer.old writer.new (tokens_of (array (items_of (spec.names_of offers))))) }
+{
+    writer.begin_array()?;
+    write_offer(writer, offers, Encoding::Utf8)?;
+    write_offer(writer, offers, Encoding::Utf16)?;
+    write_offer(writer, offers, Encoding::Utf32)?;
+    writer.end_array()
+}
+
+fn write_offer(writer: &mut Writer, offers: Offers, encoding: Encoding) -> Result<(), AllocError>
+    ensures { OnOk result (Appends writer.old writer.new (offer_tokens offers encoding)) }
+{
+    if !offers.includes(encoding) {
+        return Ok(());
+    }
+    writer.string(encoding.name())
+}
+
+fn open_params(writer: &mut Writer, params: &OpenParams) -> Result<(), AllocError>
+    ensures { OnOk result (Appends writer.old writer.new (tokens_of (spec.open_params (open_view params.now)))) }
+{
+    writer.begin_object()?;
+    writer.key("textDocument")?;
+    opened_document(writer, params)?;
+    writer.end_object()
+}
+
+fn opened_document(writer: &mut Writer, params: &OpenParams) -> Result<(), AllocError>
+    ensures { OnOk result (Appends writer.old writer.new (tokens_of (spec.opened_document (open_view params.now)))) }
+{
+    writer.begin_object()?;
+    text_member(writer, "languageId", params.language.as_str())?;
+    text_member(writer, "text", params.text.as_str())?;
+    text_member(writer, "uri", params.uri.as_str())?;
+    integer_member(writer, "version", params.version)?;
+    writer.end_object()
+}
+
+fn change_params(writer: &mut Writer, params: &ChangeParams) -> Result<(), AllocError>
+    ensures { OnOk result (Appends writer.old writer.new (tokens_of (spec.change_params (change_view params.now)))) }
+{
+    writer.begin_object()?;
+    writer.key("contentChanges")?;
+    edits_value(writer, &params.changes)?;
+    writer.key("textDocument")?;
+    versioned_document(writer, params.uri.as_str(), params.version)?;
+    writer.end_object()
+}
+
+fn versioned_document(writer: &mut Writer, uri: &str, version: i32) -> Result<(), AllocError>
+    ensures { OnOk result (Appends writer.old writer.new (tokens_of (spec.versioned_document uri.now version))) }
+{
+    writer.begin_object()?;
+    text_member(writer, "uri", uri)?;
+    integer_member(writer, "version", version)?;
+    writer.end_object()
+}
+
+fn close_params(writer: &mut Writer, params: &CloseParams) -> Result<(), AllocError>
+    ensures { OnOk result (Appends writer.old writer.new (tokens_of (spec.close_params (close_view params.now)))) }
+{
+    writer.begin_object()?;
+    writer.key("textDocument")?;
+    closed_document(writer, params.uri.as_str())?;
+    writer.end_object()
+}
+
+fn closed_document(writer: &mut Writer, uri: &str) -> Result<(), AllocError>
+    ensures { OnOk result (Appends writer.old writer.new (tokens_of (spec.closed_document uri.now))) }
+{
+    writer.begin_object()?;
+    text_member(writer, "uri", uri)?;
+    writer.end_object()
+}
+
+fn edits_value(writer: &mut Writer, changes: &[Change]) -> Result<(), AllocError>
+    ensures { OnOk result (Appends writer.old writer.new
+        (tokens_of (array (items_of (map spec.edit_value (map edit_view changes.now)))))) }
+{
+    writer.begin_array()?;
     for change in changes {
-        values.push(edit_value(alloc, change)?)?;
+        edit_value(writer, change)?;
     }
-    Ok(values)
+    writer.end_array()
 }
 
-fn edit_value(alloc: Global, change: &Change) -> Result<Value, AllocError>
-    ensures value { IfOk result (λ v. view v ≡ spec.edit_value (edit_view change.now)) }
-    ensures proper { OnOk result (IfSome change.now.range IsProperRange) }
+fn edit_value(writer: &mut Writer, change: &Change) -> Result<(), AllocError>
+    ensures { OnOk result (Appends writer.old writer.new (tokens_of (spec.edit_value (edit_view change.now)))) }
 {
-    match change.range {
-        Some(range) => {
-            let range = range_value(alloc, range)?;
-            json!(in alloc; {"range": range, "text": &change.text})
-        }
-        None => json!(in alloc; {"text": &change.text}),
-    }
+    writer.begin_object()?;
+    range_member(writer, change.range)?;
+    text_member(writer, "text", change.text.as_str())?;
+    writer.end_object()
 }
 
-fn range_value(alloc: Global, range: Range) -> Result<Value, AllocError>
-    ensures value { IfOk result (λ v. view v ≡ spec.range_value range) }
-    ensures proper { OnOk result (IsProperRange range) }
+fn range_member(writer: &mut Writer, range: Option<Range>) -> Result<(), AllocError>
+    ensures { OnOk result (Appends writer.old writer.new (range_tokens range)) }
 {
-    let start = position_value(alloc, range.start)?;
-    let stop = position_value(alloc, range.stop)?;
-    json!(in alloc; {"end": stop, "start": start})
+    let Some(range) = range else {
+        return Ok(());
+    };
+    writer.key("range")?;
+    range_value(writer, range)
 }
 
-fn position_value(alloc: Global, position: Position) -> Result<Value, AllocError>
-    ensures value { IfOk result (λ v. view v ≡ spec.position_value position) }
-    ensures proper { OnOk result (IsProperPosition position) }
+fn range_value(writer: &mut Writer, range: Range) -> Result<(), AllocError>
+    ensures { OnOk result (Appends writer.old writer.new (tokens_of (spec.range_value range))) }
 {
-    json!(in alloc; {"character": position.character, "line": position.line})
+    writer.begin_object()?;
+    writer.key("end")?;
+    position_value(writer, range.stop)?;
+    writer.key("start")?;
+    position_value(writer, range.start)?;
+    writer.end_object()
 }
 
-fn initialize_value(alloc: Global, encoding: Encoding, kind: SyncKind) -> Result<Value, AllocError>
-    ensures { IfOk result (λ v. view v ≡ spec.initialize_value encoding kind) }
+fn position_value(writer: &mut Writer, position: Position) -> Result<(), AllocError>
+    ensures { OnOk result (Appends writer.old writer.new (tokens_of (spec.position_value position))) }
 {
-    let announced = announced_value(alloc, encoding, kind)?;
-    json!(in alloc; {"capabilities": announced})
+    writer.begin_object()?;
+    number_member(writer, "character", position.character)?;
+    number_member(writer, "line", position.line)?;
+    writer.end_object()
 }
 
-fn announced_value(alloc: Global, encoding: Encoding, kind: SyncKind) -> Result<Value, AllocError>
-    ensures { IfOk result (λ v. view v ≡ spec.announced_value encoding kind) }
+fn initialize_value(
+    writer: &mut Writer,
+    encoding: Encoding,
+    kind: SyncKind,
+) -> Result<(), AllocError>
+    ensures { OnOk result (Appends writer.old writer.new (tokens_of (spec.initialize_value encoding kind))) }
 {
-    let sync = sync_value(alloc, kind)?;
-    json!(in alloc; {"positionEncoding": encoding.name(), "textDocumentSync": sync})
+    writer.begin_object()?;
+    writer.key("capabilities")?;
+    announced_value(writer, encoding, kind)?;
+    writer.end_object()
 }
 
-fn sync_value(alloc: Global, kind: SyncKind) -> Result<Value, AllocError>
-    ensures { IfOk result (λ v. view v ≡ spec.sync_value kind) }
+fn announced_value(
+    writer: &mut Writer,
+    encoding: Encoding,
+    kind: SyncKind,
+) -> Result<(), AllocError>
+    ensures { OnOk result (Appends writer.old writer.new (tokens_of (spec.announced_value encoding kind))) }
 {
-    json!(in alloc; {"change": kind.number(), "openClose": true})
+    writer.begin_object()?;
+    text_member(writer, "positionEncoding", encoding.name())?;
+    writer.key("textDocumentSync")?;
+    sync_value(writer, kind)?;
+    writer.end_object()
+}
+
+fn sync_value(writer: &mut Writer, kind: SyncKind) -> Result<(), AllocError>
+    ensures { OnOk result (Appends writer.old writer.new (tokens_of (spec.sync_value kind))) }
+{
+    writer.begin_object()?;
+    number_member(writer, "change", kind.number())?;
+    writer.key("openClose")?;
+    writer.boolean(true)?;
+    writer.end_object()
 }

@@ -1,223 +1,309 @@
 //! What each body is read as, printed by `Debug`.
 
-use crate::{Message, ReadFault, read};
+use crate::{Message, ParamsFault, ReadFault, read};
 use std::alloc::{AllocError, Global};
 use std::test::Fail;
 
+fn shown(alloc: Global, body: &str) -> Result<String, AllocError> {
+    let outcome = read(alloc, body.as_bytes());
+    format!(in alloc; "{outcome:?}")
+}
+
+const NOT_JSON: [&str; 14] = [
+    "",
+    " ",
+    "[",
+    "[]]",
+    "{'jsonrpc':'2.0'}",
+    "\u{feff}{}",
+    r#"{"jsonrpc":"2.0","method":"x""#,
+    r#"{"jsonrpc":"2.0","method":"x","y":1e999}"#,
+    r#"{"id":01,"jsonrpc":"2.0","method":"x"}"#,
+    r#"{"jsonrpc":"2.0","method":"\x"}"#,
+    // Lone surrogates, also where they are not used, and a raw control character.
+    r#"{"jsonrpc":"2.0","method":"\ud800"}"#,
+    r#"{"jsonrpc":"2.0","method":"x","y":"\udc00"}"#,
+    r#"{"jsonrpc":"2.0","method":"\ude00\ud83d"}"#,
+    "{\"jsonrpc\":\"2.0\",\"method\":\"\n\"}",
+];
+
 #[test]
-fn bodies_are_read_by_the_table(rt: HostRuntime) -> Result<(), Fail> {
-    let alloc = rt.alloc();
-    for (body, wanted) in [
-        // What is no JSON.
-        ("", "Err(NotJson)"),
-        ("[", "Err(NotJson)"),
-        ("{\"jsonrpc\":\"2.0\",\"method\":\"x\"", "Err(NotJson)"),
-        (
-            "{\"jsonrpc\":\"2.0\",\"method\":\"x\",\"y\":1e999}",
-            "Err(NotJson)",
-        ),
-        (
-            "{\"jsonrpc\":\"2.0\",\"method\":\"\\ud800\"}",
-            "Err(NotJson)",
-        ),
-        // What is no object.
-        ("[]", "Err(NotAMessage { id: None })"),
-        (
-            "[{\"id\":1,\"jsonrpc\":\"2.0\",\"method\":\"x\"}]",
+fn what_is_no_json_is_told(rt: HostRuntime) -> Result<(), Fail> {
+    for body in NOT_JSON {
+        assert_eq!(rt; shown(rt.alloc(), body)?.as_str(), "Err(NotJson)", "{body}");
+    }
+    Ok(())
+}
+
+const WITHOUT_ID: [&str; 27] = [
+    // No objects.
+    "[]",
+    r#"[{"id":1,"jsonrpc":"2.0","method":"x"}]"#,
+    r#""x""#,
+    "7",
+    "-0",
+    "true",
+    "null",
+    // The version is looked at first.
+    "{}",
+    r#"{"id":null,"jsonrpc":"1.0","result":1}"#,
+    r#"{"id":{},"method":"x"}"#,
+    // A method with an id that can't be found.
+    r#"{"id":9223372036854775808,"jsonrpc":"2.0","method":"x"}"#,
+    r#"{"id":-9223372036854775809,"jsonrpc":"2.0","method":"x"}"#,
+    r#"{"id":null,"jsonrpc":"2.0","method":"x"}"#,
+    r#"{"id":1.0,"jsonrpc":"2.0","method":"x"}"#,
+    r#"{"id":1e0,"jsonrpc":"2.0","method":"x"}"#,
+    r#"{"id":1.5,"jsonrpc":"2.0","method":"x"}"#,
+    r#"{"id":-0,"jsonrpc":"2.0","method":"x"}"#,
+    r#"{"id":{},"jsonrpc":"2.0","method":"x"}"#,
+    r#"{"id":[1],"jsonrpc":"2.0","method":"x"}"#,
+    r#"{"id":true,"jsonrpc":"2.0","method":"x"}"#,
+    r#"{"id":1,"jsonrpc":"2.0","id":null,"method":"x"}"#,
+    // Neither a call nor an answer.
+    r#"{"id":null,"jsonrpc":"2.0"}"#,
+    r#"{"error":null,"id":null,"jsonrpc":"2.0"}"#,
+    r#"{"jsonrpc":"2.0","result":1}"#,
+    r#"{"jsonrpc":"2.0","error":{}}"#,
+    r#"{"id":1.5,"jsonrpc":"2.0","result":1}"#,
+    r#"{"id":9223372036854775808,"error":{},"jsonrpc":"2.0"}"#,
+];
+
+#[test]
+fn no_message_and_no_id(rt: HostRuntime) -> Result<(), Fail> {
+    for body in WITHOUT_ID {
+        assert_eq!(rt;
+            shown(rt.alloc(), body)?.as_str(),
             "Err(NotAMessage { id: None })",
-        ),
-        ("\"x\"", "Err(NotAMessage { id: None })"),
-        ("7", "Err(NotAMessage { id: None })"),
-        ("null", "Err(NotAMessage { id: None })"),
-        // The version is looked at first, and the id is still found.
-        ("{}", "Err(NotAMessage { id: None })"),
-        (
-            "{\"id\":9,\"method\":\"x\"}",
-            "Err(NotAMessage { id: Some(Whole(9)) })",
-        ),
-        (
-            "{\"id\":9,\"jsonrpc\":2.0,\"method\":\"x\"}",
-            "Err(NotAMessage { id: Some(Whole(9)) })",
-        ),
-        (
-            "{\"id\":\"a\",\"jsonrpc\":\"2\",\"method\":1}",
-            "Err(NotAMessage { id: Some(Text(\"a\")) })",
-        ),
-        (
-            "{\"id\":null,\"jsonrpc\":\"1.0\",\"result\":1}",
-            "Err(NotAMessage { id: None })",
-        ),
-        // A method that is no string.
-        (
-            "{\"id\":5,\"jsonrpc\":\"2.0\",\"method\":1}",
-            "Err(NotAMessage { id: Some(Whole(5)) })",
-        ),
-        (
-            "{\"id\":5,\"jsonrpc\":\"2.0\",\"method\":null,\"result\":1}",
-            "Err(NotAMessage { id: Some(Whole(5)) })",
-        ),
-        // Notifications.
-        (
-            "{\"jsonrpc\":\"2.0\",\"method\":\"$/x\"}",
-            "Ok(Notification { method: \"$/x\", params: None })",
-        ),
-        (
-            "{\"jsonrpc\":\"2.0\",\"method\":\"x\",\"params\":null}",
-            "Ok(Notification { method: \"x\", params: Some(Null) })",
-        ),
-        (
-            "{\"jsonrpc\":\"2.0\",\"method\":\"x\",\"params\":[],\"error\":1,\"y\":{}}",
-            "Ok(Notification { method: \"x\", params: Some(Array []) })",
-        ),
-        (
-            "{\"method\":\"a\",\"jsonrpc\":\"2.0\",\"method\":\"b\"}",
-            "Ok(Notification { method: \"b\", params: None })",
-        ),
-        // Requests.
-        (
-            "{\"id\":7,\"jsonrpc\":\"2.0\",\"method\":\"x\"}",
-            "Ok(Request { id: Whole(7), method: \"x\", params: None })",
-        ),
-        (
-            "{\"id\":\"\",\"jsonrpc\":\"2.0\",\"method\":\"\"}",
-            "Ok(Request { id: Text(\"\"), method: \"\", params: None })",
-        ),
-        (
-            "{\"id\":\"q\",\"jsonrpc\":\"2.0\",\"method\":\"exit\",\"params\":7}",
-            "Ok(Request { id: Text(\"q\"), method: \"exit\", params: Some(Number(7)) })",
-        ),
-        (
-            "{\"id\":9223372036854775807,\"jsonrpc\":\"2.0\",\"method\":\"x\"}",
-            "Ok(Request { id: Whole(9223372036854775807), method: \"x\", params: None })",
-        ),
-        (
-            "{\"id\":-9223372036854775808,\"jsonrpc\":\"2.0\",\"method\":\"x\"}",
-            "Ok(Request { id: Whole(-9223372036854775808), method: \"x\", params: None })",
-        ),
-        // A method with an id that can't be found.
-        (
-            "{\"id\":9223372036854775808,\"jsonrpc\":\"2.0\",\"method\":\"x\"}",
-            "Err(NotAMessage { id: None })",
-        ),
-        (
-            "{\"id\":null,\"jsonrpc\":\"2.0\",\"method\":\"x\"}",
-            "Err(NotAMessage { id: None })",
-        ),
-        (
-            "{\"id\":1.0,\"jsonrpc\":\"2.0\",\"method\":\"x\"}",
-            "Err(NotAMessage { id: None })",
-        ),
-        (
-            "{\"id\":1e0,\"jsonrpc\":\"2.0\",\"method\":\"x\"}",
-            "Err(NotAMessage { id: None })",
-        ),
-        (
-            "{\"id\":-0,\"jsonrpc\":\"2.0\",\"method\":\"x\"}",
-            "Err(NotAMessage { id: None })",
-        ),
-        (
-            "{\"id\":{},\"jsonrpc\":\"2.0\",\"method\":\"x\"}",
-            "Err(NotAMessage { id: None })",
-        ),
-        (
-            "{\"id\":true,\"jsonrpc\":\"2.0\",\"method\":\"x\"}",
-            "Err(NotAMessage { id: None })",
-        ),
-        // Responses.
-        (
-            "{\"id\":1,\"jsonrpc\":\"2.0\",\"result\":null}",
-            "Ok(Response { id: Some(Whole(1)), outcome: Given(Null) })",
-        ),
-        (
-            "{\"error\":null,\"id\":1,\"jsonrpc\":\"2.0\",\"result\":null}",
-            "Ok(Response { id: Some(Whole(1)), outcome: Given(Null) })",
-        ),
-        (
-            "{\"error\":{},\"id\":1,\"jsonrpc\":\"2.0\",\"result\":1}",
-            "Ok(Response { id: Some(Whole(1)), outcome: Failed })",
-        ),
-        (
-            "{\"error\":0,\"id\":\"1\",\"jsonrpc\":\"2.0\"}",
-            "Ok(Response { id: Some(Text(\"1\")), outcome: Failed })",
-        ),
-        (
-            "{\"error\":{},\"id\":null,\"jsonrpc\":\"2.0\"}",
-            "Ok(Response { id: None, outcome: Failed })",
-        ),
-        (
-            "{\"id\":null,\"jsonrpc\":\"2.0\",\"result\":[]}",
-            "Ok(Response { id: None, outcome: Given(Array []) })",
-        ),
-        // Neither a call nor an answer.
-        (
-            "{\"id\":1,\"jsonrpc\":\"2.0\"}",
-            "Err(NotAMessage { id: Some(Whole(1)) })",
-        ),
-        (
-            "{\"error\":null,\"id\":1,\"jsonrpc\":\"2.0\"}",
-            "Err(NotAMessage { id: Some(Whole(1)) })",
-        ),
-        (
-            "{\"id\":null,\"jsonrpc\":\"2.0\"}",
-            "Err(NotAMessage { id: None })",
-        ),
-        (
-            "{\"jsonrpc\":\"2.0\",\"result\":1}",
-            "Err(NotAMessage { id: None })",
-        ),
-        (
-            "{\"jsonrpc\":\"2.0\",\"error\":{}}",
-            "Err(NotAMessage { id: None })",
-        ),
-        (
-            "{\"id\":1.5,\"jsonrpc\":\"2.0\",\"result\":1}",
-            "Err(NotAMessage { id: None })",
-        ),
-    ] {
-        let outcome = read(alloc, body.as_bytes());
-        let shown = format!(in alloc; "{outcome:?}")?;
-        assert_eq!(rt; shown.as_str(), wanted, "{body}");
+            "{body}"
+        );
+    }
+    Ok(())
+}
+
+const WITH_ID: [(&str, &str); 9] = [
+    (r#"{"id":9,"method":"x"}"#, "Whole(9)"),
+    (r#"{"id":9,"jsonrpc":2.0,"method":"x"}"#, "Whole(9)"),
+    (r#"{"id":9,"jsonrpc":null,"result":1}"#, "Whole(9)"),
+    (r#"{"id":"a","jsonrpc":"2","method":1}"#, r#"Text("a")"#),
+    // A method that is no string.
+    (r#"{"id":5,"jsonrpc":"2.0","method":1}"#, "Whole(5)"),
+    (
+        r#"{"id":5,"jsonrpc":"2.0","method":null,"result":1}"#,
+        "Whole(5)",
+    ),
+    // Neither a call nor an answer.
+    (r#"{"id":1,"jsonrpc":"2.0"}"#, "Whole(1)"),
+    (r#"{"id":"","jsonrpc":"2.0","params":[]}"#, r#"Text("")"#),
+    (r#"{"error":null,"id":1,"jsonrpc":"2.0"}"#, "Whole(1)"),
+];
+
+#[test]
+fn no_message_with_an_id(rt: HostRuntime) -> Result<(), Fail> {
+    for (body, id) in WITH_ID {
+        let wanted = format!(in rt.alloc(); "Err(NotAMessage {{ id: Some({id}) }})")?;
+        let shown = shown(rt.alloc(), body)?;
+        assert_eq!(rt; shown.as_str(), wanted.as_str(), "{body}");
+    }
+    Ok(())
+}
+
+const CALLS: [(&str, &str); 12] = [
+    (
+        r#"{"jsonrpc":"2.0","method":"$/x"}"#,
+        r#"Notification { method: "$/x", params: None }"#,
+    ),
+    (
+        r#"{"jsonrpc":"2.0","method":"x","params":null}"#,
+        r#"Notification { method: "x", params: Some(Null) }"#,
+    ),
+    (
+        r#" { "y" : {} , "error":1, "jsonrpc":"2.0","method":"x","params":[],"result":[] } "#,
+        r#"Notification { method: "x", params: Some(Array []) }"#,
+    ),
+    (
+        r#"{"method":"a","jsonrpc":"2.0","method":"b"}"#,
+        r#"Notification { method: "b", params: None }"#,
+    ),
+    (
+        r#"{"id":7,"jsonrpc":"2.0","method":"x"}"#,
+        r#"Request { id: Whole(7), method: "x", params: None }"#,
+    ),
+    (
+        r#"{"id":8,"jsonrpc":"2.0","method":"$/x"}"#,
+        r#"Request { id: Whole(8), method: "$/x", params: None }"#,
+    ),
+    (
+        r#"{"id":"","jsonrpc":"2.0","method":""}"#,
+        r#"Request { id: Text(""), method: "", params: None }"#,
+    ),
+    (
+        r#"{"id":"q","jsonrpc":"2.0","method":"textDocument/hover"}"#,
+        r#"Request { id: Text("q"), method: "textDocument/hover", params: None }"#,
+    ),
+    (
+        r#"{"id":"q","jsonrpc":"2.0","method":"exit","params":7}"#,
+        r#"Request { id: Text("q"), method: "exit", params: Some(Number(7)) }"#,
+    ),
+    (
+        r#"{"id":9223372036854775807,"jsonrpc":"2.0","method":"x"}"#,
+        r#"Request { id: Whole(9223372036854775807), method: "x", params: None }"#,
+    ),
+    (
+        r#"{"id":-9223372036854775808,"jsonrpc":"2.0","method":"x"}"#,
+        r#"Request { id: Whole(-9223372036854775808), method: "x", params: None }"#,
+    ),
+    (
+        r#"{"id":1,"jsonrpc":"2.0","id":2,"method":"x"}"#,
+        r#"Request { id: Whole(2), method: "x", params: None }"#,
+    ),
+];
+
+#[test]
+fn calls_are_read(rt: HostRuntime) -> Result<(), Fail> {
+    for (body, message) in CALLS {
+        let wanted = format!(in rt.alloc(); "Ok({message})")?;
+        let shown = shown(rt.alloc(), body)?;
+        assert_eq!(rt; shown.as_str(), wanted.as_str(), "{body}");
+    }
+    Ok(())
+}
+
+const ANSWERS: [(&str, &str); 7] = [
+    (
+        r#"{"id":1,"jsonrpc":"2.0","result":null}"#,
+        "id: Some(Whole(1)), outcome: Given(Null)",
+    ),
+    (
+        r#"{"error":null,"id":1,"jsonrpc":"2.0","result":null}"#,
+        "id: Some(Whole(1)), outcome: Given(Null)",
+    ),
+    (
+        r#"{"error":{},"id":1,"jsonrpc":"2.0","result":1}"#,
+        "id: Some(Whole(1)), outcome: Failed",
+    ),
+    (
+        r#"{"error":0,"id":"1","jsonrpc":"2.0"}"#,
+        r#"id: Some(Text("1")), outcome: Failed"#,
+    ),
+    (
+        r#"{"error":{},"id":null,"jsonrpc":"2.0"}"#,
+        "id: None, outcome: Failed",
+    ),
+    (
+        r#"{"id":null,"jsonrpc":"2.0","result":[]}"#,
+        "id: None, outcome: Given(Array [])",
+    ),
+    (
+        r#"{"x":[],"id":1,"jsonrpc":"2.0","params":7,"result":"r"}"#,
+        r#"id: Some(Whole(1)), outcome: Given(String("r"))"#,
+    ),
+];
+
+#[test]
+fn answers_are_read(rt: HostRuntime) -> Result<(), Fail> {
+    for (body, members) in ANSWERS {
+        let wanted = format!(in rt.alloc(); "Ok(Response {{ {members} }})")?;
+        let shown = shown(rt.alloc(), body)?;
+        assert_eq!(rt; shown.as_str(), wanted.as_str(), "{body}");
     }
     Ok(())
 }
 
 #[test]
-fn texts_are_unescaped_and_bytes_are_checked(rt: HostRuntime) -> Result<(), Fail> {
-    let alloc = rt.alloc();
-    let escapes =
-        "{\"jsonrpc\":\"2.0\",\"method\":\"\\\"\\\\\\/\\b\\f\\n\\r\\t\\u0000\\u2028\\ud83d\\ude00\"}";
-    match read(alloc, escapes.as_bytes())? {
+fn texts_are_unescaped(rt: HostRuntime) -> Result<(), Fail> {
+    let body =
+        "{\"jsonrpc\":\"2.0\",\"method\":\"\\\"\\\\\\/\\b\\f\\n\\r\\t\\u0000\\u2028\\ud83d\\uDE00\u{2028}\u{7f}\"}";
+    match read(rt.alloc(), body.as_bytes())? {
         Message::Notification { method, .. } => {
-            assert_eq!(rt; method.as_str(), "\"\\/\u{8}\u{c}\n\r\t\0\u{2028}\u{1f600}")
+            assert_eq!(rt;
+                method.as_str(),
+                "\"\\/\u{8}\u{c}\n\r\t\0\u{2028}\u{1f600}\u{2028}\u{7f}"
+            )
         }
         _other => return Err(Fail::from("a notification")),
     }
-    let not_utf8 = read(alloc, b"{\"jsonrpc\":\"2.0\",\"method\":\"\xff\"}");
-    assert!(rt; not_utf8 == Err(ReadFault::NotJson));
     Ok(())
 }
 
-// A body whose params nest this deep. The body's object is one level more.
+// A cut character, one that is too long, a surrogate, and bytes that no character has.
+const NOT_UTF8: [&[u8]; 5] = [
+    b"\xff",
+    b"\"\xc3\"",
+    b"\"\xc0\xaf\"",
+    b"\"\xed\xa0\x80\"",
+    b"{\"jsonrpc\":\"2.0\",\"method\":\"\xff\"}",
+];
+
+#[test]
+fn bytes_are_utf8(rt: HostRuntime) {
+    for body in NOT_UTF8 {
+        let outcome = read(rt.alloc(), body);
+        assert!(rt; outcome == Err(ReadFault::NotJson), "{body:?}");
+    }
+}
+
+// An array in arrays, this deep in all.
 fn nested(alloc: Global, depth: usize) -> Result<String, AllocError> {
-    let mut body = String::from_str(alloc, "{\"jsonrpc\":\"2.0\",\"method\":\"x\",\"params\":")?;
+    let mut text = String::new(alloc);
     for _ in 0..depth {
-        body.push('[')?;
+        text.push('[')?;
     }
     for _ in 0..depth {
-        body.push(']')?;
+        text.push(']')?;
     }
-    body.push('}')?;
-    Ok(body)
+    Ok(text)
 }
 
 #[test]
 fn a_body_nests_127_deep(rt: HostRuntime) -> Result<(), Fail> {
-    let alloc = rt.alloc();
+    for depth in [127, 128, 200] {
+        let arrays = nested(rt.alloc(), depth)?;
+        let outcome = read(rt.alloc(), arrays.as_bytes());
+        let is_json = outcome == Err(ReadFault::NotAMessage { id: None });
+        assert_eq!(rt; is_json, depth == 127, "{depth}");
+        assert_eq!(rt; outcome == Err(ReadFault::NotJson), !is_json, "{depth}");
+    }
+    Ok(())
+}
+
+#[test]
+fn a_message_nests_127_deep(rt: HostRuntime) -> Result<(), Fail> {
     for (depth, fits) in [(126, true), (127, false), (200, false)] {
-        let body = nested(alloc, depth)?;
-        let outcome = read(alloc, body.as_bytes());
+        let arrays = nested(rt.alloc(), depth)?;
+        let body = format!(in rt.alloc();
+            "{{\"jsonrpc\":\"2.0\",\"method\":\"x\",\"params\":{arrays}}}"
+        )?;
+        let outcome = read(rt.alloc(), body.as_bytes());
         assert_eq!(rt; outcome.is_ok(), fits, "{depth}");
         assert_eq!(rt; outcome == Err(ReadFault::NotJson), !fits, "{depth}");
     }
+    Ok(())
+}
+
+#[test]
+fn faults_have_their_texts(rt: HostRuntime) -> Result<(), Fail> {
+    let alloc = rt.alloc();
+    let no_message = ReadFault::NotAMessage { id: None };
+    assert_eq!(rt;
+        ReadFault::NotJson.to_string(alloc)?.as_str(),
+        "the body is no JSON"
+    );
+    assert_eq!(rt;
+        no_message.to_string(alloc)?.as_str(),
+        "the body is no message"
+    );
+    assert_eq!(rt;
+        ReadFault::NoMemory.to_string(alloc)?.as_str(),
+        "out of memory"
+    );
+    assert_eq!(rt;
+        ParamsFault::InvalidParams.to_string(alloc)?.as_str(),
+        "invalid params"
+    );
+    assert_eq!(rt;
+        ParamsFault::NoMemory.to_string(alloc)?.as_str(),
+        "out of memory"
+    );
     Ok(())
 }

@@ -1,6 +1,6 @@
 //! Calls that run out of memory once, and are made again.
 
-use super::error_reply;
+use super::{error_reply, text};
 use crate::{
     ErrorCode, Id, Message, Offers, Outgoing, ParamsFault, ReadFault, SyncKind, params_change,
     read, write,
@@ -54,17 +54,30 @@ fn refused_params_change(rt: HostRuntime) -> Result<(), Fail> {
     Ok(())
 }
 
+/// An id that doesn't fit into the room that is made for a message at first.
+const LONG_ID: &str = concat!(
+    "0123456789012345678901234567890123456789012345678901234567890123456789",
+    "0123456789012345678901234567890123456789012345678901234567890123456789",
+    "0123456789012345678901234567890123456789012345678901234567890123456789",
+    "0123456789012345678901234567890123456789012345678901234567890123456789",
+);
+
 #[test]
 fn refused_write(rt: HostRuntime) -> Result<(), Fail> {
     let alloc = rt.alloc();
-    let message = error_reply(Some(Id::Whole(7)), ErrorCode::InvalidRequest);
     let mut refused = 0;
+    let mut id = text(alloc, LONG_ID);
+    if id.is_err() {
+        refused += 1;
+        id = text(alloc, LONG_ID);
+    }
+    let message = error_reply(Some(Id::Text(id?)), ErrorCode::InvalidRequest);
     let mut outcome = write(alloc, &message);
     if outcome.is_err() {
         refused += 1;
         outcome = write(alloc, &message);
     }
-    assert!(rt; outcome.is_ok_and(|body| body.starts_with(b"{\"error\":{\"code\":-32600")));
+    assert!(rt; outcome.is_ok_and(|body| body.ends_with(b"6789\",\"jsonrpc\":\"2.0\"}")));
     println!(rt; "refused {refused}")?;
     Ok(())
 }

@@ -1,10 +1,12 @@
-use Rattle.std.proofs.Common.{rules, All, IfSome, List, subst}
-use Rattle.lsp_edit.specs.declared.change.Change.{Change}
-use Rattle.lsp_message.specs.Sent.{IsProperRange}
-use Rattle.lsp_message.proofs.Proper.{IsProperChange-view}
+use Rattle.std.proofs.Common.{◌≡◌, sym, rules, w32, to_z, of_z}
+use Rattle.std.proofs.lemmas.Int.{to_z-of_z}
+use Rattle.lsp_message.proofs.Tokens.{put, add, ending}
 use Rattle.lsp_message.proofs.writer.change_params.Goals as goal
 
-pub returns-in-Ok-json-4-clause-proper : goal.returns-in-Ok-json-4-clause-proper
-returns-in-Ok-json-4-clause-proper c =
-    IsProperChange-view c.args.params.now (search rules)
-    (subst (λ (changes : List Change). All (λ (change : Change). IfSome change.range IsProperRange) changes) c.deref.ensures.value c.in_ok-changes.ensures.proper)
+pub returns : goal.returns
+returns c =
+    let number = c.args.params.now.version in
+    let version : to_z w32 (of_z w32 number) ≡ number = to_z-of_z w32 number (search rules) in
+    rw (sym version, sym c.deref.ensures.value, sym c.as_str.ensures.value)
+    (ending c.end_object.result (λ e. put c.in_ok-begin_object.ensures (put c.in_ok-key.ensures (add c.in_ok-edits_value.ensures
+    (put c.in_ok-key-2.ensures (add c.in_ok-versioned_document.ensures e))))) c.end_object.ensures)

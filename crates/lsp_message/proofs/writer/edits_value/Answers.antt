@@ -1,12 +1,16 @@
-use Rattle.std.proofs.Common.{arith}
-use Rattle.lsp_message.proofs.Proper.{proper_more, written_more}
+use Rattle.std.proofs.Common.{◌≡◌, ◌∷◌, sym, take, arith}
+use Rattle.std.proofs.lemmas.List.{take_all}
+use Rattle.std.specs.List.{flat_map}
+use Rattle.json.specs.Token as token
+use Rattle.lsp_message.specs.Outgoing as spec
+use Rattle.lsp_message.specs.Seen.{edit_view}
+use Rattle.lsp_message.specs.Tokens.{Appends, tokens_of}
+use Rattle.lsp_message.proofs.Tokens.{add, ending, items_in_turn}
 use Rattle.lsp_message.proofs.writer.edits_value.Goals as goal
 
-pub loop-change-preserved : goal.loop-change-preserved
-loop-change-preserved c = record {
-  written = written_more c.loop-change.values.items c.push.new.self.items c.in_ok-edit_value.field-0 c.args.changes.now c.loop-change.change-index c.change-item.result c.loop-change-test.true c.change-item.is c.in_ok-push.ensures.items c.loop-change.invariant.written c.in_ok-edit_value.ensures.value;
-  proper = proper_more c.args.changes.now c.loop-change.change-index c.change-item.result c.loop-change-test.true c.change-item.is c.loop-change.invariant.proper c.in_ok-edit_value.ensures.proper;
-}
-
-pub returns-clause-proper : goal.returns-clause-proper
-returns-clause-proper c = λ k d low. c.loop-change.invariant.proper k d (omega (arith, c.loop-change-test.false))
+pub returns : goal.returns
+returns c =
+    let all : take c.loop-change.change-index c.args.changes.now ≡ c.args.changes.now = take_all _ _ (omega (arith, c.loop-change-test.false)) in
+    let changes : Appends c.args.writer.now c.loop-change.writer (token.begin_array ∷ flat_map (λ change. tokens_of (spec.edit_value (edit_view change))) c.args.changes.now) =
+    rw (sym all) c.loop-change.invariant in
+    rw (items_in_turn spec.edit_value edit_view c.args.changes.now) (ending c.end_array.result (λ e. add changes e) c.end_array.ensures)

@@ -1,13 +1,11 @@
-use Rattle.std.proofs.Common.{◌≡◌, ℕ, ◌<◌, IfSome, get_or, map, take}
-use Rattle.serde_json.specs.View.{view}
-use Rattle.lsp_edit.specs.declared.change.Change.{Change}
-use Rattle.lsp_message.specs.Outgoing.{edit_value}
+use Rattle.std.proofs.Common.{◌∷◌, take}
+use Rattle.std.specs.List.{flat_map}
+use Rattle.json.specs.Token as token
+use Rattle.lsp_message.specs.Outgoing as spec
 use Rattle.lsp_message.specs.Seen.{edit_view}
-use Rattle.lsp_message.specs.Sent.{IsProperRange}
+use Rattle.lsp_message.specs.Tokens.{Appends, tokens_of}
 use Rattle.lsp_message.proofs.writer.edits_value.Given as goal
 
+-- the tokens of the changes so far
 abbrev pub invariant-loop-change : goal.invariant-loop-change
-invariant-loop-change l = record {
-  written : map view l.values.items ≡ map edit_value (map edit_view (take l.change-index l.changes));
-  proper : (k : ℕ) (d : Change) → k < l.change-index → IfSome (get_or l.changes k d).range IsProperRange;
-}
+invariant-loop-change l = Appends l.fn.writer l.writer (token.begin_array ∷ flat_map (λ change. tokens_of (spec.edit_value (edit_view change))) (take l.change-index l.changes))
