@@ -22,30 +22,7 @@ const PIECES: [usize; 4] = [1, 64, 4_096, 65_536];
 
 fn main(rt: HostRuntime) -> Result<()> {
     let megabytes = megabytes(&rt)?;
-    for body in BODIES {
-        let stream = made_stream(rt.alloc(), body, megabytes)?;
-        let start = Instant::now(&rt)?;
-        let bytes = copied(rt.alloc(), &stream)?;
-        report(&rt, "copy", body, 4_096, bytes, 0, start.elapsed(&rt)?)?;
-        for piece in PIECES {
-            let start = Instant::now(&rt)?;
-            let read = read_stream(rt.alloc(), &stream, piece)?;
-            let time = start.elapsed(&rt)?;
-            println!(rt;
-                "bodies of {body}, pieces of {piece}: {} frames, {} bytes",
-                read.frames, read.bytes
-            )?;
-            report(
-                &rt,
-                "frames",
-                body,
-                piece,
-                stream.len() as u64,
-                read.frames,
-                time,
-            )?;
-        }
-    }
+    time_frames(&rt, megabytes)?;
     lines::measure(
         &rt,
         Sizes {
@@ -56,6 +33,35 @@ fn main(rt: HostRuntime) -> Result<()> {
         },
     )?;
     time_messages(&rt, megabytes)
+}
+
+/// Frames streams, beside a plain copy of each.
+fn time_frames(rt: &(impl Runtime + AllocGlobal), megabytes: u16) -> Result<()> {
+    for body in BODIES {
+        let stream = made_stream(rt.alloc(), body, megabytes)?;
+        let start = Instant::now(rt)?;
+        let bytes = copied(rt.alloc(), &stream)?;
+        report(rt, "copy", body, 4_096, bytes, 0, start.elapsed(rt)?)?;
+        for piece in PIECES {
+            let start = Instant::now(rt)?;
+            let read = read_stream(rt.alloc(), &stream, piece)?;
+            let time = start.elapsed(rt)?;
+            println!(rt;
+                "bodies of {body}, pieces of {piece}: {} frames, {} bytes",
+                read.frames, read.bytes
+            )?;
+            report(
+                rt,
+                "frames",
+                body,
+                piece,
+                stream.len() as u64,
+                read.frames,
+                time,
+            )?;
+        }
+    }
+    Ok(())
 }
 
 /// The number behind a name among the arguments, or what stands for it.
