@@ -18,3 +18,6 @@ pub mod AppliedLemmas
 pub mod RoomLemmas
 pub mod WalkLemmas
 pub mod LawLemmas
+pub mod ThroughLemmas
+pub mod PassedLemmas
+pub mod ThenLemmas

@@ -148,3 +148,15 @@ IsThrough first (NewPart bytes) = Unit {0}
 abbrev pub AreThrough : List Part → List Part → Type 0
 AreThrough first [] = Unit {0}
 AreThrough first (part ∷ second) = IsThrough first part × AreThrough first second
+
+-- The parts of the old text among them come in order: none begins before `low`, nor before another ends.
+abbrev pub Ascend : ℕ → List Part → Type 0
+Ascend low [] = Unit {0}
+Ascend low (OldPart from to ∷ parts) = (low ≤ from) × (from ≤ to) × Ascend to parts
+Ascend low (NewPart bytes ∷ parts) = Ascend low parts
+
+-- `rest` are the parts behind the first `passed` bytes: places from `low` on are found among them as among all parts.
+pub record ArePassed (parts rest : List Part) (passed low : ℕ) : Type 0 where
+  pub within : passed ≤ low
+  pub same : (place : ℕ) → low ≤ place → back_parts rest (place - passed) ≡ back_parts parts place
+  pub cut : (place : ℕ) → low ≤ place → AreCut parts place → AreCut rest (place - passed)

@@ -1,12 +1,13 @@
 //! A text that changes are applied to, kept as spans of the old text and of the changes' texts.
 
-ghost use Rattle.std.specs.Prelude.{◌≡◌, ◌↔◌, ◌+◌, ◌≤◌, ℕ, IfErr, IfOk, OnErr, OnOk, Ok, IsTrue, List, ◌*◌, map, length, string_bytes, string_len};
+ghost use Rattle.std.specs.Prelude.{◌≡◌, ◌↔◌, ◌+◌, ◌*◌, ◌++◌, ◌≤◌, ℕ, IfErr, IfOk, OnErr, OnOk, Ok, IsTrue, List, map, length, string_bytes, string_len};
 ghost use Rattle.std.specs.Str.{chars};
 ghost use Rattle.lsp_text.specs.LineStarts.{Indexes};
 ghost use Rattle.lsp_text.specs.Units.{units_in};
-ghost use Rattle.lsp_edit.specs.Items.{plain};
+ghost use Rattle.lsp_edit.specs.Items.{Item, plain};
 ghost use Rattle.lsp_edit.specs.Parts.{AreParts, NoneEmpty, items_of, parts_of};
-ghost use Rattle.lsp_edit.specs.Edited.{Applied, edit_of, edited_bytes, edited_text, lines_of};
+ghost use Rattle.lsp_edit.specs.Compose.{then_items};
+ghost use Rattle.lsp_edit.specs.Edited.{Applied, both_counts, edit_of, edited_bytes, edited_text, lines_of};
 ghost use Rattle.lsp_edit.specs.Faults.{IsPlaces, TellsFault, ends_of, places_at};
 ghost use Rattle.lsp_edit.specs.Batch.{Edit, after_change, meaning};
 ghost use Rattle.lsp_edit.specs.Canonical.{canonical};
@@ -20,6 +21,7 @@ use crate::fault::EditFault;
 use crate::kept_lines::KeptLines;
 use crate::replace::{all_new, replaced, whole};
 use crate::span::Span;
+use crate::through::spans_through;
 use lsp_text::{Encoding, Lines, Range};
 use std::alloc::{AllocError, Global};
 use std::marker::Model;
@@ -90,6 +92,27 @@ impl<'a> Pieces<'a> {
         ensures { IfOk result (λ pieces. pieces ≡ record { before = chars before.now; items = plain (chars before.now); changes = 0 }) }
     {
         Self::begin(alloc, before, KeptLines::Lent(lines))
+    }
+
+    /// What two runs of changes make together, the second over the text that the first left: told over the text that the first is over,
+    /// with the changes of both. Costs the spans of both, and lends the lines of the first.
+    pub fn then(alloc: Global, first: &'a Self, second: &Self) -> Result<Self, AllocError>
+        requires { second.now.before ≡ edited_text first.now }
+        ensures composed { IfOk result (λ pieces. pieces ≡ record { before = first.now.before; items = then_items first.now.items second.now.items; changes = both_counts first.now.changes second.now.changes }) }
+        ensures means { (units : ℕ → ℕ) (batch next : List Edit) → meaning units first.now.before batch ≡ Ok first.now.items → meaning units second.now.before next ≡ Ok second.now.items
+            → meaning units first.now.before (batch ++ next) ≡ Ok (then_items first.now.items second.now.items) }
+        ensures associative { (third : List Item) → then_items (then_items first.now.items second.now.items) third ≡ then_items first.now.items (then_items second.now.items third) }
+    {
+        let spans = spans_through(alloc, &first.spans, &second.spans)?;
+        Ok(Pieces {
+            alloc,
+            before: first.before,
+            lines: KeptLines::Lent(first.lines.get()),
+            spans,
+            len: second.len,
+            changes: first.changes.saturating_add(second.changes),
+            current: None,
+        })
     }
 
     /// Whether the text as it is now and the change's text have together at most 2,147,483,648 bytes.
