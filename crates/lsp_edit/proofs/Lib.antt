@@ -20,4 +20,6 @@ pub mod WalkLemmas
 pub mod LawLemmas
 pub mod ThroughLemmas
 pub mod PassedLemmas
+pub mod SpansLemmas
+pub mod CurrentLemmas
 pub mod ThenLemmas

@@ -1,8 +1,9 @@
 -- A walk over parts, which never goes back to those that it passed.
-use Rattle.std.proofs.Common.{ℕ, zero, suc, ◌≡◌, ◌+◌, ◌-◌, ◌<◌, ◌≤◌, ◌⊎◌, List, [], ◌∷◌, ◌++◌, length, map, take, drop, get_or, max, nat_lt, refl, sym, ap, ap₂, ◌∙◌, subst, arith, append-nil, lt-ltb, le-ltb, ne_eqb, ⊎_elim}
+use Rattle.std.proofs.Common.{ℕ, zero, suc, ◌≡◌, ◌+◌, ◌-◌, ◌<◌, ◌≤◌, ◌⊎◌, List, [], ◌∷◌, ◌++◌, length, map, take, drop, get_or, max, nat_lt, refl, sym, ap, ap₂, ◌∙◌, subst, arith, append_assoc, append-nil, take_all, lt-ltb, le-ltb, ne_eqb, ⊎_elim}
 use Rattle.std.proofs.lemmas.Bool.{cases_eq, cases_lt}
-use Rattle.std.proofs.lemmas.List.{length-drop}
-use Rattle.lsp_edit.specs.Parts.{Part, OldPart, NewPart, part_of, parts_of, part_len, front_part, back_part, front_parts, back_parts, IsOrdered, IsCut, AreCut, put_part, put_parts, between_parts, through_part, put_through, through_parts, IsThrough, AreThrough, Ascend, ArePassed}
+use Rattle.std.proofs.lemmas.List.{length-drop, map-append, take_more}
+use Rattle.std.proofs.lemmas.Str.{IsCharBoundary-end}
+use Rattle.lsp_edit.specs.Parts.{AreBefore, AreOrdered, EndsBehind, IsFirstCut, first_front, new_parts, put_first_back, replaced_parts, Part, OldPart, NewPart, part_of, parts_of, part_len, front_part, back_part, front_parts, back_parts, IsOrdered, IsCut, AreCut, put_part, put_parts, between_parts, through_part, put_through, through_parts, IsThrough, AreThrough, Ascend, ArePassed}
 use Rattle.lsp_edit.specs.declared.span.Span.{Span}
 use Rattle.lsp_edit.proofs.WalkLemmas.{rest_is}
 use Rattle.lsp_edit.proofs.PutLemmas.{put_all_few, back_fewer, cut_adds}
@@ -44,6 +45,112 @@ span_passed spans index default passed low len within is fits are =
     (rest_is spans index default (part_of (get_or spans index default)) within refl)
     (omega (arith, is))
     are)
+
+pub rest_all : (spans : List Span) (first : ℕ) → take (length spans - first) (drop first spans) ≡ drop first spans
+rest_all spans first = take_all (length spans - first) (drop first spans) (omega (arith, length-drop first spans))
+
+pub drop_ordered : (spans : List Span) (count : ℕ) → AreOrdered (parts_of spans) → AreOrdered (parts_of (drop count spans))
+drop_ordered spans zero ordered = ordered
+drop_ordered [] (suc count) ordered = tt
+drop_ordered (span ∷ spans) (suc count) ordered = drop_ordered spans count ordered.1
+
+-- How far parts were passed on the way to a place, and what stands before them.
+pub record Passing (parts front rest : List Part) (passed low : ℕ) : Type 0 where
+  pub are : ArePassed parts rest passed low
+  pub before : AreBefore parts front rest passed low
+  pub ordered : AreOrdered rest
+
+pub passing_begins : (parts : List Part) (low : ℕ) → AreOrdered parts → Passing parts [] parts 0 low
+passing_begins parts low ordered = record {
+  are = passed_later parts parts 0 0 low (omega arith) (none_passed parts);
+  before = λ place h. ap (front_parts parts) (omega arith);
+  ordered = ordered;
+}
+
+passing_on : (parts front rest : List Part) (passed low : ℕ) (part : Part) (more : List Part) → rest ≡ part ∷ more → passed + part_len part ≤ low → Passing parts front rest passed low → Passing parts (front ++ part ∷ []) more (passed + part_len part) low
+passing_on parts front rest passed low part more is fits p = record {
+  are = one_passed parts rest passed low part more is fits p.are;
+  before = λ place h.
+      let e : front_parts parts place ≡ front ++ front_parts (part ∷ more) (place - passed) = subst (λ (ps : List Part). front_parts parts place ≡ front ++ front_parts ps (place - passed)) is (p.before place h) in
+      let some : place - passed ≡ 0 → ⊥ = λ z. omega arith in
+      let n : (place - passed) - part_len part ≡ place - (passed + part_len part) = omega arith in
+      let f : front_parts parts place ≡ front ++ (part ∷ front_parts more ((place - passed) - part_len part)) = rw (ne_eqb (place - passed) 0 some, le-ltb (place - passed) (part_len part) (omega arith)) at e in
+      f ∙ (ap (λ (k : ℕ). front ++ (part ∷ front_parts more k)) n ∙ sym (append_assoc front (part ∷ []) (front_parts more (place - (passed + part_len part)))));
+  ordered = (subst AreOrdered is p.ordered).1;
+}
+
+pub span_passing : (spans : List Span) (index : ℕ) (default : Span) (passed low len : ℕ) → index < length spans → len ≡ part_len (part_of (get_or spans index default)) → passed + len ≤ low
+    → Passing (parts_of spans) (parts_of (take index spans)) (parts_of (drop index spans)) passed low → Passing (parts_of spans) (parts_of (take (index + 1) spans)) (parts_of (drop (index + 1) spans)) (passed + len) low
+span_passing spans index default passed low len within is fits p =
+    let part : Part = part_of (get_or spans index default) in
+    let more : take (index + 1) spans ≡ take index spans ++ get_or spans index default ∷ [] = take_more spans index default within in
+    let front : parts_of (take (index + 1) spans) ≡ parts_of (take index spans) ++ part_of (get_or spans index default) ∷ [] = ap parts_of more ∙ map-append part_of (take index spans) (get_or spans index default ∷ []) in
+    let on : Passing (parts_of spans) (parts_of (take index spans) ++ part_of (get_or spans index default) ∷ []) (parts_of (drop (index + 1) spans)) (passed + part_len (part_of (get_or spans index default))) low
+    = passing_on (parts_of spans) (parts_of (take index spans)) (parts_of (drop index spans)) passed low (part_of (get_or spans index default)) (parts_of (drop (index + 1) spans))
+    (rest_is spans index default (part_of (get_or spans index default)) within refl) (omega (arith, is)) p in
+    rw (front, is) on
+
+pub first_ordered : (rest : List Part) (part : Part) (more : List Part) → rest ≡ part ∷ more → AreOrdered rest → IsOrdered part
+first_ordered rest part more is ordered = (subst AreOrdered is ordered).0
+
+pub ends_behind : (rest : List Part) (part : Part) (more : List Part) (place : ℕ) → rest ≡ part ∷ more → place < part_len part → EndsBehind rest place
+ends_behind rest part more place is less = subst (λ (ps : List Part). EndsBehind ps place) (sym is) less
+
+-- A part cut at its end is the part itself.
+front_whole : (part : Part) → IsOrdered part → front_part part (part_len part) ≡ part
+front_whole (OldPart from to) order = let e : from + (to - from) ≡ to = omega arith in ap (OldPart from) e
+front_whole (NewPart bytes) order = ap NewPart (take_all (length bytes) bytes (omega arith))
+
+cut_end : (part : Part) → IsOrdered part → IsCut part (part_len part)
+cut_end (OldPart from to) order = (order, omega arith)
+cut_end (NewPart bytes) order = IsCharBoundary-end bytes
+
+cut_to_end : (part : Part) (parts : List Part) (place : ℕ) → AreCut (part ∷ parts) place → place ≤ part_len part → IsCut part place
+cut_to_end part parts place cut fits =
+    ⊎_elim
+    (λ (l : place < part_len part). cut.1 l)
+    (λ (l : part_len part ≤ place). let e : part_len part ≡ place = omega arith in subst (IsCut part) e (cut_end part cut.0))
+    (cases_lt place (part_len part))
+
+pub first_cut : (rest : List Part) (place : ℕ) → AreCut rest place → EndsBehind rest place → IsFirstCut rest place
+first_cut [] place cut behind = tt
+first_cut (part ∷ parts) place cut behind = cut.1 behind
+
+-- The first parts, up to a place that lies behind those passed.
+pub record AreEnded (parts front rest : List Part) (passed place : ℕ) : Type 0 where
+  pub front_is : front_parts parts place ≡ front ++ first_front rest (place - passed)
+  pub cut : IsFirstCut rest (place - passed)
+
+pub ended_at_start : (parts : List Part) → AreCut parts 0 → AreEnded parts [] parts 0 0
+ended_at_start [] cut = record { front_is = refl; cut = tt }
+ended_at_start (part ∷ parts) cut = record { front_is = refl; cut = cut_to_end part parts 0 cut (omega arith) }
+
+pub ended_behind : (parts front rest : List Part) (passed place : ℕ) → 0 < place → ArePassed parts rest passed (place - 1) → AreBefore parts front rest passed (place - 1) → EndsBehind rest ((place - 1) - passed) → AreCut parts place → AreEnded parts front rest passed place
+ended_behind parts front rest passed place some are before behind cut = by_first rest (before place (omega arith)) (are.cut place (omega arith) cut) behind
+  where
+    by_first : (ps : List Part) → front_parts parts place ≡ front ++ front_parts ps (place - passed) → AreCut ps (place - passed) → EndsBehind ps ((place - 1) - passed) → AreEnded parts front ps passed place
+    by_first [] is c b = record { front_is = is; cut = tt }
+    by_first (part ∷ ps) is c b =
+        let fits : place - passed ≤ part_len part = omega (arith, b, are.within) in
+        let not_first : place - passed ≡ 0 → ⊥ = λ z. omega (arith, are.within) in
+        record {
+          front_is = is
+              ∙ ap (λ (fs : List Part). front ++ fs) (
+                ⊎_elim
+                (λ (l : place - passed < part_len part). rw (ne_eqb (place - passed) 0 not_first, lt-ltb (place - passed) (part_len part) l) refl)
+                (λ (l : part_len part ≤ place - passed).
+                let e : part_len part ≡ place - passed = omega arith in
+                let z : (place - passed) - part_len part ≡ 0 = omega arith in
+                let w : part ≡ front_part part (place - passed) = sym (front_whole part c.0) ∙ ap (front_part part) e in
+                rw (ne_eqb (place - passed) 0 not_first, le-ltb (place - passed) (part_len part) l, z) (ap₂ (λ (p : Part) (fs : List Part). p ∷ fs) w (none ps)))
+                (cases_lt (place - passed) (part_len part))
+              );
+          cut = cut_to_end part ps (place - passed) c fits;
+        }
+      where
+        none : (qs : List Part) → front_parts qs 0 ≡ []
+        none [] = refl
+        none (q ∷ qs) = refl
 
 -- parts passed on the way among those that are left
 pub more_passed : (parts rest left : List Part) (passed on low from : ℕ) → low ≤ from → ArePassed parts rest passed low → ArePassed rest left on (from - passed) → ArePassed parts left (passed + on) from
@@ -106,6 +213,45 @@ module _ (first second made rest : List Part) (passed : ℕ) (left : List Part) 
           order = here.order.2;
           are = passed_later first after (passed + on) from to here.order.1 (more_passed first rest after passed on here.low from here.order.0 here.are were);
         }
+
+-- Parts put behind others, of which the last may be touched.
+put_behind_more : (front : List Part) (first : Part) (made : List Part) (part : Part) → put_part (front ++ first ∷ made) part ≡ front ++ put_part (first ∷ made) part
+put_behind_more [] first made part = refl
+put_behind_more (one ∷ []) first made part = refl
+put_behind_more (one ∷ two ∷ front) first made part = ap (λ (ps : List Part). one ∷ ps) (put_behind_more (two ∷ front) first made part)
+
+put_behind_some : (front made : List Part) (part : Part) → (made ≡ [] → front ≡ []) → put_part (front ++ made) part ≡ front ++ put_part made part
+put_behind_some front [] part none = rw (none refl) refl
+put_behind_some front (first ∷ made) part none = put_behind_more front first made part
+
+first_some : (rest : List Part) (place : ℕ) (new : List Part) → (rest ≡ [] → ⊥) → first_front rest place ++ new ≡ [] → place ≡ 0
+first_some [] place new some e = absurd (some refl)
+first_some (part ∷ parts) place new some e =
+    ⊎_elim
+    (λ (z : place ≡ 0). z)
+    (λ (nz : place ≡ 0 → ⊥). let f : front_part part place ∷ new ≡ [] = rw (ne_eqb place 0 nz) at e in absurd (cc))
+    (cases_eq place 0)
+
+-- What the parts are whose bytes between two places were replaced, told by those that were passed on the way to each.
+pub replaced_is : (parts front rest later : List Part) (start stop passed more : ℕ) (text : List ℕ) → start ≤ stop → ArePassed parts rest passed start → front_parts parts start ≡ front ++ first_front rest (start - passed)
+    → (start - passed ≡ 0 → front ≡ []) → ArePassed rest later more (stop - passed) → EndsBehind later ((stop - passed) - more) → (rest ≡ [] → later ≡ [])
+    → front ++ (put_first_back (first_front rest (start - passed) ++ new_parts text) later ((stop - passed) - more) ++ drop 1 later) ≡ replaced_parts parts start stop text
+replaced_is parts front rest later start stop passed more text order are front_is first were behind some =
+    sym (ap₂ (λ (fs bs : List Part). put_parts (fs ++ new_parts text) bs) front_is (sym (were.same (stop - passed) (omega arith) ∙ are.same stop order)) ∙ by_later later behind some)
+  where
+    by_later : (ls : List Part) → EndsBehind ls ((stop - passed) - more) → (rest ≡ [] → ls ≡ [])
+        → put_parts ((front ++ first_front rest (start - passed)) ++ new_parts text) (back_parts ls ((stop - passed) - more))
+        ≡ front ++ (put_first_back (first_front rest (start - passed) ++ new_parts text) ls ((stop - passed) - more) ++ drop 1 ls)
+    by_later [] b s = append_assoc front (first_front rest (start - passed)) (new_parts text) ∙ ap (λ (ps : List Part). front ++ ps) (sym (append-nil (first_front rest (start - passed) ++ new_parts text)))
+    by_later (part ∷ ls) b s =
+        let some_rest : rest ≡ [] → ⊥ = λ e. let f : part ∷ ls ≡ [] = s e in absurd (cc) in
+        let whole : (front ++ first_front rest (start - passed)) ++ new_parts text ≡ front ++ (first_front rest (start - passed) ++ new_parts text) = append_assoc front (first_front rest (start - passed)) (new_parts text) in
+        let put : put_part (front ++ (first_front rest (start - passed) ++ new_parts text)) (back_part part ((stop - passed) - more)) ≡ front ++ put_part (first_front rest (start - passed) ++ new_parts text) (back_part part ((stop - passed) - more))
+        = put_behind_some front (first_front rest (start - passed) ++ new_parts text) (back_part part ((stop - passed) - more)) (λ e. first (first_some rest (start - passed) (new_parts text) some_rest e)) in
+        rw (lt-ltb ((stop - passed) - more) (part_len part) b)
+        (ap (λ (ps : List Part). put_part ps (back_part part ((stop - passed) - more)) ++ ls) whole
+        ∙ (ap (λ (ps : List Part). ps ++ ls) put
+        ∙ append_assoc front (put_part (first_front rest (start - passed) ++ new_parts text) (back_part part ((stop - passed) - more))) ls))
 
 -- How many parts there are between places that ascend: those passed on the way, and one more for each cut.
 back_later : (parts : List Part) (low high : ℕ) → low ≤ high → length (back_parts parts high) ≤ length (back_parts parts low)

@@ -15,6 +15,7 @@ mod laws;
 mod pieces;
 mod replace;
 mod span;
+mod spans;
 #[cfg(test)]
 mod tests;
 mod through;

@@ -19,8 +19,8 @@ use crate::current::{Current, text_of_spans};
 use crate::ends::ends;
 use crate::fault::EditFault;
 use crate::kept_lines::KeptLines;
-use crate::replace::{all_new, replaced, whole};
 use crate::span::Span;
+use crate::spans::Spans;
 use crate::through::spans_through;
 use lsp_text::{Encoding, Lines, Range};
 use std::alloc::{AllocError, Global};
@@ -36,7 +36,7 @@ pub struct Pieces<'a> {
     alloc: Global,
     before: &'a str,
     lines: KeptLines<'a>,
-    spans: Vec<Span<'a>>,
+    spans: Spans<'a>,
     len: usize,
     changes: usize,
     current: Option<Current>,
@@ -44,37 +44,36 @@ pub struct Pieces<'a> {
 
 impl<'a> Model for Pieces<'a> {
     ghost use Rattle.std.specs.Str.{chars};
-    ghost use Rattle.lsp_edit.specs.Parts.{items_of, parts_of, bytes_of};
+    ghost use Rattle.lsp_edit.specs.Parts.{items_of, parts_of, spans_in, bytes_of};
     ghost use Rattle.lsp_edit.specs.Edited.{Edited, ArePieces, IsCurrent, lines_of};
 
     ghost Value = { Edited };
 
     ghost view = { λ pieces. record {
       before = chars pieces.before.now;
-      items = items_of (chars pieces.before.now) (parts_of pieces.spans.items);
+      items = items_of (chars pieces.before.now) (parts_of (spans_in pieces.spans));
       changes = pieces.changes;
     } };
 
-    ghost invariant = { λ pieces. ArePieces pieces.before.now (lines_of pieces.lines) (parts_of pieces.spans.items) pieces.len pieces.changes
-        × IsCurrent (bytes_of pieces.before.now (parts_of pieces.spans.items)) pieces.current };
+    ghost invariant = { λ pieces. ArePieces pieces.before.now (lines_of pieces.lines) (parts_of (spans_in pieces.spans)) pieces.len pieces.changes
+        × IsCurrent (bytes_of pieces.before.now (parts_of (spans_in pieces.spans))) pieces.current };
 }
 
 impl<'a> Pieces<'a> {
     /// Nothing changed yet, over lines of the text.
-    fn begin(alloc: Global, before: &'a str, lines: KeptLines<'a>) -> Result<Self, AllocError>
+    fn begin(alloc: Global, before: &'a str, lines: KeptLines<'a>) -> Self
         requires { Indexes (lines_of lines) before.now }
-        ensures { IfOk result (λ pieces. pieces ≡ record { before = chars before.now; items = plain (chars before.now); changes = 0 }) }
+        ensures { result ≡ record { before = chars before.now; items = plain (chars before.now); changes = 0 } }
     {
-        let spans = whole(alloc, before)?;
-        Ok(Pieces {
+        Pieces {
             alloc,
             before,
             lines,
-            spans,
+            spans: Spans::whole(alloc, before),
             len: before.len(),
             changes: 0,
             current: None,
-        })
+        }
     }
 
     /// A text before any change. Costs a search through the text for its lines.
@@ -83,13 +82,13 @@ impl<'a> Pieces<'a> {
         ensures { IfOk result (λ pieces. pieces ≡ record { before = chars before.now; items = plain (chars before.now); changes = 0 }) }
     {
         let lines = Lines::new(alloc, before)?;
-        Self::begin(alloc, before, KeptLines::Own(lines))
+        Ok(Self::begin(alloc, before, KeptLines::Own(lines)))
     }
 
-    /// A text before any change, whose lines the caller keeps. Costs nothing that grows with the text.
-    pub fn over(alloc: Global, before: &'a str, lines: &'a Lines) -> Result<Self, AllocError>
+    /// A text before any change, whose lines the caller keeps. Takes no memory, and costs nothing that grows with the text.
+    pub fn over(alloc: Global, before: &'a str, lines: &'a Lines) -> Self
         requires { Indexes lines.now before.now }
-        ensures { IfOk result (λ pieces. pieces ≡ record { before = chars before.now; items = plain (chars before.now); changes = 0 }) }
+        ensures { result ≡ record { before = chars before.now; items = plain (chars before.now); changes = 0 } }
     {
         Self::begin(alloc, before, KeptLines::Lent(lines))
     }
@@ -103,12 +102,12 @@ impl<'a> Pieces<'a> {
             → meaning units first.now.before (batch ++ next) ≡ Ok (then_items first.now.items second.now.items) }
         ensures associative { (third : List Item) → then_items (then_items first.now.items second.now.items) third ≡ then_items first.now.items (then_items second.now.items third) }
     {
-        let spans = spans_through(alloc, &first.spans, &second.spans)?;
+        let spans = spans_through(alloc, first.spans.as_slice(), second.spans.as_slice())?;
         Ok(Pieces {
             alloc,
             before: first.before,
             lines: KeptLines::Lent(first.lines.get()),
-            spans,
+            spans: Spans::Many(spans),
             len: second.len,
             changes: first.changes.saturating_add(second.changes),
             current: None,
@@ -134,7 +133,7 @@ impl<'a> Pieces<'a> {
             self.current.take(),
             self.alloc,
             self.before,
-            &self.spans,
+            self.spans.as_slice(),
             self.len,
         )?;
         let places = ends(&current.lines, &current.text, encoding, range, self.changes);
@@ -143,17 +142,14 @@ impl<'a> Pieces<'a> {
     }
 
     /// Puts a new text in place of all that is there.
-    fn apply_to_all(&mut self, text: &'a str) -> Result<(), AllocError>
+    fn apply_to_all(&mut self, text: &'a str)
         requires { length (edited_bytes self.old) + length text.now ≤ MAX_TEXT }
-        ensures applied { (units : ℕ → ℕ) → OnOk result (Applied units self.old (record { range = None; text = chars text.now }) self.new) }
-        ensures same { OnErr result (self.new ≡ self.old) }
+        ensures { (units : ℕ → ℕ) → Applied units self.old (record { range = None; text = chars text.now }) self.new }
     {
-        let spans = all_new(self.alloc, text)?;
-        self.spans = spans;
+        self.spans = Spans::all_new(self.alloc, text);
         self.len = text.len();
         self.current = None;
         self.changes = self.changes.saturating_add(1);
-        Ok(())
     }
 
     /// Puts a new text in place of a range.
@@ -169,10 +165,13 @@ impl<'a> Pieces<'a> {
         ensures told { IfErr result (λ fault. TellsFault self.old.changes (after_change (units_in encoding) self.old.before self.old.items (record { range = Some range; text = chars text.now })) fault) }
     {
         let (start, stop) = self.places(encoding, range)?;
-        let spans = replaced(self.alloc, &self.spans, start, stop, text)?;
-        self.spans = spans;
+        let current = match self.current.take() {
+            None => None,
+            Some(current) => Some(current.replaced(start, stop, text)?),
+        };
+        self.spans.replace(self.alloc, start, stop, text)?;
         self.len = self.len - (stop - start) + text.len();
-        self.current = None;
+        self.current = current;
         self.changes = self.changes.saturating_add(1);
         Ok(())
     }
@@ -186,7 +185,7 @@ impl<'a> Pieces<'a> {
         ensures told { IfErr result (λ fault. TellsFault self.old.changes (after_change (units_in encoding) self.old.before self.old.items (edit_of change.now)) fault) }
     {
         match change.range {
-            None => self.apply_to_all(&change.text)?,
+            None => self.apply_to_all(&change.text),
             Some(range) => self.apply_to_range(encoding, range, &change.text)?,
         }
         Ok(())
@@ -206,7 +205,7 @@ impl<'a> Pieces<'a> {
             self.alloc,
             self.before,
             self.lines.get(),
-            &self.spans,
+            self.spans.as_slice(),
             encoding,
         )
     }
@@ -217,14 +216,14 @@ impl<'a> Pieces<'a> {
         ensures some { NoneEmpty (parts_of result.now) }
         ensures few { length result.now ≤ 1 + 2 * self.now.changes }
     {
-        &self.spans
+        self.spans.as_slice()
     }
 
     /// The text as it is now. Costs one copy.
     pub fn text(&self) -> Result<String, AllocError>
         ensures { IfOk result (λ text. string_bytes text ≡ edited_bytes self.now) }
     {
-        text_of_spans(self.alloc, self.before, &self.spans, self.len)
+        text_of_spans(self.alloc, self.before, self.spans.as_slice(), self.len)
     }
 
     /// The text as it is now and its lines, handed over.
@@ -239,7 +238,7 @@ impl<'a> Pieces<'a> {
             current,
             ..
         } = self;
-        let Current { text, lines } = Current::or_new(current, alloc, before, &spans, len)?;
+        let Current { text, lines } = Current::or_new(current, alloc, before, spans.as_slice(), len)?;
         Ok((text, lines))
     }
 }

@@ -1,14 +1,10 @@
 use Rattle.std.proofs.Common.{ℕ, ◌≡◌, ◌≤◌, ◌+◌, ◌-◌, List, length, take, drop, ap, arith, drop-drop, take_all}
 use Rattle.std.proofs.lemmas.List.{length-drop}
 use Rattle.lsp_edit.specs.Parts.{OldPart, NewPart, parts_of, part_of}
-use Rattle.lsp_edit.specs.declared.span.Span.{Span}
-use Rattle.lsp_edit.proofs.PassedLemmas.{walk_new, walk_old}
+use Rattle.lsp_edit.proofs.PassedLemmas.{rest_all, walk_new, walk_old}
 use Rattle.lsp_edit.proofs.WalkLemmas.{rest_is}
 use Rattle.lsp_edit.proofs.through.spans_through.Goals as goal
 use Rattle.lsp_edit.proofs.through.spans_through.Goals.{in-Old+in_ok-count-in-Old, in-New+in_ok-put-in-New}
-
-rest_all : (spans : List Span) (begun : ℕ) → take (length spans - begun) (drop begun spans) ≡ drop begun spans
-rest_all spans begun = take_all (length spans - begun) (drop begun spans) (omega (arith, length-drop begun spans))
 
 pub loop-span-preserved : goal.loop-span-preserved
 loop-span-preserved c =
