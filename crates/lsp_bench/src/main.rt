@@ -1,7 +1,8 @@
 //! Times the layers on made input. `lsp_bench MB` frames streams of that many megabytes, 1 where no number is
-//! given: the times go to standard error, and what was read to standard output.
+//! given, and `lsp_bench edits` changes texts: the times go to standard error, and what was read or made to standard output.
 #![tactic(auto)]
 
+mod edits;
 mod frames;
 
 use anyhow::{Context, Result};
@@ -16,6 +17,11 @@ const BODIES: [usize; 3] = [50, 500, 1_048_576];
 const PIECES: [usize; 4] = [1, 64, 4_096, 65_536];
 
 fn main(rt: HostRuntime) -> Result<()> {
+    if let Some(word) = env::args(&rt)?.nth(1)
+        && word.as_str() == "edits"
+    {
+        return edits::run(&rt);
+    }
     let megabytes = megabytes(&rt)?;
     for body in BODIES {
         let stream = made_stream(rt.alloc(), body, megabytes)?;

@@ -232,6 +232,7 @@ module _ (units : ℕ → ℕ) (before lines : List ℕ) (parts : List Part) (le
         (omega (arith, in_order_places))
         (replaced_few parts start stop new in_order_places.0)
         small
+
 pub room_told : (before lines : List ℕ) (parts : List Part) (len changes more : ℕ) (edited : Edited) → ArePieces before lines parts len changes → seen before parts changes ≡ edited → length (edited_bytes edited) + more ≤ 2147483648 → len + more ≤ 2147483648
 room_told before lines parts len changes more edited are is room =
     let n : len ≡ length (encode_utf8_all (text_of (chars before) (items_of (chars before) parts))) = are.long ∙ ap length (parts_bytes before (IsUtf8-from_is_utf8 before are.utf8) parts are.are) in

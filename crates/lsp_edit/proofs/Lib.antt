@@ -23,3 +23,4 @@ pub mod PassedLemmas
 pub mod SpansLemmas
 pub mod CurrentLemmas
 pub mod ThenLemmas
+pub mod PlainLemmas

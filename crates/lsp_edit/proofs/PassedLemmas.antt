@@ -136,14 +136,14 @@ ended_behind parts front rest passed place some are before behind cut = by_first
         record {
           front_is = is
               ∙ ap (λ (fs : List Part). front ++ fs) (
-                ⊎_elim
-                (λ (l : place - passed < part_len part). rw (ne_eqb (place - passed) 0 not_first, lt-ltb (place - passed) (part_len part) l) refl)
-                (λ (l : part_len part ≤ place - passed).
-                let e : part_len part ≡ place - passed = omega arith in
-                let z : (place - passed) - part_len part ≡ 0 = omega arith in
-                let w : part ≡ front_part part (place - passed) = sym (front_whole part c.0) ∙ ap (front_part part) e in
-                rw (ne_eqb (place - passed) 0 not_first, le-ltb (place - passed) (part_len part) l, z) (ap₂ (λ (p : Part) (fs : List Part). p ∷ fs) w (none ps)))
-                (cases_lt (place - passed) (part_len part))
+              ⊎_elim
+              (λ (l : place - passed < part_len part). rw (ne_eqb (place - passed) 0 not_first, lt-ltb (place - passed) (part_len part) l) refl)
+              (λ (l : part_len part ≤ place - passed).
+              let e : part_len part ≡ place - passed = omega arith in
+              let z : (place - passed) - part_len part ≡ 0 = omega arith in
+              let w : part ≡ front_part part (place - passed) = sym (front_whole part c.0) ∙ ap (front_part part) e in
+              rw (ne_eqb (place - passed) 0 not_first, le-ltb (place - passed) (part_len part) l, z) (ap₂ (λ (p : Part) (fs : List Part). p ∷ fs) w (none ps)))
+              (cases_lt (place - passed) (part_len part))
               );
           cut = cut_to_end part ps (place - passed) c fits;
         }

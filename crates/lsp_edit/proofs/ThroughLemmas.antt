@@ -67,8 +67,7 @@ module _ (old mid : List ℕ) (old_utf8 : IsUtf8 old) (mid_utf8 : IsUtf8 mid) (f
       let r : (items_of (chars old) (put_through first (put_parts made (through_part first part)) second) ≡ items_of (chars old) (put_parts made (through_part first part)) ++ then_items items (items_of (chars mid) second)) × AreParts old (put_through first (put_parts made (through_part first part)) second)
       = told_all (put_parts made (through_part first part)) second q.1 are_second.1 in
       let split : then_items items (items_in (chars mid) part ++ items_of (chars mid) second) ≡ then_items items (items_in (chars mid) part) ++ then_items items (items_of (chars mid) second)
-      = map-append (told_through items) (items_in (chars mid) part) (items_of (chars mid) second) in
-      (
+      = map-append (told_through items) (items_in (chars mid) part) (items_of (chars mid) second) in (
         r.0
             ∙ (ap (λ (i : List Item). i ++ then_items items (items_of (chars mid) second)) q.0
             ∙ (append_assoc (items_of (chars old) made) (items_of (chars old) (through_part first part)) (then_items items (items_of (chars mid) second))
@@ -104,12 +103,11 @@ module _ (mid : List ℕ) (utf8 : IsUtf8 mid) where
       new_left : (characters : List ℕ) → Keeps (chars mid) (index_of (chars mid) low) (map New characters ++ items_of (chars mid) parts) → Keeps (chars mid) (index_of (chars mid) low) (items_of (chars mid) parts)
       new_left [] k = k
       new_left (c ∷ characters) k = new_left characters k.1
-  ascending low (OldPart from to ∷ parts) at_low are keeps =
-      (
-        places_rise low from at_low are.0.1 first_low,
-        omega (arith, are.0.0),
-        ascending to parts are.0.2 are.1 rest,
-      )
+  ascending low (OldPart from to ∷ parts) at_low are keeps = (
+    places_rise low from at_low are.0.1 first_low,
+    omega (arith, are.0.0),
+    ascending to parts are.0.2 are.1 rest,
+  )
     where
       less : index_of (chars mid) from < index_of (chars mid) to
       less = indexes_less mid utf8 from to are.0.1 are.0.2 are.0.0

@@ -27,7 +27,7 @@ use Rattle.lsp_edit.proofs.IndexLemmas.{index_of-place, index_rises, indexes_les
 abbrev pub changes_of : (ℕ → ℕ) → List ℕ → List Gap → List Edit
 changes_of units old gs = map (change_of units old) (filter is_changed gs)
 
-changes_of-cons : (units : ℕ → ℕ) (old : List ℕ) (g : Gap) (gs : List Gap) → changes_of units old (g ∷ gs) ≡ cond (is_changed g) (change_of units old g ∷ []) [] ++ changes_of units old gs
+pub changes_of-cons : (units : ℕ → ℕ) (old : List ℕ) (g : Gap) (gs : List Gap) → changes_of units old (g ∷ gs) ≡ cond (is_changed g) (change_of units old g ∷ []) [] ++ changes_of units old gs
 changes_of-cons units old g gs =
     ⊎_elim
     (λ (e : is_changed g ≡ true). rw e refl)

@@ -13,6 +13,11 @@ mod fault;
 mod kept_lines;
 mod laws;
 mod pieces;
+pub mod plain;
+#[cfg(test)]
+mod plain_tests;
+#[cfg(test)]
+mod refused_tests;
 mod replace;
 mod span;
 mod spans;

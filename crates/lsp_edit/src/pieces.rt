@@ -238,7 +238,13 @@ impl<'a> Pieces<'a> {
             current,
             ..
         } = self;
-        let Current { text, lines } = Current::or_new(current, alloc, before, spans.as_slice(), len)?;
+        let Current { text, lines } = Current::or_new(
+            current,
+            alloc,
+            before,
+            spans.as_slice(),
+            len,
+        )?;
         Ok((text, lines))
     }
 }

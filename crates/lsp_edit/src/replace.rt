@@ -127,7 +127,14 @@ pub fn replace<'a>(
     let rest = &spans[first..];
     let (last, more) = passed_by(rest, stop - passed);
     let alloc = *spans.allocator();
-    let made = between(alloc, rest, start - passed, last, stop - passed - more, text)?;
+    let made = between(
+        alloc,
+        rest,
+        start - passed,
+        last,
+        stop - passed - more,
+        text,
+    )?;
     let past = first + rest.len().min(last + 1);
     let _ = spans.splice(first..past, made)?;
     Ok(())
