@@ -25,6 +25,7 @@ const BATCHES: [(usize, u32); 4] = [
 const ROUNDS: u32 = 5;
 
 /// What a row measured: the least time of its rounds in nanoseconds, and how many bytes, lines, changes or spans it made.
+#[derive(Clone, Copy)]
 struct Measured {
     time: u64,
     made: usize,
@@ -45,6 +46,7 @@ impl Measured {
 }
 
 /// A text whose line starts are kept, as a plain program keeps it.
+#[derive(Drop)]
 struct Kept {
     text: String,
     starts: Vec<u32>,

@@ -95,7 +95,11 @@ impl<'a> Pieces<'a> {
 
     /// What two runs of changes make together, the second over the text that the first left: told over the text that the first is over,
     /// with the changes of both. Costs the spans of both, and lends the lines of the first.
-    pub fn then(alloc: Global, first: &'a Self, second: &Self) -> Result<Self, AllocError>
+    pub fn then<'b>(
+        alloc: Global,
+        first: &'b Pieces<'a>,
+        second: &Pieces<'b>,
+    ) -> Result<Pieces<'b>, AllocError>
         requires { second.now.before ≡ edited_text first.now }
         ensures composed { IfOk result (λ pieces. pieces ≡ record { before = first.now.before; items = then_items first.now.items second.now.items; changes = both_counts first.now.changes second.now.changes }) }
         ensures means { (units : ℕ → ℕ) (batch next : List Edit) → meaning units first.now.before batch ≡ Ok first.now.items → meaning units second.now.before next ≡ Ok second.now.items
@@ -177,7 +181,8 @@ impl<'a> Pieces<'a> {
     }
 
     /// Applies a change to the text as it is now (LSP 3.17, TextDocumentContentChangeEvent). A fault leaves everything as it was, and
-    /// tells how many changes were applied before.
+    /// tells how many changes were applied before. Costs a walk over the spans up to its place and one move of those behind it; from the
+    /// second change with a range on also one move of the text and of the line starts behind it (at the second, one copy of the text).
     pub fn apply(&mut self, encoding: Encoding, change: &'a Change) -> Result<(), EditFault>
         requires { length (edited_bytes self.old) + string_len change.now.text ≤ MAX_TEXT }
         ensures applied { OnOk result (Applied (units_in encoding) self.old (edit_of change.now) self.new) }
@@ -226,7 +231,7 @@ impl<'a> Pieces<'a> {
         text_of_spans(self.alloc, self.before, self.spans.as_slice(), self.len)
     }
 
-    /// The text as it is now and its lines, handed over.
+    /// The text as it is now and its lines, handed over. After one change they are made, in one copy; after more they are there already.
     pub fn into_text(self) -> Result<(String, Lines), AllocError>
         ensures { IfOk result (λ made. (string_bytes made.0 ≡ edited_bytes self.entry) × Indexes made.1 (string_bytes made.0)) }
     {

@@ -100,6 +100,7 @@ fn many_changes_are_the_same_plainly(rt: HostRuntime) -> Result<(), Fail> {
 }
 
 /// Numbers that look random, the same in each run.
+#[derive(Drop)]
 struct Numbers(u32);
 
 impl Numbers {
