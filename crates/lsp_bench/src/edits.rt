@@ -3,7 +3,7 @@
 ghost use Rattle.lsp_text.specs.LineStarts.{Indexes};
 
 use anyhow::Result;
-use lsp_edit::{Change, MAX_OLD_TEXT, Pieces, compose, compose_over, fits};
+use lsp_edit::{Change, MAX_OLD_TEXT, Pieces, compose_over, fits};
 use lsp_text::{Encoding, Lines, Position, Range};
 use std::alloc::{AllocError, Global};
 use std::fmt::Display;
@@ -193,29 +193,35 @@ fn text_of_one<'a, R: Runtime + AllocGlobal>(
     Ok(measured)
 }
 
-/// A batch of one-character changes all over the text, and two of them put together.
+/// The line of the k-th change of a batch that goes all over a text of so many lines.
+fn scattered_line(k: u32, lines: usize) -> usize {
+    (k as usize).wrapping_mul(7_919) % lines.max(1)
+}
+
+fn scattered(alloc: Global, count: u32, lines: usize) -> Result<Vec<Change>, AllocError> {
+    let mut changes = Vec::new(alloc);
+    for k in 0..count {
+        changes.push(typed(alloc, scattered_line(k, lines))?)?;
+    }
+    Ok(changes)
+}
+
+/// A batch of one-character changes all over the text.
 fn batch<R: Runtime + AllocGlobal>(rt: &R, text: &str, count: u32) -> Result<()> {
     if text.len() > MAX_OLD_TEXT {
         return Ok(());
     }
-    let lines = Lines::new(rt.alloc(), text)?;
-    let mut places = Vec::new(rt.alloc());
-    let mut changes = Vec::new(rt.alloc());
-    for k in 0..count {
-        let line = (k as usize).wrapping_mul(7_919) % lines.count().max(1);
-        places.push(line)?;
-        changes.push(typed(rt.alloc(), line)?)?;
-    }
-    if !fits(&changes) {
-        return Ok(());
-    }
     let size = text.len();
+    let lines = Lines::new(rt.alloc(), text)?;
+    let changes = scattered(rt.alloc(), count, size / LINE.len())?;
+    let mut places = Vec::new(rt.alloc());
+    for k in 0..count {
+        places.push(scattered_line(k, size / LINE.len()))?;
+    }
     let made = text_of_batch(rt, text, &lines, &changes)?;
     report(rt, "a batch and its text", size, &count, &made)?;
     let plain = replaced(rt, text, &places)?;
-    report(rt, "as many replace_range", size, &count, &plain)?;
-    let both = both_batches(rt, text, &lines, &changes)?;
-    report(rt, "two batches put together", size, &count, &both)
+    report(rt, "as many replace_range", size, &count, &plain)
 }
 
 /// The text that a batch leaves, with its lines.
@@ -237,34 +243,6 @@ fn text_of_batch<'a, R: Runtime + AllocGlobal>(
         let (after, kept) = pieces.into_text()?;
         measured.took(start.elapsed(rt)?);
         measured.made = after.len().saturating_add(kept.count());
-    }
-    Ok(measured)
-}
-
-/// Two batches put together: how many spans that gives.
-fn both_batches<'a, R: Runtime + AllocGlobal>(
-    rt: &R,
-    text: &'a str,
-    lines: &'a Lines,
-    changes: &'a [Change],
-) -> Result<Measured>
-    requires { Indexes lines.now text.now }
-{
-    let mut measured = Measured::new();
-    if text.len() > MAX_OLD_TEXT || !fits(changes) {
-        return Ok(measured);
-    }
-    let first = compose_over(rt.alloc(), text, lines, Encoding::Utf16, changes)?;
-    let middle = first.text()?;
-    if middle.len() > MAX_OLD_TEXT {
-        return Ok(measured);
-    }
-    let second = compose(rt.alloc(), &middle, Encoding::Utf16, changes)?;
-    for _ in 0..ROUNDS {
-        let start = Instant::now(rt)?;
-        let both = Pieces::then(rt.alloc(), &first, &second)?;
-        measured.took(start.elapsed(rt)?);
-        measured.made = both.spans().len();
     }
     Ok(measured)
 }

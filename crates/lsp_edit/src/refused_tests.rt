@@ -4,7 +4,6 @@
 ghost use Rattle.std.specs.Prelude.{IfOk};
 ghost use Rattle.lsp_text.specs.LineStarts.{Indexes};
 
-use crate::tests::left_by_both;
 use crate::{Change, EditFault, Pieces, compose, fits};
 use lsp_text::{Encoding, Lines, Position, Range};
 use std::alloc::{AllocError, Global};
@@ -143,25 +142,6 @@ fn refused_canonical(rt: HostRuntime) -> Result<(), Fail> {
         }
     };
     assert_eq!(rt; batch.len(), 3);
-    println!(rt; "refused {refused}")?;
-    Ok(())
-}
-
-#[test]
-fn refused_then(rt: HostRuntime) -> Result<(), Fail> {
-    let mut refused: usize = 0;
-    let first = [change(rt.alloc(), Some((1, 2)), "XY", &mut refused)?];
-    let second = [change(rt.alloc(), Some((2, 4)), "", &mut refused)?];
-    let (text, canonical) = match left_by_both(rt.alloc(), TEXT, &first, &second) {
-        Ok(made) => made,
-        Err(fault) => {
-            assert_eq!(rt; fault, EditFault::NoMemory);
-            refused = refused.saturating_add(1);
-            left_by_both(rt.alloc(), TEXT, &first, &second)?
-        }
-    };
-    assert_eq!(rt; text.as_str(), "aXdef\n");
-    assert_eq!(rt; canonical.len(), 1);
     println!(rt; "refused {refused}")?;
     Ok(())
 }

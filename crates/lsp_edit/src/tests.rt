@@ -198,28 +198,6 @@ fn a_change_after_a_fault_is_applied(rt: HostRuntime) -> Result<(), Fail> {
     Ok(())
 }
 
-/// What two batches leave of a text, one after the other, and the canonical batch of both together, or the fault of one.
-pub fn left_by_both<'a>(
-    alloc: Global,
-    before: &'a str,
-    first: &'a [Change],
-    second: &'a [Change],
-) -> Result<(String, Vec<Change>), EditFault> {
-    if before.len() > MAX_OLD_TEXT || !fits(first) || !fits(second) {
-        return Err(EditFault::NoMemory);
-    }
-    let first = compose(alloc, before, Encoding::Utf16, first)?;
-    let middle = first.text()?;
-    if middle.len() > MAX_OLD_TEXT {
-        return Err(EditFault::NoMemory);
-    }
-    let second = compose(alloc, &middle, Encoding::Utf16, second)?;
-    let both = Pieces::then(alloc, &first, &second)?;
-    let text = both.text()?;
-    let canonical = both.canonical(Encoding::Utf16)?;
-    Ok((text, canonical))
-}
-
 /// A text, two batches, the text that they leave, and the canonical batch of both together.
 pub const PAIRS: [(&str, &[Edit], &[Edit], &str, &[Edit]); 6] = [
     (
@@ -260,12 +238,14 @@ pub const PAIRS: [(&str, &[Edit], &[Edit], &str, &[Edit]); 6] = [
     ),
 ];
 
+/// Two batches, one after the other, are one batch of both.
 #[test]
-fn two_batches_are_put_together(rt: HostRuntime) -> Result<(), Fail> {
+fn two_batches_are_one(rt: HostRuntime) -> Result<(), Fail> {
     for (before, first, second, text, canonical) in PAIRS {
-        let first = batch(rt.alloc(), first)?;
-        let second = batch(rt.alloc(), second)?;
-        let (after, written) = left_by_both(rt.alloc(), before, &first, &second)?;
+        let mut changes = batch(rt.alloc(), first)?;
+        let mut more = batch(rt.alloc(), second)?;
+        changes.append(&mut more)?;
+        let (after, written) = left(rt.alloc(), before, &changes)?;
         assert_eq!(rt; after.as_str(), text, "{before:?}");
         let wanted = batch(rt.alloc(), canonical)?;
         assert_eq!(rt; written.as_slice(), wanted.as_slice(), "{before:?}");
