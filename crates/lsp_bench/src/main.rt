@@ -1,8 +1,10 @@
 //! Times the layers on made input. `lsp_bench MB` frames streams of that many megabytes, 1 where no number is
 //! given: the times go to standard error, and what was read to standard output. Words as `text=64` give the
 //! other sizes: megabytes of `text`, `lookups` in each text, `lines` of the text that is edited, `edits` at each place.
+//! `lsp_bench edits` changes texts.
 #![tactic(auto)]
 
+mod edits;
 mod frames;
 mod lines;
 mod messages;
@@ -21,6 +23,11 @@ const BODIES: [usize; 3] = [50, 500, 1_048_576];
 const PIECES: [usize; 4] = [1, 64, 4_096, 65_536];
 
 fn main(rt: HostRuntime) -> Result<()> {
+    if let Some(word) = env::args(&rt)?.nth(1)
+        && word.as_str() == "edits"
+    {
+        return edits::run(&rt);
+    }
     let megabytes = megabytes(&rt)?;
     time_frames(&rt, megabytes)?;
     lines::measure(

@@ -1,13 +1,14 @@
 -- What a change makes of the fields of pieces.
-use Rattle.std.proofs.Common.{ℕ, suc, ◌≡◌, ◌+◌, ◌-◌, ◌*◌, ◌<◌, ◌≤◌, ◌⊎◌, Bool, true, false, List, [], ◌∷◌, ◌++◌, length, map, take, drop, min, nat_le, ◌==◌, eqb-true, refl, sym, ap, ap₂, ◌∙◌, subst, arith, append-nil, take-append-drop, encode_utf8_all, ⊎_elim, inl, inr, leb-true, le-leb, Option, Some, None, Result, Ok, Err, string_bytes, string_len}
+use Rattle.std.proofs.Common.{ℕ, suc, ◌≡◌, ◌+◌, ◌-◌, ◌*◌, ◌<◌, ◌≤◌, ◌⊎◌, Bool, true, false, List, [], ◌∷◌, ◌++◌, length, map, take, drop, min, nat_le, ◌==◌, eqb-true, refl, sym, ap, ap₂, ◌∙◌, subst, arith, append-nil, append_assoc, take-append-drop, encode_utf8_all, IsCharBoundary, ⊎_elim, inl, inr, leb-true, le-leb, Option, Some, None, Result, Ok, Err, string_bytes, string_len}
+use Rattle.std.specs.List.{replace_range}
 use Rattle.std.specs.Str.{chars, IsUtf8, is_utf8}
 use Rattle.std.proofs.lemmas.Bool.{cases_Bool}
 use Rattle.std.proofs.lemmas.List.{length-map, length-append, map-append, take-map, drop-map}
-use Rattle.std.proofs.lemmas.Str.{encodes-append, encodes-chars, IsUtf8-from_is_utf8, is_utf8-from_IsUtf8}
+use Rattle.std.proofs.lemmas.Str.{encodes-append, encodes-chars, chars_from_encodes, IsUtf8-from_is_utf8, is_utf8-from_IsUtf8}
 use Rattle.lsp_text.specs.declared.position.Range.{Range}
 use Rattle.lsp_text.specs.Text.{place_of}
 use Rattle.lsp_text.specs.Positions.{denoted}
-use Rattle.lsp_text.proofs.PlaceLemmas.{place_rises, place_within, place_add, place_end}
+use Rattle.lsp_text.proofs.PlaceLemmas.{place_rises, place_within, place_add, place_end, place_boundary, take_place, drop_place}
 use Rattle.lsp_text.proofs.PositionLemmas.{IsWhole, denoted_whole}
 use Rattle.lsp_edit.specs.declared.change.Change.{Change}
 use Rattle.lsp_edit.specs.declared.fault.EditFault.{EditFault}
@@ -16,10 +17,10 @@ use Rattle.lsp_edit.specs.Items.{Item, Old, New, character_of, text_of}
 use Rattle.lsp_edit.specs.Batch.{Edit, Fault, InsideStart, InsideStop, Reversed, replaced, after_change}
 use Rattle.lsp_edit.specs.Faults.{fault_at, TellsFault, IsPlaces, in_order, ends_of, places_at}
 use Rattle.lsp_edit.specs.Keeps.{Keeps}
-use Rattle.lsp_edit.specs.Parts.{Part, items_of, bytes_of, AreParts, AreCut, new_parts, replaced_parts}
+use Rattle.lsp_edit.specs.Parts.{Part, items_of, bytes_of, AreParts, AreCut, AreOrdered, new_parts, replaced_parts}
 use Rattle.lsp_edit.specs.Edited.{ArePieces, Applied, Edited, edit_of, edited_text, edited_bytes, one_more}
 use Rattle.lsp_edit.proofs.KeepsLemmas.{after_change_keeps}
-use Rattle.lsp_edit.proofs.CutLemmas.{text_of-new}
+use Rattle.lsp_edit.proofs.CutLemmas.{text_of-new, part_ordered}
 use Rattle.lsp_edit.proofs.CutPartsLemmas.{AreCutAt, cut_parts, parts_bytes}
 use Rattle.lsp_edit.proofs.PutLemmas.{replaced_items, replaced_few, new_items, new_few}
 
@@ -126,6 +127,13 @@ module _ (units : ℕ → ℕ) (before lines : List ℕ) (parts : List Part) (le
       (omega (arith, new_few new))
       small
 
+  pub parts_ordered : AreOrdered parts
+  parts_ordered = ordered parts are.are
+    where
+      ordered : (ps : List Part) → AreParts before ps → AreOrdered ps
+      ordered [] is = tt
+      ordered (part ∷ ps) is = (part_ordered before (IsUtf8-from_is_utf8 before are.utf8) part is.0, ordered ps is.1)
+
   module _ (range : Range) (start stop : ℕ) (ends : AreEnds units (text_of (chars before) (items_of (chars before) parts)) range start stop) where
     items_long : length (text_of (chars before) (items_of (chars before) parts)) ≡ length (items_of (chars before) parts)
     items_long = length-map (items_of (chars before) parts) (character_of (chars before))
@@ -144,6 +152,77 @@ module _ (units : ℕ → ℕ) (before lines : List ℕ) (parts : List Part) (le
         = place_within (text_of (chars before) (items_of (chars before) parts)) ends.high ends.within in
         (omega (arith, ends.start_is, ends.stop_is), omega (arith, ends.stop_is, now_long))
 
+    both : (items_of (chars before) (replaced_parts parts start stop new) ≡ take ends.low (items_of (chars before) parts) ++ (map New (chars new) ++ drop ends.high (items_of (chars before) parts))) × AreParts before (replaced_parts parts start stop new)
+    both =
+        rw (ends.start_is, ends.stop_is) at
+        (replaced_items before (IsUtf8-from_is_utf8 before are.utf8) parts ends.low ends.high new are.are (is_utf8-from_IsUtf8 new utf8) ends.order (omega (arith, ends.within, items_long)))
+
+    items : items_of (chars before) (replaced_parts parts start stop new) ≡ take ends.low (items_of (chars before) parts) ++ (map New (chars new) ++ drop ends.high (items_of (chars before) parts))
+    items = both.0
+
+    are_parts : AreParts before (replaced_parts parts start stop new)
+    are_parts = both.1
+
+    text : text_of (chars before) (items_of (chars before) (replaced_parts parts start stop new))
+        ≡ take ends.low (text_of (chars before) (items_of (chars before) parts)) ++ (chars new ++ drop ends.high (text_of (chars before) (items_of (chars before) parts)))
+    text =
+        ap (text_of (chars before)) items
+        ∙ (map-append (character_of (chars before)) (take ends.low (items_of (chars before) parts)) (map New (chars new) ++ drop ends.high (items_of (chars before) parts))
+        ∙ ap₂ (λ (x y : List ℕ). x ++ y)
+        (sym (take-map (character_of (chars before)) ends.low (items_of (chars before) parts)))
+        (map-append (character_of (chars before)) (map New (chars new)) (drop ends.high (items_of (chars before) parts))
+        ∙ ap₂ (λ (x y : List ℕ). x ++ y) (text_of-new (chars before) (chars new)) (sym (drop-map (character_of (chars before)) ends.high (items_of (chars before) parts)))))
+
+    now_bytes_are : bytes_of before parts ≡ encode_utf8_all (text_of (chars before) (items_of (chars before) parts))
+    now_bytes_are = parts_bytes before (IsUtf8-from_is_utf8 before are.utf8) parts are.are
+
+    -- the bytes of the text with those between the places replaced
+    pub range_bytes : bytes_of before (replaced_parts parts start stop new) ≡ replace_range (bytes_of before parts) start stop new
+    range_bytes =
+        let now : List ℕ = text_of (chars before) (items_of (chars before) parts) in
+        let all : bytes_of before (replaced_parts parts start stop new) ≡ encode_utf8_all (take ends.low now ++ (chars new ++ drop ends.high now))
+        = parts_bytes before (IsUtf8-from_is_utf8 before are.utf8) (replaced_parts parts start stop new) are_parts ∙ ap encode_utf8_all text in
+        let front : take start (bytes_of before parts) ≡ encode_utf8_all (take ends.low now) = ap₂ (λ (n : ℕ) (bs : List ℕ). take n bs) (sym ends.start_is) now_bytes_are ∙ take_place now ends.low in
+        let back : drop stop (bytes_of before parts) ≡ encode_utf8_all (drop ends.high now) = ap₂ (λ (n : ℕ) (bs : List ℕ). drop n bs) (sym ends.stop_is) now_bytes_are ∙ drop_place now ends.high in
+        let own : encode_utf8_all (chars new) ≡ new = encodes-chars new utf8 in
+        all
+        ∙ (encodes-append (take ends.low now) (chars new ++ drop ends.high now)
+        ∙ (ap (λ (bs : List ℕ). encode_utf8_all (take ends.low now) ++ bs) (encodes-append (chars new) (drop ends.high now) ∙ ap (λ (bs : List ℕ). bs ++ encode_utf8_all (drop ends.high now)) own)
+        ∙ (sym (append_assoc (encode_utf8_all (take ends.low now)) new (encode_utf8_all (drop ends.high now)))
+        ∙ sym (ap₂ (λ (fs bs : List ℕ). (fs ++ new) ++ bs) front back))))
+
+    module _ (bytes : List ℕ) (bytes_utf8 : IsUtf8 bytes) (same : bytes ≡ bytes_of before parts) where
+      now_text : chars bytes ≡ text_of (chars before) (items_of (chars before) parts)
+      now_text = sym (chars_from_encodes (text_of (chars before) (items_of (chars before) parts)) bytes bytes_utf8 (sym now_bytes_are ∙ sym same))
+
+      pub start_at : IsCharBoundary bytes start
+      start_at =
+          subst (IsCharBoundary bytes) (ap (λ (t : List ℕ). place_of t ends.low) now_text ∙ ends.start_is)
+          (place_boundary bytes ends.low bytes_utf8 (omega (arith, ap length now_text, ends.order, ends.within)))
+
+      pub stop_at : IsCharBoundary bytes stop
+      stop_at =
+          subst (IsCharBoundary bytes) (ap (λ (t : List ℕ). place_of t ends.high) now_text ∙ ends.stop_is)
+          (place_boundary bytes ends.high bytes_utf8 (omega (arith, ap length now_text, ends.within)))
+
+    long : len - (stop - start) + length new ≡ length (bytes_of before (replaced_parts parts start stop new))
+    long =
+        let now : List ℕ = text_of (chars before) (items_of (chars before) parts) in
+        let bytes : bytes_of before (replaced_parts parts start stop new) ≡ encode_utf8_all (take ends.low now ++ (chars new ++ drop ends.high now))
+        = parts_bytes before (IsUtf8-from_is_utf8 before are.utf8) (replaced_parts parts start stop new) are_parts ∙ ap encode_utf8_all text in
+        let front : length (encode_utf8_all (take ends.low now ++ (chars new ++ drop ends.high now))) ≡ length (encode_utf8_all (take ends.low now)) + length (encode_utf8_all (chars new ++ drop ends.high now))
+        = ap length (encodes-append (take ends.low now) (chars new ++ drop ends.high now)) ∙ length-append (encode_utf8_all (take ends.low now)) (encode_utf8_all (chars new ++ drop ends.high now)) in
+        let back : length (encode_utf8_all (chars new ++ drop ends.high now)) ≡ length (encode_utf8_all (chars new)) + length (encode_utf8_all (drop ends.high now))
+        = ap length (encodes-append (chars new) (drop ends.high now)) ∙ length-append (encode_utf8_all (chars new)) (encode_utf8_all (drop ends.high now)) in
+        let n : length (encode_utf8_all (chars new)) ≡ length new = ap length (encodes-chars new utf8) in
+        let all : length (bytes_of before (replaced_parts parts start stop new)) ≡ length (encode_utf8_all (take ends.low now ++ (chars new ++ drop ends.high now))) = ap length bytes in
+        omega (arith, front, back, n, all, bytes_split now ends.high, ends.start_is, ends.stop_is, now_long, in_order_places)
+
+    pub range_short : (bytes : List ℕ) → bytes ≡ bytes_of before parts → length (replace_range bytes start stop new) ≤ 2147483648
+    range_short bytes same =
+        let e : length (replace_range bytes start stop new) ≡ length (bytes_of before (replaced_parts parts start stop new)) = ap (λ (bs : List ℕ). length (replace_range bs start stop new)) same ∙ ap length (sym range_bytes) in
+        omega (arith, e, long, in_order_places)
+
     pub range_next : length (replaced_parts parts start stop new) < 18446744073709551616 → IsNext units before lines parts changes (record { range = Some range; text = chars new }) (replaced_parts parts start stop new) (len - (stop - start) + length new)
     range_next small =
         next_of (record { range = Some range; text = chars new }) (replaced_parts parts start stop new) (len - (stop - start) + length new)
@@ -153,40 +232,6 @@ module _ (units : ℕ → ℕ) (before lines : List ℕ) (parts : List Part) (le
         (omega (arith, in_order_places))
         (replaced_few parts start stop new in_order_places.0)
         small
-      where
-        both : (items_of (chars before) (replaced_parts parts start stop new) ≡ take ends.low (items_of (chars before) parts) ++ (map New (chars new) ++ drop ends.high (items_of (chars before) parts))) × AreParts before (replaced_parts parts start stop new)
-        both =
-            rw (ends.start_is, ends.stop_is) at
-            (replaced_items before (IsUtf8-from_is_utf8 before are.utf8) parts ends.low ends.high new are.are (is_utf8-from_IsUtf8 new utf8) ends.order (omega (arith, ends.within, items_long)))
-
-        items : items_of (chars before) (replaced_parts parts start stop new) ≡ take ends.low (items_of (chars before) parts) ++ (map New (chars new) ++ drop ends.high (items_of (chars before) parts))
-        items = both.0
-
-        are_parts : AreParts before (replaced_parts parts start stop new)
-        are_parts = both.1
-
-        text : text_of (chars before) (items_of (chars before) (replaced_parts parts start stop new))
-            ≡ take ends.low (text_of (chars before) (items_of (chars before) parts)) ++ (chars new ++ drop ends.high (text_of (chars before) (items_of (chars before) parts)))
-        text =
-            ap (text_of (chars before)) items
-            ∙ (map-append (character_of (chars before)) (take ends.low (items_of (chars before) parts)) (map New (chars new) ++ drop ends.high (items_of (chars before) parts))
-            ∙ ap₂ (λ (x y : List ℕ). x ++ y)
-            (sym (take-map (character_of (chars before)) ends.low (items_of (chars before) parts)))
-            (map-append (character_of (chars before)) (map New (chars new)) (drop ends.high (items_of (chars before) parts))
-            ∙ ap₂ (λ (x y : List ℕ). x ++ y) (text_of-new (chars before) (chars new)) (sym (drop-map (character_of (chars before)) ends.high (items_of (chars before) parts)))))
-
-        long : len - (stop - start) + length new ≡ length (bytes_of before (replaced_parts parts start stop new))
-        long =
-            let now : List ℕ = text_of (chars before) (items_of (chars before) parts) in
-            let bytes : bytes_of before (replaced_parts parts start stop new) ≡ encode_utf8_all (take ends.low now ++ (chars new ++ drop ends.high now))
-            = parts_bytes before (IsUtf8-from_is_utf8 before are.utf8) (replaced_parts parts start stop new) are_parts ∙ ap encode_utf8_all text in
-            let front : length (encode_utf8_all (take ends.low now ++ (chars new ++ drop ends.high now))) ≡ length (encode_utf8_all (take ends.low now)) + length (encode_utf8_all (chars new ++ drop ends.high now))
-            = ap length (encodes-append (take ends.low now) (chars new ++ drop ends.high now)) ∙ length-append (encode_utf8_all (take ends.low now)) (encode_utf8_all (chars new ++ drop ends.high now)) in
-            let back : length (encode_utf8_all (chars new ++ drop ends.high now)) ≡ length (encode_utf8_all (chars new)) + length (encode_utf8_all (drop ends.high now))
-            = ap length (encodes-append (chars new) (drop ends.high now)) ∙ length-append (encode_utf8_all (chars new)) (encode_utf8_all (drop ends.high now)) in
-            let n : length (encode_utf8_all (chars new)) ≡ length new = ap length (encodes-chars new utf8) in
-            let all : length (bytes_of before (replaced_parts parts start stop new)) ≡ length (encode_utf8_all (take ends.low now ++ (chars new ++ drop ends.high now))) = ap length bytes in
-            omega (arith, front, back, n, all, bytes_split now ends.high, ends.start_is, ends.stop_is, now_long, in_order_places)
 
 pub room_told : (before lines : List ℕ) (parts : List Part) (len changes more : ℕ) (edited : Edited) → ArePieces before lines parts len changes → seen before parts changes ≡ edited → length (edited_bytes edited) + more ≤ 2147483648 → len + more ≤ 2147483648
 room_told before lines parts len changes more edited are is room =
@@ -222,6 +267,11 @@ module _ (units : ℕ → ℕ) (range : Range) (before lines : List ℕ) (parts 
     pub stop_cut : AreCut parts stop
     pub order : start ≤ stop
     pub within : stop ≤ len
+    pub ordered : AreOrdered parts
+    pub bytes : bytes_of before (replaced_parts parts start stop new) ≡ replace_range (bytes_of before parts) start stop new
+    pub start_at : (bytes : List ℕ) → IsUtf8 bytes → bytes ≡ bytes_of before parts → IsCharBoundary bytes start
+    pub stop_at : (bytes : List ℕ) → IsUtf8 bytes → bytes ≡ bytes_of before parts → IsCharBoundary bytes stop
+    pub short : (bytes : List ℕ) → bytes ≡ bytes_of before parts → length (replace_range bytes start stop new) ≤ 2147483648
     pub next : length (replaced_parts parts start stop new) < 18446744073709551616 → IsNext units before lines parts changes (record { range = Some range; text = chars new }) (replaced_parts parts start stop new) (len - (stop - start) + length new)
 
   pub ranged : (new : List ℕ) → IsUtf8 new → length (edited_bytes edited) + length new ≤ 2147483648 → (start stop : ℕ) → IsPlaces (Ok (start, stop)) (places_at edited.changes (edited_text edited) (ends_of units (edited_text edited) range)) → IsRanged new start stop
@@ -233,6 +283,11 @@ module _ (units : ℕ → ℕ) (range : Range) (before lines : List ℕ) (parts 
         stop_cut = stop_cut units before lines parts len changes are new utf8 fits range start stop ends;
         order = (in_order_places units before lines parts len changes are new utf8 fits range start stop ends).0;
         within = (in_order_places units before lines parts len changes are new utf8 fits range start stop ends).1;
+        ordered = parts_ordered units before lines parts len changes are new utf8 fits;
+        bytes = range_bytes units before lines parts len changes are new utf8 fits range start stop ends;
+        start_at = start_at units before lines parts len changes are new utf8 fits range start stop ends;
+        stop_at = stop_at units before lines parts len changes are new utf8 fits range start stop ends;
+        short = range_short units before lines parts len changes are new utf8 fits range start stop ends;
         next = range_next units before lines parts len changes are new utf8 fits range start stop ends;
       }
 

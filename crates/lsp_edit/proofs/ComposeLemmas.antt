@@ -25,7 +25,7 @@ text_of-then old first [] = refl
 text_of-then old first (Old index ∷ second) = ap₂ (λ (c : ℕ) (cs : List ℕ). c ∷ cs) (sym (at_mapped (character_of old) first index (New 0))) (text_of-then old first second)
 text_of-then old first (New character ∷ second) = ap (λ (cs : List ℕ). character ∷ cs) (text_of-then old first second)
 
-told_row : (first : List Item) (low count : ℕ) → low + count ≤ length first → then_items first (map Old (numbers_from low count)) ≡ take count (drop low first)
+pub told_row : (first : List Item) (low count : ℕ) → low + count ≤ length first → then_items first (map Old (numbers_from low count)) ≡ take count (drop low first)
 told_row first low zero within = refl
 told_row first low (suc count) within =
     let inside : low < length first = omega arith in
@@ -36,7 +36,7 @@ then-plain old first =
     let n : length (text_of old first) ≡ length first = length-map first (character_of old) in
     rw n (told_row first 0 (length first) (omega arith) ∙ take_all (length first) first (omega arith))
 
-told_new : (first : List Item) (characters : List ℕ) → then_items first (map New characters) ≡ map New characters
+pub told_new : (first : List Item) (characters : List ℕ) → then_items first (map New characters) ≡ map New characters
 told_new first [] = refl
 told_new first (c ∷ characters) = ap (λ (is : List Item). New c ∷ is) (told_new first characters)
 

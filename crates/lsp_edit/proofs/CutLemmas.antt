@@ -24,7 +24,7 @@ text_of-new old [] = refl
 text_of-new old (c ∷ characters) = ap (λ (cs : List ℕ). c ∷ cs) (text_of-new old characters)
 
 -- the first characters of a text have its first bytes
-chars_front : (bytes : List ℕ) (k : ℕ) → IsUtf8 bytes → k ≤ length (chars bytes) → chars (take (place_of (chars bytes) k) bytes) ≡ take k (chars bytes)
+pub chars_front : (bytes : List ℕ) (k : ℕ) → IsUtf8 bytes → k ≤ length (chars bytes) → chars (take (place_of (chars bytes) k) bytes) ≡ take k (chars bytes)
 chars_front bytes k utf8 within =
     let e : encode_utf8_all (chars bytes) ≡ bytes = encodes-chars bytes utf8 in
     let t : take (place_of (chars bytes) k) bytes ≡ encode_utf8_all (take k (chars bytes)) = ap (take (place_of (chars bytes) k)) (sym e) ∙ take_place (chars bytes) k in

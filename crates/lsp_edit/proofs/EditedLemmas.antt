@@ -29,7 +29,7 @@ index_last bytes utf8 =
     let e : place_of (chars bytes) (length (chars bytes)) ≡ length bytes = place_end (chars bytes) ∙ ap length (encodes-chars bytes utf8) in
     ap (index_of (chars bytes)) (sym e) ∙ index_of-place (chars bytes) (length (chars bytes)) (omega arith)
 
-plain_text : (text : List ℕ) → text_of text (plain text) ≡ text
+pub plain_text : (text : List ℕ) → text_of text (plain text) ≡ text
 plain_text text = text_row text 0 (length text) (omega arith) ∙ take_all (length text) text (omega arith)
 
 -- The parts of a text before any change: itself, if it isn't empty.
@@ -95,3 +95,7 @@ places_told units range answer edited text changes count same e =
 -- The bytes of a text before any change.
 pub first_bytes : (before : List ℕ) (edited : Edited) → IsUtf8 before → edited ≡ record { before = chars before; items = plain (chars before); changes = 0 } → length (edited_bytes edited) ≡ length before
 first_bytes before edited utf8 is = ap (λ (e : Edited). length (edited_bytes e)) is ∙ ap length (ap encode_utf8_all (plain_text (chars before)) ∙ encodes-chars before utf8)
+
+-- A text with these bytes is the text as it is now.
+pub edited_chars : (edited : Edited) (bytes : List ℕ) → IsUtf8 bytes → bytes ≡ edited_bytes edited → chars bytes ≡ edited_text edited
+edited_chars edited bytes utf8 is = sym (chars_from_encodes (edited_text edited) bytes utf8 (sym is))

@@ -18,3 +18,9 @@ pub mod AppliedLemmas
 pub mod RoomLemmas
 pub mod WalkLemmas
 pub mod LawLemmas
+pub mod ThroughLemmas
+pub mod PassedLemmas
+pub mod SpansLemmas
+pub mod CurrentLemmas
+pub mod ThenLemmas
+pub mod PlainLemmas

@@ -14,7 +14,7 @@ use Rattle.lsp_edit.proofs.IndexLemmas.{index_rises}
 use Rattle.lsp_edit.proofs.CutPartsLemmas.{AreCutAt, cut_parts}
 
 -- How many parts there are.
-back_fewer : (parts : List Part) (place : ℕ) → length (back_parts parts place) ≤ length parts
+pub back_fewer : (parts : List Part) (place : ℕ) → length (back_parts parts place) ≤ length parts
 back_fewer [] place = omega arith
 back_fewer (part ∷ parts) place =
     ⊎_elim
@@ -22,7 +22,7 @@ back_fewer (part ∷ parts) place =
     (λ (l : part_len part ≤ place). rw (le-ltb place (part_len part) l) (let ih : length (back_parts parts (place - part_len part)) ≤ length parts = back_fewer parts (place - part_len part) in omega arith))
     (cases_lt place (part_len part))
 
-cut_adds : (parts : List Part) (start stop : ℕ) → start ≤ stop → length (front_parts parts start) + length (back_parts parts stop) ≤ suc (length parts)
+pub cut_adds : (parts : List Part) (start stop : ℕ) → start ≤ stop → length (front_parts parts start) + length (back_parts parts stop) ≤ suc (length parts)
 cut_adds [] start stop order = omega arith
 cut_adds (part ∷ parts) start stop order =
     ⊎_elim
@@ -55,7 +55,7 @@ put_one_more [] part = omega arith
 put_one_more (first ∷ []) part = joined_few first part
 put_one_more (first ∷ second ∷ parts) part = let ih : length (put_part (second ∷ parts) part) ≤ suc (length (second ∷ parts)) = put_one_more (second ∷ parts) part in omega arith
 
-put_all_few : (parts more : List Part) → length (put_parts parts more) ≤ length parts + length more
+pub put_all_few : (parts more : List Part) → length (put_parts parts more) ≤ length parts + length more
 put_all_few parts [] = omega arith
 put_all_few parts (first ∷ rest) = omega (arith, length-append (put_part parts first) rest, put_one_more parts first)
 
@@ -117,7 +117,7 @@ module _ (old : List ℕ) where
   are_both [] more are were = were
   are_both (part ∷ parts) more are were = (are.0, are_both parts more are.1 were)
 
-  put_all_items : (parts more : List Part) → AreParts old parts → AreParts old more → (items_of (chars old) (put_parts parts more) ≡ items_of (chars old) parts ++ items_of (chars old) more) × AreParts old (put_parts parts more)
+  pub put_all_items : (parts more : List Part) → AreParts old parts → AreParts old more → (items_of (chars old) (put_parts parts more) ≡ items_of (chars old) parts ++ items_of (chars old) more) × AreParts old (put_parts parts more)
   put_all_items parts [] are were = (sym (append-nil (items_of (chars old) parts)), are)
   put_all_items parts (first ∷ rest) are were =
       let p : (items_of (chars old) (put_part parts first) ≡ items_of (chars old) parts ++ items_in (chars old) first) × AreParts old (put_part parts first) = put_items parts first are were.0 in (

@@ -21,13 +21,13 @@ use Rattle.lsp_edit.specs.Parts.{Part, OldPart, NewPart, index_of, part_of, part
 use Rattle.lsp_edit.specs.declared.span.Span.{Span}
 use Rattle.lsp_edit.proofs.GapLemmas.{gap, gaps_from, gaps_are}
 use Rattle.lsp_edit.proofs.EditedLemmas.{index_first}
-use Rattle.lsp_edit.proofs.IndexLemmas.{index_of-place, index_rises}
+use Rattle.lsp_edit.proofs.IndexLemmas.{index_of-place, index_rises, indexes_less}
 
 -- the changes of gaps, from the first to the last
 abbrev pub changes_of : (ℕ → ℕ) → List ℕ → List Gap → List Edit
 changes_of units old gs = map (change_of units old) (filter is_changed gs)
 
-changes_of-cons : (units : ℕ → ℕ) (old : List ℕ) (g : Gap) (gs : List Gap) → changes_of units old (g ∷ gs) ≡ cond (is_changed g) (change_of units old g ∷ []) [] ++ changes_of units old gs
+pub changes_of-cons : (units : ℕ → ℕ) (old : List ℕ) (g : Gap) (gs : List Gap) → changes_of units old (g ∷ gs) ≡ cond (is_changed g) (change_of units old g ∷ []) [] ++ changes_of units old gs
 changes_of-cons units old g gs =
     ⊎_elim
     (λ (e : is_changed g ≡ true). rw e refl)
@@ -54,25 +54,10 @@ new_gaps old low text [] rest = ap (λ (t : List ℕ). gaps_from old low t rest)
 new_gaps old low text (c ∷ characters) rest = new_gaps old low (text ++ c ∷ []) characters rest ∙ ap (λ (t : List ℕ). gaps_from old low t rest) (append_assoc text (c ∷ []) characters)
 
 module _ (before : List ℕ) (utf8 : IsUtf8 before) where
-  -- The indexes of two places are in the places' order.
-  indexes_less : (low high : ℕ) → IsCharBoundary before low → IsCharBoundary before high → low < high → index_of (chars before) low < index_of (chars before) high
-  indexes_less low high at_low at_high less = by_index (index_at before low utf8 at_low) (index_at before high utf8 at_high)
-    where
-      by_index : IsIndexAt before low → IsIndexAt before high → index_of (chars before) low < index_of (chars before) high
-      by_index a b =
-          let at_a : index_of (chars before) low ≡ a.index = ap (index_of (chars before)) (sym a.place_is) ∙ index_of-place (chars before) a.index a.within in
-          let at_b : index_of (chars before) high ≡ b.index = ap (index_of (chars before)) (sym b.place_is) ∙ index_of-place (chars before) b.index b.within in
-          ⊎_elim
-          (λ (l : a.index < b.index). omega arith)
-          (λ (l : b.index ≤ a.index).
-          let r : place_of (chars before) b.index + (a.index - b.index) ≤ place_of (chars before) a.index = place_rises (chars before) b.index a.index l a.within in
-          absurd (omega (arith, a.place_is, b.place_is)))
-          (cases_lt a.index b.index)
-
   gap_changed : (low high : ℕ) (text : List ℕ) → IsUtf8 text → IsCharBoundary before low → IsCharBoundary before high → (low < high) ⊎ (0 < length text) → is_changed (gap_between before low high text) ≡ true
   gap_changed low high text text_utf8 at_low at_high changed =
       ⊎_elim
-      (λ (l : low < high). or_left (nat_lt (index_of (chars before) low) (index_of (chars before) high)) (nat_lt 0 (length (chars text))) (lt-ltb (index_of (chars before) low) (index_of (chars before) high) (indexes_less low high at_low at_high l)))
+      (λ (l : low < high). or_left (nat_lt (index_of (chars before) low) (index_of (chars before) high)) (nat_lt 0 (length (chars text))) (lt-ltb (index_of (chars before) low) (index_of (chars before) high) (indexes_less before utf8 low high at_low at_high l)))
       (λ (s : 0 < length text). or_right (nat_lt (index_of (chars before) low) (index_of (chars before) high)) (nat_lt 0 (length (chars text))) (lt-ltb 0 (length (chars text)) (some_chars text text_utf8 s)))
       changed
     where

@@ -32,6 +32,10 @@ edit_of change = record { range = change.range; text = chars (string_bytes chang
 abbrev pub one_more : ℕ → ℕ
 one_more changes = min (changes + 1) 18446744073709551615
 
+-- The changes of both, as far as 64 bits count them.
+abbrev pub both_counts : ℕ → ℕ → ℕ
+both_counts first second = min (first + second) 18446744073709551615
+
 -- What a change leaves.
 pub record Applied (units : ℕ → ℕ) (edited : Edited) (change : Edit) (next : Edited) : Type 0 where
   pub made : after_change units edited.before edited.items change ≡ Ok next.items

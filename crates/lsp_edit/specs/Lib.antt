@@ -9,3 +9,4 @@ pub mod Faults
 pub mod Edited
 pub mod Gaps
 pub mod Examples
+pub mod Plain

@@ -4,6 +4,8 @@ use Rattle.std.specs.Char.{len_utf8}
 use Rattle.std.specs.Str.{chars, is_utf8}
 use Rattle.lsp_edit.specs.declared.span.Span.{Span}
 use Rattle.lsp_edit.specs.declared.span.Span.TheVariants.{Old as OldSpan, New as NewSpan}
+use Rattle.lsp_edit.specs.declared.spans.Spans.{Spans}
+use Rattle.lsp_edit.specs.declared.spans.Spans.TheVariants.{One, Many}
 use Rattle.lsp_text.specs.TextLines.{numbers_from}
 use Rattle.lsp_edit.specs.Items.{Item, Old, New}
 
@@ -18,6 +20,11 @@ part_of (NewSpan text) = NewPart text.now
 
 abbrev pub parts_of : List Span → List Part
 parts_of spans = map part_of spans
+
+-- the spans themselves, however they are kept
+abbrev pub spans_in : Spans → List Span
+spans_in (One span) = span ∷ []
+spans_in (Many spans) = spans.items
 
 -- The index of a place: how many characters of the text begin before it.
 abbrev pub index_of : List ℕ → ℕ → ℕ
@@ -148,3 +155,43 @@ IsThrough first (NewPart bytes) = Unit {0}
 abbrev pub AreThrough : List Part → List Part → Type 0
 AreThrough first [] = Unit {0}
 AreThrough first (part ∷ second) = IsThrough first part × AreThrough first second
+
+-- The parts of the old text among them come in order: none begins before `low`, nor before another ends.
+abbrev pub Ascend : ℕ → List Part → Type 0
+Ascend low [] = Unit {0}
+Ascend low (OldPart from to ∷ parts) = (low ≤ from) × (from ≤ to) × Ascend to parts
+Ascend low (NewPart bytes ∷ parts) = Ascend low parts
+
+-- `rest` are the parts behind the first `passed` bytes: places from `low` on are found among them as among all parts.
+pub record ArePassed (parts rest : List Part) (passed low : ℕ) : Type 0 where
+  pub within : passed ≤ low
+  pub same : (place : ℕ) → low ≤ place → back_parts rest (place - passed) ≡ back_parts parts place
+  pub cut : (place : ℕ) → low ≤ place → AreCut parts place → AreCut rest (place - passed)
+
+-- Each part's ends are in order.
+abbrev pub AreOrdered : List Part → Type 0
+AreOrdered [] = Unit {0}
+AreOrdered (part ∷ parts) = IsOrdered part × AreOrdered parts
+
+-- The parts before a place behind `low` are `front` and those of `rest` before it.
+abbrev pub AreBefore : List Part → List Part → List Part → ℕ → ℕ → Type 0
+AreBefore parts front rest passed low = (place : ℕ) → low < place → front_parts parts place ≡ front ++ front_parts rest (place - passed)
+
+-- The first part, if there is one, goes on behind a place.
+abbrev pub EndsBehind : List Part → ℕ → Type 0
+EndsBehind [] place = Unit {0}
+EndsBehind (part ∷ parts) place = place < part_len part
+
+-- The first part, if there is one, may be cut at a place.
+abbrev pub IsFirstCut : List Part → ℕ → Type 0
+IsFirstCut [] place = Unit {0}
+IsFirstCut (part ∷ parts) place = IsCut part place
+
+-- What stands in the first part before a place, and what stands there behind it, put behind parts.
+abbrev pub first_front : List Part → ℕ → List Part
+first_front [] place = []
+first_front (part ∷ parts) place = if place == 0 then [] else front_part part place ∷ []
+
+abbrev pub put_first_back : List Part → List Part → ℕ → List Part
+put_first_back made [] place = made
+put_first_back made (part ∷ parts) place = put_part made (back_part part place)

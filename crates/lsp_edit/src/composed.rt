@@ -69,6 +69,6 @@ pub fn compose_over<'a>(
         (λ pieces. Means (chars before.now) (meaning (units_in encoding) (chars before.now) (map edit_of changes.now)) (length changes.now) pieces)
         (λ fault. TellsBatchFault (meaning (units_in encoding) (chars before.now) (map edit_of changes.now)) fault) }
 {
-    let pieces = Pieces::over(alloc, before, lines)?;
+    let pieces = Pieces::over(alloc, before, lines);
     apply_all(pieces, encoding, changes)
 }

@@ -1,6 +1,7 @@
-//! The text that spans stand for, made in one copy.
+//! The text that spans stand for, made in one copy and then changed in place.
 
-ghost use Rattle.std.specs.Prelude.{◌≡◌, ◌≤◌, IfOk, MatchOption, length, string_bytes};
+ghost use Rattle.std.specs.Prelude.{◌≡◌, ◌≤◌, IfOk, IsCharBoundary, MatchOption, length, string_bytes};
+ghost use Rattle.std.specs.List.{replace_range};
 ghost use Rattle.lsp_text.specs.LineStarts.{Indexes};
 ghost use Rattle.lsp_edit.specs.Parts.{AreParts, bytes_of, parts_of};
 
@@ -49,6 +50,24 @@ impl Current {
     {
         let text = text_of_spans(alloc, before, spans, len)?;
         let lines = Lines::new(alloc, &text)?;
+        Ok(Current { text, lines })
+    }
+
+    /// Puts a new text in place of the bytes between two places, and moves the lines that follow. Costs one move of what follows. Where
+    /// a growth is refused the copy is given up.
+    pub fn replaced(self, start: usize, stop: usize, new: &str) -> Result<Self, AllocError>
+        requires order { start ≤ stop }
+        requires start { IsCharBoundary (string_bytes self.text) start }
+        requires stop { IsCharBoundary (string_bytes self.text) stop }
+        requires room { length (replace_range (string_bytes self.text) start stop new.now) ≤ 2147483648 }
+        ensures { IfOk result (λ current. string_bytes current.text ≡ replace_range (string_bytes self.text) start stop new.now) }
+    {
+        let Current {
+            mut text,
+            mut lines,
+        } = self;
+        text.replace_range(start..stop, new)?;
+        lines.splice(&text, start, stop, new.len())?;
         Ok(Current { text, lines })
     }
 }

@@ -1,12 +1,13 @@
 //! A text that changes are applied to, kept as spans of the old text and of the changes' texts.
 
-ghost use Rattle.std.specs.Prelude.{◌≡◌, ◌↔◌, ◌+◌, ◌≤◌, ℕ, IfErr, IfOk, OnErr, OnOk, Ok, IsTrue, List, ◌*◌, map, length, string_bytes, string_len};
+ghost use Rattle.std.specs.Prelude.{◌≡◌, ◌↔◌, ◌+◌, ◌*◌, ◌++◌, ◌≤◌, ℕ, IfErr, IfOk, OnErr, OnOk, Ok, IsTrue, List, map, length, string_bytes, string_len};
 ghost use Rattle.std.specs.Str.{chars};
 ghost use Rattle.lsp_text.specs.LineStarts.{Indexes};
 ghost use Rattle.lsp_text.specs.Units.{units_in};
-ghost use Rattle.lsp_edit.specs.Items.{plain};
+ghost use Rattle.lsp_edit.specs.Items.{Item, plain};
 ghost use Rattle.lsp_edit.specs.Parts.{AreParts, NoneEmpty, items_of, parts_of};
-ghost use Rattle.lsp_edit.specs.Edited.{Applied, edit_of, edited_bytes, edited_text, lines_of};
+ghost use Rattle.lsp_edit.specs.Compose.{then_items};
+ghost use Rattle.lsp_edit.specs.Edited.{Applied, both_counts, edit_of, edited_bytes, edited_text, lines_of};
 ghost use Rattle.lsp_edit.specs.Faults.{IsPlaces, TellsFault, ends_of, places_at};
 ghost use Rattle.lsp_edit.specs.Batch.{Edit, after_change, meaning};
 ghost use Rattle.lsp_edit.specs.Canonical.{canonical};
@@ -18,8 +19,9 @@ use crate::current::{Current, text_of_spans};
 use crate::ends::ends;
 use crate::fault::EditFault;
 use crate::kept_lines::KeptLines;
-use crate::replace::{all_new, replaced, whole};
 use crate::span::Span;
+use crate::spans::Spans;
+use crate::through::spans_through;
 use lsp_text::{Encoding, Lines, Range};
 use std::alloc::{AllocError, Global};
 use std::marker::Model;
@@ -34,7 +36,7 @@ pub struct Pieces<'a> {
     alloc: Global,
     before: &'a str,
     lines: KeptLines<'a>,
-    spans: Vec<Span<'a>>,
+    spans: Spans<'a>,
     len: usize,
     changes: usize,
     current: Option<Current>,
@@ -42,37 +44,36 @@ pub struct Pieces<'a> {
 
 impl<'a> Model for Pieces<'a> {
     ghost use Rattle.std.specs.Str.{chars};
-    ghost use Rattle.lsp_edit.specs.Parts.{items_of, parts_of, bytes_of};
+    ghost use Rattle.lsp_edit.specs.Parts.{items_of, parts_of, spans_in, bytes_of};
     ghost use Rattle.lsp_edit.specs.Edited.{Edited, ArePieces, IsCurrent, lines_of};
 
     ghost Value = { Edited };
 
     ghost view = { λ pieces. record {
       before = chars pieces.before.now;
-      items = items_of (chars pieces.before.now) (parts_of pieces.spans.items);
+      items = items_of (chars pieces.before.now) (parts_of (spans_in pieces.spans));
       changes = pieces.changes;
     } };
 
-    ghost invariant = { λ pieces. ArePieces pieces.before.now (lines_of pieces.lines) (parts_of pieces.spans.items) pieces.len pieces.changes
-        × IsCurrent (bytes_of pieces.before.now (parts_of pieces.spans.items)) pieces.current };
+    ghost invariant = { λ pieces. ArePieces pieces.before.now (lines_of pieces.lines) (parts_of (spans_in pieces.spans)) pieces.len pieces.changes
+        × IsCurrent (bytes_of pieces.before.now (parts_of (spans_in pieces.spans))) pieces.current };
 }
 
 impl<'a> Pieces<'a> {
     /// Nothing changed yet, over lines of the text.
-    fn begin(alloc: Global, before: &'a str, lines: KeptLines<'a>) -> Result<Self, AllocError>
+    fn begin(alloc: Global, before: &'a str, lines: KeptLines<'a>) -> Self
         requires { Indexes (lines_of lines) before.now }
-        ensures { IfOk result (λ pieces. pieces ≡ record { before = chars before.now; items = plain (chars before.now); changes = 0 }) }
+        ensures { result ≡ record { before = chars before.now; items = plain (chars before.now); changes = 0 } }
     {
-        let spans = whole(alloc, before)?;
-        Ok(Pieces {
+        Pieces {
             alloc,
             before,
             lines,
-            spans,
+            spans: Spans::whole(alloc, before),
             len: before.len(),
             changes: 0,
             current: None,
-        })
+        }
     }
 
     /// A text before any change. Costs a search through the text for its lines.
@@ -81,15 +82,40 @@ impl<'a> Pieces<'a> {
         ensures { IfOk result (λ pieces. pieces ≡ record { before = chars before.now; items = plain (chars before.now); changes = 0 }) }
     {
         let lines = Lines::new(alloc, before)?;
-        Self::begin(alloc, before, KeptLines::Own(lines))
+        Ok(Self::begin(alloc, before, KeptLines::Own(lines)))
     }
 
-    /// A text before any change, whose lines the caller keeps. Costs nothing that grows with the text.
-    pub fn over(alloc: Global, before: &'a str, lines: &'a Lines) -> Result<Self, AllocError>
+    /// A text before any change, whose lines the caller keeps. Takes no memory, and costs nothing that grows with the text.
+    pub fn over(alloc: Global, before: &'a str, lines: &'a Lines) -> Self
         requires { Indexes lines.now before.now }
-        ensures { IfOk result (λ pieces. pieces ≡ record { before = chars before.now; items = plain (chars before.now); changes = 0 }) }
+        ensures { result ≡ record { before = chars before.now; items = plain (chars before.now); changes = 0 } }
     {
         Self::begin(alloc, before, KeptLines::Lent(lines))
+    }
+
+    /// What two runs of changes make together, the second over the text that the first left: told over the text that the first is over,
+    /// with the changes of both. Costs the spans of both, and lends the lines of the first.
+    pub fn then<'b>(
+        alloc: Global,
+        first: &'b Pieces<'a>,
+        second: &Pieces<'b>,
+    ) -> Result<Pieces<'b>, AllocError>
+        requires { second.now.before ≡ edited_text first.now }
+        ensures composed { IfOk result (λ pieces. pieces ≡ record { before = first.now.before; items = then_items first.now.items second.now.items; changes = both_counts first.now.changes second.now.changes }) }
+        ensures means { (units : ℕ → ℕ) (batch next : List Edit) → meaning units first.now.before batch ≡ Ok first.now.items → meaning units second.now.before next ≡ Ok second.now.items
+            → meaning units first.now.before (batch ++ next) ≡ Ok (then_items first.now.items second.now.items) }
+        ensures associative { (third : List Item) → then_items (then_items first.now.items second.now.items) third ≡ then_items first.now.items (then_items second.now.items third) }
+    {
+        let spans = spans_through(alloc, first.spans.as_slice(), second.spans.as_slice())?;
+        Ok(Pieces {
+            alloc,
+            before: first.before,
+            lines: KeptLines::Lent(first.lines.get()),
+            spans: Spans::Many(spans),
+            len: second.len,
+            changes: first.changes.saturating_add(second.changes),
+            current: None,
+        })
     }
 
     /// Whether the text as it is now and the change's text have together at most 2,147,483,648 bytes.
@@ -111,7 +137,7 @@ impl<'a> Pieces<'a> {
             self.current.take(),
             self.alloc,
             self.before,
-            &self.spans,
+            self.spans.as_slice(),
             self.len,
         )?;
         let places = ends(&current.lines, &current.text, encoding, range, self.changes);
@@ -120,17 +146,14 @@ impl<'a> Pieces<'a> {
     }
 
     /// Puts a new text in place of all that is there.
-    fn apply_to_all(&mut self, text: &'a str) -> Result<(), AllocError>
+    fn apply_to_all(&mut self, text: &'a str)
         requires { length (edited_bytes self.old) + length text.now ≤ MAX_TEXT }
-        ensures applied { (units : ℕ → ℕ) → OnOk result (Applied units self.old (record { range = None; text = chars text.now }) self.new) }
-        ensures same { OnErr result (self.new ≡ self.old) }
+        ensures { (units : ℕ → ℕ) → Applied units self.old (record { range = None; text = chars text.now }) self.new }
     {
-        let spans = all_new(self.alloc, text)?;
-        self.spans = spans;
+        self.spans = Spans::all_new(self.alloc, text);
         self.len = text.len();
         self.current = None;
         self.changes = self.changes.saturating_add(1);
-        Ok(())
     }
 
     /// Puts a new text in place of a range.
@@ -146,16 +169,20 @@ impl<'a> Pieces<'a> {
         ensures told { IfErr result (λ fault. TellsFault self.old.changes (after_change (units_in encoding) self.old.before self.old.items (record { range = Some range; text = chars text.now })) fault) }
     {
         let (start, stop) = self.places(encoding, range)?;
-        let spans = replaced(self.alloc, &self.spans, start, stop, text)?;
-        self.spans = spans;
+        let current = match self.current.take() {
+            None => None,
+            Some(current) => Some(current.replaced(start, stop, text)?),
+        };
+        self.spans.replace(self.alloc, start, stop, text)?;
         self.len = self.len - (stop - start) + text.len();
-        self.current = None;
+        self.current = current;
         self.changes = self.changes.saturating_add(1);
         Ok(())
     }
 
     /// Applies a change to the text as it is now (LSP 3.17, TextDocumentContentChangeEvent). A fault leaves everything as it was, and
-    /// tells how many changes were applied before.
+    /// tells how many changes were applied before. Costs a walk over the spans up to its place and one move of those behind it; from the
+    /// second change with a range on also one move of the text and of the line starts behind it (at the second, one copy of the text).
     pub fn apply(&mut self, encoding: Encoding, change: &'a Change) -> Result<(), EditFault>
         requires { length (edited_bytes self.old) + string_len change.now.text ≤ MAX_TEXT }
         ensures applied { OnOk result (Applied (units_in encoding) self.old (edit_of change.now) self.new) }
@@ -163,7 +190,7 @@ impl<'a> Pieces<'a> {
         ensures told { IfErr result (λ fault. TellsFault self.old.changes (after_change (units_in encoding) self.old.before self.old.items (edit_of change.now)) fault) }
     {
         match change.range {
-            None => self.apply_to_all(&change.text)?,
+            None => self.apply_to_all(&change.text),
             Some(range) => self.apply_to_range(encoding, range, &change.text)?,
         }
         Ok(())
@@ -183,7 +210,7 @@ impl<'a> Pieces<'a> {
             self.alloc,
             self.before,
             self.lines.get(),
-            &self.spans,
+            self.spans.as_slice(),
             encoding,
         )
     }
@@ -194,17 +221,17 @@ impl<'a> Pieces<'a> {
         ensures some { NoneEmpty (parts_of result.now) }
         ensures few { length result.now ≤ 1 + 2 * self.now.changes }
     {
-        &self.spans
+        self.spans.as_slice()
     }
 
     /// The text as it is now. Costs one copy.
     pub fn text(&self) -> Result<String, AllocError>
         ensures { IfOk result (λ text. string_bytes text ≡ edited_bytes self.now) }
     {
-        text_of_spans(self.alloc, self.before, &self.spans, self.len)
+        text_of_spans(self.alloc, self.before, self.spans.as_slice(), self.len)
     }
 
-    /// The text as it is now and its lines, handed over.
+    /// The text as it is now and its lines, handed over. After one change they are made, in one copy; after more they are there already.
     pub fn into_text(self) -> Result<(String, Lines), AllocError>
         ensures { IfOk result (λ made. (string_bytes made.0 ≡ edited_bytes self.entry) × Indexes made.1 (string_bytes made.0)) }
     {
@@ -216,7 +243,13 @@ impl<'a> Pieces<'a> {
             current,
             ..
         } = self;
-        let Current { text, lines } = Current::or_new(current, alloc, before, &spans, len)?;
+        let Current { text, lines } = Current::or_new(
+            current,
+            alloc,
+            before,
+            spans.as_slice(),
+            len,
+        )?;
         Ok((text, lines))
     }
 }

@@ -6,7 +6,7 @@ use std::alloc::{AllocError, Global};
 use std::test::Fail;
 
 /// A change: the range by line and character, and the text. `ALL` as the first line is the whole text.
-type Edit = (u32, u32, u32, u32, &'static str);
+pub type Edit = (u32, u32, u32, u32, &'static str);
 
 const ALL: u32 = 4294967295;
 
@@ -27,7 +27,7 @@ fn change(alloc: Global, edit: Edit) -> Result<Change, AllocError> {
     Ok(Change { range, text })
 }
 
-fn batch(alloc: Global, edits: &[Edit]) -> Result<Vec<Change>, AllocError> {
+pub fn batch(alloc: Global, edits: &[Edit]) -> Result<Vec<Change>, AllocError> {
     let mut changes = Vec::new(alloc);
     for edit in edits {
         changes.push(change(alloc, *edit)?)?;
@@ -36,7 +36,7 @@ fn batch(alloc: Global, edits: &[Edit]) -> Result<Vec<Change>, AllocError> {
 }
 
 /// What a batch leaves of a text and its canonical batch, or its fault.
-fn left(
+pub fn left(
     alloc: Global,
     before: &str,
     changes: &[Change],
@@ -51,7 +51,7 @@ fn left(
 }
 
 /// A text, a batch, the text that it leaves, and its canonical batch.
-const BATCHES: [(&str, &[Edit], &str, &[Edit]); 16] = [
+pub const BATCHES: [(&str, &[Edit], &str, &[Edit]); 16] = [
     (
         "abc",
         &[(0, 1, 0, 2, ""), (0, 1, 0, 1, "X")],
@@ -128,7 +128,7 @@ fn batches_have_canonical_batches(rt: HostRuntime) -> Result<(), Fail> {
 }
 
 /// A text, a batch with a change that has no result, and its fault.
-const FAULTS: [(&str, &[Edit], EditFault); 5] = [
+pub const FAULTS: [(&str, &[Edit], EditFault); 5] = [
     (
         "abc",
         &[(0, 0, 0, 1, "Z"), (0, 2, 0, 1, "")],
@@ -198,15 +198,88 @@ fn a_change_after_a_fault_is_applied(rt: HostRuntime) -> Result<(), Fail> {
     Ok(())
 }
 
+/// A text, two batches, the text that they leave, and the canonical batch of both together.
+pub const PAIRS: [(&str, &[Edit], &[Edit], &str, &[Edit]); 6] = [
+    (
+        "a\n",
+        &[(7, 3, 7, 3, "b")],
+        &[(1, 1, 1, 1, "c")],
+        "a\nbc",
+        &[(1, 0, 1, 0, "bc")],
+    ),
+    ("abc", &[(0, 0, 0, 0, "x")], &[(0, 0, 0, 1, "")], "abc", &[]),
+    (
+        "abc",
+        &[(ALL, 0, 0, 0, "aXc")],
+        &[(0, 3, 0, 3, "d")],
+        "aXcd",
+        &[(0, 0, 0, 3, "aXcd")],
+    ),
+    (
+        "abcdefgh",
+        &[(0, 0, 0, 3, "")],
+        &[(0, 5, 0, 5, "xyz")],
+        "defghxyz",
+        &[(0, 8, 0, 8, "xyz"), (0, 0, 0, 3, "")],
+    ),
+    (
+        "a\rX\nb",
+        &[(1, 0, 1, 1, "")],
+        &[(1, 0, 1, 0, "Q")],
+        "a\r\nQb",
+        &[(2, 0, 2, 0, "Q"), (1, 0, 1, 1, "")],
+    ),
+    (
+        "",
+        &[(ALL, 0, 0, 0, "")],
+        &[(0, 0, 0, 0, "a")],
+        "a",
+        &[(0, 0, 0, 0, "a")],
+    ),
+];
+
+/// Two batches, one after the other, are one batch of both.
+#[test]
+fn two_batches_are_one(rt: HostRuntime) -> Result<(), Fail> {
+    for (before, first, second, text, canonical) in PAIRS {
+        let mut changes = batch(rt.alloc(), first)?;
+        let mut more = batch(rt.alloc(), second)?;
+        changes.append(&mut more)?;
+        let (after, written) = left(rt.alloc(), before, &changes)?;
+        assert_eq!(rt; after.as_str(), text, "{before:?}");
+        let wanted = batch(rt.alloc(), canonical)?;
+        assert_eq!(rt; written.as_slice(), wanted.as_slice(), "{before:?}");
+    }
+    Ok(())
+}
+
+/// The lines of the text that is handed over are those of that text, whether it was changed in place or made at the end.
+#[test]
+fn a_text_is_handed_over_with_its_lines(rt: HostRuntime) -> Result<(), Fail> {
+    let edits = [(1, 0, 1, 1, ""), (1, 0, 1, 0, "Q\r"), (0, 0, 0, 0, "\n")];
+    let changes = batch(rt.alloc(), &edits)?;
+    for (count, text, lines) in [(1, "a\r\nb", 2), (2, "a\r\nQ\rb", 3), (3, "\na\r\nQ\rb", 4)] {
+        let changes = changes.get(..count).unwrap_or(&[]);
+        if !fits(changes) {
+            continue;
+        }
+        let pieces = compose(rt.alloc(), "a\rX\nb", Encoding::Utf16, changes)?;
+        let (after, kept) = pieces.into_text()?;
+        assert_eq!(rt; after.as_str(), text);
+        assert_eq!(rt; kept.count(), lines);
+    }
+    Ok(())
+}
+
 #[test]
 fn spans_are_few(rt: HostRuntime) -> Result<(), Fail> {
     let mut before = String::new(rt.alloc());
     let mut changes = Vec::new(rt.alloc());
-    for k in 0..50 {
+    for k in 0..500 {
         before.push_str("aa")?;
         changes.push(change(rt.alloc(), (0, 2 * k, 0, 2 * k + 1, "b"))?)?;
     }
-    let all = change(rt.alloc(), (0, 0, 0, 100, "c"))?;
+    let all = change(rt.alloc(), (0, 0, 0, 1000, "c"))?;
     assert!(rt; before.len() <= MAX_OLD_TEXT);
     let mut pieces = Pieces::start(rt.alloc(), &before)?;
     assert_eq!(rt; pieces.spans().len(), 1);
@@ -218,10 +291,16 @@ fn spans_are_few(rt: HostRuntime) -> Result<(), Fail> {
         spans = if spans < 1000 { spans + 2 } else { spans };
     }
     let canonical = pieces.canonical(Encoding::Utf16)?;
-    assert_eq!(rt; canonical.len(), 50);
+    assert_eq!(rt; canonical.len(), 500);
+    let first = change(rt.alloc(), (0, 998, 0, 999, "b"))?;
+    assert_eq!(rt; canonical.first(), Some(&first));
+    let last = change(rt.alloc(), (0, 0, 0, 1, "b"))?;
+    assert_eq!(rt; canonical.last(), Some(&last));
     assert!(rt; pieces.has_room(&all));
     assert_eq!(rt; pieces.apply(Encoding::Utf16, &all), Ok(()));
     assert_eq!(rt; pieces.spans().len(), 1);
-    assert_eq!(rt; pieces.canonical(Encoding::Utf16)?.len(), 1);
+    let whole = pieces.canonical(Encoding::Utf16)?;
+    assert_eq!(rt; whole.len(), 1);
+    assert_eq!(rt; whole.first(), Some(&all));
     Ok(())
 }

@@ -1,49 +1,79 @@
 //! Spans over a text that other spans stand for, told over what those are told over.
 
-ghost use Rattle.std.specs.Prelude.{◌≡◌, ◌-◌, ◌≤◌, OnOk, IfOk, ℕ};
-ghost use Rattle.lsp_edit.specs.Parts.{AreCut, back_parts, front_parts, parts_of, put_parts, through_parts, AreThrough};
+ghost use Rattle.std.specs.Prelude.{◌≡◌, ◌-◌, ◌≤◌, ◌∷◌, OnOk, IfOk, length, drop};
+ghost use Rattle.lsp_edit.specs.Parts.{AreCut, Ascend, ArePassed, AreThrough, back_parts, front_parts, part_of, parts_of, put_parts, through_parts};
 
-use crate::replace::{push_back, push_front, put};
+use crate::replace::{push_front, put};
 use crate::span::Span;
 use std::alloc::{AllocError, Global};
 
-/// Puts the spans of the bytes between two places behind others.
+/// Puts the first bytes of a span and of those behind it behind others.
+fn push_from<'a>(
+    out: &mut Vec<Span<'a>>,
+    first: Span<'a>,
+    behind: &[Span<'a>],
+    count: usize,
+) -> Result<(), AllocError>
+    requires { AreCut (part_of first ∷ parts_of behind.now) count }
+    ensures { OnOk result (parts_of out.new.items ≡ put_parts (parts_of out.old.items) (front_parts (part_of first.entry ∷ parts_of behind.now) count)) }
+{
+    if count == 0 {
+        return Ok(());
+    }
+    if count < first.len() {
+        return put(out, first.front(count));
+    }
+    put(out, first)?;
+    push_front(out, behind, count - first.len())
+}
+
+/// Puts the spans of `count` bytes from a place on behind others. Tells how many spans end at or before that place, and how many bytes
+/// those have.
 fn push_between<'a>(
-    alloc: Global,
     out: &mut Vec<Span<'a>>,
     spans: &[Span<'a>],
     from: usize,
-    to: usize,
-) -> Result<(), AllocError>
+    count: usize,
+) -> Result<(usize, usize), AllocError>
     requires from { AreCut (parts_of spans.now) from }
-    requires to { AreCut (back_parts (parts_of spans.now) from) (to - from) }
-    requires order { from ≤ to }
-    ensures { OnOk result (parts_of out.new.items ≡ put_parts (parts_of out.old.items) (front_parts (back_parts (parts_of spans.now) from) (to - from))) }
+    requires count { AreCut (back_parts (parts_of spans.now) from) count }
+    ensures made { OnOk result (parts_of out.new.items ≡ put_parts (parts_of out.old.items) (front_parts (back_parts (parts_of spans.now) from) count)) }
+    ensures within { IfOk result (λ passed. passed.0 ≤ length spans.now) }
+    ensures passed { IfOk result (λ passed. ArePassed (parts_of spans.now) (parts_of (drop passed.0 spans.now)) passed.1 from) }
 {
-    let mut tail = Vec::new(alloc);
-    push_back(&mut tail, spans, from)?;
-    let mut middle = Vec::new(alloc);
-    push_front(&mut middle, &tail, to - from)?;
-    if let Some((first, rest)) = middle.as_slice().split_first() {
-        put(out, *first)?;
-        out.extend_from_slice(rest)?;
+    let mut passed = 0;
+    for (index, span) in spans.iter().enumerate() {
+        let here = from - passed;
+        if here < span.len() {
+            push_from(out, span.back(here), &spans[index + 1..], count)?;
+            return Ok((index, passed));
+        }
+        passed += span.len();
     }
-    Ok(())
+    Ok((spans.len(), passed))
 }
 
-/// The spans of `second`, which stand over the text of `first`, told over what `first` is told over.
+/// The spans of `second`, which stand over the text of `first`, told over what `first` is told over. Costs one walk over both.
 pub fn spans_through<'a>(
     alloc: Global,
     first: &[Span<'a>],
     second: &[Span<'a>],
 ) -> Result<Vec<Span<'a>>, AllocError>
-    requires { AreThrough (parts_of first.now) (parts_of second.now) }
+    requires through { AreThrough (parts_of first.now) (parts_of second.now) }
+    requires order { Ascend 0 (parts_of second.now) }
     ensures { IfOk result (λ made. parts_of made.items ≡ through_parts (parts_of first.now) (parts_of second.now)) }
 {
     let mut out = Vec::new(alloc);
+    let mut begun = 0;
+    let mut passed = 0;
     for span in second {
         match *span {
-            Span::Old { from, to } => push_between(alloc, &mut out, first, from, to)?,
+            Span::Old { from, to } => {
+                let rest = &first[begun..];
+                let (count, len) = push_between(&mut out, rest, from - passed, to - from)?;
+                begun += count;
+                passed += len;
+            }
             Span::New(_) => put(&mut out, *span)?,
         }
     }

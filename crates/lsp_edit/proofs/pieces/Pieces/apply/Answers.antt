@@ -5,8 +5,8 @@ use Rattle.lsp_edit.specs.Edited.{Applied}
 use Rattle.lsp_edit.proofs.AppliedLemmas.{edit_is}
 use Rattle.lsp_edit.proofs.pieces.Pieces.apply.Goals as goal
 
-pub returns-in_ok-apply_to_all-in-None-clause-applied : goal.returns-in_ok-apply_to_all-in-None-clause-applied
-returns-in_ok-apply_to_all-in-None-clause-applied c =
+pub returns-in-None-clause-applied : goal.returns-in-None-clause-applied
+returns-in-None-clause-applied c =
     subst (λ (change : Edit). Applied (units_in c.args.encoding) c.args.self.now change c.apply_to_all.new.self)
     (edit_is c.args.change.now None _ c.in-None.is c.deref.ensures)
-    (c.in_ok-apply_to_all-in-None.ensures.applied (units_in c.args.encoding))
+    (c.apply_to_all.ensures (units_in c.args.encoding))

@@ -1,26 +1,31 @@
-use Rattle.std.proofs.Common.{◌≡◌, ◌+◌, ◌-◌, ◌≤◌, ◌<◌, ℕ, List, length, arith, Some, sym, ap, ◌∙◌, refl}
+use Rattle.std.proofs.Common.{◌≡◌, ◌+◌, ◌-◌, ◌≤◌, ◌<◌, ℕ, List, length, arith, string_bytes, Some, sym, ap, ◌∙◌, refl}
 use Rattle.std.specs.Str.{chars}
+use Rattle.std.specs.List.{replace_range}
 use Rattle.std.proofs.lemmas.List.{length-map}
+use Rattle.std.proofs.lemmas.Str.{IsUtf8-string_bytes}
 use Rattle.std.proofs.lemmas.Result.{err_from_is_err_and}
 use Rattle.lsp_text.specs.Units.{units_in}
 use Rattle.lsp_edit.specs.Items.{text_of}
-use Rattle.lsp_edit.specs.Parts.{parts_of, part_of, replaced_parts}
-use Rattle.lsp_edit.specs.Edited.{lines_of}
+use Rattle.lsp_edit.specs.Parts.{Part, part_of, parts_of, spans_in, bytes_of, replaced_parts}
+use Rattle.lsp_edit.specs.Edited.{IsCurrent, lines_of}
+use Rattle.lsp_edit.proofs.CurrentLemmas.{current_is}
+use Rattle.lsp_edit.proofs.SpansLemmas.{spans_small}
 use Rattle.lsp_edit.proofs.AppliedLemmas.{fault_told, IsNext, IsRanged, ranged, next_told, next_holds}
 use Rattle.lsp_edit.proofs.pieces.Pieces.apply_to_range.Goals as goal
+use Rattle.lsp_edit.proofs.pieces.Pieces.apply_to_range.Goals.{in-None, in-Some+in_ok-replaced-in-Some}
 
 pub returns-in_err-start-clause-told : goal.returns-in_err-start-clause-told
 returns-in_err-start-clause-told c =
     let p = err_from_is_err_and c.from_residual.result c.from_residual.ensures.1 in
     rw (p.1, p.2) (fault_told (units_in c.args.encoding) c.args.self.now.before c.args.self.now.items (chars c.args.text.now) c.args.range c.args.self.now.changes _ c.in_err-start.ensures.places)
 
-pub replaced-requires-clause-at_start : goal.replaced-requires-clause-at_start
-replaced-requires-clause-at_start c =
-    rw c.deref.ensures.value (ranged (units_in c.args.encoding) c.args.range _ _ _ _ _ c.self.invariant.0 c.args.self.now (c.self.view_is ∙ c.in_ok-start.ensures.same) c.args.text.now c.utf8.text c.requires _ _ c.in_ok-start.ensures.places).start_cut
+pub replace-requires-clause-at_start : goal.replace-requires-clause-at_start
+replace-requires-clause-at_start c =
+    (ranged (units_in c.args.encoding) c.args.range _ _ _ _ _ c.self.invariant.0 c.args.self.now (c.self.view_is ∙ c.in_ok-start.ensures.same) c.args.text.now c.utf8.text c.requires _ _ c.in_ok-start.ensures.places).start_cut
 
-pub replaced-requires-clause-at_stop : goal.replaced-requires-clause-at_stop
-replaced-requires-clause-at_stop c =
-    rw c.deref.ensures.value (ranged (units_in c.args.encoding) c.args.range _ _ _ _ _ c.self.invariant.0 c.args.self.now (c.self.view_is ∙ c.in_ok-start.ensures.same) c.args.text.now c.utf8.text c.requires _ _ c.in_ok-start.ensures.places).stop_cut
+pub replace-requires-clause-at_stop : goal.replace-requires-clause-at_stop
+replace-requires-clause-at_stop c =
+    (ranged (units_in c.args.encoding) c.args.range _ _ _ _ _ c.self.invariant.0 c.args.self.now (c.self.view_is ∙ c.in_ok-start.ensures.same) c.args.text.now c.utf8.text c.requires _ _ c.in_ok-start.ensures.places).stop_cut
 
 pub overflow_sub-self : goal.overflow_sub-self
 overflow_sub-self c =
@@ -30,20 +35,56 @@ pub overflow_sub-self-2 : goal.overflow_sub-self-2
 overflow_sub-self-2 c =
     omega (arith, (ranged (units_in c.args.encoding) c.args.range _ _ _ _ _ c.self.invariant.0 c.args.self.now (c.self.view_is ∙ c.in_ok-start.ensures.same) c.args.text.now c.utf8.text c.requires _ _ c.in_ok-start.ensures.places).within)
 
+pub replaced-requires-clause-order : goal.replaced-requires-clause-order
+replaced-requires-clause-order c = (ranged (units_in c.args.encoding) c.args.range _ _ _ _ _ c.self.invariant.0 c.args.self.now (c.self.view_is ∙ c.in_ok-start.ensures.same) c.args.text.now c.utf8.text c.requires _ _ c.in_ok-start.ensures.places).order
+
+pub replaced-requires-clause-start : goal.replaced-requires-clause-start
+replaced-requires-clause-start c =
+    (ranged (units_in c.args.encoding) c.args.range _ _ _ _ _ c.self.invariant.0 c.args.self.now (c.self.view_is ∙ c.in_ok-start.ensures.same) c.args.text.now c.utf8.text c.requires _ _ c.in_ok-start.ensures.places).start_at
+    (string_bytes c.in-Some.current.text) (IsUtf8-string_bytes c.in-Some.current.text) (current_is _ _ _ c.self.invariant.1 (sym c.take.ensures.value ∙ c.in-Some.is))
+
+pub replaced-requires-clause-stop : goal.replaced-requires-clause-stop
+replaced-requires-clause-stop c =
+    (ranged (units_in c.args.encoding) c.args.range _ _ _ _ _ c.self.invariant.0 c.args.self.now (c.self.view_is ∙ c.in_ok-start.ensures.same) c.args.text.now c.utf8.text c.requires _ _ c.in_ok-start.ensures.places).stop_at
+    (string_bytes c.in-Some.current.text) (IsUtf8-string_bytes c.in-Some.current.text) (current_is _ _ _ c.self.invariant.1 (sym c.take.ensures.value ∙ c.in-Some.is))
+
+pub replaced-requires-clause-room : goal.replaced-requires-clause-room
+replaced-requires-clause-room c =
+    (ranged (units_in c.args.encoding) c.args.range _ _ _ _ _ c.self.invariant.0 c.args.self.now (c.self.view_is ∙ c.in_ok-start.ensures.same) c.args.text.now c.utf8.text c.requires _ _ c.in_ok-start.ensures.places).short
+    (string_bytes c.in-Some.current.text) (current_is _ _ _ c.self.invariant.1 (sym c.take.ensures.value ∙ c.in-Some.is))
+
+pub replace-requires-clause-order : goal.replace-requires-clause-order
+replace-requires-clause-order c = (ranged (units_in c.args.encoding) c.args.range _ _ _ _ _ c.self.invariant.0 c.args.self.now (c.self.view_is ∙ c.in_ok-start.ensures.same) c.args.text.now c.utf8.text c.requires _ _ c.in_ok-start.ensures.places).order
+
+pub replace-requires-clause-ordered : goal.replace-requires-clause-ordered
+replace-requires-clause-ordered c = (ranged (units_in c.args.encoding) c.args.range _ _ _ _ _ c.self.invariant.0 c.args.self.now (c.self.view_is ∙ c.in_ok-start.ensures.same) c.args.text.now c.utf8.text c.requires _ _ c.in_ok-start.ensures.places).ordered
+
 pub invariant_of-self : goal.invariant_of-self
-invariant_of-self c =
-    let r : IsRanged (units_in c.args.encoding) c.args.range c.self.inside.before.now (lines_of c.self.inside.lines) (parts_of c.self.inside.spans.items) c.self.inside.len c.self.inside.changes c.self.invariant.0 c.args.self.now (c.self.view_is ∙ c.in_ok-start.ensures.same) c.args.text.now c.in_ok-start.start c.in_ok-start.stop
+invariant_of-self c = (c.self.invariant.0, rw c.take.ensures.after tt)
+
+pub invariant_of-self-2 : goal.invariant_of-self-2
+invariant_of-self-2 c =
+    let r : IsRanged (units_in c.args.encoding) c.args.range c.self.inside.before.now (lines_of c.self.inside.lines) (parts_of (spans_in c.self.inside.spans)) c.self.inside.len c.self.inside.changes c.self.invariant.0 c.args.self.now (c.self.view_is ∙ c.in_ok-start.ensures.same) c.args.text.now c.in_ok-start.start c.in_ok-start.stop
     = ranged (units_in c.args.encoding) c.args.range _ _ _ _ _ c.self.invariant.0 c.args.self.now (c.self.view_is ∙ c.in_ok-start.ensures.same) c.args.text.now c.utf8.text c.requires _ _ c.in_ok-start.ensures.places in
-    let made : parts_of c.in_ok-spans.spans.items ≡ replaced_parts (parts_of c.self.inside.spans.items) c.in_ok-start.start c.in_ok-start.stop c.args.text.now = rw c.deref.ensures.value at c.in_ok-spans.ensures in
-    let n : length (parts_of c.in_ok-spans.spans.items) ≡ length c.in_ok-spans.spans.items = length-map c.in_ok-spans.spans.items part_of in
-    let small : length (replaced_parts (parts_of c.self.inside.spans.items) c.in_ok-start.start c.in_ok-start.stop c.args.text.now) < 18446744073709551616 = omega (arith, n, ap length made, c.in_ok-spans.spans.ok, c.in_ok-spans.spans.small) in
-    (next_holds (units_in c.args.encoding) _ _ _ _ _ _ _ (r.next small) _ made _ c.saturating_add-self-inside.ensures, tt)
+    let made : parts_of (spans_in c.replace.new.self) ≡ replaced_parts (parts_of (spans_in c.self.inside.spans)) c.in_ok-start.start c.in_ok-start.stop c.args.text.now = c.in_ok-replace.ensures.ok in
+    let n : length (parts_of (spans_in c.replace.new.self)) ≡ length (spans_in c.replace.new.self) = length-map (spans_in c.replace.new.self) part_of in
+    let small : length (replaced_parts (parts_of (spans_in c.self.inside.spans)) c.in_ok-start.start c.in_ok-start.stop c.args.text.now) < 18446744073709551616 = omega (arith, n, ap length made, spans_small c.replace.new.self) in
+    let current : IsCurrent (bytes_of c.self.inside.before.now (parts_of (spans_in c.replace.new.self))) c.match-take.current
+    = elim c.match-take.branch [
+      | in-None w ↦ rw w.current-is tt
+      | in-Some+in_ok-replaced-in-Some w ↦
+          rw w.current-is
+          (w.in_ok-replaced-in-Some.ensures
+          ∙ (ap (λ (bytes : List ℕ). replace_range bytes c.in_ok-start.start c.in_ok-start.stop c.args.text.now) (current_is _ _ _ c.self.invariant.1 (sym c.take.ensures.value ∙ w.in-Some.is))
+          ∙ (sym r.bytes ∙ ap (λ (parts : List Part). bytes_of c.self.inside.before.now parts) (sym made))))
+    ] in
+    (next_holds (units_in c.args.encoding) _ _ _ _ _ _ _ (r.next small) _ made _ c.saturating_add-self-inside.ensures, current)
 
 pub returns-clause-applied : goal.returns-clause-applied
 returns-clause-applied c =
-    let r : IsRanged (units_in c.args.encoding) c.args.range c.self.inside.before.now (lines_of c.self.inside.lines) (parts_of c.self.inside.spans.items) c.self.inside.len c.self.inside.changes c.self.invariant.0 c.args.self.now (c.self.view_is ∙ c.in_ok-start.ensures.same) c.args.text.now c.in_ok-start.start c.in_ok-start.stop
+    let r : IsRanged (units_in c.args.encoding) c.args.range c.self.inside.before.now (lines_of c.self.inside.lines) (parts_of (spans_in c.self.inside.spans)) c.self.inside.len c.self.inside.changes c.self.invariant.0 c.args.self.now (c.self.view_is ∙ c.in_ok-start.ensures.same) c.args.text.now c.in_ok-start.start c.in_ok-start.stop
     = ranged (units_in c.args.encoding) c.args.range _ _ _ _ _ c.self.invariant.0 c.args.self.now (c.self.view_is ∙ c.in_ok-start.ensures.same) c.args.text.now c.utf8.text c.requires _ _ c.in_ok-start.ensures.places in
-    let made : parts_of c.in_ok-spans.spans.items ≡ replaced_parts (parts_of c.self.inside.spans.items) c.in_ok-start.start c.in_ok-start.stop c.args.text.now = rw c.deref.ensures.value at c.in_ok-spans.ensures in
-    let n : length (parts_of c.in_ok-spans.spans.items) ≡ length c.in_ok-spans.spans.items = length-map c.in_ok-spans.spans.items part_of in
-    let small : length (replaced_parts (parts_of c.self.inside.spans.items) c.in_ok-start.start c.in_ok-start.stop c.args.text.now) < 18446744073709551616 = omega (arith, n, ap length made, c.in_ok-spans.spans.ok, c.in_ok-spans.spans.small) in
+    let made : parts_of (spans_in c.replace.new.self) ≡ replaced_parts (parts_of (spans_in c.self.inside.spans)) c.in_ok-start.start c.in_ok-start.stop c.args.text.now = c.in_ok-replace.ensures.ok in
+    let n : length (parts_of (spans_in c.replace.new.self)) ≡ length (spans_in c.replace.new.self) = length-map (spans_in c.replace.new.self) part_of in
+    let small : length (replaced_parts (parts_of (spans_in c.self.inside.spans)) c.in_ok-start.start c.in_ok-start.stop c.args.text.now) < 18446744073709551616 = omega (arith, n, ap length made, spans_small c.replace.new.self) in
     next_told (units_in c.args.encoding) _ _ _ _ _ _ _ (r.next small) c.args.self.now (c.self.view_is ∙ c.in_ok-start.ensures.same) _ made _ c.saturating_add-self-inside.ensures

@@ -1,13 +1,13 @@
 use Rattle.std.proofs.Common.{◌≡◌, ◌+◌, length, arith, sym, ap, ◌∙◌, leb-true, le-leb, encode_utf8_all}
 use Rattle.std.specs.Str.{chars}
 use Rattle.lsp_edit.specs.Items.{text_of}
-use Rattle.lsp_edit.specs.Parts.{parts_of, items_of}
+use Rattle.lsp_edit.specs.Parts.{parts_of, spans_in, items_of}
 use Rattle.lsp_edit.proofs.EditedLemmas.{now_bytes}
 use Rattle.lsp_edit.proofs.pieces.Pieces.has_room.Goals as goal
 
 pub returns : goal.returns
 returns c =
-    let e : length (encode_utf8_all (text_of (chars c.self.inside.before.now) (items_of (chars c.self.inside.before.now) (parts_of c.self.inside.spans.items)))) ≡ c.self.inside.len
+    let e : length (encode_utf8_all (text_of (chars c.self.inside.before.now) (items_of (chars c.self.inside.before.now) (parts_of (spans_in c.self.inside.spans))))) ≡ c.self.inside.len
     = ap length (now_bytes _ _ _ _ _ c.self.invariant.0) ∙ sym c.self.invariant.0.long in
     rw (← c.self.view_is, e)
     (λ t. omega (arith, leb-true _ _ t, c.len.ensures), λ t. le-leb _ _ (omega (arith, c.len.ensures)))

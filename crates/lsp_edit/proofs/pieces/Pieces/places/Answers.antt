@@ -14,7 +14,7 @@ returns-then-self-eq0-clause-places c =
 
 pub returns-clause-places : goal.returns-clause-places
 returns-clause-places c =
-    places_told (units_in c.args.encoding) c.args.range _ c.args.self.now (chars c.deref-2.result.now) c.self.inside.changes
+    places_told (units_in c.args.encoding) c.args.range _ c.args.self.now (chars c.deref.result.now) c.self.inside.changes
     (sym (ap (λ (e : Edited). e.changes) c.self.view_is))
-    (sym (ap edited_text c.self.view_is) ∙ sym (now_chars _ _ _ _ _ c.deref-2.result.now c.self.invariant.0 c.deref-2.utf8 (c.deref-2.ensures ∙ (c.in_ok-current.ensures ∙ rw c.deref.ensures.value refl))))
+    (sym (ap edited_text c.self.view_is) ∙ sym (now_chars _ _ _ _ _ c.deref.result.now c.self.invariant.0 c.deref.utf8 (c.deref.ensures ∙ (c.in_ok-current.ensures ∙ rw c.as_slice.ensures refl))))
     c.ends-places.ensures

@@ -1,0 +1,90 @@
+-- The fields of pieces that two runs of changes make together.
+use Rattle.std.proofs.Common.{ℕ, suc, ◌≡◌, ◌+◌, ◌*◌, ◌<◌, ◌≤◌, List, length, min, max, refl, sym, ap, ◌∙◌, subst, arith, encode_utf8_all}
+use Rattle.std.specs.Str.{chars, IsUtf8}
+use Rattle.std.proofs.lemmas.Str.{IsUtf8-from_is_utf8, IsCharBoundary-start}
+use Rattle.lsp_edit.specs.Items.{Item, plain, text_of}
+use Rattle.lsp_edit.specs.Compose.{then_items}
+use Rattle.lsp_edit.specs.Keeps.{Keeps}
+use Rattle.lsp_edit.specs.Parts.{Part, items_of, bytes_of, AreParts, through_parts, AreThrough, Ascend}
+use Rattle.lsp_edit.specs.Edited.{ArePieces, Edited, both_counts, edited_text}
+use Rattle.lsp_edit.proofs.ComposeLemmas.{text_of-then, then-plain, then_keeps}
+use Rattle.lsp_edit.proofs.CutPartsLemmas.{parts_bytes}
+use Rattle.lsp_edit.proofs.EditedLemmas.{index_first}
+use Rattle.lsp_edit.proofs.AppliedLemmas.{seen}
+use Rattle.lsp_edit.proofs.PassedLemmas.{through_few}
+use Rattle.lsp_edit.proofs.ThroughLemmas.{through_items, are_through, ascending}
+
+-- The fields of pieces over the text that other pieces left.
+pub record AreOver (before lines : List ℕ) (parts : List Part) (len changes : ℕ) (mid mid_lines : List ℕ) (more : List Part) (more_len more_changes : ℕ) : Type 0 where
+  pub are : ArePieces before lines parts len changes
+  pub were : ArePieces mid mid_lines more more_len more_changes
+  pub over : chars mid ≡ text_of (chars before) (items_of (chars before) parts)
+
+pub over_seen : (before lines : List ℕ) (parts : List Part) (len changes : ℕ) (mid mid_lines : List ℕ) (more : List Part) (more_len more_changes : ℕ) → ArePieces before lines parts len changes → ArePieces mid mid_lines more more_len more_changes
+    → (first second : Edited) → seen before parts changes ≡ first → seen mid more more_changes ≡ second → second.before ≡ edited_text first → AreOver before lines parts len changes mid mid_lines more more_len more_changes
+over_seen before lines parts len changes mid mid_lines more more_len more_changes are were first second view other over = record {
+  are = are;
+  were = were;
+  over = ap (λ (e : Edited). e.before) other ∙ (over ∙ sym (ap edited_text view));
+}
+
+module _ (before lines : List ℕ) (parts : List Part) (len changes : ℕ) (mid mid_lines : List ℕ) (more : List Part) (more_len more_changes : ℕ) (both : AreOver before lines parts len changes mid mid_lines more more_len more_changes) where
+  utf8 : IsUtf8 before
+  utf8 = IsUtf8-from_is_utf8 before both.are.utf8
+
+  mid_utf8 : IsUtf8 mid
+  mid_utf8 = IsUtf8-from_is_utf8 mid both.were.utf8
+
+  pub over_through : AreThrough parts more
+  over_through = are_through before mid utf8 mid_utf8 parts both.are.are both.over more both.were.are
+
+  pub over_order : Ascend 0 more
+  over_order = ascending mid mid_utf8 0 more (IsCharBoundary-start mid mid_utf8) both.were.are (subst (λ (n : ℕ). Keeps (chars mid) n (items_of (chars mid) more)) (sym (index_first (chars mid))) both.were.keeps)
+
+  told : (items_of (chars before) (through_parts parts more) ≡ then_items (items_of (chars before) parts) (items_of (chars mid) more)) × AreParts before (through_parts parts more)
+  told = through_items before mid utf8 mid_utf8 parts both.are.are both.over more both.were.are
+
+  text : text_of (chars before) (items_of (chars before) (through_parts parts more)) ≡ text_of (chars mid) (items_of (chars mid) more)
+  text =
+      ap (text_of (chars before)) told.0
+      ∙ (text_of-then (chars before) (items_of (chars before) parts) (items_of (chars mid) more)
+      ∙ ap (λ (t : List ℕ). text_of t (items_of (chars mid) more)) (sym both.over))
+
+  long : more_len ≡ length (bytes_of before (through_parts parts more))
+  long =
+      both.were.long
+      ∙ ap length (parts_bytes mid mid_utf8 more both.were.are ∙ (ap encode_utf8_all (sym text) ∙ sym (parts_bytes before utf8 (through_parts parts more) told.1)))
+
+  keeps : Keeps (chars before) 0 (items_of (chars before) (through_parts parts more))
+  keeps =
+      subst (Keeps (chars before) 0) (sym told.0)
+      (then_keeps (λ c. 1) (λ c. omega arith) (chars before) (items_of (chars before) parts) (items_of (chars mid) more) both.are.keeps
+      (subst (λ (t : List ℕ). Keeps t 0 (items_of (chars mid) more)) both.over both.were.keeps))
+
+  fresh : changes ≡ 0 → more_changes ≡ 0 → items_of (chars before) (through_parts parts more) ≡ plain (chars before)
+  fresh none no_more =
+      let second : items_of (chars mid) more ≡ plain (text_of (chars before) (items_of (chars before) parts)) = both.were.fresh no_more ∙ ap plain both.over in
+      told.0 ∙ (ap (then_items (items_of (chars before) parts)) second ∙ (then-plain (chars before) (items_of (chars before) parts) ∙ both.are.fresh none))
+
+  module _ (made : List Part) (is : made ≡ through_parts parts more) (small : length made < 18446744073709551616) (count : ℕ) (counted : count ≡ both_counts changes more_changes) where
+    pub then_holds : ArePieces before lines made more_len count
+    then_holds = record {
+      utf8 = both.are.utf8;
+      indexed = both.are.indexed;
+      are = subst (AreParts before) (sym is) told.1;
+      keeps = subst (λ (ps : List Part). Keeps (chars before) 0 (items_of (chars before) ps)) (sym is) keeps;
+      long = long ∙ ap (λ (ps : List Part). length (bytes_of before ps)) (sym is);
+      room = both.were.room;
+      few = omega (arith, ap (λ (ps : List Part). length ps) is, through_few parts more over_order over_through, both.are.few, both.were.few);
+      fresh = λ e. ap (λ (ps : List Part). items_of (chars before) ps) is ∙ fresh (omega (arith, counted)) (omega (arith, counted));
+    }
+
+    pub then_told : (first second : Edited) → seen before parts changes ≡ first → seen mid more more_changes ≡ second
+        → seen before made count ≡ record { before = first.before; items = then_items first.items second.items; changes = both_counts first.changes second.changes }
+    then_told first second view other =
+        let e : items_of (chars before) made ≡ then_items (items_of (chars before) parts) (items_of (chars mid) more) = ap (λ (ps : List Part). items_of (chars before) ps) is ∙ told.0 in
+        let a : seen before made count ≡ record { before = chars before; items = then_items (items_of (chars before) parts) (items_of (chars mid) more); changes = both_counts changes more_changes }
+        = λ i. record { before = chars before; items = e i; changes = counted i } in
+        let b : record { before = chars before; items = then_items (items_of (chars before) parts) (items_of (chars mid) more); changes = both_counts changes more_changes } ≡ record { before = first.before; items = then_items first.items second.items; changes = both_counts first.changes second.changes }
+        = λ i. record { before = (view i).before; items = then_items (view i).items (other i).items; changes = both_counts (view i).changes (other i).changes } in
+        a ∙ b

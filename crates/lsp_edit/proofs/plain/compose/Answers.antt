@@ -1,0 +1,20 @@
+use Rattle.std.proofs.Common.{◌≡◌, ◌+◌, ◌∷◌, List, drop, arith, sym, ap, ◌∙◌}
+use Rattle.std.proofs.lemmas.List.{drop_more}
+use Rattle.lsp_text.specs.Units.{units_in}
+use Rattle.lsp_edit.specs.declared.change.Change.{Change}
+use Rattle.lsp_edit.proofs.PlainLemmas.{applying_begins}
+use Rattle.lsp_edit.proofs.RoomLemmas.{applying_on}
+use Rattle.lsp_edit.proofs.plain.compose.Goals as goal
+
+pub loop-change-init : goal.loop-change-init
+loop-change-init c = applying_begins (units_in c.args.encoding) c.args.before.now c.args.changes.now c.in_ok-plain.plain c.utf8.before c.in_ok-plain.ensures c.requires.size c.requires.fits
+
+pub loop-change-preserved : goal.loop-change-preserved
+loop-change-preserved c =
+    applying_on _ _ _ _ c.change-item.result _ _ _
+    (drop_more c.args.changes.now c.loop-change.change-index c.change-item.result c.loop-change-test.true
+    ∙ ap (λ (x : Change). x ∷ drop (c.loop-change.change-index + 1) c.args.changes.now) (sym c.change-item.is))
+    c.loop-change.invariant
+    _
+    (omega arith)
+    c.in_ok-apply.ensures.applied

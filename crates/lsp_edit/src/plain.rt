@@ -1,0 +1,348 @@
+//! The definitions as a plain program: one item for each character, and each step as the definitions tell it. It says what `compose`
+//! and `Pieces` say, stands beside them to be read, and is compared with them.
+
+ghost use Rattle.std.specs.Prelude.{◌≡◌, ◌+◌, ◌++◌, ◌≤◌, ◌<◌, ℕ, IfErr, IfOk, OnErr, OnOk, Ok, Some, true, MatchResult, IsCharBoundary, List, [], map, length, take, drop, string_bytes, string_len, sum_by, encode_utf8_all};
+ghost use Rattle.std.specs.Str.{chars};
+ghost use Rattle.lsp_text.specs.LineStarts.{Indexes};
+ghost use Rattle.lsp_text.specs.TextLines.{numbers_from};
+ghost use Rattle.lsp_text.specs.Units.{units_in};
+ghost use Rattle.lsp_edit.specs.Items.{Old as OldItem, New as NewItem, character_of as spec_character_of, plain as plain_items, text_of as spec_text_of};
+ghost use Rattle.lsp_edit.specs.Batch.{Edit, after_change, after_changes, changed_in, meaning};
+ghost use Rattle.lsp_edit.specs.Canonical.{canonical as spec_canonical, is_changed};
+ghost use Rattle.lsp_edit.specs.Edited.{Applied, Means, edit_of, edited_bytes};
+ghost use Rattle.lsp_edit.specs.Faults.{TellsBatchFault, TellsFault};
+ghost use Rattle.lsp_edit.specs.Keeps.{Keeps};
+ghost use Rattle.lsp_edit.specs.Laws.{HasExactEnds, IsCanonical, KeepsPairs, RangesStay};
+ghost use Rattle.lsp_edit.specs.Plain.{change_at, gap_at, item_of, items_in_order};
+
+use crate::change::{Change, MAX_NEW_TEXT};
+use crate::composed::MAX_OLD_TEXT;
+use crate::ends::ends;
+use crate::fault::EditFault;
+use crate::pieces::MAX_TEXT;
+use lsp_text::{Encoding, Lines, Range};
+use std::alloc::{AllocError, Global};
+use std::marker::Model;
+
+/// A character of the text as it is now: an old one, by its index in the old text, or a new one.
+#[derive(Clone, Copy, Debug, PartialEq, Eq)]
+pub enum Item {
+    Old(usize),
+    New(char),
+}
+
+/// A text that changes are applied to, character by character.
+#[derive(Drop)]
+pub struct Plain<'a> {
+    alloc: Global,
+    before: &'a str,
+    characters: Vec<char>,
+    items: Vec<Item>,
+    changes: usize,
+}
+
+impl<'a> Model for Plain<'a> {
+    ghost use Rattle.std.specs.Str.{chars};
+    ghost use Rattle.lsp_edit.specs.Edited.{Edited};
+    ghost use Rattle.lsp_edit.specs.Plain.{ArePlain, items_in_order};
+
+    ghost Value = { Edited };
+
+    ghost view = { λ plain. record {
+      before = chars plain.before.now;
+      items = items_in_order plain.items.items;
+      changes = plain.changes;
+    } };
+
+    ghost invariant = { λ plain. ArePlain plain.before.now plain.characters.items (items_in_order plain.items.items) };
+}
+
+impl<'a> Plain<'a> {
+    /// A text before any change.
+    fn start(alloc: Global, before: &'a str) -> Result<Self, AllocError>
+        requires { length before.now ≤ MAX_TEXT }
+        ensures { IfOk result (λ plain. plain ≡ record { before = chars before.now; items = plain_items (chars before.now); changes = 0 }) }
+    {
+        let characters = characters(alloc, before)?;
+        let items = numbered(alloc, characters.len())?;
+        Ok(Plain {
+            alloc,
+            before,
+            characters,
+            items,
+            changes: 0,
+        })
+    }
+
+    /// The items with those of a range replaced by new ones.
+    fn replaced(
+        &self,
+        encoding: Encoding,
+        range: Range,
+        text: &[char],
+    ) -> Result<Vec<Item>, EditFault>
+        ensures { MatchResult result
+            (λ made. changed_in (units_in encoding) self.now.before self.now.items text.now (Some range) ≡ Ok (items_in_order made.items))
+            (λ fault. TellsFault self.now.changes (changed_in (units_in encoding) self.now.before self.now.items text.now (Some range)) fault) }
+    {
+        let now = self.text()?;
+        let lines = Lines::new(self.alloc, &now)?;
+        let (start, stop) = ends(&lines, &now, encoding, range, self.changes)?;
+        let low = index_of(self.alloc, &now, start)?;
+        let high = index_of(self.alloc, &now, stop)?;
+        Ok(put_between(self.alloc, &self.items, low, high, text)?)
+    }
+
+    /// Applies a change.
+    fn apply(&mut self, encoding: Encoding, change: &Change) -> Result<(), EditFault>
+        requires { length (edited_bytes self.old) + string_len change.now.text ≤ MAX_TEXT }
+        ensures applied { OnOk result (Applied (units_in encoding) self.old (edit_of change.now) self.new) }
+        ensures same { OnErr result (self.new ≡ self.old) }
+        ensures told { IfErr result (λ fault. TellsFault self.old.changes (after_change (units_in encoding) self.old.before self.old.items (edit_of change.now)) fault) }
+    {
+        let text = characters(self.alloc, &change.text)?;
+        let items = match change.range {
+            None => all_new(self.alloc, &text)?,
+            Some(range) => self.replaced(encoding, range, &text)?,
+        };
+        self.items = items;
+        self.changes = self.changes.saturating_add(1);
+        Ok(())
+    }
+
+    /// The text as it is now.
+    pub fn text(&self) -> Result<String, AllocError>
+        ensures { IfOk result (λ text. string_bytes text ≡ edited_bytes self.now) }
+    {
+        let text = text_of(self.alloc, &self.characters, &self.items)?;
+        spelled(self.alloc, &text)
+    }
+
+    /// The items.
+    pub fn items(&self) -> &[Item]
+        ensures { items_in_order result.now ≡ self.now.items }
+    {
+        &self.items
+    }
+
+    /// The canonical batch of what was applied.
+    pub fn canonical(&self, encoding: Encoding) -> Result<Vec<Change>, AllocError>
+        ensures batch { IfOk result (λ changes. map edit_of changes.items ≡ spec_canonical (units_in encoding) self.now.before self.now.items) }
+        ensures means { meaning (units_in encoding) self.now.before (spec_canonical (units_in encoding) self.now.before self.now.items) ≡ Ok self.now.items }
+        ensures ranges { RangesStay (units_in encoding) self.now.before (plain_items self.now.before) (spec_canonical (units_in encoding) self.now.before self.now.items) }
+        ensures pairs { KeepsPairs self.now.before self.now.items }
+        ensures law { (batch : List Edit) → meaning (units_in encoding) self.now.before batch ≡ Ok self.now.items → IsCanonical (units_in encoding) self.now.before batch self.now.items }
+    {
+        let lines = Lines::new(self.alloc, self.before)?;
+        gaps_written(
+            self.alloc,
+            self.before,
+            &lines,
+            encoding,
+            &self.characters,
+            &self.items,
+        )
+    }
+}
+
+/// What a batch makes of a text: its changes are applied one after another.
+pub fn compose<'a>(
+    alloc: Global,
+    before: &'a str,
+    encoding: Encoding,
+    changes: &[Change],
+) -> Result<Plain<'a>, EditFault>
+    requires size { length before.now ≤ MAX_OLD_TEXT }
+    requires fits { sum_by (λ change. string_len change.text) changes.now ≤ MAX_NEW_TEXT }
+    ensures { MatchResult result
+        (λ plain. Means (chars before.now) (meaning (units_in encoding) (chars before.now) (map edit_of changes.now)) (length changes.now) plain)
+        (λ fault. TellsBatchFault (meaning (units_in encoding) (chars before.now) (map edit_of changes.now)) fault) }
+{
+    let mut plain = Plain::start(alloc, before)?;
+    for change in changes {
+        plain.apply(encoding, change)?;
+    }
+    Ok(plain)
+}
+
+/// The characters of a text.
+fn characters(alloc: Global, text: &str) -> Result<Vec<char>, AllocError>
+    ensures { IfOk result (λ characters. characters.items ≡ chars text.now) }
+{
+    text.chars().collect(alloc)
+}
+
+/// Characters as a text.
+fn spelled(alloc: Global, characters: &[char]) -> Result<String, AllocError>
+    ensures { IfOk result (λ text. string_bytes text ≡ encode_utf8_all characters.now) }
+{
+    let mut text = String::new(alloc);
+    for character in characters {
+        text.push(*character)?;
+    }
+    Ok(text)
+}
+
+/// The character that an item stands for.
+fn character_of(old: &[char], item: Item) -> char
+    ensures { result ≡ spec_character_of old.now (item_of item) }
+{
+    match item {
+        Item::Old(index) => { if index < old.len() { old[index] } else { '\0' } }
+        Item::New(character) => character,
+    }
+}
+
+/// The characters that items stand for.
+fn text_of(alloc: Global, old: &[char], items: &[Item]) -> Result<Vec<char>, AllocError>
+    ensures { IfOk result (λ text. text.items ≡ spec_text_of old.now (items_in_order items.now)) }
+{
+    let mut text = Vec::new(alloc);
+    for item in items {
+        text.push(character_of(old, *item))?;
+    }
+    Ok(text)
+}
+
+/// The items of a text before any change.
+fn numbered(alloc: Global, count: usize) -> Result<Vec<Item>, AllocError>
+    ensures { IfOk result (λ items. items_in_order items.items ≡ map OldItem (numbers_from 0 count)) }
+{
+    let mut items = Vec::new(alloc);
+    for index in 0..count {
+        items.push(Item::Old(index))?;
+    }
+    Ok(items)
+}
+
+/// Puts new characters behind items.
+fn push_new(items: &mut Vec<Item>, text: &[char]) -> Result<(), AllocError>
+    ensures { OnOk result (items_in_order items.new.items ≡ items_in_order items.old.items ++ map NewItem text.now) }
+{
+    for character in text {
+        items.push(Item::New(*character))?;
+    }
+    Ok(())
+}
+
+/// New characters alone.
+fn all_new(alloc: Global, text: &[char]) -> Result<Vec<Item>, AllocError>
+    ensures { IfOk result (λ items. items_in_order items.items ≡ map NewItem text.now) }
+{
+    let mut items = Vec::new(alloc);
+    push_new(&mut items, text)?;
+    Ok(items)
+}
+
+/// Items with those between two indexes replaced by new characters.
+fn put_between(
+    alloc: Global,
+    items: &[Item],
+    start: usize,
+    stop: usize,
+    text: &[char],
+) -> Result<Vec<Item>, AllocError>
+    requires order { start ≤ stop }
+    requires within { stop ≤ length items.now }
+    ensures { IfOk result (λ made. items_in_order made.items ≡ take start (items_in_order items.now) ++ (map NewItem text.now ++ drop stop (items_in_order items.now))) }
+{
+    let mut made = Vec::from_slice(alloc, &items[..start])?;
+    push_new(&mut made, text)?;
+    made.extend_from_slice(&items[stop..])?;
+    Ok(made)
+}
+
+/// The index of a place: how many characters begin before it.
+fn index_of(alloc: Global, text: &str, place: usize) -> Result<usize, AllocError>
+    requires { IsCharBoundary text.now place }
+    ensures { IfOk result (λ index. index ≡ length (chars (take place text.now))) }
+{
+    let front = characters(alloc, &text[..place])?;
+    Ok(front.len())
+}
+
+/// The place of an index: how many bytes stand before it.
+fn place_of(alloc: Global, old: &[char], index: usize) -> Result<usize, AllocError>
+    requires { index ≤ length old.now }
+    ensures { IfOk result (λ place. place ≡ length (encode_utf8_all (take index old.now))) }
+{
+    let front = spelled(alloc, &old[..index])?;
+    Ok(front.len())
+}
+
+/// Puts the change of a gap behind others, if the gap is changed.
+fn put_gap(
+    changes: &mut Vec<Change>,
+    before: &str,
+    lines: &Lines,
+    encoding: Encoding,
+    old: &[char],
+    low: usize,
+    high: usize,
+    text: &[char],
+) -> Result<(), AllocError>
+    requires indexed { Indexes lines.now before.now }
+    requires old { old.now ≡ chars before.now }
+    requires ends { is_changed (gap_at low high text.now) ≡ true → HasExactEnds (chars before.now) (gap_at low high text.now) }
+    ensures { OnOk result (map edit_of changes.new.items ≡ map edit_of changes.old.items ++ change_at (units_in encoding) (chars before.now) (gap_at low high text.now)) }
+{
+    if low < high || !text.is_empty() {
+        let alloc = *changes.allocator();
+        let start = lines.position(before, encoding, place_of(alloc, old, low)?);
+        let stop = lines.position(before, encoding, place_of(alloc, old, high)?);
+        let range = Some(Range { start, stop });
+        let text = spelled(alloc, text)?;
+        changes.push(Change { range, text })?;
+    }
+    Ok(())
+}
+
+/// The changes of the changed gaps, from the last to the first.
+fn gaps_written(
+    alloc: Global,
+    before: &str,
+    lines: &Lines,
+    encoding: Encoding,
+    old: &[char],
+    items: &[Item],
+) -> Result<Vec<Change>, AllocError>
+    requires indexed { Indexes lines.now before.now }
+    requires old { old.now ≡ chars before.now }
+    requires keeps { Keeps (chars before.now) 0 (items_in_order items.now) }
+    ensures { IfOk result (λ changes. map edit_of changes.items ≡ spec_canonical (units_in encoding) (chars before.now) (items_in_order items.now)) }
+{
+    let mut changes = Vec::new(alloc);
+    let mut low = 0;
+    let mut text = Vec::new(alloc);
+    for item in items {
+        match *item {
+            Item::Old(index) => {
+                put_gap(
+                    &mut changes,
+                    before,
+                    lines,
+                    encoding,
+                    old,
+                    low,
+                    index,
+                    &text,
+                )?;
+                low = index + 1;
+                text = Vec::new(alloc);
+            }
+            Item::New(character) => text.push(character)?,
+        }
+    }
+    put_gap(
+        &mut changes,
+        before,
+        lines,
+        encoding,
+        old,
+        low,
+        old.len(),
+        &text,
+    )?;
+    changes.reverse();
+    Ok(changes)
+}

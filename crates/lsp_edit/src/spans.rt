@@ -1,0 +1,76 @@
+//! The spans of a text that changes were applied to. One span takes no memory.
+
+ghost use Rattle.std.specs.Prelude.{◌≡◌, ◌≤◌, ◌<◌, ◌^◌, OnOk, OnErr, length};
+ghost use Rattle.lsp_edit.specs.Parts.{AreCut, AreOrdered, new_parts, parts_of, replaced_parts, spans_in, whole_parts};
+
+use crate::replace::replace;
+use crate::span::Span;
+use std::alloc::{AllocError, Global};
+use std::slice;
+
+/// Spans in order: one, or any number.
+#[derive(Drop)]
+pub enum Spans<'a> {
+    One(Span<'a>),
+    Many(Vec<Span<'a>>),
+}
+
+impl<'a> Spans<'a> {
+    /// The span of a text before any change, if the text isn't empty.
+    pub fn whole(alloc: Global, before: &'a str) -> Self
+        ensures { parts_of (spans_in result) ≡ whole_parts before.now }
+    {
+        if before.is_empty() {
+            return Spans::Many(Vec::new(alloc));
+        }
+        Spans::One(Span::Old {
+            from: 0,
+            to: before.len(),
+        })
+    }
+
+    /// The span of a new text, if the text isn't empty.
+    pub fn all_new(alloc: Global, text: &'a str) -> Self
+        ensures { parts_of (spans_in result) ≡ new_parts text.now }
+    {
+        if text.is_empty() {
+            return Spans::Many(Vec::new(alloc));
+        }
+        Spans::One(Span::New(text))
+    }
+
+    pub fn as_slice(&self) -> &[Span<'a>]
+        ensures { result.now ≡ spans_in self.now }
+    {
+        match self {
+            Spans::One(span) => slice::from_ref(span),
+            Spans::Many(spans) => spans,
+        }
+    }
+
+    /// Puts a new text in place of the bytes between two places. A refused growth changes nothing.
+    pub fn replace(
+        &mut self,
+        alloc: Global,
+        start: usize,
+        stop: usize,
+        text: &'a str,
+    ) -> Result<(), AllocError>
+        requires at_start { AreCut (parts_of (spans_in self.old)) start }
+        requires at_stop { AreCut (parts_of (spans_in self.old)) stop }
+        requires order { start ≤ stop }
+        requires ordered { AreOrdered (parts_of (spans_in self.old)) }
+        ensures ok { OnOk result (parts_of (spans_in self.new) ≡ replaced_parts (parts_of (spans_in self.old)) start stop text.now) }
+        ensures err { OnErr result (spans_in self.new ≡ spans_in self.old) }
+    {
+        let one = match self {
+            Spans::One(span) => *span,
+            Spans::Many(spans) => return replace(spans, start, stop, text),
+        };
+        let mut spans = Vec::with_capacity(alloc, 3)?;
+        spans.push(one)?;
+        replace(&mut spans, start, stop, text)?;
+        *self = Spans::Many(spans);
+        Ok(())
+    }
+}
