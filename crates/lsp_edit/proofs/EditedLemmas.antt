@@ -29,7 +29,7 @@ index_last bytes utf8 =
     let e : place_of (chars bytes) (length (chars bytes)) ≡ length bytes = place_end (chars bytes) ∙ ap length (encodes-chars bytes utf8) in
     ap (index_of (chars bytes)) (sym e) ∙ index_of-place (chars bytes) (length (chars bytes)) (omega arith)
 
-plain_text : (text : List ℕ) → text_of text (plain text) ≡ text
+pub plain_text : (text : List ℕ) → text_of text (plain text) ≡ text
 plain_text text = text_row text 0 (length text) (omega arith) ∙ take_all (length text) text (omega arith)
 
 -- The parts of a text before any change: itself, if it isn't empty.

@@ -19,3 +19,4 @@ pub mod RoomLemmas
 pub mod WalkLemmas
 pub mod LawLemmas
 pub mod IndexedLemmas
+pub mod InPlaceLemmas

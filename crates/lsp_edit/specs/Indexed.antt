@@ -1,6 +1,7 @@
 -- A text that is kept with its lines, under batches of changes.
-use Rattle.std.specs.Prelude.{ℕ, ◌≡◌, ◌≤◌, if◌then◌else◌, nat_lt, List, length, encode_utf8_all, Result, Ok, Err}
+use Rattle.std.specs.Prelude.{ℕ, ◌≡◌, ◌≤◌, if◌then◌else◌, nat_lt, List, [], ◌∷◌, length, encode_utf8_all, Some, Result, Ok, Err}
 use Rattle.std.specs.Str.{IsUtf8, chars}
+use Rattle.lsp_text.specs.declared.position.Range.{Range}
 use Rattle.lsp_edit.specs.declared.fault.EditFault.{EditFault}
 use Rattle.lsp_edit.specs.declared.fault.EditFault.TheVariants as edit
 use Rattle.lsp_edit.specs.declared.fault.Side.{Side}
@@ -20,6 +21,10 @@ bytes_left before items = encode_utf8_all (text_of (chars before) items)
 abbrev pub text_within : ℕ → List ℕ → Result (List Item) (ℕ × Fault) → Result (List ℕ) TextFault
 text_within max_len before (Err fault) = Err (EditOf (fault_at fault.0 fault.1))
 text_within max_len before (Ok items) = if nat_lt max_len (length (bytes_left before items)) then Err TooLong else Ok (bytes_left before items)
+
+-- a batch of one change of a range, by the bytes of its text
+abbrev pub alone : Range → List ℕ → List Edit
+alone range new = record { range = Some range; text = chars new } ∷ []
 
 -- how a fault of a change is told
 abbrev pub told_as : EditFault → TextFault

@@ -7,13 +7,15 @@ ghost use Rattle.lsp_text.specs.Units.{units_in};
 ghost use Rattle.lsp_edit.specs.declared.indexed.TextFault.TheVariants.{NoMemory};
 ghost use Rattle.lsp_edit.specs.Batch.{meaning};
 ghost use Rattle.lsp_edit.specs.Edited.{Means, edit_of, edited_bytes};
-ghost use Rattle.lsp_edit.specs.Indexed.{IsCanonicalBatch, told_as, text_within};
+ghost use Rattle.lsp_edit.specs.Indexed.{IsCanonicalBatch, alone, told_as, text_within};
 
 use crate::change::{Change, MAX_NEW_TEXT};
 use crate::composed::{MAX_OLD_TEXT, compose_over};
+use crate::ends::ends;
 use crate::fault::EditFault;
+use crate::in_place::put_in_place;
 use crate::pieces::{MAX_TEXT, Pieces};
-use lsp_text::{Encoding, Lines};
+use lsp_text::{Encoding, Lines, Range};
 use std::alloc::{AllocError, Global};
 use std::marker::Model;
 use thiserror::Error;
@@ -115,9 +117,32 @@ impl IndexedText {
         Ok(pieces)
     }
 
+    /// Puts a text in place of a range, in place.
+    fn put(
+        &mut self,
+        encoding: Encoding,
+        range: Range,
+        new: &str,
+        max_len: usize,
+    ) -> Result<(), TextFault>
+        requires size { length self.old ≤ MAX_OLD_TEXT }
+        requires fits { length new.now ≤ MAX_NEW_TEXT }
+        ensures changed { OnOk result (text_within max_len self.old (meaning (units_in encoding) (chars self.old) (alone range new.now)) ≡ Ok self.new) }
+        ensures same { OnErr result (self.new ≡ self.old) }
+        ensures told { IfErr result (λ fault. (fault ≡ NoMemory) ⊎ (text_within max_len self.old (meaning (units_in encoding) (chars self.old) (alone range new.now)) ≡ Err fault)) }
+    {
+        let (start, stop) = ends(&self.lines, &self.text, encoding, range, 0)?;
+        if self.text.len() - (stop - start) + new.len() > max_len {
+            return Err(TextFault::TooLong);
+        }
+        put_in_place(&mut self.text, &mut self.lines, start, stop, new)?;
+        Ok(())
+    }
+
     /// Makes the text what a batch means on it (LSP 3.17, DidChangeTextDocumentParams), if that has at most `max_len` bytes; the texts
-    /// between may have more. The first change that has no result is told. Where anything is refused nothing changes. Costs what each
-    /// change costs to apply, and one copy of the text.
+    /// between may have more. The first change that has no result is told. Where anything is refused nothing changes. One change of a
+    /// range costs its two positions, one move of the text behind it, and one pass over the line starts that follow. A longer batch costs
+    /// what each change costs to apply, and one copy of the text.
     pub fn change(
         &mut self,
         encoding: Encoding,
@@ -130,6 +155,16 @@ impl IndexedText {
         ensures same { OnErr result (self.new ≡ self.old) }
         ensures told { IfErr result (λ fault. (fault ≡ NoMemory) ⊎ (text_within max_len self.old (meaning (units_in encoding) (chars self.old) (map edit_of changes.now)) ≡ Err fault)) }
     {
+        if let [
+            Change {
+                range: Some(range),
+                text,
+            },
+        ] = changes
+        {
+            self.put(encoding, *range, text, max_len)?;
+            return Ok(());
+        }
         let pieces = self.composed(encoding, changes, max_len)?;
         let (text, lines) = pieces.into_text()?;
         *self = IndexedText { text, lines };

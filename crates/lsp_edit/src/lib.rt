@@ -10,6 +10,7 @@ mod composed;
 mod current;
 mod ends;
 mod fault;
+mod in_place;
 mod indexed;
 mod kept_lines;
 mod laws;
