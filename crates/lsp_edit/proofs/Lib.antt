@@ -24,3 +24,5 @@ pub mod SpansLemmas
 pub mod CurrentLemmas
 pub mod ThenLemmas
 pub mod PlainLemmas
+pub mod IndexedLemmas
+pub mod InPlaceLemmas

@@ -8,5 +8,6 @@ pub mod Laws
 pub mod Faults
 pub mod Edited
 pub mod Gaps
+pub mod Indexed
 pub mod Examples
 pub mod Plain
