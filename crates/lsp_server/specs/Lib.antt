@@ -1,0 +1,3 @@
+pub mod Incoming
+pub mod Choice
+pub mod Seen

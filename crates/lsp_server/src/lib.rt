@@ -1,0 +1,10 @@
+//! The server's end of a session of the Language Server Protocol 3.17, one body at a time.
+#![tactic(auto)]
+
+mod config;
+mod incoming;
+mod phase;
+
+pub use config::{Config, EncodingChoice, Sync};
+pub use incoming::Incoming;
+pub use phase::Phase;
