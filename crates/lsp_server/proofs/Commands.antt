@@ -1,5 +1,5 @@
 -- Commands on the store, as the server's definitions and the store's calls write them.
-use Rattle.std.proofs.Common.{◌≡◌, ◌≢◌, ◌⊎◌, List, [], ◌∷◌, map, refl, ap, sym, Option, Some, None, option_map, Result, Ok, Err, IfOk, IfErr, OnOk, inl, inr, absurd}
+use Rattle.std.proofs.Common.{◌≡◌, ◌≢◌, ◌⊎◌, List, [], ◌∷◌, map, refl, ap, sym, Option, Some, None, option_map, Result, Ok, Err, IfOk, IfErr, OnOk, OnErr, inl, inr}
 use Rattle.lsp_edit.specs.declared.change.Change.{Change}
 use Rattle.lsp_edit.specs.Edited as made
 use Rattle.lsp_message.specs.Seen.{edit_view}
@@ -43,12 +43,28 @@ obeyed_as_refused s command fault other (inr e) =
     refusal_answered s (command_refusal s.config.limits s.table command) (table_after s.table command) fault e
 
 -- How a command on the store went is what the server answers.
-pub answered : {E : Type 0} (s : State) (command : Command) (new : StoreData) (outcome : Result (Unit {0}) StoreFault) (result : Result Answer E)
-    → OnOk outcome (Takes (store_of s) command new)
-    → IfErr outcome (IsRefused (store_of s) command)
+pub answered : {E : Type 0} (s : State) (given command : Command) (new : StoreData) (outcome : Result (Unit {0}) StoreFault) (result : Result Answer E)
+    → OnOk outcome (Takes (store_of s) given new)
+    → IfErr outcome (IsRefused (store_of s) given)
     → OnOk outcome (result ≡ Ok Changed)
     → IfErr outcome (λ fault. IfOk result (λ a. (fault ≢ NoMemory) × (a ≡ Refused (Store fault))))
+    → given ≡ command
     → IfOk result (λ a. answer_view a ≡ as_sent (obeys s command).answer)
-answered s command new outcome (Err e) takes told changed refused = ?
-answered s command new (Ok u) (Ok a) takes told changed refused = ?
-answered s command new (Err fault) (Ok a) takes told changed refused = ?
+answered s given command new (Ok u) result takes told changed other same = rw (← same, changed, takes.table) refl
+answered s given command new (Err fault) (Err e) takes told changed other same = tt
+answered s given command new (Err fault) (Ok a) takes told changed other same =
+    rw (← same, other.1, obeyed_as_refused s given fault other.0 told) refl
+
+-- So is what becomes of it.
+pub after : {E : Type 0} (s : State) (given command : Command) (new : StoreData) (outcome : Result (Unit {0}) StoreFault) (result : Result Answer E)
+    → OnOk outcome (Takes (store_of s) given new)
+    → OnErr outcome (new ≡ store_of s)
+    → IfErr outcome (IsRefused (store_of s) given)
+    → IfErr outcome (λ fault. IfOk result (λ a. (fault ≢ NoMemory) × (a ≡ Refused (Store fault))))
+    → given ≡ command
+    → OnOk result (over s new ≡ (obeys s command).state)
+after s given command new (Ok u) (Err e) takes unchanged told other same = tt
+after s given command new (Ok u) (Ok a) takes unchanged told other same = rw (← same, takes.table, takes.limits) refl
+after s given command new (Err fault) (Err e) takes unchanged told other same = tt
+after s given command new (Err fault) (Ok a) takes unchanged told other same =
+    rw (← same, unchanged, obeyed_as_refused s given fault other.0 told) refl

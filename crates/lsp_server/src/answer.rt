@@ -1,12 +1,12 @@
 //! What a server answers to a body, and when it has no answer.
 
+ghost use Rattle.std.specs.Prelude.{◌≡◌};
+ghost use Rattle.lsp_server.specs.declared.answer.ServerFault.TheVariants.{NoMemory};
+
 use lsp_message::ErrorCode;
 use lsp_store::StoreFault;
 use std::alloc::AllocError;
 use thiserror::Error;
-
-ghost use Rattle.std.specs.Prelude.{◌≡◌};
-ghost use Rattle.lsp_server.specs.declared.answer.ServerFault.TheVariants.{NoMemory};
 
 /// What a server answers to a body.
 #[derive(Debug, PartialEq, Eq, Drop)]

@@ -18,9 +18,7 @@ use crate::config::{Config, EncodingChoice, Sync};
 use crate::incoming::Incoming;
 use crate::phase::Phase;
 use lsp_frame::frame;
-use lsp_message::{
-    ChangeParams, CloseParams, ErrorCode, Id, Offers, OpenParams, Outgoing, write,
-};
+use lsp_message::{ChangeParams, CloseParams, ErrorCode, Id, Offers, OpenParams, Outgoing, write};
 use lsp_store::{Store, StoreFault};
 use lsp_text::Encoding;
 use std::alloc::{AllocError, Global};
