@@ -6,6 +6,8 @@ mod config;
 mod incoming;
 mod phase;
 mod server;
+#[cfg(test)]
+mod tests;
 
 pub use answer::{Answer, Refusal, ServerFault};
 pub use config::{Config, EncodingChoice, Sync};
