@@ -17,8 +17,8 @@ use std::alloc::{AllocError, Global};
 
 /// What a body asks of a server, its parameters read. Parameters that are not as the protocol wants them are `None`.
 ///
-/// An engine that looks at a message before the server does reads it once by `Incoming::read` and hands it to `Server::take`; all
-/// others call `Server::handle`.
+/// An engine that looks at a message before the server does reads it once by `Incoming::read` and hands it to
+/// [`Server::handle_incoming`](crate::Server::handle_incoming); all others call [`Server::handle`](crate::Server::handle).
 #[derive(Debug, PartialEq, Drop)]
 pub enum Incoming {
     /// The body is no JSON.

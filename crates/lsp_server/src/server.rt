@@ -49,7 +49,7 @@ impl Model for Server {
 }
 
 impl Server {
-    /// At the start of a session. Takes no memory.
+    /// At the start of a session, in phase New and with no document. Takes no memory.
     pub fn new(alloc: Global, config: Config) -> Server
         ensures { result ≡ start config }
     {
@@ -75,14 +75,14 @@ impl Server {
         self.phase
     }
 
-    /// The open documents.
+    /// The open documents, to be read. Only document notifications change them.
     pub fn store(&self) -> &Store
         ensures { result.now ≡ record { limits = self.now.config.limits; table = self.now.table } }
     {
         &self.store
     }
 
-    /// The encoding of positions, from an accepted `initialize` on.
+    /// The encoding of positions; none before an `initialize` is accepted. In phase Running there is one.
     pub fn encoding(&self) -> Option<Encoding>
         ensures value { result ≡ self.now.encoding }
         ensures running { self.now.phase ≡ Running → IsSome result }
@@ -90,6 +90,24 @@ impl Server {
         self.encoding
     }
 
+    /// Handles one body, as a frame brought it, and answers what the table of steps says (`specs/Step.antt`):
+    ///
+    /// | Phase | Body | Answer |
+    /// |---|---|---|
+    /// | any but Ended | no JSON; JSON and no message; a response | a reply -32700; a reply -32600; ignored |
+    /// | any but Ended | `exit` | exit with 0 if Down, else 1; the session has ended |
+    /// | New | request `initialize` | the encoding that is chosen, and Running; a reply -32602 if its params are faulty |
+    /// | New | another request; another notification | a reply -32002; dropped |
+    /// | Running | request `shutdown` | a result, and Down |
+    /// | Running | request `initialize`; another request | a reply -32600; a reply -32601 |
+    /// | Running | `textDocument/didOpen`, `didChange`, `didClose` | changed, or refused |
+    /// | Running | another notification | ignored |
+    /// | Down | a request; another notification | a reply -32600; dropped |
+    ///
+    /// Nothing changes but what the table names. A reply is made before anything changes, so after [`ServerFault::NoMemory`] the server is
+    /// as it was, and the same body can be handed in again. [`ServerFault::AlreadyEnded`] comes in phase Ended, and only there.
+    ///
+    /// One parse of the body, whose texts move into the store; then what the command costs there.
     pub fn handle(&mut self, body: &[u8]) -> Result<Answer, ServerFault>
         ensures answer { IfOk result (λ a. answer_view a ≡ as_sent (step self.old (reading body.now)).answer) }
         ensures state { OnOk result (self.new ≡ (step self.old (reading body.now)).state) }
@@ -100,10 +118,12 @@ impl Server {
             return Err(ServerFault::AlreadyEnded);
         }
         let incoming = Incoming::read(self.alloc, body)?;
-        self.take(incoming)
+        self.handle_incoming(incoming)
     }
 
-    pub fn take(&mut self, incoming: Incoming) -> Result<Answer, ServerFault>
+    /// Handles what a body asks, for one who has read it by [`Incoming::read`] to look at it first. Answers what
+    /// [`handle`](Server::handle) answers to that body.
+    pub fn handle_incoming(&mut self, incoming: Incoming) -> Result<Answer, ServerFault>
         ensures answer { IfOk result (λ a. answer_view a ≡ as_sent (step_on self.old (incoming_view incoming)).answer) }
         ensures state { OnOk result (self.new ≡ (step_on self.old (incoming_view incoming)).state) }
         ensures same { OnErr result (self.new ≡ self.old) }
@@ -314,7 +334,8 @@ impl Server {
         }
     }
 
-    /// From now on changes are counted in this encoding; before an accepted `initialize` nothing changes.
+    /// From now on changes are counted in this encoding, whatever was chosen: for a capture that tells what another server chose. Before
+    /// an `initialize` is accepted it does nothing. Takes no memory.
     pub fn settle(&mut self, encoding: Encoding)
         ensures { self.new ≡ settled self.old encoding }
     {

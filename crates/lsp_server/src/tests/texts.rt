@@ -126,7 +126,7 @@ fn an_engine_looks_at_a_message_first(rt: HostRuntime) -> Result<(), Fail> {
     )?;
     let incoming = Incoming::read(alloc, CHANGE.as_bytes())?;
     assert!(rt; matches!(&incoming, Incoming::DidChange(Some(params)) if params.version == 2));
-    assert_eq!(rt; server.take(incoming), Ok(Answer::Changed));
+    assert_eq!(rt; server.handle_incoming(incoming), Ok(Answer::Changed));
     match read(
         alloc,
         b"{\"id\":7,\"jsonrpc\":\"2.0\",\"method\":\"hover\",\"params\":[]}",
@@ -136,7 +136,7 @@ fn an_engine_looks_at_a_message_first(rt: HostRuntime) -> Result<(), Fail> {
             assert!(rt;
                 matches!(&incoming, Incoming::OtherRequest { method, .. } if method.as_str() == "hover")
             );
-            let answer = server.take(incoming);
+            let answer = server.handle_incoming(incoming);
             assert!(rt;
                 matches!(
                     answer,
