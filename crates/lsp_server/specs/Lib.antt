@@ -2,4 +2,5 @@ pub mod Incoming
 pub mod Choice
 pub mod Answer
 pub mod Step
+pub mod Laws
 pub mod Seen

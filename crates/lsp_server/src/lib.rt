@@ -45,7 +45,7 @@
 //!
 //! ```text
 //! match Incoming::read(alloc, body)? {
-//!     Incoming::OtherRequest { id, method, params } if server.phase() == Phase::Running && method == "textDocument/hover" =>
+//!     Incoming::OtherRequest { id, method, params } if server.phase() == Phase::Running && method.as_str() == "textDocument/hover" =>
 //!         output.write_all(&hover(server.store(), server.encoding(), id, params)?)?,
 //!     incoming => { let answer = server.handle_incoming(incoming)?; .. }
 //! }
@@ -58,11 +58,13 @@
 //! - `answer`: what comes back.
 //! - `config`: limits, the choice of an encoding, how changes are asked for.
 //! - `phase`: where a session stands.
+//! - `laws`: what holds of every step.
 #![tactic(auto)]
 
 mod answer;
 mod config;
 mod incoming;
+mod laws;
 mod phase;
 mod server;
 #[cfg(test)]
@@ -71,5 +73,6 @@ mod tests;
 pub use answer::{Answer, Refusal, ServerFault};
 pub use config::{Config, EncodingChoice, Sync};
 pub use incoming::Incoming;
+pub use laws::step_laws;
 pub use phase::Phase;
 pub use server::Server;

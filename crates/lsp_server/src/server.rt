@@ -94,15 +94,21 @@ impl Server {
     ///
     /// | Phase | Body | Answer |
     /// |---|---|---|
-    /// | any but Ended | no JSON; JSON and no message; a response | a reply -32700; a reply -32600; ignored |
-    /// | any but Ended | `exit` | exit with 0 if Down, else 1; the session has ended |
-    /// | New | request `initialize` | the encoding that is chosen, and Running; a reply -32602 if its params are faulty |
-    /// | New | another request; another notification | a reply -32002; dropped |
-    /// | Running | request `shutdown` | a result, and Down |
-    /// | Running | request `initialize`; another request | a reply -32600; a reply -32601 |
+    /// | all but Ended | no JSON | a reply -32700 without an id |
+    /// | all but Ended | JSON and no message | a reply -32600, with the id if one is found |
+    /// | all but Ended | a response | ignored |
+    /// | Down | notification `exit` | exit with status 0; now Ended |
+    /// | New, Running | notification `exit` | exit with status 1; now Ended |
+    /// | New | request `initialize` | the encoding that is chosen; now Running |
+    /// | New | the same with faulty params | a reply -32602 |
+    /// | New | another request | a reply -32002 |
+    /// | Running | request `shutdown` | a result; now Down |
+    /// | Running | request `initialize` | a reply -32600 |
+    /// | Running | another request | a reply -32601 |
     /// | Running | `textDocument/didOpen`, `didChange`, `didClose` | changed, or refused |
     /// | Running | another notification | ignored |
-    /// | Down | a request; another notification | a reply -32600; dropped |
+    /// | Down | a request | a reply -32600 |
+    /// | New, Down | another notification | dropped |
     ///
     /// Nothing changes but what the table names. A reply is made before anything changes, so after [`ServerFault::NoMemory`] the server is
     /// as it was, and the same body can be handed in again. [`ServerFault::AlreadyEnded`] comes in phase Ended, and only there.

@@ -1,6 +1,7 @@
 //! Sessions in bytes: tables of bodies that go in, each with what is wanted of its answer.
 
 mod agreed;
+mod front_page;
 mod phases;
 mod refused;
 mod sessions;
