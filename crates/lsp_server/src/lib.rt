@@ -44,13 +44,14 @@
 //! **A feature of your own**, as hover: read the body yourself, answer what is yours, and hand all else on.
 //!
 //! ```text
-//! match Incoming::read(alloc, body)? {
-//!     Incoming::OtherRequest { id, method, params } if server.phase() == Phase::Running && method.as_str() == "textDocument/hover" =>
-//!         output.write_all(&hover(server.store(), server.encoding(), id, params)?)?,
-//!     incoming => { let answer = server.handle_incoming(incoming)?; .. }
+//! let incoming = Incoming::read(alloc, body)?;
+//! if server.phase() == Phase::Running && is_hover(&incoming) {
+//!     return hover(alloc, server.store(), incoming);
 //! }
+//! let answer = server.handle_incoming(incoming)?;
 //! ```
 //!
+//! Both programs stand whole in `src/tests/front_page.rt`.
 //! `server.store().get(uri)` lends the document as it is now; `lsp_text` turns its positions, in `server.encoding()`, into places.
 //!
 //! - `server`: the server, and the table of its steps.

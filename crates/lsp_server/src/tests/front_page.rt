@@ -1,11 +1,11 @@
 //! The two programs of the crate's front page.
 
 use super::{ACCEPTED, EXIT, INITIALIZE, OPEN, SHUT_DOWN, SHUTDOWN};
-use crate::{Answer, Config, EncodingChoice, Incoming, Phase, Server, Sync};
+use crate::{Answer, Config, EncodingChoice, Incoming, Phase, Server, ServerFault, Sync};
 use lsp_frame::{Framer, Limits, frame};
 use lsp_message::Id;
 use lsp_text::Encoding;
-use std::alloc::{AllocError, Global};
+use std::alloc::Global;
 use std::test::Fail;
 
 fn new_server(alloc: Global) -> Result<Server, Fail> {
@@ -64,32 +64,40 @@ fn from_frames_to_replies(rt: HostRuntime) -> Result<(), Fail> {
 
 /// Answers hover with the length of the document's text, and hands all else on.
 fn serve_hover(alloc: Global, server: &mut Server, body: &[u8]) -> Result<Option<Vec<u8>>, Fail> {
-    let answer = match Incoming::read(alloc, body)? {
-        Incoming::OtherRequest { id, method, .. }
-            if server.phase() == Phase::Running && method.as_str() == "textDocument/hover" => {
-            return Ok(Some(hover(alloc, server, id)?));
-        }
-        incoming => server.handle_incoming(incoming)?,
-    };
-    match answer {
+    let incoming = Incoming::read(alloc, body)?;
+    if server.phase() == Phase::Running && is_hover(&incoming) {
+        return hover(alloc, server, incoming);
+    }
+    reply_of(server.handle_incoming(incoming))
+}
+
+fn is_hover(incoming: &Incoming) -> bool {
+    matches!(incoming, Incoming::OtherRequest { method, .. } if method.as_str() == "textDocument/hover")
+}
+
+fn reply_of(answer: Result<Answer, ServerFault>) -> Result<Option<Vec<u8>>, Fail> {
+    match answer? {
         Answer::Reply { frame, .. } => Ok(Some(frame)),
         _other => Ok(None),
     }
 }
 
-fn hover(alloc: Global, server: &Server, id: Id) -> Result<Vec<u8>, AllocError> {
-    let length = server
-        .store()
-        .get("file:///a")
-        .map_or(0, |document| document.text().len());
-    let id = match id {
-        Id::Whole(id) => id,
-        Id::Text(_) => 0,
+fn hover(alloc: Global, server: &Server, request: Incoming) -> Result<Option<Vec<u8>>, Fail> {
+    let id = match request {
+        Incoming::OtherRequest {
+            id: Id::Whole(id),
+            ..
+        } => id,
+        _other => return Ok(None),
+    };
+    let length = match server.store().get("file:///a") {
+        Some(document) => document.text().len(),
+        None => 0,
     };
     let body = format!(in alloc;
         r#"{{"id":{id},"jsonrpc":"2.0","result":{{"contents":"{length} bytes"}}}}"#
     )?;
-    frame(alloc, body.as_bytes())
+    Ok(Some(frame(alloc, body.as_bytes())?))
 }
 
 const HOVER: &str = r#"{"id":5,"jsonrpc":"2.0","method":"textDocument/hover"}"#;
