@@ -1,5 +1,5 @@
 -- Commands on the store, as the server's definitions and the store's calls write them.
-use Rattle.std.proofs.Common.{◌≡◌, ◌≢◌, ◌⊎◌, List, [], ◌∷◌, map, refl, ap, sym, Option, Some, None, option_map, Result, Ok, Err, IfOk, IfErr, OnOk, OnErr, inl, inr}
+use Rattle.std.proofs.Common.{◌≡◌, ◌≢◌, List, [], ◌∷◌, map, refl, ap, Option, Some, None, option_map, Result, Ok, Err, IfOk, IfErr, OnOk, OnErr, inl, inr}
 use Rattle.lsp_edit.specs.declared.change.Change.{Change}
 use Rattle.lsp_edit.specs.Edited as made
 use Rattle.lsp_message.specs.Seen.{edit_view}

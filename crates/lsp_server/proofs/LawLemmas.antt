@@ -1,5 +1,5 @@
 -- What holds of every row of the table of steps.
-use Rattle.std.proofs.Common.{ℕ, ◌≡◌, ◌≢◌, ◌≤◌, Bool, true, false, if◌then◌else◌, codes, List, Option, Some, None, Result, Ok, Err, refl, ap, sym, arith}
+use Rattle.std.proofs.Common.{ℕ, ◌≡◌, ◌≢◌, ◌≤◌, Bool, true, false, if◌then◌else◌, codes, List, Option, Some, None, Result, Ok, Err, refl, ap, arith}
 use Rattle.std.specs.Str.{bytes_eq}
 use Rattle.serde_json.specs.Data.{Data}
 use Rattle.lsp_message.specs.declared.agreement.Offers.{Offers}
@@ -9,13 +9,13 @@ use Rattle.lsp_message.specs.Message.{IdData, OutcomeData}
 use Rattle.lsp_message.specs.Outgoing.{OutgoingData, initialize_result, shutdown_result, error_reply}
 use Rattle.lsp_message.specs.Params.{open_of, change_of, close_of}
 use Rattle.lsp_text.specs.declared.encoding.Encoding.{Encoding}
-use Rattle.lsp_text.specs.declared.encoding.Encoding.TheVariants.{Utf8, Utf16, Utf32}
+use Rattle.lsp_text.specs.declared.encoding.Encoding.TheVariants.{Utf16}
 use Rattle.lsp_store.specs.Table.{Entry, Command, after_command}
 use Rattle.lsp_store.specs.Table as table
 use Rattle.lsp_server.specs.declared.config.EncodingChoice.TheVariants.{Negotiated}
 use Rattle.lsp_server.specs.declared.phase.Phase.{Phase}
 use Rattle.lsp_server.specs.declared.phase.Phase.TheVariants.{New, Running, Down, Ended}
-use Rattle.lsp_server.specs.Answer.{AnswerData, reply, changed, refused, exits}
+use Rattle.lsp_server.specs.Answer.{AnswerData, reply, changed, exits}
 use Rattle.lsp_server.specs.Choice.{chosen, kind_of}
 use Rattle.lsp_server.specs.Incoming.{IncomingData, response, initialize, shutdown, other_request, exit, did_open, did_change, did_close, other_notification, request_of, notification_of}
 use Rattle.lsp_server.specs.Laws.{RepliesTo, way_of, IsRefusal}

@@ -1,7 +1,7 @@
 -- What the types of `src/` stand for in the definitions.
 use Rattle.std.specs.Prelude.{option_map, string_bytes}
 use Rattle.serde_json.specs.View.{view}
-use Rattle.lsp_message.specs.Seen.{id_view, outcome_view, message_view, open_view, change_view, close_view}
+use Rattle.lsp_message.specs.Seen.{id_view, outcome_view, open_view, change_view, close_view}
 use Rattle.lsp_server.specs.declared.incoming.Incoming.{Incoming}
 use Rattle.lsp_server.specs.declared.incoming.Incoming.TheVariants.{NotJson, NotAMessage, Response, Initialize, Shutdown, OtherRequest, Exit, DidOpen, DidChange, DidClose, OtherNotification}
 use Rattle.lsp_server.specs.declared.answer.Answer.{Answer}
