@@ -53,7 +53,10 @@ goes s phase answer = record { answer = answer; state = record s { phase = phase
 -- The session begins, in the encoding that is chosen among those that are offered.
 abbrev pub begins_in : State → IdData → Encoding → Step
 begins_in s id encoding =
-    record { answer = reply (initialize_result id encoding (kind_of s.config.sync)); state = record s { phase = Running; encoding = Some encoding } }
+    record {
+      answer = reply (initialize_result id encoding (kind_of s.config.sync));
+      state = record s { phase = Running; encoding = Some encoding };
+    }
 
 abbrev pub begins : State → IdData → Offers → Step
 begins s id offers = begins_in s id (chosen s.config.choice offers)

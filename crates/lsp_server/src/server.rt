@@ -1,10 +1,10 @@
 //! A session's server end: one body in, one answer out.
 
-ghost use Rattle.std.specs.Prelude.{◌≡◌, ◌≢◌, ◌↔◌, ℕ, List, Option, None, Some, Ok, Err, IfOk, IfErr, OnOk, OnErr, IfSome, IsSome, IsErrOf, option_map};
+ghost use Rattle.std.specs.Prelude.{◌≡◌, ◌≢◌, ◌↔◌, ℕ, List, Option, None, Some, Ok, Err, IfOk, IfErr, OnOk, OnErr, IsSome, IsErrOf, option_map};
 ghost use Rattle.serde_json.specs.Data.{Data};
 ghost use Rattle.lsp_frame.specs.Frame.{frame};
 ghost use Rattle.lsp_message.specs.Message.{reading};
-ghost use Rattle.lsp_message.specs.Outgoing.{shutdown_result, error_reply, body_of};
+ghost use Rattle.lsp_message.specs.Outgoing.{error_reply, body_of};
 ghost use Rattle.lsp_message.specs.Seen.{id_view, outgoing_view, open_view, change_view, close_view};
 ghost use Rattle.lsp_store.specs.declared.fault.StoreFault.TheVariants.{NoMemory};
 ghost use Rattle.lsp_server.specs.declared.phase.Phase.TheVariants.{Running, Down, Ended};
@@ -43,7 +43,12 @@ impl Model for Server {
 
     ghost Value = { State };
 
-    ghost view = { λ s. record { config = record { limits = s.store.limits; choice = s.choice; sync = s.sync }; phase = s.phase; encoding = s.encoding; table = s.store.table } };
+    ghost view = { λ s. record {
+      config = record { limits = s.store.limits; choice = s.choice; sync = s.sync };
+      phase = s.phase;
+      encoding = s.encoding;
+      table = s.store.table;
+    } };
 
     ghost invariant = { λ s. s.phase ≡ Running → IsSome s.encoding };
 }
@@ -224,8 +229,10 @@ impl Server {
 
     fn other_request(&self, id: Id) -> Result<Answer, AllocError>
         requires { self.now.phase ≢ Ended }
-        ensures answer { (method : List ℕ) (params : Option Data) → IfOk result (λ a. answer_view a ≡ as_sent (step_on self.now (other_request (id_view id) method params)).answer) }
-        ensures state { (method : List ℕ) (params : Option Data) → (step_on self.now (other_request (id_view id) method params)).state ≡ self.now }
+        ensures answer { (method : List ℕ) (params : Option Data)
+            → IfOk result (λ a. answer_view a ≡ as_sent (step_on self.now (other_request (id_view id) method params)).answer) }
+        ensures state { (method : List ℕ) (params : Option Data)
+            → (step_on self.now (other_request (id_view id) method params)).state ≡ self.now }
     {
         let error = match self.phase {
             Phase::New => ErrorCode::ServerNotInitialized,
@@ -331,8 +338,10 @@ impl Server {
 
     fn other_notification(&self) -> Answer
         requires { self.now.phase ≢ Ended }
-        ensures answer { (method : List ℕ) (params : Option Data) → answer_view result ≡ as_sent (step_on self.now (other_notification method params)).answer }
-        ensures state { (method : List ℕ) (params : Option Data) → (step_on self.now (other_notification method params)).state ≡ self.now }
+        ensures answer { (method : List ℕ) (params : Option Data)
+            → answer_view result ≡ as_sent (step_on self.now (other_notification method params)).answer }
+        ensures state { (method : List ℕ) (params : Option Data)
+            → (step_on self.now (other_notification method params)).state ≡ self.now }
     {
         match self.phase {
             Phase::Running => Answer::Ignored,
