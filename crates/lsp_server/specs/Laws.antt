@@ -1,0 +1,79 @@
+-- What holds of every step, in the protocol's words.
+use Rattle.std.specs.Prelude.{ℕ, ◌≡◌, ◌≢◌, ◌≤◌, true, List, Option, Some, None}
+use Rattle.serde_json.specs.Data.{Data}
+use Rattle.lsp_message.specs.declared.agreement.Offers.{Offers}
+use Rattle.lsp_message.specs.Agreement.{is_offered}
+use Rattle.lsp_message.specs.Message.{IdData, OutcomeData, request, notification, response, message, Reading}
+use Rattle.lsp_message.specs.Outgoing.{OutgoingData, initialize_result, shutdown_result, error_reply}
+use Rattle.lsp_text.specs.declared.encoding.Encoding.{Encoding}
+use Rattle.lsp_server.specs.declared.config.EncodingChoice.TheVariants.{Negotiated}
+use Rattle.lsp_server.specs.declared.phase.Phase.{Phase}
+use Rattle.lsp_server.specs.declared.phase.Phase.TheVariants.{New, Running, Down, Ended}
+use Rattle.lsp_server.specs.Answer.{AnswerData, reply, changed, dropped, ignored, already_ended, refused, exits}
+use Rattle.lsp_server.specs.Choice.{chosen}
+use Rattle.lsp_server.specs.Step.{State, step}
+
+-- the id that a reply names
+abbrev pub id_of : OutgoingData → Option IdData
+id_of (initialize_result id encoding kind) = Some id
+id_of (shutdown_result id) = Some id
+id_of (error_reply id error) = id
+id_of m = None
+
+-- A reply to this id is answered.
+abbrev pub RepliesTo : IdData → AnswerData OutgoingData → Type 0
+RepliesTo id answer = (m : OutgoingData) × (answer ≡ reply m) × (id_of m ≡ Some id)
+
+-- Each request gets one reply, which names its id (Request Message, Response Message).
+abbrev pub RequestLaw : Type 0
+RequestLaw =
+    (s : State) (id : IdData) (method : List ℕ) (params : Option Data) → s.phase ≢ Ended
+    → RepliesTo id (step s (message (request id method params))).answer
+
+-- A notification gets none (Notification Message), and neither does a response.
+abbrev pub NotificationLaw : Type 0
+NotificationLaw =
+    (s : State) (method : List ℕ) (params : Option Data) (m : OutgoingData)
+    → (step s (message (notification method params))).answer ≢ reply m
+
+abbrev pub ResponseLaw : Type 0
+ResponseLaw =
+    (s : State) (id : Option IdData) (outcome : OutcomeData) (m : OutgoingData)
+    → (step s (message (response id outcome))).answer ≢ reply m
+
+-- how far a session is on its way from `initialize` to `exit`
+abbrev pub way_of : Phase → ℕ
+way_of New = 0
+way_of Running = 1
+way_of Down = 2
+way_of Ended = 3
+
+-- A session never goes back to an earlier phase, and its set-up stays.
+abbrev pub ForwardLaw : Type 0
+ForwardLaw = (s : State) (body : Reading) → way_of s.phase ≤ way_of (step s body).state.phase
+
+abbrev pub ConfigLaw : Type 0
+ConfigLaw = (s : State) (body : Reading) → (step s body).state.config ≡ s.config
+
+-- Only a document notification that is answered as a change changes the open documents.
+abbrev pub DocumentsLaw : Type 0
+DocumentsLaw = (s : State) (body : Reading) → (step s body).answer ≢ changed → (step s body).state.table ≡ s.table
+
+-- whether an answer tells that nothing was done
+abbrev pub IsRefusal : AnswerData OutgoingData → Type 0
+IsRefusal (reply (error_reply id error)) = Unit {0}
+IsRefusal (reply m) = ⊥
+IsRefusal dropped = Unit {0}
+IsRefusal ignored = Unit {0}
+IsRefusal already_ended = Unit {0}
+IsRefusal (refused why) = Unit {0}
+IsRefusal changed = ⊥
+IsRefusal (exits status) = ⊥
+
+-- What is refused, dropped or ignored changes nothing.
+abbrev pub RefusalLaw : Type 0
+RefusalLaw = (s : State) (body : Reading) → IsRefusal (step s body).answer → (step s body).state ≡ s
+
+-- An encoding that is negotiated was offered (PositionEncodingKind).
+abbrev pub OfferedLaw : Type 0
+OfferedLaw = (prefer : Encoding) (offers : Offers) → is_offered offers (chosen (Negotiated prefer) offers) ≡ true

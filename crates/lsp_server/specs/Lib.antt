@@ -1,0 +1,6 @@
+pub mod Incoming
+pub mod Choice
+pub mod Answer
+pub mod Step
+pub mod Laws
+pub mod Seen

@@ -1,0 +1,125 @@
+//! The two programs of the crate's front page.
+
+use super::{ACCEPTED, EXIT, INITIALIZE, OPEN, SHUT_DOWN, SHUTDOWN};
+use crate::{Answer, Config, EncodingChoice, Incoming, Phase, Server, ServerFault, Sync};
+use lsp_frame::{Framer, Limits, frame};
+use lsp_message::Id;
+use lsp_text::Encoding;
+use std::alloc::Global;
+use std::test::Fail;
+
+fn new_server(alloc: Global) -> Result<Server, Fail> {
+    let limits = Limits::new(16_777_216, 16_777_216, 1_024, 65_536)?;
+    let choice = EncodingChoice::Negotiated {
+        prefer: Encoding::Utf8,
+    };
+    let sync = Sync::Incremental;
+    Ok(Server::new(
+        alloc,
+        Config {
+            limits,
+            choice,
+            sync,
+        },
+    ))
+}
+
+/// Serves a stream that comes frame by frame.
+fn serve(
+    alloc: Global,
+    server: &mut Server,
+    pieces: &[Vec<u8>],
+    output: &mut Vec<u8>,
+) -> Result<Option<u8>, Fail> {
+    let mut framer = Framer::new(alloc, Limits::new(16_777_216, 0, 1, 1)?);
+    for piece in pieces {
+        let _taken = framer.feed(piece)?;
+        if let Some(body) = framer.body() {
+            match server.handle(body)? {
+                Answer::Reply { frame, .. } => output.extend_from_slice(&frame)?,
+                Answer::Exit(status) => return Ok(Some(status)),
+                Answer::Changed | Answer::Dropped | Answer::Ignored | Answer::Refused(_) => {}
+            }
+        }
+        framer.next();
+    }
+    Ok(None)
+}
+
+#[test]
+fn from_frames_to_replies(rt: HostRuntime) -> Result<(), Fail> {
+    let alloc = rt.alloc();
+    let mut pieces = Vec::new(alloc);
+    for body in [INITIALIZE, OPEN, SHUTDOWN, EXIT] {
+        pieces.push(frame(alloc, body.as_bytes())?)?;
+    }
+    let mut output = Vec::new(alloc);
+    let mut server = new_server(alloc)?;
+    assert_eq!(rt; serve(alloc, &mut server, &pieces, &mut output)?, Some(0));
+    let mut wanted = frame(alloc, ACCEPTED.as_bytes())?;
+    wanted.extend_from_slice(&frame(alloc, SHUT_DOWN.as_bytes())?)?;
+    assert!(rt; output == wanted);
+    Ok(())
+}
+
+/// Answers hover with the length of the document's text, and hands all else on.
+fn serve_hover(alloc: Global, server: &mut Server, body: &[u8]) -> Result<Option<Vec<u8>>, Fail> {
+    let incoming = Incoming::read(alloc, body)?;
+    if server.phase() == Phase::Running && is_hover(&incoming) {
+        return hover(alloc, server, incoming);
+    }
+    reply_of(server.handle_incoming(incoming))
+}
+
+fn is_hover(incoming: &Incoming) -> bool {
+    matches!(incoming, Incoming::OtherRequest { method, .. } if method.as_str() == "textDocument/hover")
+}
+
+fn reply_of(answer: Result<Answer, ServerFault>) -> Result<Option<Vec<u8>>, Fail> {
+    match answer? {
+        Answer::Reply { frame, .. } => Ok(Some(frame)),
+        _other => Ok(None),
+    }
+}
+
+fn hover(alloc: Global, server: &Server, request: Incoming) -> Result<Option<Vec<u8>>, Fail> {
+    let id = match request {
+        Incoming::OtherRequest {
+            id: Id::Whole(id),
+            ..
+        } => id,
+        _other => return Ok(None),
+    };
+    let length = match server.store().get("file:///a") {
+        Some(document) => document.text().len(),
+        None => 0,
+    };
+    let body = format!(in alloc;
+        r#"{{"id":{id},"jsonrpc":"2.0","result":{{"contents":"{length} bytes"}}}}"#
+    )?;
+    Ok(Some(frame(alloc, body.as_bytes())?))
+}
+
+const HOVER: &str = r#"{"id":5,"jsonrpc":"2.0","method":"textDocument/hover"}"#;
+
+#[test]
+fn a_feature_of_its_own(rt: HostRuntime) -> Result<(), Fail> {
+    let alloc = rt.alloc();
+    let mut server = new_server(alloc)?;
+    let early = serve_hover(alloc, &mut server, HOVER.as_bytes())?;
+    assert!(rt;
+        early.is_some_and(|frame| frame.starts_with(
+            b"Content-Length: 83\r\n\r\n{\"error\":{\"code\":-32002"
+        ))
+    );
+    for body in [INITIALIZE, OPEN] {
+        let _frame = serve_hover(alloc, &mut server, body.as_bytes())?;
+    }
+    let told = serve_hover(alloc, &mut server, HOVER.as_bytes())?;
+    let wanted = frame(
+        alloc,
+        b"{\"id\":5,\"jsonrpc\":\"2.0\",\"result\":{\"contents\":\"3 bytes\"}}",
+    )?;
+    assert!(rt; told == Some(wanted));
+    Ok(())
+}

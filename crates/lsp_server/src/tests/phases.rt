@@ -1,0 +1,151 @@
+//! Every pair of phase and kind of body.
+
+use super::{CHANGE, CLOSE, EXIT, INITIALIZE, INITIALIZED, OPEN, SHUTDOWN, is_told, new_server};
+use crate::{Phase, Server};
+use std::alloc::Global;
+use std::test::Fail;
+
+const PHASES: [Phase; 4] = [Phase::New, Phase::Running, Phase::Down, Phase::Ended];
+
+/// What takes a server from each phase to the next. In Running one document is open; `initialized` didn't come.
+const WAY: [&[&str]; 4] = [&[], &[INITIALIZE, OPEN], &[SHUTDOWN], &[EXIT]];
+
+/// A new server in this phase.
+fn server_in(alloc: Global, phase: Phase) -> Result<Server, Fail> {
+    let mut server = new_server(alloc)?;
+    for bodies in WAY {
+        if server.phase() != phase {
+            for body in bodies {
+                server.handle(body.as_bytes())?;
+            }
+        }
+    }
+    Ok(server)
+}
+
+/// A body, and what is wanted of its answer in the phases New, Running, Down and Ended.
+const TABLE: &[(&str, [&str; 4])] = &[
+    ("{", [PARSE_ERROR, PARSE_ERROR, PARSE_ERROR, "ended"]),
+    ("7", [NO_ID, NO_ID, NO_ID, "ended"]),
+    (
+        r#"{"id":7,"method":"exit"}"#,
+        [INVALID_REQUEST, INVALID_REQUEST, INVALID_REQUEST, "ended"],
+    ),
+    (
+        r#"{"id":7,"jsonrpc":"2.0"}"#,
+        [INVALID_REQUEST, INVALID_REQUEST, INVALID_REQUEST, "ended"],
+    ),
+    (
+        r#"{"id":[7],"jsonrpc":"2.0","method":"shutdown"}"#,
+        [NO_ID, NO_ID, NO_ID, "ended"],
+    ),
+    // Responses.
+    (
+        r#"{"id":7,"jsonrpc":"2.0","result":null}"#,
+        ["ignored", "ignored", "ignored", "ended"],
+    ),
+    (
+        r#"{"error":{},"id":null,"jsonrpc":"2.0"}"#,
+        ["ignored", "ignored", "ignored", "ended"],
+    ),
+    // Requests.
+    (
+        r#"{"id":7,"jsonrpc":"2.0","method":"initialize","params":{}}"#,
+        [ACCEPTED, INVALID_REQUEST, INVALID_REQUEST, "ended"],
+    ),
+    (
+        r#"{"id":7,"jsonrpc":"2.0","method":"initialize"}"#,
+        [INVALID_PARAMS, INVALID_REQUEST, INVALID_REQUEST, "ended"],
+    ),
+    (
+        r#"{"id":7,"jsonrpc":"2.0","method":"shutdown","params":7}"#,
+        [NOT_INITIALIZED, SHUT_DOWN, INVALID_REQUEST, "ended"],
+    ),
+    (
+        r#"{"id":7,"jsonrpc":"2.0","method":"exit"}"#,
+        [NOT_INITIALIZED, NOT_FOUND, INVALID_REQUEST, "ended"],
+    ),
+    (
+        r#"{"id":7,"jsonrpc":"2.0","method":"textDocument/didOpen","params":{"textDocument":{"languageId":"","text":"","uri":"b","version":1}}}"#,
+        [NOT_INITIALIZED, NOT_FOUND, INVALID_REQUEST, "ended"],
+    ),
+    (
+        r#"{"id":7,"jsonrpc":"2.0","method":"$/cancelRequest","params":{"id":1}}"#,
+        [NOT_INITIALIZED, NOT_FOUND, INVALID_REQUEST, "ended"],
+    ),
+    // Notifications.
+    (EXIT, ["exit 1", "exit 1", "exit 0", "ended"]),
+    (
+        r#"{"jsonrpc":"2.0","method":"textDocument/didOpen","params":{"textDocument":{"languageId":"","text":"","uri":"b","version":1}}}"#,
+        ["dropped", "changed", "dropped", "ended"],
+    ),
+    (OPEN, ["dropped", "refused S1", "dropped", "ended"]),
+    (CHANGE, ["dropped", "changed", "dropped", "ended"]),
+    (CLOSE, ["dropped", "changed", "dropped", "ended"]),
+    (
+        r#"{"jsonrpc":"2.0","method":"textDocument/didOpen"}"#,
+        ["dropped", "refused M4", "dropped", "ended"],
+    ),
+    (
+        r#"{"jsonrpc":"2.0","method":"textDocument/didChange","params":{"textDocument":{"uri":"file:///a","version":2}}}"#,
+        ["dropped", "refused M4", "dropped", "ended"],
+    ),
+    (
+        r#"{"jsonrpc":"2.0","method":"textDocument/didClose","params":{"textDocument":{"uri":null}}}"#,
+        ["dropped", "refused M4", "dropped", "ended"],
+    ),
+    (INITIALIZED, ["dropped", "ignored", "dropped", "ended"]),
+    (
+        r#"{"jsonrpc":"2.0","method":"initialize","params":{}}"#,
+        ["dropped", "ignored", "dropped", "ended"],
+    ),
+    (
+        r#"{"jsonrpc":"2.0","method":"shutdown"}"#,
+        ["dropped", "ignored", "dropped", "ended"],
+    ),
+    (
+        r#"{"jsonrpc":"2.0","method":"textDocument/didSave","params":{"textDocument":{"uri":"file:///a"}}}"#,
+        ["dropped", "ignored", "dropped", "ended"],
+    ),
+    (
+        r#"{"jsonrpc":"2.0","method":"$/cancelRequest","params":{"id":1}}"#,
+        ["dropped", "ignored", "dropped", "ended"],
+    ),
+];
+
+const PARSE_ERROR: &str =
+    r#"{"error":{"code":-32700,"message":"parse error"},"id":null,"jsonrpc":"2.0"}"#;
+
+const NO_ID: &str =
+    r#"{"error":{"code":-32600,"message":"invalid request"},"id":null,"jsonrpc":"2.0"}"#;
+
+const INVALID_REQUEST: &str =
+    r#"{"error":{"code":-32600,"message":"invalid request"},"id":7,"jsonrpc":"2.0"}"#;
+
+const INVALID_PARAMS: &str =
+    r#"{"error":{"code":-32602,"message":"invalid params"},"id":7,"jsonrpc":"2.0"}"#;
+
+const NOT_FOUND: &str =
+    r#"{"error":{"code":-32601,"message":"method not found"},"id":7,"jsonrpc":"2.0"}"#;
+
+const NOT_INITIALIZED: &str =
+    r#"{"error":{"code":-32002,"message":"server not initialized"},"id":7,"jsonrpc":"2.0"}"#;
+
+const ACCEPTED: &str =
+    r#"{"id":7,"jsonrpc":"2.0","result":{"capabilities":{"positionEncoding":"utf-16","textDocumentSync":{"change":2,"openClose":true}}}}"#;
+
+const SHUT_DOWN: &str = r#"{"id":7,"jsonrpc":"2.0","result":null}"#;
+
+#[test]
+fn every_body_in_every_phase(rt: HostRuntime) -> Result<(), Fail> {
+    let alloc = rt.alloc();
+    for (body, wanted) in TABLE {
+        for (phase, wanted) in PHASES.iter().zip(wanted) {
+            let mut server = server_in(alloc, *phase)?;
+            assert!(rt; server.phase() == *phase);
+            let given = server.handle(body.as_bytes());
+            assert!(rt; is_told(alloc, &given, wanted)?, "{phase:?}: {body}");
+        }
+    }
+    Ok(())
+}
