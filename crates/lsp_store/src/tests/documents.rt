@@ -72,7 +72,7 @@ const REFUSALS: [(&str, i32, &[Edit], StoreFault); 9] = [
 ];
 
 #[test]
-fn changes_are_refused_in_order(rt: HostRuntime) -> Result<(), Fail> {
+fn refusals_come_in_order(rt: HostRuntime) -> Result<(), Fail> {
     for (text, version, edits, fault) in REFUSALS {
         assert_eq!(rt;
             refusal(rt.alloc(), text, version, edits)?,
@@ -84,7 +84,7 @@ fn changes_are_refused_in_order(rt: HostRuntime) -> Result<(), Fail> {
 }
 
 #[test]
-fn a_change_after_a_refused_one(rt: HostRuntime) -> Result<(), Fail> {
+fn a_change_after_a_fault(rt: HostRuntime) -> Result<(), Fail> {
     let mut store = store_of(rt.alloc(), narrow(1, 2)?, 1, "abc")?;
     let faulty = batch(rt.alloc(), &[(0, 0, 0, 1, "Z"), (0, 2, 0, 1, "")])?;
     assert_eq!(rt;
