@@ -95,11 +95,13 @@ impl<'a> Pieces<'a> {
 
     /// What two runs of changes make together, the second over the text that the first left: told over the text that the first is over,
     /// with the changes of both. Costs the spans of both, and lends the lines of the first.
-    pub fn then<'b>(
+    pub fn then<'b, 'c>(
         alloc: Global,
-        first: &'b Pieces<'a>,
+        first: &'c Pieces<'a>,
         second: &Pieces<'b>,
-    ) -> Result<Pieces<'b>, AllocError>
+    ) -> Result<Pieces<'c>, AllocError>
+    where
+        'b: 'c,
         requires { second.now.before ≡ edited_text first.now }
         ensures composed { IfOk result (λ pieces. pieces ≡ record { before = first.now.before; items = then_items first.now.items second.now.items; changes = both_counts first.now.changes second.now.changes }) }
         ensures means { (units : ℕ → ℕ) (batch next : List Edit) → meaning units first.now.before batch ≡ Ok first.now.items → meaning units second.now.before next ≡ Ok second.now.items
