@@ -81,7 +81,7 @@ const REVERSED: &[(&str, &str)] = &[
 ];
 
 #[test]
-fn a_refused_change_leaves_the_version(rt: HostRuntime) -> Result<(), Fail> {
+fn the_version_stays_after_a_refusal(rt: HostRuntime) -> Result<(), Fail> {
     let alloc = rt.alloc();
     answers(&rt, alloc, &mut new_server(alloc)?, REVERSED)
 }
