@@ -1,0 +1,18 @@
+//! Engines that run between a reader and a writer.
+//!
+//! - `port`: a reader and a writer that tell how their calls went; `told` makes them of those of std.
+//! - `stop`: a reader and a writer over memory that fail, are interrupted or take few bytes at chosen calls.
+//! - `turns`: reads, writes and flushes in a bounded number of calls.
+//! - `outcome`: how a run ends.
+#![tactic(auto)]
+
+mod outcome;
+mod port;
+mod stop;
+mod told;
+mod turns;
+
+pub use outcome::{EngineFault, Outcome};
+pub use port::{Sink, Source};
+pub use stop::{Call, StopReader, StopWriter};
+pub use told::Told;
