@@ -1,1 +1,3 @@
 pub mod PortLemmas
+pub mod LogLemmas
+pub mod SplitLemmas

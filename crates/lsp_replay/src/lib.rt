@@ -2,12 +2,17 @@
 //!
 //! - `port`: a reader and a writer that tell how their calls went; `told` makes them of those of std.
 //! - `stop`: a reader and a writer over memory that fail, are interrupted or take few bytes at chosen calls.
+//! - `record`: what a log is made of; `splitter`: the records of a log that comes in pieces.
 //! - `turns`: reads, writes and flushes in a bounded number of calls.
 //! - `outcome`: how a run ends.
 #![tactic(auto)]
 
+mod engine;
+mod handler;
 mod outcome;
 mod port;
+mod record;
+mod splitter;
 mod stop;
 mod told;
 mod turns;

@@ -2,6 +2,7 @@
 
 ghost use Rattle.std.specs.Prelude.{◌≡◌};
 ghost use Rattle.lsp_replay.specs.declared.outcome.EngineFault.TheVariants.{NoMemory};
+ghost use Rattle.lsp_replay.specs.Faults.{engine_fault};
 
 use lsp_frame::FrameFault;
 use std::alloc::AllocError;
@@ -53,5 +54,16 @@ impl From<AllocError> for EngineFault {
 
     fn from(_error: AllocError) -> EngineFault {
         EngineFault::NoMemory
+    }
+}
+
+impl From<FrameFault> for EngineFault {
+    ghost from_gives = { λ fault engine. engine ≡ engine_fault fault };
+
+    fn from(fault: FrameFault) -> EngineFault {
+        match fault {
+            FrameFault::NoMemory => EngineFault::NoMemory,
+            _ => EngineFault::Frame(fault),
+        }
     }
 }
