@@ -1,3 +1,4 @@
 pub mod PortLemmas
 pub mod LogLemmas
 pub mod SplitLemmas
+pub mod EngineLemmas

@@ -6,7 +6,7 @@ use Rattle.lsp_frame.specs.Frame.{Spells}
 use Rattle.lsp_frame.specs.Header.{header_of, lines_bytes}
 use Rattle.lsp_frame.specs.Faults.{place_behind, IsDecided}
 use Rattle.lsp_frame.specs.Stream.{Framing, IsFrame, IsPart, HoldsOne, IsFeedFault, IsStreamFault, given_up}
-use Rattle.lsp_replay.specs.Faults.{engine_fault}
+use Rattle.lsp_replay.specs.Faults.{engine_fault, IsSplitterFault}
 use Rattle.lsp_frame.specs.declared.fault.FrameFault.{FrameFault}
 use Rattle.lsp_frame.specs.declared.fault.FrameFault.TheVariants as fault_of
 use Rattle.lsp_replay.specs.declared.record.Version.{Version}
@@ -100,6 +100,17 @@ split_fault reading input piece records s side n (fault_of.BadCharset place) is 
 split_fault reading input piece records s side n fault_of.Failed is why sound at = let failed : s.framer.failed ≡ true = why.0 in let two : true ≡ false = sym failed ∙ sound in cc
 split_fault reading input piece records s side n fault_of.NoMemory is why sound at = tt
 
+pub frame_kind : (fault : FrameFault) → IsSplitterFault (engine_fault fault)
+frame_kind (fault_of.BadHeader place) = tt
+frame_kind (fault_of.HeaderTooLong place) = tt
+frame_kind (fault_of.MissingLength place) = tt
+frame_kind (fault_of.RepeatedHeader place) = tt
+frame_kind (fault_of.BadLength place) = tt
+frame_kind (fault_of.BodyTooLong place) = tt
+frame_kind (fault_of.BadCharset place) = tt
+frame_kind fault_of.Failed = tt
+frame_kind fault_of.NoMemory = tt
+
 pub feed_fault : (reading : Reading) (input piece : List ℕ) (records : List Record) (s : Splitter) (n : Framing) (fault : FrameFault) → (s.side ≡ None → ⊥)
     → IsFeedFault s.framer n piece fault → s.framer.failed ≡ false → Stands reading input piece records s → IsSplitFault reading.max_body input (log_at s records piece) (engine_fault fault)
 feed_fault reading input piece records s n fault some why sound at =
@@ -158,35 +169,47 @@ one_side : (version : Version) (side : Side) → IsSide version (Some side) → 
 one_side One side is e = is
 one_side Two side is e = let other : Two ≡ One = e in cc
 
-given_known : (reading : Reading) (input more body : List ℕ) (records : List Record) (s : Splitter) (f : Framing) (was : Side) (side : Option Side) (mark place : ℕ) → s.side ≡ Some was
-    → f ≡ given_up s.framer → IsSide s.version side → mark_part s.version side ≡ [] → mark ≡ length (mark_of s.version was)
-    → place ≡ min (min (s.place + mark) (2 ^ 64 - 1) + length s.framer.held) (2 ^ 64 - 1) → Spells reading.max_body s.framer.held body → Stands reading input more records s
-    → Stands reading input more (records ++ (record { head = head_of s; spelling = s.framer.held; body = body } ∷ []))
-      (record { framer = f; version = s.version; side = side; place = place; line_due = false })
-given_known reading input more body records s f was side mark place is e sided none marked placed spells at =
-    let r : Record = record { head = head_of s; spelling = s.framer.held; body = body } in
-    let his : head_of s ≡ record (head_of s) { side = was } = ap (λ (o : Option Side). record (head_of s) { side = side_of o }) is in
-    let bytes : held_of s ≡ record_bytes s.version (record { head = head_of s; spelling = s.framer.held; body = body }) =
+
+-- the record that is held, with this body
+abbrev pub record_at : Splitter → List ℕ → Record
+record_at s body = record { head = head_of s; spelling = s.framer.held; body = body }
+
+known_reads : (reading : Reading) (input more body : List ℕ) (records : List Record) (s : Splitter) (was : Side) → s.side ≡ Some was → Spells reading.max_body s.framer.held body
+    → Stands reading input more records s → IsReadAs reading input (record { version = s.version; records = records ++ record_at s body ∷ []; rest = more })
+known_reads reading input more body records s was is spells at =
+    let bytes : held_of s ≡ record_bytes s.version (record_at s body) =
     ap (λ (o : Option Side). mark_part s.version o ++ s.framer.held) is ∙ ap (λ (w : Side). mark_of s.version w ++ s.framer.held) (sym (ap side_of is)) in
     let len = input_len reading input (log_at s records more) at.reads in
-    let held : length (held_of s) ≡ mark + length s.framer.held =
-    omega (arith, ap (λ (o : Option Side). length (mark_part s.version o ++ s.framer.held)) is, length-append (mark_of s.version was) s.framer.held, marked) in
-    let whole : length (held_of s ++ more) ≡ length (held_of s) + length more = length-append (held_of s) more in
-    let framed : length (s.framer.held ++ more) ≡ length s.framer.held + length more = length-append s.framer.held more in
-    let record_here : IsRecord reading.max_body s.version (length (line_of s.version) + length (together s.version records [])) (is_line_due s.version records) (record { head = head_of s; spelling = s.framer.held; body = body }) = record {
+    let record_here : IsRecord reading.max_body s.version (length (line_of s.version) + length (together s.version records [])) (is_line_due s.version records) (record_at s body) = record {
       spells = spells;
       side = λ one. ap side_of is ∙ one_side s.version was (subst (λ (o : Option Side). IsSide s.version o) is at.side) one;
       placed = at.placed ∙ ap (place_behind 0) (omega (arith, len));
       due = at.due;
     } in
-    let stands : Stands reading input more (records ++ (record { head = head_of s; spelling = s.framer.held; body = body } ∷ [])) (record { framer = given_up s.framer; version = s.version; side = side; place = place; line_due = false }) = record {
+    record {
+      version = at.reads.version;
+      is = at.reads.is ∙ ap (λ z. line_of s.version ++ together s.version records (z ++ more)) bytes
+        ∙ ap (λ z. line_of s.version ++ z) (sym (together_push s.version records (record_at s body) more));
+      each = are_push reading.max_body s.version (length (line_of s.version)) (is_line_due s.version []) records (record_at s body) at.reads.each
+        (subst (λ (b : Bool). IsRecord reading.max_body s.version (length (line_of s.version) + length (together s.version records [])) b (record_at s body)) (sym (due_now s.version records)) record_here);
+    }
+
+given_known : (reading : Reading) (input more body : List ℕ) (records : List Record) (s : Splitter) (f : Framing) (was : Side) (side : Option Side) (mark place : ℕ) → s.side ≡ Some was
+    → f ≡ given_up s.framer → IsSide s.version side → mark_part s.version side ≡ [] → mark ≡ length (mark_of s.version was)
+    → place ≡ min (min (s.place + mark) (2 ^ 64 - 1) + length s.framer.held) (2 ^ 64 - 1) → Spells reading.max_body s.framer.held body → Stands reading input more records s
+    → Stands reading input more (records ++ record_at s body ∷ []) (record { framer = f; version = s.version; side = side; place = place; line_due = false })
+given_known reading input more body records s f was side mark place is e sided none marked placed spells at =
+    let len = input_len reading input (log_at s records more) at.reads in
+    let held : length (held_of s) ≡ mark + length s.framer.held =
+    omega (arith, ap (λ (o : Option Side). length (mark_part s.version o ++ s.framer.held)) is, length-append (mark_of s.version was) s.framer.held, marked) in
+    let whole : length (held_of s ++ more) ≡ length (held_of s) + length more = length-append (held_of s) more in
+    let framed : length (s.framer.held ++ more) ≡ length s.framer.held + length more = length-append s.framer.held more in
+    let reads = known_reads reading input more body records s was is spells at in
+    let stands : Stands reading input more (records ++ record_at s body ∷ []) (record { framer = given_up s.framer; version = s.version; side = side; place = place; line_due = false }) = record {
       reads = record {
-        version = at.reads.version;
-        is = at.reads.is ∙ ap (λ z. line_of s.version ++ together s.version records (z ++ more)) bytes
-          ∙ ap (λ z. line_of s.version ++ z) (sym (together_push s.version records (record { head = head_of s; spelling = s.framer.held; body = body }) more))
-          ∙ ap (λ z. line_of s.version ++ together s.version (records ++ (record { head = head_of s; spelling = s.framer.held; body = body } ∷ [])) ((z ++ []) ++ more)) (sym none);
-        each = are_push reading.max_body s.version (length (line_of s.version)) (is_line_due s.version []) records (record { head = head_of s; spelling = s.framer.held; body = body }) at.reads.each
-          (subst (λ (b : Bool). IsRecord reading.max_body s.version (length (line_of s.version) + length (together s.version records [])) b (record { head = head_of s; spelling = s.framer.held; body = body })) (sym (due_now s.version records)) record_here);
+        version = reads.version;
+        is = reads.is ∙ ap (λ z. line_of s.version ++ together s.version (records ++ record_at s body ∷ []) ((z ++ []) ++ more)) (sym none);
+        each = reads.each;
       };
       limit = at.limit;
       placed = omega (arith, placed, at.placed, len, held, whole, ap (λ z. length ((z ++ []) ++ more)) none);
@@ -194,17 +217,23 @@ given_known reading input more body records s f was side mark place is e sided n
       part = nothing_part reading.max_body;
       one = nothing_one reading.max_body;
       side = sided;
-      due = sym (not_due s.version records (record { head = head_of s; spelling = s.framer.held; body = body }));
+      due = sym (not_due s.version records (record_at s body));
     } in
-    subst (λ (g : Framing). Stands reading input more (records ++ (record { head = head_of s; spelling = s.framer.held; body = body } ∷ [])) (record { framer = g; version = s.version; side = side; place = place; line_due = false })) (sym e) stands
+    subst (λ (g : Framing). Stands reading input more (records ++ record_at s body ∷ []) (record { framer = g; version = s.version; side = side; place = place; line_due = false })) (sym e) stands
 
 pub some_side : (s : Splitter) → IsFed s → IsFrame s.framer.limits.max_body s.framer.held → s.side ≡ None → ⊥
 some_side s fed frame none = no_empty_frame s.framer.limits.max_body (subst (λ (z : List ℕ). IsFrame s.framer.limits.max_body z) (fed.between none) frame)
 
+pub given_reads : (reading : Reading) (input more body : List ℕ) (records : List Record) (s : Splitter) → (s.side ≡ None → ⊥) → Spells reading.max_body s.framer.held body
+    → Stands reading input more records s → IsReadAs reading input (record { version = s.version; records = records ++ record_at s body ∷ []; rest = more })
+given_reads reading input more body records s some spells at =
+    let known : KnownSide s.side = known_side s.side some in
+    known_reads reading input more body records s known.side known.is spells at
+
 pub given_stands : (reading : Reading) (input more body : List ℕ) (records : List Record) (s : Splitter) (f : Framing) (side : Option Side) (mark place : ℕ) → (s.side ≡ None → ⊥)
     → f ≡ given_up s.framer → IsSide s.version side → mark_part s.version side ≡ [] → ((was : Side) → mark ≡ length (mark_of s.version was))
     → place ≡ min (min (s.place + mark) (2 ^ 64 - 1) + length s.framer.held) (2 ^ 64 - 1) → Spells reading.max_body s.framer.held body → Stands reading input more records s
-    → Stands reading input more (records ++ (record { head = head_of s; spelling = s.framer.held; body = body } ∷ []))
+    → Stands reading input more (records ++ record_at s body ∷ [])
       (record { framer = f; version = s.version; side = side; place = place; line_due = false })
 given_stands reading input more body records s f side mark place some e sided none marked placed spells at =
     let known : KnownSide s.side = known_side s.side some in

@@ -15,3 +15,14 @@ engine_fault (frame.BodyTooLong place) = engine.Frame (frame.BodyTooLong place)
 engine_fault (frame.BadCharset place) = engine.Frame (frame.BadCharset place)
 engine_fault frame.Failed = engine.Frame frame.Failed
 engine_fault frame.NoMemory = engine.NoMemory
+
+-- the faults of taking a log apart
+abbrev pub IsSplitterFault : EngineFault → Type 0
+IsSplitterFault engine.Read = ⊥
+IsSplitterFault engine.Write = ⊥
+IsSplitterFault (engine.Frame fault) = Unit {0}
+IsSplitterFault (engine.Truncated place) = ⊥
+IsSplitterFault (engine.BodyTooLong place) = ⊥
+IsSplitterFault engine.NoMemory = Unit {0}
+IsSplitterFault engine.TooManyTurns = ⊥
+IsSplitterFault (engine.BadLog place) = Unit {0}

@@ -4,6 +4,7 @@ ghost use Rattle.std.specs.Prelude.{◌≡◌, ◌<◌, ◌≤◌, ◌++◌, ◌
 ghost use Rattle.lsp_frame.specs.Frame.{Spells};
 ghost use Rattle.lsp_frame.specs.Stream.{IsFrame};
 ghost use Rattle.lsp_replay.specs.Log.{Reading, Record, mark_of};
+ghost use Rattle.lsp_replay.specs.Faults.{IsSplitterFault};
 ghost use Rattle.lsp_replay.specs.Splitting.{IsReady, IsFed, Stands, IsSplitFault, IsOpen, IsSide, log_at, head_of, mark_part};
 
 use crate::outcome::EngineFault;
@@ -51,6 +52,7 @@ impl Splitter {
         ensures version { self.new.version ≡ self.old.version }
         ensures stands { IfOk result (λ k. (reading : Reading) (input : List ℕ) (records : List Record) →
             Stands reading input piece.now records self.old → Stands reading input (drop k piece.now) records self.new) }
+        ensures kind { IfErr result IsSplitterFault }
         ensures fault { IfErr result (λ fault. (reading : Reading) (input : List ℕ) (records : List Record) →
             Stands reading input piece.now records self.old → IsSplitFault reading.max_body input (log_at self.old records piece.now) fault) }
     {
@@ -73,6 +75,7 @@ impl Splitter {
         ensures version { self.new.version ≡ self.old.version }
         ensures stands { IfOk result (λ k. (reading : Reading) (input : List ℕ) (records : List Record) →
             Stands reading input piece.now records self.old → Stands reading input (drop k piece.now) records self.new) }
+        ensures kind { IfErr result IsSplitterFault }
         ensures fault { IfErr result (λ fault. (reading : Reading) (input : List ℕ) (records : List Record) →
             Stands reading input piece.now records self.old → IsSplitFault reading.max_body input (log_at self.old records piece.now) fault) }
     {
