@@ -2,6 +2,7 @@ pub mod Ports
 pub mod Turns
 pub mod Faults
 pub mod Log
+pub mod Opening
 pub mod Splitting
 pub mod Course
 pub mod Engine

@@ -9,6 +9,7 @@
 
 mod engine;
 mod handler;
+mod opening;
 mod outcome;
 mod port;
 mod record;
