@@ -7,3 +7,4 @@ pub mod Splitting
 pub mod Course
 pub mod Engine
 pub mod Progress
+pub mod Copy
