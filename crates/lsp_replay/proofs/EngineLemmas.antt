@@ -1,0 +1,280 @@
+-- What a run wrote, record by record.
+use Rattle.std.proofs.Common.{◌≡◌, ℕ, ◌+◌, ◌-◌, ◌≤◌, List, [], ◌∷◌, ◌++◌, length, take, drop, Option, Some, None, Result, Ok, Err, refl, sym, ◌∙◌, ap, subst, arith, append_assoc, append-nil, inl, inr}
+use Rattle.std.proofs.lemmas.List.{drop-drop, length-append}
+use Rattle.std.proofs.lemmas.Slice.{between_to_end}
+use Rattle.std.specs.Prelude.{MatchOption, OnOk, OnErr, IfOk, IfErr}
+use Rattle.std.specs.Io.KnownBytes.{Appends}
+use Rattle.std.proofs.KnownBytes.{Appends-trans, Appends-nil}
+use Rattle.lsp_frame.specs.Frame.{Spells}
+use Rattle.lsp_frame.specs.Stream.{IsFrame}
+use Rattle.lsp_replay.specs.declared.outcome.Outcome.{Outcome}
+use Rattle.lsp_replay.specs.declared.outcome.EngineFault.{EngineFault}
+use Rattle.lsp_replay.specs.declared.outcome.EngineFault.TheVariants.{Read, Write, Frame, Truncated, BodyTooLong, NoMemory, TooManyTurns, BadLog}
+use Rattle.lsp_replay.specs.declared.record.Head.{Head}
+use Rattle.lsp_replay.specs.declared.record.Version.{Version}
+use Rattle.lsp_replay.specs.declared.record.Version.TheVariants.{One, Two}
+use Rattle.lsp_replay.specs.declared.record.Side.{Side}
+use Rattle.lsp_replay.specs.declared.record.Side.TheVariants.{Client, Server}
+use Rattle.lsp_replay.specs.declared.splitter.Splitter.{Splitter}
+use Rattle.lsp_replay.specs.Turns.{AppendsFront}
+use Rattle.lsp_replay.specs.Log.{Reading, Record, Log, IsReadAs, HasNoRecord, IsCut, mark_of, is_line_due}
+use Rattle.lsp_replay.specs.Splitting.{IsFed, IsReady, Stands, IsSplitFault, log_at, head_of, held_of, mark_part}
+use Rattle.lsp_replay.specs.Course.{Course, written_first, stopped}
+use Rattle.lsp_replay.specs.Engine.{Stopped, Reached, Broken, AtEnd, BrokenAtEnd, IsPieceFault, last_of}
+use Rattle.lsp_replay.specs.Progress.{GoesOn, Ends, IsHandled, IsHandleFault, IsLastFault, IsEndFault, Went}
+use Rattle.lsp_replay.proofs.SplitLemmas.{record_at, given_reads, some_side, some_or, frame_len}
+
+-- Without more records nothing more is written, and the run goes on.
+pub record IsQuiet (now : List Record → Course) : Type 0 where
+  pub silent : (now []).out ≡ []
+  pub unstopped : (now []).stop ≡ None
+
+module _ (reading : Reading) (course : List Record → Course) (held : Option (List ℕ)) (input : List ℕ) where
+  -- the course of the records that were handled, and of more
+  written_again : (a b : List ℕ) (c : Course) → written_first a (written_first b c) ≡ written_first (a ++ b) c
+  written_again a b c = ap (λ z. record c { out = z }) (sym (append_assoc a b c.out))
+
+  pub went_on : (more : List ℕ) (s n : Splitter) (now new : List Record → Course) (held_now held_new : Option (List ℕ)) (r : Record) (w : Went reading course held input more s now held_now)
+      → Stands reading input more (w.records ++ r ∷ []) n → GoesOn now new held_now held_new r → Went reading course held input more n new held_new
+  went_on more s n now new held_now held_new r w stands on = record {
+    records = w.records ++ r ∷ [];
+    stands = stands;
+    out = w.out ++ on.out;
+    courses = λ others. ap course (append_assoc w.records (r ∷ []) others) ∙ w.courses (r ∷ others) ∙ ap (written_first w.out) (on.course others) ∙ written_again w.out on.out (new others);
+    wrote = Appends-trans held held_now held_new w.out on.out w.wrote on.wrote;
+  }
+
+  pub went_to_end : (log : Log) (more : List ℕ) (s : Splitter) (now : List Record → Course) (held_now held_new : Option (List ℕ)) (r : Record) (answer : Result Outcome EngineFault) (w : Went reading course held input more s now held_now)
+      → IsReadAs reading input log → log.records ≡ w.records ++ r ∷ [] → Ends now held_now held_new r answer → Stopped reading course input held held_new answer
+  went_to_end log more s now held_now held_new r answer w reads is ends =
+      let whole : course log.records ≡ written_first w.out (stopped ends.out answer) = ap course is ∙ w.courses (r ∷ []) ∙ ap (written_first w.out) (ends.course []) in
+      record {
+        log = log;
+        reads = reads;
+        stops = ap (λ (c : Course). c.stop) whole;
+        wrote = subst (λ (z : List ℕ). Appends held held_new z) (sym (ap (λ (c : Course). c.out) whole)) (Appends-trans held held_now held_new w.out ends.out w.wrote ends.wrote);
+      }
+
+  -- nothing was written since
+  pub went_so_far : (more : List ℕ) (s : Splitter) (now : List Record → Course) (held_now held_new : Option (List ℕ)) (IsRest : Log → Type 0) (w : Went reading course held input more s now held_now)
+      → IsQuiet now → Appends held_now held_new [] → IsRest (log_at s w.records more) → Reached reading course input held held_new IsRest
+  went_so_far more s now held_now held_new IsRest w quiet nothing rest =
+      let whole : course w.records ≡ written_first w.out (now []) = ap course (sym (append-nil w.records)) ∙ w.courses [] in
+      let out : (course w.records).out ≡ w.out ++ [] = ap (λ (c : Course). c.out) whole ∙ ap (λ z. w.out ++ z) quiet.silent in
+      record {
+        log = log_at s w.records more;
+        reads = w.stands.reads;
+        rest = rest;
+        goes_on = ap (λ (c : Course). c.stop) whole ∙ quiet.unstopped;
+        wrote = subst (λ (z : List ℕ). Appends held held_new z) (sym out) (Appends-trans held held_now held_new w.out [] w.wrote nothing);
+      }
+
+  broken_at : (log : Log) (more : List ℕ) (s : Splitter) (now : List Record → Course) (held_now held_new : Option (List ℕ)) (r : Record) (w : Went reading course held input more s now held_now)
+      → IsReadAs reading input log → log.records ≡ w.records ++ r ∷ [] → AppendsFront held_now held_new (now (r ∷ [])).out → Broken reading course input held held_new
+  broken_at log more s now held_now held_new r w reads is cut =
+      let whole : course log.records ≡ written_first w.out (now (r ∷ [])) = ap course is ∙ w.courses (r ∷ []) in
+      record {
+        log = log;
+        reads = reads;
+        wrote = (w.out ++ cut.0, cut.1, ap (λ (c : Course). c.out) whole ∙ ap (λ z. w.out ++ z) cut.2 ∙ sym (append_assoc w.out cut.0 cut.1), Appends-trans held held_now held_new w.out cut.0 w.wrote cut.3);
+      }
+
+  -- a fault at a record
+  pub record_fault : (log : Log) (more : List ℕ) (s : Splitter) (now : List Record → Course) (held_now held_new : Option (List ℕ)) (r : Record) (fault : EngineFault) (w : Went reading course held input more s now held_now)
+      → IsReadAs reading input log → log.records ≡ w.records ++ r ∷ [] → IsQuiet now → IsHandleFault now held_now held_new r fault → IsPieceFault reading course input held held_new fault
+  record_fault log more s now held_now held_new r Read w reads is quiet why = absurd why
+  record_fault log more s now held_now held_new r Write w reads is quiet why = broken_at log more s now held_now held_new r w reads is why
+  record_fault log more s now held_now held_new r (Frame fault) w reads is quiet why = absurd why
+  record_fault log more s now held_now held_new r (Truncated place) w reads is quiet why = absurd why
+  record_fault log more s now held_now held_new r (BodyTooLong place) w reads is quiet why = went_to_end log more s now held_now held_new r (Err (BodyTooLong place)) w reads is why
+  record_fault log more s now held_now held_new r NoMemory w reads is quiet why = went_so_far more s now held_now held_new (λ _. Unit {0}) w quiet why tt
+  record_fault log more s now held_now held_new r TooManyTurns w reads is quiet why = broken_at log more s now held_now held_new r w reads is why
+  record_fault log more s now held_now held_new r (BadLog place) w reads is quiet why = inl (went_to_end log more s now held_now held_new r (Err (BadLog place)) w reads is why)
+
+  -- a fault in front of the next record
+  pub split_faults : (more : List ℕ) (s : Splitter) (now : List Record → Course) (held_now held_new : Option (List ℕ)) (fault : EngineFault) (w : Went reading course held input more s now held_now)
+      → IsQuiet now → Appends held_now held_new [] → IsSplitFault reading.max_body input (log_at s w.records more) fault → IsPieceFault reading course input held held_new fault
+  split_faults more s now held_now held_new Read w quiet nothing why = absurd why
+  split_faults more s now held_now held_new Write w quiet nothing why = absurd why
+  split_faults more s now held_now held_new (Frame fault) w quiet nothing why = went_so_far more s now held_now held_new _ w quiet nothing why
+  split_faults more s now held_now held_new (Truncated place) w quiet nothing why = absurd why
+  split_faults more s now held_now held_new (BodyTooLong place) w quiet nothing why = absurd why
+  split_faults more s now held_now held_new NoMemory w quiet nothing why = went_so_far more s now held_now held_new (λ _. Unit {0}) w quiet nothing tt
+  split_faults more s now held_now held_new TooManyTurns w quiet nothing why = absurd why
+  split_faults more s now held_now held_new (BadLog place) w quiet nothing why = inr (went_so_far more s now held_now held_new _ w quiet nothing why)
+
+  -- The record that is held was handled.
+  held_record : (s : Splitter) (head : Head) (spelling body : List ℕ) → head ≡ head_of s → spelling ≡ s.framer.held → record_at s body ≡ (record { head = head; spelling = spelling; body = body })
+  held_record s head spelling body e f = ap (λ (h : Head). record { head = h; spelling = s.framer.held; body = body }) (sym e) ∙ ap (λ z. record { head = head; spelling = z; body = body }) (sym f)
+
+  spells_here : (more : List ℕ) (s : Splitter) (now : List Record → Course) (held_now : Option (List ℕ)) (body : List ℕ) → Went reading course held input more s now held_now
+      → Spells s.framer.limits.max_body s.framer.held body → Spells reading.max_body s.framer.held body
+  spells_here more s now held_now body w spells = subst (λ (m : ℕ). Spells m s.framer.held body) w.stands.limit spells
+
+  pub taken_fault : (more : List ℕ) (s : Splitter) (now : List Record → Course) (held_now held_new : Option (List ℕ)) (head : Head) (spelling body : List ℕ) (fault : EngineFault) → IsFed s
+      → head ≡ head_of s → spelling ≡ s.framer.held → Spells s.framer.limits.max_body s.framer.held body → IsQuiet now
+      → IsHandleFault now held_now held_new (record { head = head; spelling = spelling; body = body }) fault
+      → Went reading course held input more s now held_now → IsPieceFault reading course input held held_new fault
+  taken_fault more s now held_now held_new head spelling body fault fed e f spells quiet why w =
+      let reads = given_reads reading input more body w.records s (some_side s fed (record { body = body; spells = spells })) (spells_here more s now held_now body w spells) w.stands in
+      record_fault (record { version = s.version; records = w.records ++ record_at s body ∷ []; rest = more }) more s now held_now held_new (record_at s body) fault w reads refl quiet
+      (subst (λ (r : Record). IsHandleFault now held_now held_new r fault) (sym (held_record s head spelling body e f)) why)
+
+  handled_went : (more : List ℕ) (s n : Splitter) (now new : List Record → Course) (held_now held_new : Option (List ℕ)) (r : Record) (answer : Option Outcome) (w : Went reading course held input more s now held_now)
+      → Stands reading input more (w.records ++ r ∷ []) n → IsHandled now new held_now held_new r answer
+      → MatchOption answer (Went reading course held input more n new held_new) (λ outcome. Stopped reading course input held held_new (Ok outcome))
+  handled_went more s n now new held_now held_new r None w stands handled = went_on more s n now new held_now held_new r w stands handled
+  handled_went more s n now new held_now held_new r (Some outcome) w stands handled =
+      went_to_end (log_at n (w.records ++ r ∷ []) more) more s now held_now held_new r (Ok outcome) w stands.reads refl handled
+
+  pub taken_went : (more : List ℕ) (s n : Splitter) (now new : List Record → Course) (held_now held_new : Option (List ℕ)) (head : Head) (spelling body : List ℕ) (answer : Option Outcome)
+      → head ≡ head_of s → spelling ≡ s.framer.held → Spells s.framer.limits.max_body s.framer.held body
+      → ((records : List Record) → Spells reading.max_body s.framer.held body → Stands reading input more records s → Stands reading input more (records ++ record_at s body ∷ []) n)
+      → IsHandled now new held_now held_new (record { head = head; spelling = spelling; body = body }) answer
+      → Went reading course held input more s now held_now
+      → MatchOption answer (Went reading course held input more n new held_new) (λ outcome. Stopped reading course input held held_new (Ok outcome))
+  taken_went more s n now new held_now held_new head spelling body answer e f spells next handled w =
+      handled_went more s n now new held_now held_new (record_at s body) answer w (next w.records (spells_here more s now held_now body w spells) w.stands)
+      (subst (λ (r : Record). IsHandled now new held_now held_new r answer) (sym (held_record s head spelling body e f)) handled)
+
+  -- The bytes of a piece were taken.
+  pub went_fed : (piece bytes : List ℕ) (at k : ℕ) (s n : Splitter) (now : List Record → Course) (held_now : Option (List ℕ)) → at ≤ length piece → bytes ≡ take (length piece - at) (drop at piece)
+      → ((records : List Record) → Stands reading input bytes records s → Stands reading input (drop k bytes) records n)
+      → Went reading course held input (drop at piece) s now held_now → Went reading course held input (drop (at + k) piece) n now held_now
+  went_fed piece bytes at k s n now held_now within is fed w =
+      let all : bytes ≡ drop at piece = is ∙ between_to_end piece at (length piece) (omega arith) in
+      let stands : Stands reading input (drop k bytes) w.records n = fed w.records (subst (λ (z : List ℕ). Stands reading input z w.records s) (sym all) w.stands) in
+      let rest : drop k bytes ≡ drop (at + k) piece = ap (drop k) all ∙ drop-drop k at piece in
+      record {
+        records = w.records;
+        stands = subst (λ (z : List ℕ). Stands reading input z w.records n) rest stands;
+        out = w.out;
+        courses = w.courses;
+        wrote = w.wrote;
+      }
+
+  pub fed_fault : (piece bytes : List ℕ) (at : ℕ) (s : Splitter) (now : List Record → Course) (held_now held_new : Option (List ℕ)) (fault : EngineFault) → at ≤ length piece → bytes ≡ take (length piece - at) (drop at piece)
+      → ((records : List Record) → Stands reading input bytes records s → IsSplitFault reading.max_body input (log_at s records bytes) fault) → IsQuiet now → Appends held_now held_new []
+      → Went reading course held input (drop at piece) s now held_now → IsPieceFault reading course input held held_new fault
+  fed_fault piece bytes at s now held_now held_new fault within is fed quiet nothing w =
+      let all : bytes ≡ drop at piece = is ∙ between_to_end piece at (length piece) (omega arith) in
+      let here : Went reading course held input bytes s now held_now = subst (λ (z : List ℕ). Went reading course held input z s now held_now) (sym all) w in
+      split_faults bytes s now held_now held_new fault here quiet nothing (fed here.records here.stands)
+
+-- Two marks of one version have one length.
+behind_mark : (version : Version) (side other : Side) (a b : List ℕ) → mark_of version side ++ a ≡ mark_of version other ++ b → a ≡ b
+behind_mark One side other a b e = e
+behind_mark Two Client Client a b e = ap (drop 1) e
+behind_mark Two Client Server a b e = ap (drop 1) e
+behind_mark Two Server Client a b e = ap (drop 1) e
+behind_mark Two Server Server a b e = ap (drop 1) e
+
+-- At the end of the input no whole record is held.
+pub no_record : (reading : Reading) (input : List ℕ) (records : List Record) (s : Splitter) → IsReady s → Stands reading input [] records s → HasNoRecord reading.max_body (log_at s records [])
+no_record reading input records s ready at other spelling body more spells e =
+    let none : IsFrame reading.max_body s.framer.held → ⊥ = λ frame. ready.none (subst (λ (m : ℕ). IsFrame m s.framer.held) (sym at.limit) frame) in
+    let plain : mark_part s.version s.side ++ s.framer.held ≡ mark_of s.version other ++ (spelling ++ more) = sym (append-nil (held_of s)) ∙ e in
+    elim (some_or s.side) [
+      | inl known ↦
+          let known_plain : mark_of s.version known.0 ++ s.framer.held ≡ mark_of s.version other ++ (spelling ++ more) =
+          ap (λ (o : Option Side). mark_part s.version o ++ s.framer.held) (sym known.1) ∙ plain in
+          let same : s.framer.held ≡ spelling ++ more = behind_mark s.version known.0 other s.framer.held (spelling ++ more) known_plain in
+          let nothing : more ≡ [] = at.one spelling body more spells same in
+          let all : spelling ≡ s.framer.held = sym (same ∙ ap (λ z. spelling ++ z) nothing ∙ append-nil spelling) in
+          none (record { body = body; spells = subst (λ (z : List ℕ). Spells reading.max_body z body) all spells })
+      | inr unknown ↦
+          let empty : mark_part s.version s.side ++ s.framer.held ≡ [] = ap (λ (o : Option Side). mark_part s.version o ++ s.framer.held) unknown ∙ ready.fed.between unknown in
+          omega (arith, ap length plain, ap length empty, length-append (mark_of s.version other) (spelling ++ more), length-append spelling more, frame_len reading.max_body spelling body spells)
+    ]
+
+pub cut_at_end : (reading : Reading) (input : List ℕ) (records : List Record) (s : Splitter) → IsReady s → Stands reading input [] records s → (held_of s ≡ [] → ⊥) → IsCut reading.max_body (log_at s records [])
+cut_at_end reading input records s ready at some =
+    elim (some_or s.side) [
+      | inl known ↦ record {
+        side = known.0;
+        part = s.framer.held;
+        is = append-nil (held_of s) ∙ ap (λ (o : Option Side). mark_part s.version o ++ s.framer.held) known.1;
+        begins = at.part;
+        some = λ nothing. some (sym (append-nil (held_of s)) ∙ nothing);
+        none = no_record reading input records s ready at;
+      }
+      | inr unknown ↦ absurd (some (ap (λ (o : Option Side). mark_part s.version o ++ s.framer.held) unknown ∙ ready.fed.between unknown))
+    ]
+
+module _ (reading : Reading) (course : List Record → Course) (held : Option (List ℕ)) (input : List ℕ) where
+  pub went_cut : (s : Splitter) (now : List Record → Course) (held_now : Option (List ℕ)) → IsReady s → IsQuiet now → (held_of s ≡ [] → ⊥)
+      → Went reading course held input [] s now held_now → Reached reading course input held held_now (IsCut reading.max_body)
+  went_cut s now held_now ready quiet some w =
+      went_so_far reading course held input [] s now held_now held_now (IsCut reading.max_body) w quiet (Appends-nil held_now) (cut_at_end reading input w.records s ready w.stands some)
+
+  pub went_read : (s : Splitter) (now : List Record → Course) (held_now : Option (List ℕ)) → IsReady s → IsQuiet now
+      → Went reading course held input [] s now held_now → Reached reading course input held held_now (HasNoRecord reading.max_body)
+  went_read s now held_now ready quiet w =
+      went_so_far reading course held input [] s now held_now held_now (HasNoRecord reading.max_body) w quiet (Appends-nil held_now) (no_record reading input w.records s ready w.stands)
+
+  -- what the course of the records says of the end
+  went_whole : (s : Splitter) (now : List Record → Course) (held_now : Option (List ℕ)) (w : Went reading course held input [] s now held_now) → course w.records ≡ written_first w.out (now [])
+  went_whole s now held_now w = ap course (sym (append-nil w.records)) ∙ w.courses []
+
+  went_last : (s : Splitter) (now : List Record → Course) (held_now : Option (List ℕ)) (w : Went reading course held input [] s now held_now)
+      → last_of course (log_at s w.records []) ≡ (now []).last s.line_due
+  went_last s now held_now w = ap (λ (c : Course). c.last (is_line_due s.version w.records)) (went_whole s now held_now w) ∙ ap (now []).last (sym w.stands.due)
+
+  went_out : (s : Splitter) (now : List Record → Course) (held_now : Option (List ℕ)) → IsQuiet now → (w : Went reading course held input [] s now held_now) → (course w.records).out ≡ w.out
+  went_out s now held_now quiet w = ap (λ (c : Course). c.out) (went_whole s now held_now w) ∙ ap (λ z. w.out ++ z) quiet.silent ∙ append-nil w.out
+
+  pub went_at_end : (s : Splitter) (now : List Record → Course) (held_now held_new : Option (List ℕ)) (outcome : Outcome) → IsQuiet now → held_of s ≡ []
+      → Appends held_now held_new ((now []).last s.line_due) → outcome ≡ (now []).outcome → Went reading course held input [] s now held_now → AtEnd reading course input held held_new outcome
+  went_at_end s now held_now held_new outcome quiet nothing wrote told w = record {
+    log = log_at s w.records [];
+    reads = w.stands.reads;
+    whole = append-nil (held_of s) ∙ nothing;
+    goes_on = ap (λ (c : Course). c.stop) (went_whole s now held_now w) ∙ quiet.unstopped;
+    tells = told ∙ sym (ap (λ (c : Course). c.outcome) (went_whole s now held_now w));
+    wrote = subst (λ (z : List ℕ). Appends held held_new z)
+        (ap (λ z. z ++ (now []).last s.line_due) (sym (went_out s now held_now quiet w)) ∙ ap (λ z. (course w.records).out ++ z) (sym (went_last s now held_now w)))
+        (Appends-trans held held_now held_new w.out ((now []).last s.line_due) w.wrote wrote);
+  }
+
+  broken_last : (s : Splitter) (now : List Record → Course) (held_now held_new : Option (List ℕ)) → IsQuiet now → held_of s ≡ []
+      → AppendsFront held_now held_new ((now []).last s.line_due) → Went reading course held input [] s now held_now → BrokenAtEnd reading course input held held_new
+  broken_last s now held_now held_new quiet nothing cut w = record {
+    log = log_at s w.records [];
+    reads = w.stands.reads;
+    whole = append-nil (held_of s) ∙ nothing;
+    goes_on = ap (λ (c : Course). c.stop) (went_whole s now held_now w) ∙ quiet.unstopped;
+    first = cut.0;
+    others = cut.1;
+    is = went_last s now held_now w ∙ cut.2;
+    wrote = subst (λ (z : List ℕ). Appends held held_new z) (ap (λ z. z ++ cut.0) (sym (went_out s now held_now quiet w))) (Appends-trans held held_now held_new w.out cut.0 w.wrote cut.3);
+  }
+
+  pub last_fault : (place : ℕ) (s : Splitter) (now : List Record → Course) (held_now held_new : Option (List ℕ)) (fault : EngineFault) → IsQuiet now → held_of s ≡ []
+      → AppendsFront held_now held_new ((now []).last s.line_due) → IsLastFault fault → Went reading course held input [] s now held_now → IsEndFault reading course input held held_new place fault
+  last_fault place s now held_now held_new Read quiet nothing cut kind w = absurd kind
+  last_fault place s now held_now held_new Write quiet nothing cut kind w = broken_last s now held_now held_new quiet nothing cut w
+  last_fault place s now held_now held_new (Frame fault) quiet nothing cut kind w = absurd kind
+  last_fault place s now held_now held_new (Truncated at) quiet nothing cut kind w = absurd kind
+  last_fault place s now held_now held_new (BodyTooLong at) quiet nothing cut kind w = absurd kind
+  last_fault place s now held_now held_new NoMemory quiet nothing cut kind w = broken_last s now held_now held_new quiet nothing cut w
+  last_fault place s now held_now held_new TooManyTurns quiet nothing cut kind w = broken_last s now held_now held_new quiet nothing cut w
+  last_fault place s now held_now held_new (BadLog at) quiet nothing cut kind w = absurd kind
+
+-- a part of what the end gives, and the next one
+pub part_cut : (old mid new : Option (List ℕ)) (all out made rest : List ℕ) → all ≡ out ++ (made ++ rest) → Appends old mid out → AppendsFront mid new made → AppendsFront old new all
+part_cut old mid new all out made rest is wrote cut =
+    (out ++ cut.0, cut.1 ++ rest, is ∙ ap (λ z. out ++ (z ++ rest)) cut.2 ∙ ap (λ z. out ++ z) (append_assoc cut.0 cut.1 rest) ∙ sym (append_assoc out cut.0 (cut.1 ++ rest)), Appends-trans old mid new out cut.0 wrote cut.3)
+
+pub part_is : (answer : Option Outcome) (last made more : List ℕ) (A B : Type 0) (C : Outcome → Type 0) → MatchOption answer ((last ≡ made ++ more) × A × B) (λ outcome. (last ≡ made) × C outcome)
+    → (rest : List ℕ) × (last ≡ made ++ rest)
+part_is None last made more A B C told = (more, told.0)
+part_is (Some outcome) last made more A B C told = ([], told.0 ∙ sym (append-nil made))
+
+-- what two clauses say of one answer
+pub ok_and : {T E : Type 0} (r : Result T E) (X : Type 0) (P Q : T → Type 0) → OnOk r X → IfOk r P → ((t : T) → X → P t → Q t) → IfOk r Q
+ok_and (Ok t) X P Q x p both = both t x p
+ok_and (Err e) X P Q x p both = tt
+
+pub err_and : {T E : Type 0} (r : Result T E) (X : Type 0) (P Q : E → Type 0) → OnErr r X → IfErr r P → ((e : E) → X → P e → Q e) → IfErr r Q
+err_and (Ok t) X P Q x p both = tt
+err_and (Err e) X P Q x p both = both e x p

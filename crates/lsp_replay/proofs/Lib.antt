@@ -1,0 +1,6 @@
+pub mod PortLemmas
+pub mod LogLemmas
+pub mod SplitLemmas
+pub mod EngineLemmas
+pub mod OpeningLemmas
+pub mod RunLemmas

@@ -1,0 +1,21 @@
+use Rattle.std.specs.Prelude.{ℕ, ◌≡◌, ◌≤◌, ◌-◌, List, Option, length, drop}
+use Rattle.lsp_replay.specs.Turns.{Spends}
+use Rattle.lsp_replay.specs.Log.{Reading, Record}
+use Rattle.lsp_replay.specs.Splitting.{IsReady}
+use Rattle.lsp_replay.specs.Course.{Course}
+use Rattle.lsp_replay.specs.Progress.{Went}
+use Rattle.lsp_replay.proofs.engine.take_piece.Given as goal
+
+abbrev pub invariant-bytes : goal.invariant-bytes
+invariant-bytes g l = record {
+  within : l.at ≤ length l.piece;
+  ready : IsReady l.splitter;
+  version : l.splitter.version ≡ l.fn.splitter.version;
+  went : (reading : Reading) (course : List Record → Course) (held : Option (List ℕ)) (input : List ℕ) →
+      Went reading course held input l.piece l.fn.splitter (g.H.Handler.course l.fn.handler) (g.W.Sink.held l.fn.writer) →
+      Went reading course held input (drop l.at l.piece) l.splitter (g.H.Handler.course l.handler) (g.W.Sink.held l.writer);
+  spent : Spends (g.W.Sink.count l.fn.writer) (g.W.Sink.count l.writer) l.fn.turns.left l.turns.left;
+}
+
+abbrev pub decreases-bytes : goal.decreases-bytes
+decreases-bytes g l = length l.piece - l.at

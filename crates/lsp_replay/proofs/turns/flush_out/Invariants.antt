@@ -1,0 +1,12 @@
+use Rattle.std.specs.Io.KnownBytes.{Keeps}
+use Rattle.lsp_replay.specs.Turns.{Spends}
+use Rattle.lsp_replay.proofs.turns.flush_out.Given as goal
+
+abbrev pub invariant-flushes : goal.invariant-flushes
+invariant-flushes g l = record {
+  kept : Keeps (g.W.Sink.held l.fn.writer) (g.W.Sink.held l.writer);
+  spent : Spends (g.W.Sink.count l.fn.writer) (g.W.Sink.count l.writer) l.fn.turns.left l.turns.left;
+}
+
+abbrev pub decreases-flushes : goal.decreases-flushes
+decreases-flushes g l = l.turns.left

@@ -1,0 +1,10 @@
+pub mod Ports
+pub mod Turns
+pub mod Faults
+pub mod Log
+pub mod Opening
+pub mod Splitting
+pub mod Course
+pub mod Engine
+pub mod Progress
+pub mod Copy

@@ -1,0 +1,14 @@
+-- How many calls were made, and what stands written.
+use Rattle.std.specs.Prelude.{◌≡◌, ℕ, ◌+◌, ◌<◌, ◌≤◌, ◌^◌, List, ◌++◌, Option}
+use Rattle.std.specs.Io.KnownBytes.{Appends}
+
+-- Each call took one of the turns that were left. Counts that stay at their greatest value can't tell all.
+pub record Spends (count_old count_new left_old left_new : ℕ) : Type 0 where
+  pub within : left_new ≤ left_old
+  pub least : count_old ≤ count_new
+  pub most : count_new + left_new ≤ count_old + left_old
+  pub exact : count_new + 1 < 2 ^ 64 → count_new + left_new ≡ count_old + left_old
+
+-- some first bytes were written
+abbrev pub AppendsFront : Option (List ℕ) → Option (List ℕ) → List ℕ → Type 0
+AppendsFront old new bytes = (front rest : List ℕ) × (bytes ≡ front ++ rest) × Appends old new front

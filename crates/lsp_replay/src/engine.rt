@@ -1,0 +1,253 @@
+//! From a reader to a writer, record by record.
+
+ghost use Rattle.std.specs.Prelude.{◌≡◌, ◌≢◌, ◌++◌, ◌∷◌, [], ℕ, List, Option, true, OnOk, OnErr, IfOk, IfErr, MatchOption};
+ghost use Rattle.std.specs.Io.KnownBytes.{Appends};
+ghost use Rattle.lsp_frame.specs.Frame.{Spells};
+ghost use Rattle.lsp_replay.specs.Ports.{Rose};
+ghost use Rattle.lsp_replay.specs.Turns.{Spends, AppendsFront};
+ghost use Rattle.lsp_replay.specs.Log.{Reading, Record};
+ghost use Rattle.lsp_replay.specs.Splitting.{IsReady, IsFed};
+ghost use Rattle.lsp_replay.specs.Course.{Course};
+ghost use Rattle.lsp_replay.specs.Engine.{Stopped, AtEnd, IsPieceFault, Ran, Called};
+ghost use Rattle.lsp_replay.specs.Progress.{IsHandled, IsHandleFault, IsLastFault, IsEndFault, Went};
+
+use crate::handler::{Handler, Output};
+use crate::opening::read_opening;
+use crate::outcome::{EngineFault, Outcome};
+use crate::port::{Sink, Source};
+use crate::record::{Head, Version};
+use crate::splitter::Splitter;
+use crate::turns::{Turns, read_piece, write_given};
+use lsp_frame::Limits;
+use std::alloc::Global;
+
+/// How many bytes one read may give.
+const PIECE: usize = 4_096;
+
+/// How an input is read.
+#[derive(Clone, Copy)]
+pub struct InputRules {
+    pub limits: Limits,
+    /// Is a log of version 2 looked for?
+    pub versions: bool,
+    /// Is it refused then?
+    pub only_one: bool,
+}
+
+/// Refuses a log of version 2 where only version 1 is taken.
+fn accept(version: Version, only_one: bool) -> Result<(), EngineFault>
+    ensures ok { OnOk result (only_one ≡ true → version ≡ Version.One) }
+    ensures err { IfErr result (λ fault. (fault ≡ EngineFault.BadLog 0) × (only_one ≡ true) × (version ≡ Version.Two)) }
+{
+    match version {
+        Version::Two if only_one => Err(EngineFault::BadLog { place: 0 }),
+        _ => Ok(()),
+    }
+}
+
+/// Hands a record to the handler, and writes what it gives.
+fn handle_record<W: Sink, H: Handler>(
+    handler: &mut H,
+    writer: &mut W,
+    made: &mut Vec<u8>,
+    head: Head,
+    spelling: &[u8],
+    body: &[u8],
+    turns: &mut Turns,
+) -> Result<Option<Outcome>, EngineFault>
+    requires { (max_body : ℕ) × Spells max_body spelling.now body.now }
+    ensures handled { IfOk result (IsHandled (H.course handler.old) (H.course handler.new) (W.held writer.old) (W.held writer.new)
+        (record { head = head; spelling = spelling.now; body = body.now })) }
+    ensures fault { IfErr result (IsHandleFault (H.course handler.old) (W.held writer.old) (W.held writer.new)
+        (record { head = head; spelling = spelling.now; body = body.now })) }
+    ensures failed { IfErr result (λ fault. fault ≡ EngineFault.Write →
+        (W.has_failed writer.new ≡ true) × Rose (W.count writer.old) (W.count writer.new)) }
+    ensures none_left { IfErr result (λ fault. fault ≡ EngineFault.TooManyTurns → turns.new.left ≡ 0) }
+    ensures spent { Spends (W.count writer.old) (W.count writer.new) turns.old.left turns.new.left }
+{
+    made.clear();
+    let given = handler.handle(head, spelling, body, made)?;
+    let output = match given.output {
+        Output::Frame => spelling,
+        Output::Made => made.as_slice(),
+    };
+    write_given(writer, output, given.flush, turns)?;
+    Ok(given.end)
+}
+
+/// Handles the record that is held, if one is whole, and gives it up.
+fn take_record<W: Sink, H: Handler>(
+    splitter: &mut Splitter,
+    handler: &mut H,
+    writer: &mut W,
+    made: &mut Vec<u8>,
+    turns: &mut Turns,
+) -> Result<Option<Outcome>, EngineFault>
+    requires { IsFed splitter.old }
+    ensures ready { OnOk result (IsReady splitter.new) }
+    ensures version { splitter.new.version ≡ splitter.old.version }
+    ensures went { IfOk result (λ end. (reading : Reading) (course : List Record → Course) (held : Option (List ℕ)) (input more : List ℕ) →
+        Went reading course held input more splitter.old (H.course handler.old) (W.held writer.old) →
+        MatchOption end (Went reading course held input more splitter.new (H.course handler.new) (W.held writer.new))
+        (λ outcome. Stopped reading course input held (W.held writer.new) (Ok outcome))) }
+    ensures fault { IfErr result (λ fault. (reading : Reading) (course : List Record → Course) (held : Option (List ℕ)) (input more : List ℕ) →
+        Went reading course held input more splitter.old (H.course handler.old) (W.held writer.old) →
+        IsPieceFault reading course input held (W.held writer.new) fault) }
+    ensures failed { IfErr result (λ fault. fault ≡ EngineFault.Write →
+        (W.has_failed writer.new ≡ true) × Rose (W.count writer.old) (W.count writer.new)) }
+    ensures none_left { IfErr result (λ fault. fault ≡ EngineFault.TooManyTurns → turns.new.left ≡ 0) }
+    ensures spent { Spends (W.count writer.old) (W.count writer.new) turns.old.left turns.new.left }
+{
+    let head = splitter.head();
+    match splitter.frame() {
+        Some((spelling, body)) => {
+            let end = handle_record(handler, writer, made, head, spelling, body, turns)?;
+            splitter.next();
+            Ok(end)
+        }
+        None => Ok(None),
+    }
+}
+
+/// Handles the records that become whole with the bytes of a piece, up to one that ends the run.
+fn take_piece<W: Sink, H: Handler>(
+    splitter: &mut Splitter,
+    handler: &mut H,
+    writer: &mut W,
+    made: &mut Vec<u8>,
+    piece: &[u8],
+    turns: &mut Turns,
+) -> Result<Option<Outcome>, EngineFault>
+    requires { IsReady splitter.old }
+    ensures ready { OnOk result (IsReady splitter.new) }
+    ensures version { splitter.new.version ≡ splitter.old.version }
+    ensures went { IfOk result (λ end. (reading : Reading) (course : List Record → Course) (held : Option (List ℕ)) (input : List ℕ) →
+        Went reading course held input piece.now splitter.old (H.course handler.old) (W.held writer.old) →
+        MatchOption end (Went reading course held input [] splitter.new (H.course handler.new) (W.held writer.new))
+        (λ outcome. Stopped reading course input held (W.held writer.new) (Ok outcome))) }
+    ensures fault { IfErr result (λ fault. (reading : Reading) (course : List Record → Course) (held : Option (List ℕ)) (input : List ℕ) →
+        Went reading course held input piece.now splitter.old (H.course handler.old) (W.held writer.old) →
+        IsPieceFault reading course input held (W.held writer.new) fault) }
+    ensures failed { IfErr result (λ fault. fault ≡ EngineFault.Write →
+        (W.has_failed writer.new ≡ true) × Rose (W.count writer.old) (W.count writer.new)) }
+    ensures none_left { IfErr result (λ fault. fault ≡ EngineFault.TooManyTurns → turns.new.left ≡ 0) }
+    ensures spent { Spends (W.count writer.old) (W.count writer.new) turns.old.left turns.new.left }
+{
+    let mut at = 0;
+    'bytes: while at < piece.len() {
+        at += splitter.feed(&piece[at..])?;
+        if let Some(outcome) = take_record(splitter, handler, writer, made, turns)? {
+            return Ok(Some(outcome));
+        }
+    }
+    Ok(None)
+}
+
+/// Writes what the end of the input gives, part by part.
+fn write_last<W: Sink, H: Handler>(
+    handler: &mut H,
+    writer: &mut W,
+    made: &mut Vec<u8>,
+    line_due: bool,
+    turns: &mut Turns,
+) -> Result<Outcome, EngineFault>
+    ensures wrote { OnOk result (Appends (W.held writer.old) (W.held writer.new) ((H.course handler.old []).last line_due)) }
+    ensures outcome { IfOk result (λ outcome. outcome ≡ (H.course handler.old []).outcome) }
+    ensures front { OnErr result (AppendsFront (W.held writer.old) (W.held writer.new) ((H.course handler.old []).last line_due)) }
+    ensures kind { IfErr result IsLastFault }
+    ensures failed { IfErr result (λ fault. fault ≡ EngineFault.Write →
+        (W.has_failed writer.new ≡ true) × Rose (W.count writer.old) (W.count writer.new)) }
+    ensures none_left { IfErr result (λ fault. fault ≡ EngineFault.TooManyTurns → turns.new.left ≡ 0) }
+    ensures spent { Spends (W.count writer.old) (W.count writer.new) turns.old.left turns.new.left }
+{
+    let mut due = line_due;
+    'parts: loop {
+        made.clear();
+        let end = handler.finish(due, made)?;
+        write_given(writer, made, false, turns)?;
+        match end {
+            Some(outcome) => return Ok(outcome),
+            None => due = false,
+        }
+    }
+}
+
+/// Ends a run at the end of the input, which has this length.
+fn finish_run<W: Sink, H: Handler>(
+    splitter: &Splitter,
+    handler: &mut H,
+    writer: &mut W,
+    made: &mut Vec<u8>,
+    place: u64,
+    turns: &mut Turns,
+) -> Result<Outcome, EngineFault>
+    requires { IsReady splitter.now }
+    ensures at_end { IfOk result (λ outcome. (reading : Reading) (course : List Record → Course) (held : Option (List ℕ)) (input : List ℕ) →
+        Went reading course held input [] splitter.now (H.course handler.old) (W.held writer.old) →
+        AtEnd reading course input held (W.held writer.new) outcome) }
+    ensures fault { IfErr result (λ fault. (reading : Reading) (course : List Record → Course) (held : Option (List ℕ)) (input : List ℕ) →
+        Went reading course held input [] splitter.now (H.course handler.old) (W.held writer.old) →
+        IsEndFault reading course input held (W.held writer.new) place fault) }
+    ensures failed { IfErr result (λ fault. fault ≡ EngineFault.Write →
+        (W.has_failed writer.new ≡ true) × Rose (W.count writer.old) (W.count writer.new)) }
+    ensures not_read { IfErr result (λ fault. fault ≢ EngineFault.Read) }
+    ensures none_left { IfErr result (λ fault. fault ≡ EngineFault.TooManyTurns → turns.new.left ≡ 0) }
+    ensures spent { Spends (W.count writer.old) (W.count writer.new) turns.old.left turns.new.left }
+{
+    if !splitter.at_rest() {
+        return Err(EngineFault::Truncated { place });
+    }
+    write_last(handler, writer, made, splitter.line_due(), turns)
+}
+
+/// Reads to the end of the input, hands each record to the handler as soon as it is whole, and writes what it gives
+/// before it reads on.
+pub fn run_engine<R: Source, W: Sink, H: Handler>(
+    alloc: Global,
+    reader: &mut R,
+    writer: &mut W,
+    handler: &mut H,
+    rules: InputRules,
+    max_turns: u64,
+) -> Result<Outcome, EngineFault>
+    ensures ran { Ran (record { max_body = rules.limits.max_body; versions = rules.versions; only_one = rules.only_one }) (H.course handler.old) (R.has_ended reader.new)
+        (R.left reader.old) (R.left reader.new) (W.held writer.old) (W.held writer.new) result }
+    ensures called { Called (R.count reader.old) (R.count reader.new) (W.count writer.old) (W.count writer.new) max_turns
+        (R.has_failed reader.new) (W.has_failed writer.new) (R.has_ended reader.new) (R.left reader.new) result }
+{
+    let mut turns = Turns::new(max_turns);
+    let mut buf = [0u8; PIECE];
+    let mut made = Vec::new(alloc);
+    let opening = read_opening(reader, &mut buf, rules.versions, &mut turns)?;
+    accept(opening.version, rules.only_one)?;
+    let mut splitter = Splitter::new(alloc, rules.limits, opening.version);
+    let mut from = opening.version.line().len();
+    let mut to = opening.len;
+    let mut ended = opening.ended;
+    let mut place = to as u64;
+    'pieces: loop {
+        let end = take_piece(
+            &mut splitter,
+            handler,
+            writer,
+            &mut made,
+            &buf[from..to],
+            &mut turns,
+        )?;
+        if let Some(outcome) = end {
+            return Ok(outcome);
+        }
+        if ended {
+            return finish_run(&splitter, handler, writer, &mut made, place, &mut turns);
+        }
+        from = 0;
+        to = read_piece(reader, &mut buf, &mut turns)?;
+        place = place.saturating_add(to as u64);
+        ended = to == 0;
+    }
+}
+
+#[cfg(test)]
+mod copier;
+#[cfg(test)]
+mod tests;

@@ -1,0 +1,25 @@
+//! Engines that run between a reader and a writer.
+//!
+//! - `port`: a reader and a writer that tell how their calls went; `told` makes them of those of std.
+//! - `stop`: a reader and a writer over memory that fail, are interrupted or take few bytes at chosen calls.
+//! - `outcome`: how a run ends.
+//! - `engine`: the one loop from a reader to a writer, over what a `handler` makes of each record and of the end.
+//! - `record`: what a log is made of; `opening`: its version; `splitter`: its records, however it comes.
+//! - `turns`: reads, writes and flushes in a bounded number of calls.
+#![tactic(auto)]
+
+mod engine;
+mod handler;
+mod opening;
+mod outcome;
+mod port;
+mod record;
+mod splitter;
+mod stop;
+mod told;
+mod turns;
+
+pub use outcome::{EngineFault, Outcome};
+pub use port::{Sink, Source};
+pub use stop::{Call, StopReader, StopWriter};
+pub use told::Told;
