@@ -18,3 +18,4 @@ pub mod AppliedLemmas
 pub mod RoomLemmas
 pub mod WalkLemmas
 pub mod LawLemmas
+pub mod IndexedLemmas

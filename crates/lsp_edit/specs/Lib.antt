@@ -8,4 +8,5 @@ pub mod Laws
 pub mod Faults
 pub mod Edited
 pub mod Gaps
+pub mod Indexed
 pub mod Examples

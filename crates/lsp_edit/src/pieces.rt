@@ -99,6 +99,13 @@ impl<'a> Pieces<'a> {
         self.len + change.text.len() <= MAX_TEXT
     }
 
+    /// How many bytes the text as it is now has.
+    pub fn text_len(&self) -> usize
+        ensures { result ≡ length (edited_bytes self.now) }
+    {
+        self.len
+    }
+
     /// The places of a range's two ends in the text as it is now. `change` is the number that a fault tells.
     fn places(&mut self, encoding: Encoding, range: Range) -> Result<(usize, usize), EditFault>
         ensures same { self.new ≡ self.old }

@@ -1,8 +1,8 @@
 -- What a run wrote, record by record.
 use Rattle.std.proofs.Common.{◌≡◌, ℕ, ◌+◌, ◌-◌, ◌<◌, ◌≤◌, Bool, true, false, List, [], ◌∷◌, ◌++◌, length, take, drop, Option, Some, None, Result, Ok, Err, refl, sym, ◌∙◌, ap, subst, arith, append_assoc, append-nil, inl, inr}
-use Rattle.std.proofs.lemmas.List.{drop-drop}
+use Rattle.std.proofs.lemmas.List.{drop-drop, length-append}
 use Rattle.std.proofs.lemmas.Slice.{between_to_end}
-use Rattle.std.specs.Prelude.{MatchOption}
+use Rattle.std.specs.Prelude.{MatchOption, OnOk, OnErr, IfOk, IfErr}
 use Rattle.std.specs.Io.KnownBytes.{Consumes, Appends, Keeps}
 use Rattle.std.proofs.KnownBytes.{Appends-trans, Appends-kept, Appends-nil, Consumes-trans}
 use Rattle.lsp_frame.specs.Frame.{Spells}
@@ -11,14 +11,18 @@ use Rattle.lsp_replay.specs.declared.outcome.Outcome.{Outcome}
 use Rattle.lsp_replay.specs.declared.outcome.EngineFault.{EngineFault}
 use Rattle.lsp_replay.specs.declared.outcome.EngineFault.TheVariants.{Read, Write, Frame, Truncated, BodyTooLong, NoMemory, TooManyTurns, BadLog}
 use Rattle.lsp_replay.specs.declared.record.Head.{Head}
+use Rattle.lsp_replay.specs.declared.record.Version.{Version}
+use Rattle.lsp_replay.specs.declared.record.Version.TheVariants.{One, Two}
+use Rattle.lsp_replay.specs.declared.record.Side.{Side}
+use Rattle.lsp_replay.specs.declared.record.Side.TheVariants.{Client, Server}
 use Rattle.lsp_replay.specs.declared.splitter.Splitter.{Splitter}
 use Rattle.lsp_replay.specs.Turns.{AppendsFront}
-use Rattle.lsp_replay.specs.Log.{Reading, Record, Log, IsReadAs}
-use Rattle.lsp_replay.specs.Splitting.{IsFed, IsReady, Stands, IsSplitFault, log_at, head_of}
+use Rattle.lsp_replay.specs.Log.{Reading, Record, Log, IsReadAs, HasNoRecord, IsCut, mark_of, is_line_due}
+use Rattle.lsp_replay.specs.Splitting.{IsFed, IsReady, Stands, IsSplitFault, log_at, head_of, held_of, mark_part}
 use Rattle.lsp_replay.specs.Course.{Course, written_first, stopped}
-use Rattle.lsp_replay.specs.Engine.{Stopped, Reached, Broken, IsPieceFault}
-use Rattle.lsp_replay.specs.Progress.{GoesOn, Ends, IsHandled, IsHandleFault, Went}
-use Rattle.lsp_replay.proofs.SplitLemmas.{record_at, given_reads, some_side}
+use Rattle.lsp_replay.specs.Engine.{Stopped, Reached, Broken, AtEnd, BrokenAtEnd, IsPieceFault, last_of}
+use Rattle.lsp_replay.specs.Progress.{GoesOn, Ends, IsHandled, IsHandleFault, IsLastFault, IsEndFault, Went}
+use Rattle.lsp_replay.proofs.SplitLemmas.{record_at, given_reads, some_side, some_or, frame_len}
 
 -- Without more records nothing more is written, and the run goes on.
 pub record IsQuiet (now : List Record → Course) : Type 0 where
@@ -156,3 +160,121 @@ module _ (reading : Reading) (course : List Record → Course) (held : Option (L
       let all : bytes ≡ drop at piece = is ∙ between_to_end piece at (length piece) (omega arith) in
       let here : Went reading course held input bytes s now held_now = subst (λ (z : List ℕ). Went reading course held input z s now held_now) (sym all) w in
       split_faults bytes s now held_now held_new fault here quiet nothing (fed here.records here.stands)
+
+-- Two marks of one version have one length.
+behind_mark : (version : Version) (side other : Side) (a b : List ℕ) → mark_of version side ++ a ≡ mark_of version other ++ b → a ≡ b
+behind_mark One side other a b e = e
+behind_mark Two Client Client a b e = ap (drop 1) e
+behind_mark Two Client Server a b e = ap (drop 1) e
+behind_mark Two Server Client a b e = ap (drop 1) e
+behind_mark Two Server Server a b e = ap (drop 1) e
+
+-- At the end of the input no whole record is held.
+pub no_record : (reading : Reading) (input : List ℕ) (records : List Record) (s : Splitter) → IsReady s → Stands reading input [] records s → HasNoRecord reading.max_body (log_at s records [])
+no_record reading input records s ready at other spelling body more spells e =
+    let none : IsFrame reading.max_body s.framer.held → ⊥ = λ frame. ready.none (subst (λ (m : ℕ). IsFrame m s.framer.held) (sym at.limit) frame) in
+    let plain : mark_part s.version s.side ++ s.framer.held ≡ mark_of s.version other ++ (spelling ++ more) = sym (append-nil (held_of s)) ∙ e in
+    elim (some_or s.side) [
+      | inl known ↦
+        let known_plain : mark_of s.version known.0 ++ s.framer.held ≡ mark_of s.version other ++ (spelling ++ more) =
+        ap (λ (o : Option Side). mark_part s.version o ++ s.framer.held) (sym known.1) ∙ plain in
+        let same : s.framer.held ≡ spelling ++ more = behind_mark s.version known.0 other s.framer.held (spelling ++ more) known_plain in
+        let nothing : more ≡ [] = at.one spelling body more spells same in
+        let all : spelling ≡ s.framer.held = sym (same ∙ ap (λ z. spelling ++ z) nothing ∙ append-nil spelling) in
+        none (record { body = body; spells = subst (λ (z : List ℕ). Spells reading.max_body z body) all spells })
+      | inr unknown ↦
+        let empty : mark_part s.version s.side ++ s.framer.held ≡ [] = ap (λ (o : Option Side). mark_part s.version o ++ s.framer.held) unknown ∙ ready.fed.between unknown in
+        omega (arith, ap length plain, ap length empty, length-append (mark_of s.version other) (spelling ++ more), length-append spelling more, frame_len reading.max_body spelling body spells)
+    ]
+
+pub cut_at_end : (reading : Reading) (input : List ℕ) (records : List Record) (s : Splitter) → IsReady s → Stands reading input [] records s → (held_of s ≡ [] → ⊥) → IsCut reading.max_body (log_at s records [])
+cut_at_end reading input records s ready at some =
+    elim (some_or s.side) [
+      | inl known ↦ record {
+        side = known.0;
+        part = s.framer.held;
+        is = append-nil (held_of s) ∙ ap (λ (o : Option Side). mark_part s.version o ++ s.framer.held) known.1;
+        begins = at.part;
+        some = λ nothing. some (sym (append-nil (held_of s)) ∙ nothing);
+        none = no_record reading input records s ready at;
+      }
+      | inr unknown ↦ absurd (some (ap (λ (o : Option Side). mark_part s.version o ++ s.framer.held) unknown ∙ ready.fed.between unknown))
+    ]
+
+module _ (reading : Reading) (course : List Record → Course) (held : Option (List ℕ)) (input : List ℕ) where
+  pub went_cut : (s : Splitter) (now : List Record → Course) (held_now : Option (List ℕ)) → IsReady s → IsQuiet now → (held_of s ≡ [] → ⊥)
+      → Went reading course held input [] s now held_now → Reached reading course input held held_now (IsCut reading.max_body)
+  went_cut s now held_now ready quiet some w =
+      went_so_far reading course held input [] s now held_now held_now (IsCut reading.max_body) w quiet (Appends-nil held_now) (cut_at_end reading input w.records s ready w.stands some)
+
+  pub went_read : (s : Splitter) (now : List Record → Course) (held_now : Option (List ℕ)) → IsReady s → IsQuiet now
+      → Went reading course held input [] s now held_now → Reached reading course input held held_now (HasNoRecord reading.max_body)
+  went_read s now held_now ready quiet w =
+      went_so_far reading course held input [] s now held_now held_now (HasNoRecord reading.max_body) w quiet (Appends-nil held_now) (no_record reading input w.records s ready w.stands)
+
+  -- what the course of the records says of the end
+  went_whole : (s : Splitter) (now : List Record → Course) (held_now : Option (List ℕ)) (w : Went reading course held input [] s now held_now) → course w.records ≡ written_first w.out (now [])
+  went_whole s now held_now w = ap course (sym (append-nil w.records)) ∙ w.courses []
+
+  went_last : (s : Splitter) (now : List Record → Course) (held_now : Option (List ℕ)) (w : Went reading course held input [] s now held_now)
+      → last_of course (log_at s w.records []) ≡ (now []).last s.line_due
+  went_last s now held_now w = ap (λ (c : Course). c.last (is_line_due s.version w.records)) (went_whole s now held_now w) ∙ ap (now []).last (sym w.stands.due)
+
+  went_out : (s : Splitter) (now : List Record → Course) (held_now : Option (List ℕ)) → IsQuiet now → (w : Went reading course held input [] s now held_now) → (course w.records).out ≡ w.out
+  went_out s now held_now quiet w = ap (λ (c : Course). c.out) (went_whole s now held_now w) ∙ ap (λ z. w.out ++ z) quiet.silent ∙ append-nil w.out
+
+  pub went_at_end : (s : Splitter) (now : List Record → Course) (held_now held_new : Option (List ℕ)) (outcome : Outcome) → IsQuiet now → held_of s ≡ []
+      → Appends held_now held_new ((now []).last s.line_due) → outcome ≡ (now []).outcome → Went reading course held input [] s now held_now → AtEnd reading course input held held_new outcome
+  went_at_end s now held_now held_new outcome quiet nothing wrote told w = record {
+    log = log_at s w.records [];
+    reads = w.stands.reads;
+    whole = append-nil (held_of s) ∙ nothing;
+    goes_on = ap (λ (c : Course). c.stop) (went_whole s now held_now w) ∙ quiet.unstopped;
+    tells = told ∙ sym (ap (λ (c : Course). c.outcome) (went_whole s now held_now w));
+    wrote = subst (λ (z : List ℕ). Appends held held_new z)
+      (ap (λ z. z ++ (now []).last s.line_due) (sym (went_out s now held_now quiet w)) ∙ ap (λ z. (course w.records).out ++ z) (sym (went_last s now held_now w)))
+      (Appends-trans held held_now held_new w.out ((now []).last s.line_due) w.wrote wrote);
+  }
+
+  broken_last : (s : Splitter) (now : List Record → Course) (held_now held_new : Option (List ℕ)) → IsQuiet now → held_of s ≡ []
+      → AppendsFront held_now held_new ((now []).last s.line_due) → Went reading course held input [] s now held_now → BrokenAtEnd reading course input held held_new
+  broken_last s now held_now held_new quiet nothing cut w = record {
+    log = log_at s w.records [];
+    reads = w.stands.reads;
+    whole = append-nil (held_of s) ∙ nothing;
+    goes_on = ap (λ (c : Course). c.stop) (went_whole s now held_now w) ∙ quiet.unstopped;
+    first = cut.0;
+    others = cut.1;
+    is = went_last s now held_now w ∙ cut.2;
+    wrote = subst (λ (z : List ℕ). Appends held held_new z) (ap (λ z. z ++ cut.0) (sym (went_out s now held_now quiet w))) (Appends-trans held held_now held_new w.out cut.0 w.wrote cut.3);
+  }
+
+  pub last_fault : (place : ℕ) (s : Splitter) (now : List Record → Course) (held_now held_new : Option (List ℕ)) (fault : EngineFault) → IsQuiet now → held_of s ≡ []
+      → AppendsFront held_now held_new ((now []).last s.line_due) → IsLastFault fault → Went reading course held input [] s now held_now → IsEndFault reading course input held held_new place fault
+  last_fault place s now held_now held_new Read quiet nothing cut kind w = absurd kind
+  last_fault place s now held_now held_new Write quiet nothing cut kind w = broken_last s now held_now held_new quiet nothing cut w
+  last_fault place s now held_now held_new (Frame fault) quiet nothing cut kind w = absurd kind
+  last_fault place s now held_now held_new (Truncated at) quiet nothing cut kind w = absurd kind
+  last_fault place s now held_now held_new (BodyTooLong at) quiet nothing cut kind w = absurd kind
+  last_fault place s now held_now held_new NoMemory quiet nothing cut kind w = broken_last s now held_now held_new quiet nothing cut w
+  last_fault place s now held_now held_new TooManyTurns quiet nothing cut kind w = broken_last s now held_now held_new quiet nothing cut w
+  last_fault place s now held_now held_new (BadLog at) quiet nothing cut kind w = absurd kind
+
+-- a part of what the end gives, and the next one
+pub part_cut : (old mid new : Option (List ℕ)) (all out made rest : List ℕ) → all ≡ out ++ (made ++ rest) → Appends old mid out → AppendsFront mid new made → AppendsFront old new all
+part_cut old mid new all out made rest is wrote cut =
+    (out ++ cut.0, cut.1 ++ rest, is ∙ ap (λ z. out ++ (z ++ rest)) cut.2 ∙ ap (λ z. out ++ z) (append_assoc cut.0 cut.1 rest) ∙ sym (append_assoc out cut.0 (cut.1 ++ rest)), Appends-trans old mid new out cut.0 wrote cut.3)
+
+pub part_is : (answer : Option Outcome) (last made more : List ℕ) (A B : Type 0) (C : Outcome → Type 0) → MatchOption answer ((last ≡ made ++ more) × A × B) (λ outcome. (last ≡ made) × C outcome)
+    → (rest : List ℕ) × (last ≡ made ++ rest)
+part_is None last made more A B C told = (more, told.0)
+part_is (Some outcome) last made more A B C told = ([], told.0 ∙ sym (append-nil made))
+
+-- what two clauses say of one answer
+pub ok_and : {T E : Type 0} (r : Result T E) (X : Type 0) (P Q : T → Type 0) → OnOk r X → IfOk r P → ((t : T) → X → P t → Q t) → IfOk r Q
+ok_and (Ok t) X P Q x p both = both t x p
+ok_and (Err e) X P Q x p both = tt
+
+pub err_and : {T E : Type 0} (r : Result T E) (X : Type 0) (P Q : E → Type 0) → OnErr r X → IfErr r P → ((e : E) → X → P e → Q e) → IfErr r Q
+err_and (Ok t) X P Q x p both = tt
+err_and (Err e) X P Q x p both = both e x p

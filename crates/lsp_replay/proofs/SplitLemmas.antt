@@ -1,5 +1,5 @@
 -- A splitter on its way through a log.
-use Rattle.std.proofs.Common.{◌≡◌, ℕ, ◌+◌, ◌-◌, ◌<◌, ◌≤◌, ◌^◌, Bool, true, false, List, [], ◌∷◌, ◌++◌, length, take, drop, Option, Some, None, refl, sym, ◌∙◌, ap, subst, arith, append_assoc, append-nil, inl}
+use Rattle.std.proofs.Common.{◌≡◌, ℕ, ◌+◌, ◌-◌, ◌<◌, ◌≤◌, ◌^◌, Bool, true, false, List, [], ◌∷◌, ◌++◌, length, take, drop, Option, Some, None, refl, sym, ◌∙◌, ap, subst, arith, append_assoc, append-nil, inl, inr, ◌⊎◌}
 use Rattle.std.specs.Prelude.{min, not, is_some}
 use Rattle.std.proofs.lemmas.List.{length-append, take-append-drop}
 use Rattle.lsp_frame.specs.Frame.{Spells}
@@ -22,7 +22,7 @@ use Rattle.lsp_replay.proofs.LogLemmas.{together_push, together_len, input_len, 
 pub nothing_part : (max_body : ℕ) → IsPart max_body []
 nothing_part max_body = inl (record { begins = record { lines = []; rest = 13 ∷ 10 ∷ []; each = tt; is = refl; more = omega arith }; short = omega arith })
 
-frame_len : (max_body : ℕ) (spelling body : List ℕ) → Spells max_body spelling body → 2 ≤ length spelling
+pub frame_len : (max_body : ℕ) (spelling body : List ℕ) → Spells max_body spelling body → 2 ≤ length spelling
 frame_len max_body spelling body s = omega (arith, ap length s.is, length-append (header_of s.lines) body, length-append (lines_bytes s.lines) (13 ∷ 10 ∷ []))
 
 pub nothing_one : (max_body : ℕ) → HoldsOne max_body []
@@ -39,6 +39,10 @@ record KnownSide (o : Option Side) : Type 0 where
 known_side : (o : Option Side) → (o ≡ None → ⊥) → KnownSide o
 known_side None some = absurd (some refl)
 known_side (Some side) some = record { side = side; is = refl }
+
+pub some_or : (o : Option Side) → ((side : Side) × (o ≡ Some side)) ⊎ (o ≡ None)
+some_or None = inr refl
+some_or (Some side) = inl (side, refl)
 
 pub not_none : (o : Option Side) (none : Bool) → is_some o ≡ not none → none ≡ false → o ≡ None → ⊥
 not_none o none said some is = let two : false ≡ true = sym (ap is_some is) ∙ said ∙ ap not some in cc

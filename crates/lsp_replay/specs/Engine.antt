@@ -1,5 +1,5 @@
 -- What an engine wrote and answered, as a function of the bytes that it read.
-use Rattle.std.specs.Prelude.{ℕ, ◌≡◌, ◌⊎◌, ◌+◌, ◌≤◌, ◌<◌, ◌^◌, Bool, true, List, [], ◌∷◌, ◌++◌, length, Option, Some, None, Result, Ok, Err, MatchResult}
+use Rattle.std.specs.Prelude.{ℕ, ◌≡◌, ◌≢◌, ◌⊎◌, ◌+◌, ◌≤◌, ◌<◌, ◌^◌, Bool, true, List, [], ◌∷◌, ◌++◌, length, Option, Some, None, Result, Ok, Err, MatchResult}
 use Rattle.std.specs.Io.KnownBytes.{Consumes, Appends, IsAtEnd}
 use Rattle.lsp_frame.specs.Faults.{place_behind}
 use Rattle.lsp_replay.specs.declared.outcome.Outcome.{Outcome}
@@ -94,3 +94,12 @@ pub record Ran (reading : Reading) (course : List Record → Course) (ended : Bo
     (λ outcome. Stopped reading course input held_old held_new (Ok outcome) ⊎ ((ended ≡ true) × AtEnd reading course input held_old held_new outcome))
     (IsRunFault reading course ended input held_old held_new)
 
+-- Which calls were made: at most as many as allowed; a fault of reading or writing only where the reader or the
+-- writer tells that its last call failed, and as many calls as allowed where one more was to be made. And where the
+-- reader tells the end, all of its bytes were read.
+pub record Called (reads_old reads_new writes_old writes_new allowed : ℕ) (read_failed write_failed ended : Bool) (left : Option (List ℕ)) (result : Result Outcome EngineFault) : Type 0 where
+  pub turns : reads_new + writes_new ≤ reads_old + writes_old + allowed
+  pub too_many : result ≡ Err TooManyTurns → reads_new + 1 < 2 ^ 64 → writes_new + 1 < 2 ^ 64 → reads_new + writes_new ≡ reads_old + writes_old + allowed
+  pub read_fault : result ≡ Err Read → (read_failed ≡ true) × Rose reads_old reads_new
+  pub write_fault : result ≡ Err Write → (write_failed ≡ true) × Rose writes_old writes_new
+  pub at_end : result ≢ Err TooManyTurns → ended ≡ true → IsAtEnd left × Rose reads_old reads_new

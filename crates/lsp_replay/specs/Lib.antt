@@ -2,7 +2,11 @@ pub mod Ports
 pub mod Turns
 pub mod Faults
 pub mod Log
+pub mod Opening
 pub mod Splitting
 pub mod Course
 pub mod Engine
 pub mod Progress
+pub mod Session
+pub mod Verdicts
+pub mod Engines

@@ -7,9 +7,10 @@ use Rattle.lsp_replay.specs.declared.outcome.EngineFault.{EngineFault}
 use Rattle.lsp_replay.specs.declared.outcome.EngineFault.TheVariants.{Read, Write, Frame, Truncated, BodyTooLong, NoMemory, TooManyTurns, BadLog}
 use Rattle.lsp_replay.specs.declared.splitter.Splitter.{Splitter}
 use Rattle.lsp_replay.specs.Turns.{AppendsFront}
-use Rattle.lsp_replay.specs.Log.{Reading, Record, IsVersion, version_line}
+use Rattle.lsp_replay.specs.Log.{Reading, Record, IsVersion, IsCut}
 use Rattle.lsp_replay.specs.Splitting.{Stands}
 use Rattle.lsp_replay.specs.Course.{Course, written_first, stopped}
+use Rattle.lsp_replay.specs.Engine.{Reached, BrokenAtEnd}
 
 -- A record's output was written, and the run goes on.
 pub record GoesOn (old new : List Record → Course) (held_old held_new : Option (List ℕ)) (r : Record) : Type 0 where
@@ -65,3 +66,25 @@ pub record BothSpend (reads_old reads_new writes_old writes_new left_old left_ne
   pub writes : writes_old ≤ writes_new
   pub most : reads_new + writes_new + left_new ≤ reads_old + writes_old + left_old
   pub exact : reads_new + 1 < 2 ^ 64 → writes_new + 1 < 2 ^ 64 → reads_new + writes_new + left_new ≡ reads_old + writes_old + left_old
+
+-- the faults of writing what the end of the input gives
+abbrev pub IsLastFault : EngineFault → Type 0
+IsLastFault Read = ⊥
+IsLastFault Write = Unit {0}
+IsLastFault (Frame fault) = ⊥
+IsLastFault (Truncated place) = ⊥
+IsLastFault (BodyTooLong place) = ⊥
+IsLastFault NoMemory = Unit {0}
+IsLastFault TooManyTurns = Unit {0}
+IsLastFault (BadLog place) = ⊥
+
+-- what stands written when a fault comes at the end of the input, and what the fault says of the input
+abbrev pub IsEndFault : Reading → (List Record → Course) → List ℕ → Option (List ℕ) → Option (List ℕ) → ℕ → EngineFault → Type 0
+IsEndFault reading course input old new len Read = ⊥
+IsEndFault reading course input old new len Write = BrokenAtEnd reading course input old new
+IsEndFault reading course input old new len (Frame fault) = ⊥
+IsEndFault reading course input old new len (Truncated place) = (place ≡ len) × Reached reading course input old new (IsCut reading.max_body)
+IsEndFault reading course input old new len (BodyTooLong place) = ⊥
+IsEndFault reading course input old new len NoMemory = BrokenAtEnd reading course input old new
+IsEndFault reading course input old new len TooManyTurns = BrokenAtEnd reading course input old new
+IsEndFault reading course input old new len (BadLog place) = ⊥

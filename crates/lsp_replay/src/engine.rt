@@ -1,21 +1,36 @@
 //! From a reader to a writer, record by record.
 
-ghost use Rattle.std.specs.Prelude.{◌≡◌, ◌⊎◌, ◌++◌, ◌∷◌, [], ℕ, List, Option, None, true, OnOk, IfOk, IfErr, MatchOption};
+ghost use Rattle.std.specs.Prelude.{◌≡◌, ◌≢◌, ◌++◌, ◌∷◌, [], ℕ, List, Option, true, OnOk, OnErr, IfOk, IfErr, MatchOption};
+ghost use Rattle.std.specs.Io.KnownBytes.{Appends};
 ghost use Rattle.lsp_frame.specs.Frame.{Spells};
 ghost use Rattle.lsp_replay.specs.Ports.{Rose};
-ghost use Rattle.lsp_replay.specs.Turns.{Spends};
+ghost use Rattle.lsp_replay.specs.Turns.{Spends, AppendsFront};
 ghost use Rattle.lsp_replay.specs.Log.{Reading, Record};
 ghost use Rattle.lsp_replay.specs.Splitting.{IsReady, IsFed};
 ghost use Rattle.lsp_replay.specs.Course.{Course};
-ghost use Rattle.lsp_replay.specs.Engine.{Stopped, IsPieceFault};
-ghost use Rattle.lsp_replay.specs.Progress.{IsHandled, IsHandleFault, Went};
+ghost use Rattle.lsp_replay.specs.Engine.{Stopped, AtEnd, IsPieceFault, Ran, Called};
+ghost use Rattle.lsp_replay.specs.Progress.{IsHandled, IsHandleFault, IsLastFault, IsEndFault, Went};
 
 use crate::handler::{Handler, Output};
 use crate::outcome::{EngineFault, Outcome};
-use crate::port::Sink;
+use crate::opening::read_opening;
+use crate::port::{Sink, Source};
 use crate::record::Head;
 use crate::splitter::Splitter;
-use crate::turns::{Turns, write_given};
+use crate::turns::{Turns, read_piece, write_given};
+use lsp_frame::Limits;
+use std::alloc::Global;
+
+/// How many bytes one read may give.
+const PIECE: usize = 4_096;
+
+/// How an input is read.
+#[derive(Clone, Copy)]
+pub struct InputRules {
+    pub limits: Limits,
+    /// Is a log of version 2 looked for?
+    pub versions: bool,
+}
 
 /// Hands a record to the handler, and writes what it gives.
 fn handle_record<W: Sink, H: Handler>(
@@ -113,4 +128,107 @@ fn take_piece<W: Sink, H: Handler>(
         }
     }
     Ok(None)
+}
+
+/// Writes what the end of the input gives, part by part.
+fn write_last<W: Sink, H: Handler>(
+    handler: &mut H,
+    writer: &mut W,
+    made: &mut Vec<u8>,
+    line_due: bool,
+    turns: &mut Turns,
+) -> Result<Outcome, EngineFault>
+    ensures wrote { OnOk result (Appends (W.held writer.old) (W.held writer.new) ((H.course handler.old []).last line_due)) }
+    ensures outcome { IfOk result (λ outcome. outcome ≡ (H.course handler.old []).outcome) }
+    ensures front { OnErr result (AppendsFront (W.held writer.old) (W.held writer.new) ((H.course handler.old []).last line_due)) }
+    ensures kind { IfErr result IsLastFault }
+    ensures failed { IfErr result (λ fault. fault ≡ EngineFault.Write →
+        (W.has_failed writer.new ≡ true) × Rose (W.count writer.old) (W.count writer.new)) }
+    ensures none_left { IfErr result (λ fault. fault ≡ EngineFault.TooManyTurns → turns.new.left ≡ 0) }
+    ensures spent { Spends (W.count writer.old) (W.count writer.new) turns.old.left turns.new.left }
+{
+    let mut due = line_due;
+    'parts: loop {
+        made.clear();
+        let end = handler.finish(due, made)?;
+        write_given(writer, made, false, turns)?;
+        match end {
+            Some(outcome) => return Ok(outcome),
+            None => due = false,
+        }
+    }
+}
+
+/// Ends a run at the end of the input, which has this length.
+fn finish_run<W: Sink, H: Handler>(
+    splitter: &Splitter,
+    handler: &mut H,
+    writer: &mut W,
+    made: &mut Vec<u8>,
+    place: u64,
+    turns: &mut Turns,
+) -> Result<Outcome, EngineFault>
+    requires { IsReady splitter.now }
+    ensures at_end { IfOk result (λ outcome. (reading : Reading) (course : List Record → Course) (held : Option (List ℕ)) (input : List ℕ) →
+        Went reading course held input [] splitter.now (H.course handler.old) (W.held writer.old) →
+        AtEnd reading course input held (W.held writer.new) outcome) }
+    ensures fault { IfErr result (λ fault. (reading : Reading) (course : List Record → Course) (held : Option (List ℕ)) (input : List ℕ) →
+        Went reading course held input [] splitter.now (H.course handler.old) (W.held writer.old) →
+        IsEndFault reading course input held (W.held writer.new) place fault) }
+    ensures failed { IfErr result (λ fault. fault ≡ EngineFault.Write →
+        (W.has_failed writer.new ≡ true) × Rose (W.count writer.old) (W.count writer.new)) }
+    ensures not_read { IfErr result (λ fault. fault ≢ EngineFault.Read) }
+    ensures none_left { IfErr result (λ fault. fault ≡ EngineFault.TooManyTurns → turns.new.left ≡ 0) }
+    ensures spent { Spends (W.count writer.old) (W.count writer.new) turns.old.left turns.new.left }
+{
+    if !splitter.at_rest() {
+        return Err(EngineFault::Truncated { place });
+    }
+    write_last(handler, writer, made, splitter.line_due(), turns)
+}
+
+/// Reads to the end of the input, hands each record to the handler as soon as it is whole, and writes what it gives
+/// before it reads on.
+pub fn run_engine<R: Source, W: Sink, H: Handler>(
+    alloc: Global,
+    reader: &mut R,
+    writer: &mut W,
+    handler: &mut H,
+    reading: InputRules,
+    max_turns: u64,
+) -> Result<Outcome, EngineFault>
+    ensures ran { Ran (record { max_body = reading.limits.max_body; versions = reading.versions }) (H.course handler.old) (R.has_ended reader.new)
+        (R.left reader.old) (R.left reader.new) (W.held writer.old) (W.held writer.new) result }
+    ensures called { Called (R.count reader.old) (R.count reader.new) (W.count writer.old) (W.count writer.new) max_turns
+        (R.has_failed reader.new) (W.has_failed writer.new) (R.has_ended reader.new) (R.left reader.new) result }
+{
+    let mut turns = Turns::new(max_turns);
+    let mut buf = [0u8; PIECE];
+    let mut made = Vec::new(alloc);
+    let opening = read_opening(reader, &mut buf, reading.versions, &mut turns)?;
+    let mut splitter = Splitter::new(alloc, reading.limits, opening.version);
+    let mut from = opening.version.line().len();
+    let mut to = opening.len;
+    let mut ended = opening.ended;
+    let mut place = to as u64;
+    'pieces: loop {
+        let end = take_piece(
+            &mut splitter,
+            handler,
+            writer,
+            &mut made,
+            &buf[from..to],
+            &mut turns,
+        )?;
+        if let Some(outcome) = end {
+            return Ok(outcome);
+        }
+        if ended {
+            return finish_run(&splitter, handler, writer, &mut made, place, &mut turns);
+        }
+        from = 0;
+        to = read_piece(reader, &mut buf, &mut turns)?;
+        place = place.saturating_add(to as u64);
+        ended = to == 0;
+    }
 }

@@ -7,11 +7,17 @@
 //! - `outcome`: how a run ends.
 #![tactic(auto)]
 
+mod check;
+mod convert;
 mod engine;
 mod handler;
+mod opening;
 mod outcome;
 mod port;
 mod record;
+mod replay;
+mod serve;
+mod session;
 mod splitter;
 mod stop;
 mod told;

@@ -1,11 +1,11 @@
 //! The records of a log that comes in pieces.
 
-ghost use Rattle.std.specs.Prelude.{◌≡◌, ◌<◌, ◌≤◌, ◌++◌, ◌∷◌, [], ℕ, List, None, false, length, drop, IfOk, IfErr, OnOk, MatchOption};
+ghost use Rattle.std.specs.Prelude.{◌≡◌, ◌↔◌, ◌<◌, ◌≤◌, ◌++◌, ◌∷◌, [], ℕ, List, None, true, false, length, drop, IfOk, IfErr, OnOk, MatchOption};
 ghost use Rattle.lsp_frame.specs.Frame.{Spells};
 ghost use Rattle.lsp_frame.specs.Stream.{IsFrame};
 ghost use Rattle.lsp_replay.specs.Log.{Reading, Record, mark_of};
 ghost use Rattle.lsp_replay.specs.Faults.{IsSplitterFault};
-ghost use Rattle.lsp_replay.specs.Splitting.{IsReady, IsFed, Stands, IsSplitFault, IsOpen, IsSide, log_at, head_of, mark_part};
+ghost use Rattle.lsp_replay.specs.Splitting.{IsReady, IsFed, Stands, IsSplitFault, IsOpen, IsSide, log_at, head_of, held_of, mark_part};
 
 use crate::outcome::EngineFault;
 use crate::record::{Head, Side, Version};
@@ -118,6 +118,24 @@ impl Splitter {
             self.side = first_side(self.version);
             self.line_due = false;
         }
+    }
+
+    /// Is no byte of a record held?
+    pub fn at_rest(&self) -> bool
+        requires { IsReady self.now }
+        ensures { result ≡ true ↔ held_of self.now ≡ [] }
+    {
+        match (self.version, self.side) {
+            (Version::Two, Some(_)) => false,
+            _ => self.framer.at_rest(),
+        }
+    }
+
+    /// Does the line of a version 2 log belong to what comes next?
+    pub fn line_due(&self) -> bool
+        ensures { result ≡ self.now.line_due }
+    {
+        self.line_due
     }
 
     /// What is known of the record that comes in beside its frame.

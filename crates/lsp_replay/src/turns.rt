@@ -48,6 +48,7 @@ pub fn read_piece<R: Source>(
     ensures ended { IfOk result (λ n. R.has_ended reader.new ≡ true ↔ n ≡ 0) }
     ensures at_end { IfOk result (λ n. n ≡ 0 → IsAtEnd (R.left reader.new)) }
     ensures rose { OnOk result (Rose (R.count reader.old) (R.count reader.new)) }
+    ensures less { OnOk result (turns.new.left < turns.old.left) }
     ensures fault { IfErr result (λ fault. (fault ≡ EngineFault.Read) ⊎ (fault ≡ EngineFault.TooManyTurns)) }
     ensures failed { IfErr result (λ fault. fault ≡ EngineFault.Read →
         (R.has_failed reader.new ≡ true) × (R.has_ended reader.new ≡ false) × Rose (R.count reader.old) (R.count reader.new)) }

@@ -1,0 +1,36 @@
+-- A text that is kept with its lines, under batches of changes.
+use Rattle.std.specs.Prelude.{ℕ, ◌≡◌, ◌≤◌, if◌then◌else◌, nat_lt, List, length, encode_utf8_all, Result, Ok, Err}
+use Rattle.std.specs.Str.{chars}
+use Rattle.lsp_edit.specs.declared.fault.EditFault.{EditFault}
+use Rattle.lsp_edit.specs.declared.fault.EditFault.TheVariants as edit
+use Rattle.lsp_edit.specs.declared.fault.Side.{Side}
+use Rattle.lsp_edit.specs.declared.indexed.TextFault.{TextFault}
+use Rattle.lsp_edit.specs.declared.indexed.TextFault.TheVariants.{Edit as EditOf, TooLong, NoMemory}
+use Rattle.lsp_edit.specs.Items.{Item, text_of}
+use Rattle.lsp_edit.specs.Batch.{Edit, Fault, meaning}
+use Rattle.lsp_edit.specs.Canonical.{canonical}
+use Rattle.lsp_edit.specs.Faults.{fault_at}
+use Rattle.lsp_edit.specs.Laws.{IsCanonical}
+
+-- the bytes of the text that items stand for, over a text of these bytes
+abbrev pub bytes_left : List ℕ → List Item → List ℕ
+bytes_left before items = encode_utf8_all (text_of (chars before) items)
+
+-- The bytes that a meaning leaves of a text, if they are at most `max_len`, or why there are none.
+abbrev pub text_within : ℕ → List ℕ → Result (List Item) (ℕ × Fault) → Result (List ℕ) TextFault
+text_within max_len before (Err fault) = Err (EditOf (fault_at fault.0 fault.1))
+text_within max_len before (Ok items) = if nat_lt max_len (length (bytes_left before items)) then Err TooLong else Ok (bytes_left before items)
+
+-- how a fault of a change is told
+abbrev pub told_as : EditFault → TextFault
+told_as (edit.InsideCharacter change side) = EditOf (edit.InsideCharacter change side)
+told_as (edit.ReversedRange change) = EditOf (edit.ReversedRange change)
+told_as edit.NoMemory = NoMemory
+
+-- `answered` is the canonical batch of what `batch` means on the text with these bytes, of which at most `max_len` bytes are left.
+pub record IsCanonicalBatch (units : ℕ → ℕ) (max_len : ℕ) (before : List ℕ) (batch answered : List Edit) : Type 0 where
+  pub items : List Item
+  pub means : meaning units (chars before) batch ≡ Ok items
+  pub within : length (bytes_left before items) ≤ max_len
+  pub is : answered ≡ canonical units (chars before) items
+  pub law : IsCanonical units (chars before) batch items

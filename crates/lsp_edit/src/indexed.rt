@@ -1,0 +1,155 @@
+//! A text that is kept with its lines.
+
+ghost use Rattle.std.specs.Prelude.{◌≡◌, ◌≤◌, ◌⊎◌, IfErr, IfOk, OnErr, OnOk, Err, Ok, length, map, string_bytes, string_len, sum_by};
+ghost use Rattle.std.specs.Str.{chars};
+ghost use Rattle.lsp_text.specs.LineStarts.{Indexes};
+ghost use Rattle.lsp_text.specs.Units.{units_in};
+ghost use Rattle.lsp_edit.specs.declared.indexed.TextFault.TheVariants.{NoMemory};
+ghost use Rattle.lsp_edit.specs.Batch.{meaning};
+ghost use Rattle.lsp_edit.specs.Edited.{Means, edit_of, edited_bytes};
+ghost use Rattle.lsp_edit.specs.Indexed.{IsCanonicalBatch, told_as, text_within};
+
+use crate::change::{Change, MAX_NEW_TEXT};
+use crate::composed::{MAX_OLD_TEXT, compose_over};
+use crate::fault::EditFault;
+use crate::pieces::{MAX_TEXT, Pieces};
+use lsp_text::{Encoding, Lines};
+use std::alloc::{AllocError, Global};
+use std::marker::Model;
+use thiserror::Error;
+
+/// Why a batch of changes leaves a text as it was.
+#[derive(Clone, Copy, Debug, PartialEq, Eq, Error)]
+pub enum TextFault {
+    /// A change has no result: an end of its range lies inside a character, or the range is reversed.
+    #[error("{0}")]
+    Edit(EditFault),
+    /// The text that the batch leaves would be longer than the caller allows.
+    #[error("the text is too long")]
+    TooLong,
+    /// No memory was left.
+    #[error("out of memory")]
+    NoMemory,
+}
+
+impl From<EditFault> for TextFault {
+    ghost from_gives = { λ fault told. told ≡ told_as fault };
+
+    fn from(fault: EditFault) -> TextFault {
+        match fault {
+            EditFault::NoMemory => TextFault::NoMemory,
+            fault => TextFault::Edit(fault),
+        }
+    }
+}
+
+impl From<AllocError> for TextFault {
+    ghost from_gives = { λ _ told. told ≡ NoMemory };
+
+    fn from(_: AllocError) -> TextFault {
+        TextFault::NoMemory
+    }
+}
+
+/// A text that is kept with its lines, so that a change needs no search for them. Clauses see the bytes of the text.
+#[derive(Debug, Drop)]
+pub struct IndexedText {
+    text: String,
+    lines: Lines,
+}
+
+impl Model for IndexedText {
+    ghost use Rattle.std.specs.Prelude.{ℕ, List, string_bytes};
+    ghost use Rattle.lsp_text.specs.LineStarts.{Indexes};
+
+    ghost Value = { List ℕ };
+
+    ghost view = { λ kept. string_bytes kept.text };
+
+    ghost invariant = { λ kept. Indexes kept.lines (string_bytes kept.text) };
+}
+
+impl IndexedText {
+    /// A text with its lines. The text is moved in. Costs a search through it.
+    pub fn new(alloc: Global, text: String) -> Result<Self, AllocError>
+        requires { string_len text ≤ MAX_TEXT }
+        ensures { IfOk result (λ kept. kept ≡ string_bytes text) }
+    {
+        let lines = Lines::new(alloc, &text)?;
+        Ok(IndexedText { text, lines })
+    }
+
+    /// The text.
+    pub fn text(&self) -> &str
+        ensures { result.now ≡ self.now }
+    {
+        &self.text
+    }
+
+    /// The lines of the text.
+    pub fn lines(&self) -> &Lines
+        ensures { Indexes result.now self.now }
+    {
+        &self.lines
+    }
+
+    /// What a batch makes of the text, if it leaves at most `max_len` bytes.
+    fn composed<'a>(
+        &'a self,
+        encoding: Encoding,
+        changes: &'a [Change],
+        max_len: usize,
+    ) -> Result<Pieces<'a>, TextFault>
+        requires size { length self.now ≤ MAX_OLD_TEXT }
+        requires fits { sum_by (λ change. string_len change.text) changes.now ≤ MAX_NEW_TEXT }
+        ensures means { IfOk result (λ pieces. Means (chars self.now) (meaning (units_in encoding) (chars self.now) (map edit_of changes.now)) (length changes.now) pieces) }
+        ensures within { IfOk result (λ pieces. length (edited_bytes pieces) ≤ max_len) }
+        ensures told { IfErr result (λ fault. (fault ≡ NoMemory) ⊎ (text_within max_len self.now (meaning (units_in encoding) (chars self.now) (map edit_of changes.now)) ≡ Err fault)) }
+    {
+        let alloc = *self.text.allocator();
+        let pieces = compose_over(alloc, &self.text, &self.lines, encoding, changes)?;
+        if pieces.text_len() > max_len {
+            return Err(TextFault::TooLong);
+        }
+        Ok(pieces)
+    }
+
+    /// Makes the text what a batch means on it (LSP 3.17, DidChangeTextDocumentParams), if that has at most `max_len` bytes; the texts
+    /// between may have more. The first change that has no result is told. Where anything is refused nothing changes. Costs what each
+    /// change costs to apply, and one copy of the text.
+    pub fn change(
+        &mut self,
+        encoding: Encoding,
+        changes: &[Change],
+        max_len: usize,
+    ) -> Result<(), TextFault>
+        requires size { length self.old ≤ MAX_OLD_TEXT }
+        requires fits { sum_by (λ change. string_len change.text) changes.now ≤ MAX_NEW_TEXT }
+        ensures changed { OnOk result (text_within max_len self.old (meaning (units_in encoding) (chars self.old) (map edit_of changes.now)) ≡ Ok self.new) }
+        ensures same { OnErr result (self.new ≡ self.old) }
+        ensures told { IfErr result (λ fault. (fault ≡ NoMemory) ⊎ (text_within max_len self.old (meaning (units_in encoding) (chars self.old) (map edit_of changes.now)) ≡ Err fault)) }
+    {
+        let pieces = self.composed(encoding, changes, max_len)?;
+        let (text, lines) = pieces.into_text()?;
+        *self = IndexedText { text, lines };
+        Ok(())
+    }
+
+    /// The canonical batch of what a batch means on the text: one change for each gap between kept characters that is changed, from
+    /// the last gap to the first. Refuses as [`IndexedText::change`] does, and changes nothing. Costs what each change costs to apply,
+    /// and one exact position for each end of a changed gap.
+    pub fn canonical(
+        &self,
+        encoding: Encoding,
+        changes: &[Change],
+        max_len: usize,
+    ) -> Result<Vec<Change>, TextFault>
+        requires size { length self.now ≤ MAX_OLD_TEXT }
+        requires fits { sum_by (λ change. string_len change.text) changes.now ≤ MAX_NEW_TEXT }
+        ensures batch { IfOk result (λ made. IsCanonicalBatch (units_in encoding) max_len self.now (map edit_of changes.now) (map edit_of made.items)) }
+        ensures told { IfErr result (λ fault. (fault ≡ NoMemory) ⊎ (text_within max_len self.now (meaning (units_in encoding) (chars self.now) (map edit_of changes.now)) ≡ Err fault)) }
+    {
+        let pieces = self.composed(encoding, changes, max_len)?;
+        Ok(pieces.canonical(encoding)?)
+    }
+}

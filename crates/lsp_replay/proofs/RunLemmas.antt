@@ -1,0 +1,268 @@
+-- A run between two reads, and its end.
+use Rattle.std.proofs.Common.{◌≡◌, ℕ, ◌+◌, ◌-◌, ◌<◌, ◌≤◌, ◌^◌, Bool, true, false, List, [], ◌∷◌, ◌++◌, length, take, drop, Option, Some, None, Result, Ok, Err, refl, sym, ◌∙◌, ap, subst, arith, append_assoc, append-nil, inl, inr, ◌⊎◌, ◌||◌}
+use Rattle.std.specs.Prelude.{min, nat_eq, IfOk, IfErr}
+use Rattle.std.proofs.lemmas.List.{length-append, length-take, drop-take, take-append-drop}
+use Rattle.std.specs.Io.KnownBytes.{Consumes, Appends, Keeps, IsAtEnd}
+use Rattle.std.proofs.KnownBytes.{Appends-nil, Consumes-trans, Consumes-kept}
+use Rattle.lsp_frame.specs.Faults.{place_behind}
+use Rattle.lsp_frame.specs.Frame.{Spells}
+use Rattle.lsp_frame.specs.Header.{lines_bytes}
+use Rattle.lsp_replay.specs.declared.outcome.Outcome.{Outcome}
+use Rattle.lsp_replay.specs.declared.outcome.EngineFault.{EngineFault}
+use Rattle.lsp_replay.specs.declared.outcome.EngineFault.TheVariants.{Read, Write, Frame, Truncated, BodyTooLong, NoMemory, TooManyTurns, BadLog}
+use Rattle.lsp_replay.specs.declared.record.Version.{Version}
+use Rattle.lsp_replay.specs.declared.record.Version.TheVariants.{One, Two}
+use Rattle.lsp_replay.specs.declared.splitter.Splitter.{Splitter}
+use Rattle.lsp_replay.specs.Log.{Reading, Record, Log, IsReadAs, IsVersion, HasNoRecord, line_of, version_line, together, record_bytes, mark_of}
+use Rattle.lsp_replay.specs.Opening.{IsLineFront, IsBelowLine}
+use Rattle.lsp_replay.specs.Splitting.{IsReady, IsOpen, Stands, held_of}
+use Rattle.lsp_replay.specs.Course.{Course}
+use Rattle.lsp_replay.specs.Engine.{Stopped, Reached, Broken, AtEnd, Ran, Called, IsPieceFault, IsRunFault}
+use Rattle.lsp_replay.specs.Progress.{Went, Runs, IsEndFault, BothSpend}
+use Rattle.lsp_replay.specs.Ports.{Rose}
+use Rattle.lsp_replay.specs.Turns.{Spends}
+use Rattle.lsp_replay.proofs.EngineLemmas.{IsQuiet, went_read}
+
+together_more : (version : Version) (rs : List Record) (rest more : List ℕ) → together version rs (rest ++ more) ≡ together version rs rest ++ more
+together_more version [] rest more = refl
+together_more version (q ∷ rs) rest more = ap (λ z. record_bytes version q ++ z) (together_more version rs rest more) ∙ sym (append_assoc (record_bytes version q) (together version rs rest) more)
+
+ended_not : (ended : Bool) → ended ≡ false → ended ≡ true → ⊥
+ended_not ended a b = let two : false ≡ true = sym a ∙ b in cc
+
+-- In the line of version 2 no byte is a return, so no frame begins with some first bytes of it.
+has_return : List ℕ → Bool
+has_return [] = false
+has_return (b ∷ bytes) = nat_eq b 13 || has_return bytes
+
+or_true : (b : Bool) → (b || true) ≡ true
+or_true true = refl
+or_true false = refl
+
+has_in : (xs ys : List ℕ) → has_return (xs ++ (13 ∷ ys)) ≡ true
+unfolding has_return
+has_in [] ys = refl
+has_in (x ∷ xs) ys = ap (λ b. nat_eq x 13 || b) (has_in xs ys) ∙ or_true (nat_eq x 13)
+
+line_has_none : has_return version_line ≡ false
+unfolding has_return
+line_has_none = refl
+
+regroup : (a b c d e : List ℕ) → (((a ++ b) ++ c) ++ d) ++ e ≡ a ++ (b ++ (c ++ (d ++ e)))
+regroup a b c d e = simp append_assoc
+
+no_frame_in_line : (max_body : ℕ) (bytes spelling body more : List ℕ) → IsLineFront bytes → Spells max_body spelling body → bytes ≡ spelling ++ more → ⊥
+no_frame_in_line max_body bytes spelling body more front spells e =
+    let line : version_line ≡ bytes ++ drop (length bytes) version_line =
+    sym (take-append-drop (length bytes) version_line) ∙ ap (λ z. z ++ drop (length bytes) version_line) (sym front.1) in
+    let frame : bytes ≡ ((lines_bytes spells.lines ++ (13 ∷ 10 ∷ [])) ++ body) ++ more = e ∙ ap (λ z. z ++ more) spells.is in
+    let all : version_line ≡ lines_bytes spells.lines ++ (13 ∷ (10 ∷ (body ++ (more ++ drop (length bytes) version_line)))) =
+    line ∙ ap (λ z. z ++ drop (length bytes) version_line) frame ∙ regroup (lines_bytes spells.lines) (13 ∷ 10 ∷ []) body more (drop (length bytes) version_line) in
+    let two : false ≡ true = sym line_has_none ∙ ap has_return all ∙ has_in (lines_bytes spells.lines) (10 ∷ (body ++ (more ++ drop (length bytes) version_line))) in
+    cc
+
+module _ (reading : Reading) (course : List Record → Course) (left held : Option (List ℕ)) where
+  -- at the start
+  pub runs_at_start : (left_now : Option (List ℕ)) (ended : Bool) (len place size : ℕ) (buf : List ℕ) (s : Splitter) (version : Version) → len ≤ length buf → len < 2 ^ 64 → size ≡ length (line_of version) → place ≡ len → s.version ≡ version
+      → Consumes left left_now (take len buf)
+      → ((more : List ℕ) → (ended ≡ true → more ≡ []) → IsVersion reading.versions version (take len buf ++ more))
+      → length (line_of version) ≤ len → take len buf ≡ line_of version ++ drop (length (line_of version)) (take len buf)
+      → ((input more : List ℕ) → IsOpen reading input version more → Stands reading input more [] s)
+      → Runs reading course left held left_now ended place (take (len - size) (drop size buf)) s course held
+  runs_at_start left_now ended len place size buf s version within fits sized placed same read known short front stands =
+      let all : length (take len buf) ≡ len = omega (arith, length-take len buf) in
+      let sum : size + (len - size) ≡ len = omega (arith, sized, short) in
+      let rest : drop size (take (size + (len - size)) buf) ≡ take (len - size) (drop size buf) = drop-take size (len - size) buf in
+      let piece : drop (length (line_of version)) (take len buf) ≡ take (len - size) (drop size buf) =
+      ap (λ n. drop n (take len buf)) (sym sized) ∙ ap (λ n. drop size (take n buf)) (sym sum) ∙ rest in
+      let whole : IsVersion reading.versions version (take len buf) =
+      subst (λ (z : List ℕ). IsVersion reading.versions version z) (append-nil (take len buf)) (known [] (λ _. refl)) in
+      record {
+        input = take len buf;
+        read = read;
+        went = record {
+          records = [];
+          stands = stands (take len buf) (take (len - size) (drop size buf)) (record { known = whole; is = front ∙ ap (λ z. line_of version ++ z) piece });
+          out = [];
+          courses = λ others. refl;
+          wrote = Appends-nil held;
+        };
+        placed = omega (arith, placed, all, fits);
+        sure = λ more last. subst (λ (v : Version). IsVersion reading.versions v (take len buf ++ more)) (sym same) (known more last);
+      }
+
+  -- a piece was taken
+  pub runs_on : (left_now : Option (List ℕ)) (ended : Bool) (place : ℕ) (piece : List ℕ) (s n : Splitter) (now new : List Record → Course) (held_now held_new : Option (List ℕ)) → n.version ≡ s.version
+      → ((input : List ℕ) → Went reading course held input piece s now held_now → Went reading course held input [] n new held_new)
+      → Runs reading course left held left_now ended place piece s now held_now → Runs reading course left held left_now ended place [] n new held_new
+  runs_on left_now ended place piece s n now new held_now held_new same taken r = record {
+    input = r.input;
+    read = r.read;
+    went = taken r.input r.went;
+    placed = r.placed;
+    sure = λ more last. subst (λ (v : Version). IsVersion reading.versions v (r.input ++ more)) (sym same) (r.sure more last);
+  }
+
+  -- more was read
+  pub runs_more : (left_now left_new : Option (List ℕ)) (ended ended_new : Bool) (place place_new n : ℕ) (piece : List ℕ) (s : Splitter) (now : List Record → Course) (held_now : Option (List ℕ)) → ended ≡ false
+      → length piece ≡ n → place_new ≡ min (place + n) (2 ^ 64 - 1) → Consumes left_now left_new piece
+      → Runs reading course left held left_now ended place [] s now held_now → Runs reading course left held left_new ended_new place_new piece s now held_now
+  runs_more left_now left_new ended ended_new place place_new n piece s now held_now open_still len placed read r =
+      let w = r.went in
+      let at = w.stands in
+      let not_ended : (more : List ℕ) → ended ≡ true → more ≡ [] = λ more is. absurd (ended_not ended open_still is) in
+      let version : IsVersion reading.versions s.version (r.input ++ piece) = r.sure piece (not_ended piece) in
+      let sum : length (r.input ++ piece) ≡ length r.input + length piece = length-append r.input piece in
+      let before : held_of s ++ [] ≡ held_of s = append-nil (held_of s) in
+      record {
+        input = r.input ++ piece;
+        read = Consumes-trans left left_now left_new r.input piece r.read read;
+        went = record {
+          records = w.records;
+          stands = record {
+            reads = record {
+              version = version;
+              is = ap (λ z. z ++ piece) at.reads.is ∙ append_assoc (line_of s.version) (together s.version w.records (held_of s ++ [])) piece
+                ∙ ap (λ z. line_of s.version ++ z) (sym (together_more s.version w.records (held_of s ++ []) piece) ∙ ap (λ z. together s.version w.records (z ++ piece)) before);
+              each = at.reads.each;
+            };
+            limit = at.limit;
+            placed = at.placed ∙ ap (place_behind 0) (omega (arith, sum, length-append (held_of s) piece, ap length before));
+            framed = at.framed ∙ ap (place_behind 0) (omega (arith, sum, length-append s.framer.held piece, ap length (append-nil s.framer.held)));
+            part = at.part;
+            one = at.one;
+            side = at.side;
+            due = at.due;
+          };
+          out = w.out;
+          courses = w.courses;
+          wrote = w.wrote;
+        };
+        placed = omega (arith, placed, r.placed, sum, len);
+        sure = λ more last. subst (λ (z : List ℕ). IsVersion reading.versions s.version z) (sym (append_assoc r.input piece more)) (r.sure (piece ++ more) (not_ended (piece ++ more)));
+      }
+
+  -- The run ended.
+  pub ran_stopped : (left_now : Option (List ℕ)) (ended told_end : Bool) (place : ℕ) (piece : List ℕ) (s : Splitter) (now : List Record → Course) (held_now held_new : Option (List ℕ)) (outcome : Outcome)
+      → ((input : List ℕ) → Went reading course held input piece s now held_now → Stopped reading course input held held_new (Ok outcome))
+      → Runs reading course left held left_now ended place piece s now held_now → Ran reading course told_end left left_now held held_new (Ok outcome)
+  ran_stopped left_now ended told_end place piece s now held_now held_new outcome stops r = record { input = r.input; read = r.read; came = inl (stops r.input r.went) }
+
+  pub ran_to_end : (left_now : Option (List ℕ)) (ended told_end : Bool) (place : ℕ) (s : Splitter) (now : List Record → Course) (held_now held_new : Option (List ℕ)) (outcome : Outcome) → told_end ≡ true
+      → ((input : List ℕ) → Went reading course held input [] s now held_now → AtEnd reading course input held held_new outcome)
+      → Runs reading course left held left_now ended place [] s now held_now → Ran reading course told_end left left_now held held_new (Ok outcome)
+  ran_to_end left_now ended told_end place s now held_now held_new outcome told ends r = record { input = r.input; read = r.read; came = inr (told, ends r.input r.went) }
+
+  -- It ended with a fault.
+  piece_fault : (told_end : Bool) (input : List ℕ) (held_new : Option (List ℕ)) (fault : EngineFault) → IsPieceFault reading course input held held_new fault → IsRunFault reading course told_end input held held_new fault
+  piece_fault told_end input held_new Read why = absurd why
+  piece_fault told_end input held_new Write why = inl why
+  piece_fault told_end input held_new (Frame fault) why = why
+  piece_fault told_end input held_new (Truncated place) why = absurd why
+  piece_fault told_end input held_new (BodyTooLong place) why = why
+  piece_fault told_end input held_new NoMemory why = inl why
+  piece_fault told_end input held_new TooManyTurns why = inl why
+  piece_fault told_end input held_new (BadLog place) why = why
+
+  pub ran_into_fault : (left_now : Option (List ℕ)) (ended told_end : Bool) (place : ℕ) (piece : List ℕ) (s : Splitter) (now : List Record → Course) (held_now held_new : Option (List ℕ)) (fault : EngineFault)
+      → ((input : List ℕ) → Went reading course held input piece s now held_now → IsPieceFault reading course input held held_new fault)
+      → Runs reading course left held left_now ended place piece s now held_now → Ran reading course told_end left left_now held held_new (Err fault)
+  ran_into_fault left_now ended told_end place piece s now held_now held_new fault fails r =
+      record { input = r.input; read = r.read; came = piece_fault told_end r.input held_new fault (fails r.input r.went) }
+
+  end_fault : (told_end : Bool) (input : List ℕ) (place : ℕ) (held_new : Option (List ℕ)) (fault : EngineFault) → told_end ≡ true → place ≡ place_behind 0 (length input)
+      → IsEndFault reading course input held held_new place fault → IsRunFault reading course told_end input held held_new fault
+  end_fault told_end input place held_new Read told placed why = absurd why
+  end_fault told_end input place held_new Write told placed why = inr (told, why)
+  end_fault told_end input place held_new (Frame fault) told placed why = absurd why
+  end_fault told_end input place held_new (Truncated at) told placed why = (told, why.0 ∙ placed, why.1)
+  end_fault told_end input place held_new (BodyTooLong at) told placed why = absurd why
+  end_fault told_end input place held_new NoMemory told placed why = inr (told, why)
+  end_fault told_end input place held_new TooManyTurns told placed why = inr (told, why)
+  end_fault told_end input place held_new (BadLog at) told placed why = absurd why
+
+  pub ran_into_end_fault : (left_now : Option (List ℕ)) (ended told_end : Bool) (place : ℕ) (s : Splitter) (now : List Record → Course) (held_now held_new : Option (List ℕ)) (fault : EngineFault) → told_end ≡ true
+      → ((input : List ℕ) → Went reading course held input [] s now held_now → IsEndFault reading course input held held_new place fault)
+      → Runs reading course left held left_now ended place [] s now held_now → Ran reading course told_end left left_now held held_new (Err fault)
+  ran_into_end_fault left_now ended told_end place s now held_now held_new fault told fails r =
+      record { input = r.input; read = r.read; came = end_fault told_end r.input place held_new fault told r.placed (fails r.input r.went) }
+
+  -- No more could be read.
+  read_fault : (told_end : Bool) (input : List ℕ) (held_new : Option (List ℕ)) (fault : EngineFault) → (fault ≡ Read) ⊎ (fault ≡ TooManyTurns)
+      → Reached reading course input held held_new (HasNoRecord reading.max_body) → IsRunFault reading course told_end input held held_new fault
+  read_fault told_end input held_new fault (inl is) reached = subst (IsRunFault reading course told_end input held held_new) (sym is) reached
+  read_fault told_end input held_new fault (inr is) reached =
+      subst (IsRunFault reading course told_end input held held_new) (sym is)
+      (inl (record { log = reached.log; reads = reached.reads; wrote = ((course reached.log.records).out, [], sym (append-nil (course reached.log.records).out), reached.wrote) }))
+
+  pub ran_unread : (left_now left_new : Option (List ℕ)) (ended told_end : Bool) (place : ℕ) (s : Splitter) (now : List Record → Course) (held_now : Option (List ℕ)) (fault : EngineFault) → IsReady s → IsQuiet now
+      → Keeps left_now left_new → (fault ≡ Read) ⊎ (fault ≡ TooManyTurns)
+      → Runs reading course left held left_now ended place [] s now held_now → Ran reading course told_end left left_new held held_now (Err fault)
+  ran_unread left_now left_new ended told_end place s now held_now fault ready quiet kept kind r = record {
+    input = r.input;
+    read = Consumes-kept left left_now left_new r.input r.read kept;
+    came = read_fault told_end r.input held_now fault kind (went_read reading course held r.input s now held_now ready quiet r.went);
+  }
+
+  -- Some first bytes of the line are no log of version 2, and begin no frame.
+  pub ran_unopened : (left_new : Option (List ℕ)) (told_end : Bool) (fault : EngineFault) → IsQuiet course → IsBelowLine left left_new → (fault ≡ Read) ⊎ (fault ≡ TooManyTurns)
+      → Ran reading course told_end left left_new held held (Err fault)
+  ran_unopened left_new told_end fault quiet below kind = record {
+    input = below.0;
+    read = below.2;
+    came = read_fault told_end below.0 held fault kind (record {
+      log = record { version = One; records = []; rest = below.0 };
+      reads = record {
+        version = λ looks more e. omega (arith, ap length e, length-append version_line more, below.1.0);
+        is = refl;
+        each = tt;
+      };
+      rest = λ side spelling body more spells e. no_frame_in_line reading.max_body below.0 spelling body more below.1 spells e;
+      goes_on = quiet.unstopped;
+      wrote = subst (λ (z : List ℕ). Appends held held z) (sym quiet.silent) (Appends-nil held);
+    });
+  }
+
+  pub ran_finished : (left_now : Option (List ℕ)) (ended told_end : Bool) (place : ℕ) (s : Splitter) (now : List Record → Course) (held_now held_new : Option (List ℕ)) (answer : Result Outcome EngineFault) → told_end ≡ true
+      → IfOk answer (λ outcome. (input : List ℕ) → Went reading course held input [] s now held_now → AtEnd reading course input held held_new outcome)
+      → IfErr answer (λ fault. (input : List ℕ) → Went reading course held input [] s now held_now → IsEndFault reading course input held held_new place fault)
+      → Runs reading course left held left_now ended place [] s now held_now → Ran reading course told_end left left_now held held_new answer
+  ran_finished left_now ended told_end place s now held_now held_new (Ok outcome) told ends fails r = ran_to_end left_now ended told_end place s now held_now held_new outcome told ends r
+  ran_finished left_now ended told_end place s now held_now held_new (Err fault) told ends fails r = ran_into_end_fault left_now ended told_end place s now held_now held_new fault told fails r
+
+-- Which calls were made when a fault came.
+pub called_fault : (reads_old reads_new writes_old writes_new allowed turns : ℕ) (read_failed write_failed ended : Bool) (left : Option (List ℕ)) (fault : EngineFault) → BothSpend reads_old reads_new writes_old writes_new allowed turns
+    → (fault ≡ TooManyTurns → turns ≡ 0) → (fault ≡ Read → (read_failed ≡ true) × Rose reads_old reads_new) → (fault ≡ Write → (write_failed ≡ true) × Rose writes_old writes_new)
+    → ((fault ≡ TooManyTurns → ⊥) → ended ≡ true → IsAtEnd left × Rose reads_old reads_new) → Called reads_old reads_new writes_old writes_new allowed read_failed write_failed ended left (Err fault)
+called_fault reads_old reads_new writes_old writes_new allowed turns read_failed write_failed ended left fault spent none read write at_end = record {
+  turns = omega (arith, spent.most);
+  too_many = λ is a b. let same : fault ≡ TooManyTurns = cc in omega (arith, spent.exact a b, none same);
+  read_fault = λ is. let same : fault ≡ Read = cc in read same;
+  write_fault = λ is. let same : fault ≡ Write = cc in write same;
+  at_end = λ other ended_now. at_end (λ is. other (ap Err is)) ended_now;
+}
+
+pub piece_not_read : (reading : Reading) (course : List Record → Course) (input : List ℕ) (old new : Option (List ℕ)) (fault : EngineFault) → IsPieceFault reading course input old new fault → fault ≡ Read → ⊥
+piece_not_read reading course input old new fault why is = subst (IsPieceFault reading course input old new) is why
+
+-- the calls of the writer
+pub both_writes : (reads_old reads_new writes_old writes_now writes_new allowed turns left : ℕ) → BothSpend reads_old reads_new writes_old writes_now allowed turns → Spends writes_now writes_new turns left
+    → BothSpend reads_old reads_new writes_old writes_new allowed left
+both_writes reads_old reads_new writes_old writes_now writes_new allowed turns left both more = record {
+  within = omega (arith, both.within, more.within);
+  reads = both.reads;
+  writes = omega (arith, both.writes, more.least);
+  most = omega (arith, both.most, more.most);
+  exact = λ a b. omega (arith, a, b, both.exact, more.exact, more.least);
+}
+
+-- and of the reader
+pub both_reads : (reads_old reads_now reads_new writes_old writes_new allowed turns left : ℕ) → BothSpend reads_old reads_now writes_old writes_new allowed turns → Spends reads_now reads_new turns left
+    → BothSpend reads_old reads_new writes_old writes_new allowed left
+both_reads reads_old reads_now reads_new writes_old writes_new allowed turns left both more = record {
+  within = omega (arith, both.within, more.within);
+  reads = omega (arith, both.reads, more.least);
+  writes = both.writes;
+  most = omega (arith, both.most, more.most);
+  exact = λ a b. omega (arith, a, b, both.exact, more.exact, more.least);
+}

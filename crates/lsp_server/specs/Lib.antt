@@ -1,0 +1,5 @@
+pub mod Incoming
+pub mod Choice
+pub mod Answer
+pub mod Step
+pub mod Seen

@@ -1,0 +1,138 @@
+-- One step of a session (LSP 3.17, Base Protocol, Server lifecycle, Text Document Synchronization): what a server answers to a body, and
+-- what it is afterwards.
+use Rattle.std.specs.Prelude.{List, [], map, option_map, unwrap_or, Option, Some, None, Result, Ok, Err}
+use Rattle.std.specs.Str.{chars}
+use Rattle.lsp_text.specs.declared.encoding.Encoding.{Encoding}
+use Rattle.lsp_text.specs.declared.encoding.Encoding.TheVariants.{Utf16}
+use Rattle.lsp_edit.specs.Batch.{Edit}
+use Rattle.lsp_message.specs.declared.agreement.Offers.{Offers}
+use Rattle.lsp_message.specs.declared.outgoing.ErrorCode.{ErrorCode}
+use Rattle.lsp_message.specs.declared.outgoing.ErrorCode.TheVariants.{ParseError, InvalidRequest, MethodNotFound, InvalidParams, ServerNotInitialized}
+use Rattle.lsp_message.specs.Message.{IdData, Reading}
+use Rattle.lsp_message.specs.Outgoing.{OutgoingData, initialize_result, shutdown_result, error_reply}
+use Rattle.lsp_message.specs.Params.{OpenData, EditData, ChangeData, CloseData}
+use Rattle.lsp_store.specs.Faults.{fault_of}
+use Rattle.lsp_store.specs.Table as table
+use Rattle.lsp_store.specs.Table.{Entry, Command, opens, changes, closes, after_command}
+use Rattle.lsp_server.specs.declared.answer.Refusal.TheVariants.{InvalidParams as params_invalid, Store}
+use Rattle.lsp_server.specs.declared.config.Config.{Config}
+use Rattle.lsp_server.specs.declared.phase.Phase.{Phase}
+use Rattle.lsp_server.specs.declared.phase.Phase.TheVariants.{New, Running, Down, Ended}
+use Rattle.lsp_server.specs.Answer.{AnswerData, reply, changed, dropped, ignored, already_ended, refused, exits}
+use Rattle.lsp_server.specs.Choice.{chosen, kind_of}
+use Rattle.lsp_server.specs.Incoming.{IncomingData, not_json, not_a_message, response, initialize, shutdown, other_request, exit, did_open, did_change, did_close, other_notification, asked}
+
+-- A server: how it was set up, where its session stands, the encoding that was chosen, if one was, and the open documents.
+pub record State : Type 0 where
+  pub config : Config
+  pub phase : Phase
+  pub encoding : Option Encoding
+  pub table : List Entry
+
+pub record Step : Type 0 where
+  pub answer : AnswerData OutgoingData
+  pub state : State
+
+-- A new server.
+abbrev pub start : Config → State
+start config = record { config = config; phase = New; encoding = None; table = [] }
+
+-- ---- what a step may do
+
+-- It answers and changes nothing.
+abbrev pub stays : State → AnswerData OutgoingData → Step
+stays s answer = record { answer = answer; state = s }
+
+abbrev pub fails : State → Option IdData → ErrorCode → Step
+fails s id error = stays s (reply (error_reply id error))
+
+-- The session goes on to another phase.
+abbrev pub goes : State → Phase → AnswerData OutgoingData → Step
+goes s phase answer = record { answer = answer; state = record s { phase = phase } }
+
+-- The session begins, in the encoding that is chosen among those that are offered.
+abbrev pub begins_in : State → IdData → Encoding → Step
+begins_in s id encoding =
+    record { answer = reply (initialize_result id encoding (kind_of s.config.sync)); state = record s { phase = Running; encoding = Some encoding } }
+
+abbrev pub begins : State → IdData → Offers → Step
+begins s id offers = begins_in s id (chosen s.config.choice offers)
+
+-- A command is done on the open documents, or refused.
+abbrev pub obeyed : State → Result (List Entry) table.Refusal → Step
+obeyed s (Ok next) = record { answer = changed; state = record s { table = next } }
+obeyed s (Err refusal) = stays s (refused (Store (fault_of refusal)))
+
+abbrev pub obeys : State → Command → Step
+obeys s command = obeyed s (after_command s.config.limits s.table command)
+
+-- ---- commands
+
+abbrev pub open_command : OpenData → Command
+open_command p = opens (record { uri = p.uri; language = p.language; version = p.version; text = p.text })
+
+abbrev pub edit_of : EditData → Edit
+edit_of e = record { range = e.range; text = chars e.text }
+
+-- Changes count in the encoding that was chosen. (Before one was, there are none; UTF-16 is the protocol's default.)
+abbrev pub encoding_of : State → Encoding
+encoding_of s = unwrap_or s.encoding Utf16
+
+abbrev pub change_command : State → ChangeData → Command
+change_command s p = changes p.uri p.version (encoding_of s) (map edit_of p.changes)
+
+abbrev pub close_command : CloseData → Command
+close_command p = closes p.uri
+
+-- From now on changes count in this encoding; before one was chosen nothing changes.
+abbrev pub settled : State → Encoding → State
+settled s encoding = record s { encoding = option_map (λ _. encoding) s.encoding }
+
+-- ---- the table of steps: the first row that fits decides
+
+abbrev pub step_in : Phase → State → IncomingData → Step
+-- After `exit` nothing is answered any more.
+step_in Ended s m = stays s already_ended
+-- A body that is no JSON, or JSON and no message, gets an error reply at any time (Response Message).
+step_in phase s not_json = fails s None ParseError
+step_in phase s (not_a_message id) = fails s id InvalidRequest
+-- The server asks nothing, so it ignores answers.
+step_in phase s (response id outcome) = stays s ignored
+-- `exit` ends the session: with status 0 after `shutdown`, else with 1 (Exit Notification).
+step_in Down s exit = goes s Ended (exits 0)
+step_in phase s exit = goes s Ended (exits 1)
+-- `initialize` begins the session, if its parameters are read (Initialize Request).
+step_in New s (initialize id None) = fails s (Some id) InvalidParams
+step_in New s (initialize id (Some offers)) = begins s id offers
+-- Before it any other request is an error, and notifications are dropped (Initialize Request).
+step_in New s (shutdown id) = fails s (Some id) ServerNotInitialized
+step_in New s (other_request id method params) = fails s (Some id) ServerNotInitialized
+step_in New s notification = stays s dropped
+-- `initialize` may come only once (Initialize Request).
+step_in Running s (initialize id offers) = fails s (Some id) InvalidRequest
+-- `shutdown` is answered, and from then on only `exit` is waited for (Shutdown Request).
+step_in Running s (shutdown id) = goes s Down (reply (shutdown_result id))
+-- No other request is known.
+step_in Running s (other_request id method params) = fails s (Some id) MethodNotFound
+-- The document notifications are taken whether or not `initialized` came (DidOpen, DidChange, DidClose Text Document Notification).
+step_in Running s (did_open (Some p)) = obeys s (open_command p)
+step_in Running s (did_change (Some p)) = obeys s (change_command s p)
+step_in Running s (did_close (Some p)) = obeys s (close_command p)
+step_in Running s (did_open None) = stays s (refused params_invalid)
+step_in Running s (did_change None) = stays s (refused params_invalid)
+step_in Running s (did_close None) = stays s (refused params_invalid)
+-- Any other notification is ignored, those that may be ignored by their name (`$/`) too.
+step_in Running s (other_notification method params) = stays s ignored
+-- After `shutdown` requests are errors, and notifications are dropped (Shutdown Request).
+step_in Down s (initialize id offers) = fails s (Some id) InvalidRequest
+step_in Down s (shutdown id) = fails s (Some id) InvalidRequest
+step_in Down s (other_request id method params) = fails s (Some id) InvalidRequest
+step_in Down s notification = stays s dropped
+
+-- What a server answers to what is asked of it, and what it is afterwards.
+abbrev pub step_on : State → IncomingData → Step
+step_on s m = step_in s.phase s m
+
+-- What a server answers to a body, and what it is afterwards, by what the body is read as.
+abbrev pub step : State → Reading → Step
+step s body = step_on s (asked body)

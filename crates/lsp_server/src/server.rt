@@ -1,0 +1,346 @@
+//! A session's server end: one body in, one answer out.
+
+ghost use Rattle.std.specs.Prelude.{◌≡◌, ◌≢◌, ◌↔◌, ℕ, List, Option, None, Some, Ok, Err, IfOk, IfErr, OnOk, OnErr, IfSome, IsSome, IsErrOf, option_map};
+ghost use Rattle.serde_json.specs.Data.{Data};
+ghost use Rattle.lsp_frame.specs.Frame.{frame};
+ghost use Rattle.lsp_message.specs.Message.{reading};
+ghost use Rattle.lsp_message.specs.Outgoing.{shutdown_result, error_reply, body_of};
+ghost use Rattle.lsp_message.specs.Seen.{id_view, outgoing_view, open_view, change_view, close_view};
+ghost use Rattle.lsp_store.specs.declared.fault.StoreFault.TheVariants.{NoMemory};
+ghost use Rattle.lsp_server.specs.declared.phase.Phase.TheVariants.{Running, Down, Ended};
+ghost use Rattle.lsp_server.specs.Answer.{reply, sent, as_sent};
+ghost use Rattle.lsp_server.specs.Step.{start, settled, step, step_on, begins, obeys, open_command, change_command, close_command};
+ghost use Rattle.lsp_server.specs.Incoming.{initialize, shutdown, other_request, exit, did_open, did_change, did_close, other_notification};
+ghost use Rattle.lsp_server.specs.Seen.{incoming_view, answer_view};
+
+use crate::answer::{Answer, Refusal, ServerFault};
+use crate::config::{Config, EncodingChoice, Sync};
+use crate::incoming::Incoming;
+use crate::phase::Phase;
+use lsp_frame::frame;
+use lsp_message::{ChangeParams, CloseParams, ErrorCode, Id, Offers, OpenParams, Outgoing, write};
+use lsp_store::{Store, StoreFault};
+use lsp_text::Encoding;
+use std::alloc::{AllocError, Global};
+use std::marker::Model;
+
+/// The server's end of one session. Clauses see how it was set up, where the session stands, the encoding that was chosen, and the open
+/// documents.
+#[derive(Drop)]
+pub struct Server {
+    alloc: Global,
+    choice: EncodingChoice,
+    sync: Sync,
+    phase: Phase,
+    encoding: Option<Encoding>,
+    store: Store,
+}
+
+impl Model for Server {
+    ghost use Rattle.std.specs.Prelude.{◌≡◌, IsSome};
+    ghost use Rattle.lsp_server.specs.declared.phase.Phase.TheVariants.{Running};
+    ghost use Rattle.lsp_server.specs.Step.{State};
+
+    ghost Value = { State };
+
+    ghost view = { λ s. record { config = record { limits = s.store.limits; choice = s.choice; sync = s.sync }; phase = s.phase; encoding = s.encoding; table = s.store.table } };
+
+    ghost invariant = { λ s. s.phase ≡ Running → IsSome s.encoding };
+}
+
+impl Server {
+    /// At the start of a session. Takes no memory.
+    pub fn new(alloc: Global, config: Config) -> Server
+        ensures { result ≡ start config }
+    {
+        let Config {
+            limits,
+            choice,
+            sync,
+        } = config;
+        Server {
+            alloc,
+            choice,
+            sync,
+            phase: Phase::New,
+            encoding: None,
+            store: Store::new(alloc, limits),
+        }
+    }
+
+    /// Where the session stands.
+    pub fn phase(&self) -> Phase
+        ensures { result ≡ self.now.phase }
+    {
+        self.phase
+    }
+
+    /// The open documents.
+    pub fn store(&self) -> &Store
+        ensures { result.now ≡ record { limits = self.now.config.limits; table = self.now.table } }
+    {
+        &self.store
+    }
+
+    /// The encoding of positions, from an accepted `initialize` on.
+    pub fn encoding(&self) -> Option<Encoding>
+        ensures value { result ≡ self.now.encoding }
+        ensures running { self.now.phase ≡ Running → IsSome result }
+    {
+        self.encoding
+    }
+
+    pub fn handle(&mut self, body: &[u8]) -> Result<Answer, ServerFault>
+        ensures answer { IfOk result (λ a. answer_view a ≡ as_sent (step self.old (reading body.now)).answer) }
+        ensures state { OnOk result (self.new ≡ (step self.old (reading body.now)).state) }
+        ensures same { OnErr result (self.new ≡ self.old) }
+        ensures ended { IsErrOf result ServerFault.AlreadyEnded ↔ (self.old.phase ≡ Ended) }
+    {
+        if self.phase == Phase::Ended {
+            return Err(ServerFault::AlreadyEnded);
+        }
+        let incoming = Incoming::read(self.alloc, body)?;
+        self.take(incoming)
+    }
+
+    pub fn take(&mut self, incoming: Incoming) -> Result<Answer, ServerFault>
+        ensures answer { IfOk result (λ a. answer_view a ≡ as_sent (step_on self.old (incoming_view incoming)).answer) }
+        ensures state { OnOk result (self.new ≡ (step_on self.old (incoming_view incoming)).state) }
+        ensures same { OnErr result (self.new ≡ self.old) }
+        ensures ended { IsErrOf result ServerFault.AlreadyEnded ↔ (self.old.phase ≡ Ended) }
+    {
+        if self.phase == Phase::Ended {
+            return Err(ServerFault::AlreadyEnded);
+        }
+        Ok(self.answer(incoming)?)
+    }
+
+    fn answer(&mut self, incoming: Incoming) -> Result<Answer, AllocError>
+        requires { self.old.phase ≢ Ended }
+        ensures answer { IfOk result (λ a. answer_view a ≡ as_sent (step_on self.old (incoming_view incoming)).answer) }
+        ensures state { OnOk result (self.new ≡ (step_on self.old (incoming_view incoming)).state) }
+        ensures same { OnErr result (self.new ≡ self.old) }
+    {
+        match incoming {
+            Incoming::NotJson => self.fail(None, ErrorCode::ParseError),
+            Incoming::NotAMessage { id } => self.fail(id, ErrorCode::InvalidRequest),
+            Incoming::Response { .. } => Ok(Answer::Ignored),
+            Incoming::Initialize { id, offers } => self.initialize(id, offers),
+            Incoming::Shutdown { id } => self.shutdown(id),
+            Incoming::OtherRequest { id, .. } => self.other_request(id),
+            Incoming::Exit => Ok(self.exit()),
+            Incoming::DidOpen(params) => self.did_open(params),
+            Incoming::DidChange(params) => self.did_change(params),
+            Incoming::DidClose(params) => self.did_close(params),
+            Incoming::OtherNotification { .. } => Ok(self.other_notification()),
+        }
+    }
+
+    /// An error reply, which changes nothing.
+    fn fail(&self, id: Option<Id>, error: ErrorCode) -> Result<Answer, AllocError>
+        ensures { IfOk result (λ a. answer_view a ≡ reply (sent (error_reply (option_map id_view id) error))) }
+    {
+        let frame = framed(self.alloc, &Outgoing::ErrorReply { id, error })?;
+        Ok(Answer::Reply {
+            frame,
+            code: Some(error),
+        })
+    }
+
+    fn initialize(&mut self, id: Id, offers: Option<Offers>) -> Result<Answer, AllocError>
+        requires { self.old.phase ≢ Ended }
+        ensures answer { IfOk result (λ a. answer_view a ≡ as_sent (step_on self.old (initialize (id_view id) offers)).answer) }
+        ensures state { OnOk result (self.new ≡ (step_on self.old (initialize (id_view id) offers)).state) }
+        ensures same { OnErr result (self.new ≡ self.old) }
+    {
+        match self.phase {
+            Phase::New => match offers {
+                Some(offers) => self.begin(id, offers),
+                None => self.fail(Some(id), ErrorCode::InvalidParams),
+            },
+            _ => self.fail(Some(id), ErrorCode::InvalidRequest),
+        }
+    }
+
+    fn begin(&mut self, id: Id, offers: Offers) -> Result<Answer, AllocError>
+        ensures answer { IfOk result (λ a. answer_view a ≡ as_sent (begins self.old (id_view id) offers).answer) }
+        ensures state { OnOk result (self.new ≡ (begins self.old (id_view id) offers).state) }
+        ensures same { OnErr result (self.new ≡ self.old) }
+    {
+        let encoding = self.choice.chosen(offers);
+        let accepted = Outgoing::InitializeResult {
+            id,
+            encoding,
+            kind: self.sync.kind(),
+        };
+        let frame = framed(self.alloc, &accepted)?;
+        self.phase = Phase::Running;
+        self.encoding = Some(encoding);
+        Ok(Answer::Reply { frame, code: None })
+    }
+
+    fn shutdown(&mut self, id: Id) -> Result<Answer, AllocError>
+        requires { self.old.phase ≢ Ended }
+        ensures answer { IfOk result (λ a. answer_view a ≡ as_sent (step_on self.old (shutdown (id_view id))).answer) }
+        ensures state { OnOk result (self.new ≡ (step_on self.old (shutdown (id_view id))).state) }
+        ensures same { OnErr result (self.new ≡ self.old) }
+    {
+        match self.phase {
+            Phase::New => self.fail(Some(id), ErrorCode::ServerNotInitialized),
+            Phase::Running => {
+                let frame = framed(self.alloc, &Outgoing::ShutdownResult { id })?;
+                self.phase = Phase::Down;
+                Ok(Answer::Reply { frame, code: None })
+            }
+            Phase::Down | Phase::Ended => self.fail(Some(id), ErrorCode::InvalidRequest),
+        }
+    }
+
+    fn other_request(&self, id: Id) -> Result<Answer, AllocError>
+        requires { self.now.phase ≢ Ended }
+        ensures answer { (method : List ℕ) (params : Option Data) → IfOk result (λ a. answer_view a ≡ as_sent (step_on self.now (other_request (id_view id) method params)).answer) }
+        ensures state { (method : List ℕ) (params : Option Data) → (step_on self.now (other_request (id_view id) method params)).state ≡ self.now }
+    {
+        let error = match self.phase {
+            Phase::New => ErrorCode::ServerNotInitialized,
+            Phase::Running => ErrorCode::MethodNotFound,
+            Phase::Down | Phase::Ended => ErrorCode::InvalidRequest,
+        };
+        self.fail(Some(id), error)
+    }
+
+    fn exit(&mut self) -> Answer
+        requires { self.old.phase ≢ Ended }
+        ensures answer { answer_view result ≡ as_sent (step_on self.old exit).answer }
+        ensures state { self.new ≡ (step_on self.old exit).state }
+    {
+        let status = match self.phase {
+            Phase::Down => 0,
+            _ => 1,
+        };
+        self.phase = Phase::Ended;
+        Answer::Exit(status)
+    }
+
+    fn did_open(&mut self, params: Option<OpenParams>) -> Result<Answer, AllocError>
+        requires { self.old.phase ≢ Ended }
+        ensures answer { IfOk result (λ a. answer_view a ≡ as_sent (step_on self.old (did_open (option_map open_view params))).answer) }
+        ensures state { OnOk result (self.new ≡ (step_on self.old (did_open (option_map open_view params))).state) }
+        ensures same { OnErr result (self.new ≡ self.old) }
+    {
+        if self.phase != Phase::Running {
+            return Ok(Answer::Dropped);
+        }
+        let Some(params) = params else {
+            return Ok(Answer::Refused(Refusal::InvalidParams));
+        };
+        self.open(params)
+    }
+
+    fn open(&mut self, params: OpenParams) -> Result<Answer, AllocError>
+        ensures answer { IfOk result (λ a. answer_view a ≡ as_sent (obeys self.old (open_command (open_view params))).answer) }
+        ensures state { OnOk result (self.new ≡ (obeys self.old (open_command (open_view params))).state) }
+        ensures same { OnErr result (self.new ≡ self.old) }
+    {
+        let OpenParams {
+            uri,
+            language,
+            version,
+            text,
+        } = params;
+        answer_of(self.store.open(uri, language, version, text))
+    }
+
+    fn did_change(&mut self, params: Option<ChangeParams>) -> Result<Answer, AllocError>
+        requires { self.old.phase ≢ Ended }
+        ensures answer { IfOk result (λ a. answer_view a ≡ as_sent (step_on self.old (did_change (option_map change_view params))).answer) }
+        ensures state { OnOk result (self.new ≡ (step_on self.old (did_change (option_map change_view params))).state) }
+        ensures same { OnErr result (self.new ≡ self.old) }
+    {
+        if self.phase != Phase::Running {
+            return Ok(Answer::Dropped);
+        }
+        let Some(params) = params else {
+            return Ok(Answer::Refused(Refusal::InvalidParams));
+        };
+        self.change(params)
+    }
+
+    fn change(&mut self, params: ChangeParams) -> Result<Answer, AllocError>
+        ensures answer { IfOk result (λ a. answer_view a ≡ as_sent (obeys self.old (change_command self.old (change_view params))).answer) }
+        ensures state { OnOk result (self.new ≡ (obeys self.old (change_command self.old (change_view params))).state) }
+        ensures same { OnErr result (self.new ≡ self.old) }
+    {
+        let encoding = self.encoding.unwrap_or(Encoding::Utf16);
+        let ChangeParams {
+            uri,
+            version,
+            changes,
+        } = params;
+        answer_of(self.store.change(&uri, version, encoding, &changes))
+    }
+
+    fn did_close(&mut self, params: Option<CloseParams>) -> Result<Answer, AllocError>
+        requires { self.old.phase ≢ Ended }
+        ensures answer { IfOk result (λ a. answer_view a ≡ as_sent (step_on self.old (did_close (option_map close_view params))).answer) }
+        ensures state { OnOk result (self.new ≡ (step_on self.old (did_close (option_map close_view params))).state) }
+        ensures same { OnErr result (self.new ≡ self.old) }
+    {
+        if self.phase != Phase::Running {
+            return Ok(Answer::Dropped);
+        }
+        let Some(params) = params else {
+            return Ok(Answer::Refused(Refusal::InvalidParams));
+        };
+        self.close(params)
+    }
+
+    fn close(&mut self, params: CloseParams) -> Result<Answer, AllocError>
+        ensures answer { IfOk result (λ a. answer_view a ≡ as_sent (obeys self.old (close_command (close_view params))).answer) }
+        ensures state { OnOk result (self.new ≡ (obeys self.old (close_command (close_view params))).state) }
+        ensures same { OnErr result (self.new ≡ self.old) }
+    {
+        answer_of(self.store.close(&params.uri))
+    }
+
+    fn other_notification(&self) -> Answer
+        requires { self.now.phase ≢ Ended }
+        ensures answer { (method : List ℕ) (params : Option Data) → answer_view result ≡ as_sent (step_on self.now (other_notification method params)).answer }
+        ensures state { (method : List ℕ) (params : Option Data) → (step_on self.now (other_notification method params)).state ≡ self.now }
+    {
+        match self.phase {
+            Phase::Running => Answer::Ignored,
+            _ => Answer::Dropped,
+        }
+    }
+
+    /// From now on changes are counted in this encoding; before an accepted `initialize` nothing changes.
+    pub fn settle(&mut self, encoding: Encoding)
+        ensures { self.new ≡ settled self.old encoding }
+    {
+        if self.encoding.is_some() {
+            self.encoding = Some(encoding);
+        }
+    }
+}
+
+/// How a command on the store went, as an answer.
+fn answer_of(outcome: Result<(), StoreFault>) -> Result<Answer, AllocError>
+    ensures changed { OnOk outcome (result ≡ Ok Answer.Changed) }
+    ensures refused { IfErr outcome (λ fault. IfOk result (λ a. (fault ≢ NoMemory) × (a ≡ Answer.Refused (Refusal.Store fault)))) }
+    ensures memory { OnErr result (outcome ≡ Err StoreFault.NoMemory) }
+{
+    match outcome {
+        Ok(()) => Ok(Answer::Changed),
+        Err(StoreFault::NoMemory) => Err(AllocError),
+        Err(fault) => Ok(Answer::Refused(Refusal::Store(fault))),
+    }
+}
+
+/// The frame of a reply.
+fn framed(alloc: Global, message: &Outgoing) -> Result<Vec<u8>, AllocError>
+    ensures { IfOk result (λ bytes. bytes.items ≡ frame (body_of (outgoing_view message.now))) }
+{
+    let body = write(alloc, message)?;
+    frame(alloc, &body)
+}

@@ -1,0 +1,113 @@
+-- Which refusal of a batch stands first.
+use Rattle.std.proofs.Common.{◌≡◌, ◌≤◌, ◌+◌, ℕ, ℤ, Bool, true, false, ◌||◌, nat_lt, int_le, List, [], ◌∷◌, length, map, sum_by, string_bytes, string_len, encode_utf8_all, Option, Some, None, option_map, Result, Ok, Err, refl, sym, ap, ◌∙◌, arith, ◌<◌, ◌↔◌, IsTrue, ◌⊎◌, ⊎_elim, inl, inr}
+use Rattle.std.proofs.lemmas.Bool.{lt-ltb, le-ltb, or_left, or_right, or_from, cases_lt, cases_Bool, true≢false, ltb-false}
+use Rattle.std.proofs.lemmas.List.{length-map}
+use Rattle.std.proofs.lemmas.List.Sums.{sum_by-cons}
+use Rattle.std.proofs.lemmas.Str.{IsUtf8-string_bytes, encodes-chars}
+use Rattle.std.specs.Str.{chars}
+use Rattle.lsp_frame.specs.Limits.{Bounds}
+use Rattle.lsp_edit.specs.declared.change.Change.{Change}
+use Rattle.lsp_edit.specs.declared.indexed.TextFault.{TextFault}
+use Rattle.lsp_edit.specs.declared.indexed.TextFault.TheVariants as text
+use Rattle.lsp_edit.specs.Items.{Item}
+use Rattle.lsp_edit.specs.Faults.{fault_at}
+use Rattle.lsp_edit.specs.Indexed.{bytes_left, text_within}
+use Rattle.lsp_edit.specs.Batch.{Edit, Fault, meaning}
+use Rattle.lsp_edit.specs.Edited.{edit_of}
+use Rattle.lsp_store.specs.declared.fault.StoreFault.TheVariants.{TooManyChanges, NoMemory}
+use Rattle.lsp_store.specs.Faults.{fault_of, told_as, IsRefusal}
+use Rattle.lsp_store.specs.Table.{Entry, Refusal, stale_version, too_many_changes, batch_bytes, greatest_batch, entry_refusal, meaning_refusal, meant_text}
+
+-- the changes of a batch have together so many bytes
+pub batch_bytes-changes : (changes : List Change) → batch_bytes (map edit_of changes) ≡ sum_by (λ change. string_len change.text) changes
+batch_bytes-changes [] = refl
+batch_bytes-changes (c ∷ cs) =
+    sum_by-cons (λ (e : Edit). length (encode_utf8_all e.text)) (edit_of c) (map edit_of cs)
+    ∙ (ap (λ n. n + batch_bytes (map edit_of cs)) (ap length (encodes-chars (string_bytes c.text) (IsUtf8-string_bytes c.text)) ∙ sym c.text.bytes.ok.0)
+    ∙ (ap (λ n. string_len c.text + n) (batch_bytes-changes cs) ∙ sym (sum_by-cons (λ (c : Change). string_len c.text) c cs)))
+
+module _ (limits : Bounds) (units : ℕ → ℕ) (entry : Entry) (version : ℤ) (batch : List Edit) (newer : int_le version entry.version ≡ false) where
+  pub refused_many : (nat_lt limits.max_changes (length batch) || nat_lt greatest_batch (batch_bytes batch)) ≡ true → entry_refusal limits units entry version batch ≡ Some too_many_changes
+  refused_many many = rw (newer, many) refl
+
+  pub refused_meaning : (nat_lt limits.max_changes (length batch) || nat_lt greatest_batch (batch_bytes batch)) ≡ false → entry_refusal limits units entry version batch ≡ meaning_refusal limits entry.text (meaning units (chars entry.text) batch)
+  refused_meaning few = rw (newer, few) refl
+
+-- ---- the same, of the changes that a call was given
+
+abbrev too_much : Bounds → List Edit → Bool
+too_much limits batch = nat_lt limits.max_changes (length batch) || nat_lt greatest_batch (batch_bytes batch)
+
+module _ (limits : Bounds) (changes : List Change) where
+  many_told : limits.max_changes < length changes → too_much limits (map edit_of changes) ≡ true
+  many_told many = or_left _ _ (lt-ltb limits.max_changes (length (map edit_of changes)) (omega (arith, many, length-map changes edit_of)))
+
+  long_told : 1073741824 < sum_by (λ change. string_len change.text) changes → too_much limits (map edit_of changes) ≡ true
+  long_told long = or_right (nat_lt limits.max_changes (length (map edit_of changes))) _ (lt-ltb greatest_batch (batch_bytes (map edit_of changes)) (omega (arith, long, batch_bytes-changes changes)))
+
+  fit_told : length changes ≤ limits.max_changes → sum_by (λ change. string_len change.text) changes ≤ 1073741824 → too_much limits (map edit_of changes) ≡ false
+  fit_told few fits =
+      or_from _ _ (le-ltb limits.max_changes (length (map edit_of changes)) (omega (arith, few, length-map changes edit_of)))
+      (le-ltb greatest_batch (batch_bytes (map edit_of changes)) (omega (arith, fits, batch_bytes-changes changes)))
+
+  module _ (units : ℕ → ℕ) (entry : Entry) (version given held : ℤ) (given_is : given ≡ version) (held_is : held ≡ entry.version) (newer : int_le given held ≡ false) where
+    pub many_refused : limits.max_changes < length changes → option_map fault_of (entry_refusal limits units entry version (map edit_of changes)) ≡ Some TooManyChanges
+    many_refused many = ap (option_map fault_of) (refused_many limits units entry version (map edit_of changes) (rw (given_is, held_is) at newer) (many_told many))
+
+    over : (fits : Bool) → (IsTrue fits ↔ (sum_by (λ change. string_len change.text) changes ≤ 1073741824)) → fits ≡ false → 1073741824 < sum_by (λ change. string_len change.text) changes
+    over fits is not =
+        ⊎_elim (λ (above : 1073741824 < sum_by (λ change. string_len change.text) changes). above)
+        (λ (within : sum_by (λ change. string_len change.text) changes ≤ 1073741824). absurd (true≢false (sym (is.1 within) ∙ not)))
+        (cases_lt 1073741824 (sum_by (λ change. string_len change.text) changes))
+
+    pub long_refused : (fits : Bool) → (IsTrue fits ↔ (sum_by (λ change. string_len change.text) changes ≤ 1073741824)) → fits ≡ false → option_map fault_of (entry_refusal limits units entry version (map edit_of changes)) ≡ Some TooManyChanges
+    long_refused fits is not = ap (option_map fault_of) (refused_many limits units entry version (map edit_of changes) (rw (given_is, held_is) at newer) (long_told (over fits is not)))
+
+    pub fit_accepted : length changes ≤ limits.max_changes → sum_by (λ change. string_len change.text) changes ≤ 1073741824
+        → entry_refusal limits units entry version (map edit_of changes) ≡ meaning_refusal limits entry.text (meaning units (chars entry.text) (map edit_of changes))
+    fit_accepted few fits = refused_meaning limits units entry version (map edit_of changes) (rw (given_is, held_is) at newer) (fit_told few fits)
+
+-- ---- what a batch means on a text, within the limit
+
+module _ (limits : Bounds) (before : List ℕ) where
+  pub meaning_accepted : (meant : Result (List Item) (ℕ × Fault)) (bytes : List ℕ) → text_within limits.max_text before meant ≡ Ok bytes → (meaning_refusal limits before meant ≡ None) × (meant_text before meant ≡ bytes)
+  meaning_accepted (Err fault) bytes is = let bad : ◌≡◌ {A = Result (List ℕ) TextFault} (Err (text.Edit (fault_at fault.0 fault.1))) (Ok bytes) = is in absurd (cc)
+  meaning_accepted (Ok items) bytes is =
+      ⊎_elim
+      (λ (above : nat_lt limits.max_text (length (bytes_left before items)) ≡ true).
+      let bad : ◌≡◌ {A = Result (List ℕ) TextFault} (Err text.TooLong) (Ok bytes) = rw above at is in absurd (cc))
+      (λ (within : nat_lt limits.max_text (length (bytes_left before items)) ≡ false).
+      let same : ◌≡◌ {A = Result (List ℕ) TextFault} (Ok (bytes_left before items)) (Ok bytes) = rw within at is in
+      (rw within refl, cc))
+      (cases_Bool (nat_lt limits.max_text (length (bytes_left before items))))
+
+  pub meaning_short : (meant : Result (List Item) (ℕ × Fault)) (bytes : List ℕ) → text_within limits.max_text before meant ≡ Ok bytes → length bytes ≤ limits.max_text
+  meaning_short (Err fault) bytes is = let bad : ◌≡◌ {A = Result (List ℕ) TextFault} (Err (text.Edit (fault_at fault.0 fault.1))) (Ok bytes) = is in absurd (cc)
+  meaning_short (Ok items) bytes is =
+      ⊎_elim
+      (λ (above : nat_lt limits.max_text (length (bytes_left before items)) ≡ true).
+      let bad : ◌≡◌ {A = Result (List ℕ) TextFault} (Err text.TooLong) (Ok bytes) = rw above at is in absurd (cc))
+      (λ (within : nat_lt limits.max_text (length (bytes_left before items)) ≡ false).
+      let same : ◌≡◌ {A = Result (List ℕ) TextFault} (Ok (bytes_left before items)) (Ok bytes) = rw within at is in
+      let bytes_are : bytes_left before items ≡ bytes = cc in
+      omega (arith, ltb-false limits.max_text (length (bytes_left before items)) within, ap length bytes_are))
+      (cases_Bool (nat_lt limits.max_text (length (bytes_left before items))))
+
+  pub meaning_told : (meant : Result (List Item) (ℕ × Fault)) (fault : TextFault) → text_within limits.max_text before meant ≡ Err fault → option_map fault_of (meaning_refusal limits before meant) ≡ Some (told_as fault)
+  meaning_told (Err cause) fault is =
+      let same : ◌≡◌ {A = Result (List ℕ) TextFault} (Err (text.Edit (fault_at cause.0 cause.1))) (Err fault) = is in
+      let told : text.Edit (fault_at cause.0 cause.1) ≡ fault = cc in
+      ap (λ (f : TextFault). Some (told_as f)) told
+  meaning_told (Ok items) fault is =
+      ⊎_elim
+      (λ (above : nat_lt limits.max_text (length (bytes_left before items)) ≡ true).
+      let same : ◌≡◌ {A = Result (List ℕ) TextFault} (Err text.TooLong) (Err fault) = rw above at is in
+      let told : text.TooLong ≡ fault = cc in
+      rw above (ap (λ (f : TextFault). Some (told_as f)) told))
+      (λ (within : nat_lt limits.max_text (length (bytes_left before items)) ≡ false).
+      let bad : ◌≡◌ {A = Result (List ℕ) TextFault} (Ok (bytes_left before items)) (Err fault) = rw within at is in absurd (cc))
+      (cases_Bool (nat_lt limits.max_text (length (bytes_left before items))))
+
+  pub text_told : (meant : Result (List Item) (ℕ × Fault)) (fault : TextFault) → (fault ≡ text.NoMemory) ⊎ (text_within limits.max_text before meant ≡ Err fault) → IsRefusal (meaning_refusal limits before meant) (told_as fault)
+  text_told meant fault told =
+      ⊎_elim (λ (e : fault ≡ text.NoMemory). inl (ap told_as e)) (λ (e : text_within limits.max_text before meant ≡ Err fault). inr (meaning_told meant fault e)) told

@@ -1,0 +1,34 @@
+use Rattle.std.proofs.Common.{◌≡◌, ap, ◌∙◌, sym, rules, w32, to_z, of_z, map}
+use Rattle.std.proofs.lemmas.Int.{to_z-of_z}
+use Rattle.std.proofs.lemmas.Result.{err_from_is_err_and}
+use Rattle.std.specs.Map.{set_value}
+use Rattle.lsp_edit.specs.Edited.{edit_of}
+use Rattle.lsp_store.specs.declared.held.Held.{Held}
+use Rattle.lsp_store.proofs.TableLemmas.{at_uri}
+use Rattle.lsp_store.proofs.StoreLemmas.{change_absent, change_refused, change_same, change_taken}
+use Rattle.lsp_store.proofs.store.Store.change.Goals as goal
+
+pub returns-in_default-clause-told : goal.returns-in_default-clause-told
+returns-in_default-clause-told c =
+    change_absent c.self.inside.limits c.self.inside.documents.entries c.args.self.now c.self.view_is c.args.uri.now c.args.version c.args.encoding (map edit_of c.args.changes.now) c.in_default.ensures.value
+
+pub returns-in_err-change-clause-same : goal.returns-in_err-change-clause-same
+returns-in_err-change-clause-same c =
+    let p = err_from_is_err_and c.from_residual.result c.from_residual.ensures.1 in
+    rw p.1
+    (change_same c.self.inside.limits c.self.inside.documents.entries c.args.self.now c.self.view_is c.args.uri.now c.args.version c.args.encoding (map edit_of c.args.changes.now) c.in-Some.held.now c.in-Some.ensures.value _
+    ((c.get_mut.follows.holds c.change.new.self).0 ∙ ap (λ (h : Held). set_value (at_uri c.args.uri.now) c.self.inside.documents.entries h) c.in_err-change.ensures.same))
+
+pub returns-in_err-change-clause-told : goal.returns-in_err-change-clause-told
+returns-in_err-change-clause-told c =
+    let version : to_z w32 (of_z w32 c.args.version) ≡ c.args.version = to_z-of_z w32 c.args.version (search rules) in
+    let p = err_from_is_err_and c.from_residual.result c.from_residual.ensures.1 in
+    rw (p.1, p.2)
+    (change_refused c.self.inside.limits c.self.inside.documents.entries c.args.self.now c.self.view_is c.args.uri.now c.args.version c.args.encoding (map edit_of c.args.changes.now) c.in-Some.held.now c.in-Some.ensures.value _
+    (rw version at (c.in_err-change.ensures.told c.args.uri.now)))
+
+pub returns-clause-taken : goal.returns-clause-taken
+returns-clause-taken c =
+    let version : to_z w32 (of_z w32 c.args.version) ≡ c.args.version = to_z-of_z w32 c.args.version (search rules) in
+    change_taken c.self.inside.limits c.self.inside.documents.entries c.args.self.now c.self.view_is c.args.uri.now c.args.version c.args.encoding (map edit_of c.args.changes.now) c.in-Some.held.now c.in-Some.ensures.value c.change.new.self
+    (rw version at (c.in_ok-change.ensures.accepted c.args.uri.now)) (rw version at (c.in_ok-change.ensures.changed c.args.uri.now)) _ (c.get_mut.follows.holds c.change.new.self).0

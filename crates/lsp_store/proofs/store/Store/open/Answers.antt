@@ -1,0 +1,18 @@
+use Rattle.std.proofs.Common.{◌≡◌, ap, ◌∙◌, sym, inr, rules, w32, to_z, of_z, string_bytes}
+use Rattle.std.proofs.lemmas.Int.{to_z-of_z}
+use Rattle.std.proofs.lemmas.Result.{err_from_is_err_and}
+use Rattle.lsp_store.specs.Table.{Entry}
+use Rattle.lsp_store.proofs.StoreLemmas.{opened}
+use Rattle.lsp_store.proofs.store.Store.open.Goals as goal
+
+pub returns-in_err-may_open-clause-told : goal.returns-in_err-may_open-clause-told
+returns-in_err-may_open-clause-told c =
+    let p = err_from_is_err_and c.from_residual.result c.from_residual.ensures.1 in
+    rw (p.1, p.2) (inr (rw (c.deref.ensures, c.deref-2.ensures) at (c.in_err-may_open.ensures.told (string_bytes c.args.language) c.args.version)))
+
+pub returns-clause-taken : goal.returns-clause-taken
+returns-clause-taken c =
+    let version : to_z w32 (of_z w32 c.args.version) ≡ c.args.version = to_z-of_z w32 c.args.version (search rules) in
+    opened c.self.inside.limits c.self.inside.documents.entries c.args.self.now c.self.view_is c.args.uri c.in_ok-held.held _ (rw version at (c.in_ok-held.ensures (string_bytes c.args.uri)))
+    (rw (c.deref.ensures, c.deref-2.ensures) at (c.in_ok-may_open.ensures.may (string_bytes c.args.language) c.args.version))
+    c.insert.new.self.entries c.in_ok-insert.ensures.entries

@@ -1,0 +1,70 @@
+//! Why a call of the store is refused.
+
+ghost use Rattle.std.specs.Prelude.{◌≡◌};
+ghost use Rattle.lsp_store.specs.declared.fault.StoreFault.TheVariants.{NoMemory};
+
+use lsp_edit::{EditFault, TextFault};
+use std::alloc::{AllocError, AllocFailed};
+use thiserror::Error;
+
+/// Why a call of the store is refused. A refused call changes nothing.
+#[derive(Clone, Copy, Debug, PartialEq, Eq, Error)]
+pub enum StoreFault {
+    /// S1: a document with this URI is open.
+    #[error("the document is open already")]
+    AlreadyOpen,
+    /// S2: `max_docs` documents are open.
+    #[error("too many documents are open")]
+    TooManyDocuments,
+    /// S3: the text would have more than `max_text` bytes.
+    #[error("the text is too long")]
+    TextTooLong,
+    /// S4: no document with this URI is open.
+    #[error("the document is not open")]
+    NotOpen,
+    /// S5: the version is not greater than the one that is held.
+    #[error("the version is not greater than {held}")]
+    StaleVersion { held: i32 },
+    /// S6: there are more than `max_changes` changes, or their texts have together more than [`lsp_edit::MAX_NEW_TEXT`] bytes.
+    #[error("too many changes, or too long ones")]
+    TooManyChanges,
+    /// S7: a change has no result; never [`EditFault::NoMemory`].
+    #[error("{0}")]
+    Edit(EditFault),
+    /// S8: the message's body has this many bytes, more than `max_body`.
+    #[error("the body has {len} bytes, more than the limit")]
+    BodyTooLong { len: usize },
+    /// S9: no memory was left.
+    #[error("out of memory")]
+    NoMemory,
+}
+
+impl From<TextFault> for StoreFault {
+    ghost use Rattle.lsp_store.specs.Faults.{told_as};
+
+    ghost from_gives = { λ fault told. told ≡ told_as fault };
+
+    fn from(fault: TextFault) -> StoreFault {
+        match fault {
+            TextFault::Edit(fault) => StoreFault::Edit(fault),
+            TextFault::TooLong => StoreFault::TextTooLong,
+            TextFault::NoMemory => StoreFault::NoMemory,
+        }
+    }
+}
+
+impl From<AllocError> for StoreFault {
+    ghost from_gives = { λ _ told. told ≡ NoMemory };
+
+    fn from(_: AllocError) -> StoreFault {
+        StoreFault::NoMemory
+    }
+}
+
+impl<T: Drop> From<AllocFailed<T>> for StoreFault {
+    ghost from_gives = { λ _ told. told ≡ NoMemory };
+
+    fn from(_: AllocFailed<T>) -> StoreFault {
+        StoreFault::NoMemory
+    }
+}

@@ -1,0 +1,16 @@
+//! The open documents of a session: which there are, in which version, with which text (LSP 3.17, Text Document Synchronization).
+//!
+//! - `store`: the documents in order of opening, and what opens, changes and closes them.
+//! - `document`: an open document as a caller reads it.
+//! - `held`: what is kept of a document, and how a batch of changes is put into it.
+//! - `fault`: why a call is refused.
+#![tactic(auto)]
+
+mod document;
+mod fault;
+mod held;
+mod store;
+
+pub use document::Document;
+pub use fault::StoreFault;
+pub use store::Store;

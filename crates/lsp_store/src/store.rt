@@ -1,0 +1,150 @@
+//! The open documents, in order of opening.
+
+ghost use Rattle.std.specs.Prelude.{◌≡◌, ◌≤◌, ℕ, ℤ, List, [], Some, None, option_map, IfErr, IfOk, OnErr, OnOk, map, length, slice_get, string_bytes, string_len};
+ghost use Rattle.lsp_edit.specs.Edited.{edit_of};
+ghost use Rattle.lsp_store.specs.declared.fault.StoreFault.TheVariants.{NotOpen};
+ghost use Rattle.lsp_store.specs.Table.{Entry, entry_at, open_refusal, opens, changes as changing, closes};
+ghost use Rattle.lsp_store.specs.Opened.{IsRefused, Takes};
+ghost use Rattle.lsp_store.specs.Faults.{fault_of};
+
+use crate::document::Document;
+use crate::fault::StoreFault;
+use crate::held::Held;
+use indexmap::IndexMap;
+use lsp_edit::Change;
+use lsp_frame::Limits;
+use lsp_text::Encoding;
+use std::alloc::Global;
+use std::marker::Model;
+
+/// The open documents, in order of opening, within limits. Clauses see the limits and the table of documents.
+#[derive(Drop)]
+pub struct Store {
+    limits: Limits,
+    documents: IndexMap<String, Held>,
+}
+
+impl Model for Store {
+    ghost use Rattle.std.specs.Prelude.{map};
+    ghost use Rattle.lsp_store.specs.Opened.{StoreData, entry_of};
+
+    ghost Value = { StoreData };
+
+    ghost view = { λ store. record { limits = store.limits; table = map entry_of store.documents.entries } };
+}
+
+impl Store {
+    /// No document is open. Takes no memory.
+    pub fn new(alloc: Global, limits: Limits) -> Self
+        ensures { result ≡ record { limits = limits; table = [] } }
+    {
+        Store {
+            limits,
+            documents: IndexMap::new(alloc),
+        }
+    }
+
+    /// The limits that the store keeps.
+    pub fn limits(&self) -> Limits
+        ensures { result ≡ self.now.limits }
+    {
+        self.limits
+    }
+
+    /// How many documents are open.
+    pub fn len(&self) -> usize
+        ensures { result ≡ length self.now.table }
+    {
+        self.documents.len()
+    }
+
+    /// The open document of a URI, which is compared byte for byte. Costs a hash look-up.
+    pub fn get(&self, uri: &str) -> Option<Document<'_>>
+        ensures { result ≡ entry_at self.now.table uri.now }
+    {
+        let (uri, held) = self.documents.get_key_value(uri)?;
+        Some(Document::new(uri, held))
+    }
+
+    /// The document at an index, in order of opening from 0.
+    pub fn at(&self, index: usize) -> Option<Document<'_>>
+        ensures { result ≡ slice_get self.now.table index }
+    {
+        let (uri, held) = self.documents.get_index(index)?;
+        Some(Document::new(uri, held))
+    }
+
+    /// Whether a document may be opened.
+    fn may_open(&self, uri: &str, text: &str) -> Result<(), StoreFault>
+        ensures may { OnOk result ((language : List ℕ) (version : ℤ) → open_refusal self.now.limits self.now.table (record { uri = uri.now; language = language; version = version; text = text.now }) ≡ None) }
+        ensures told { IfErr result (λ fault. (language : List ℕ) (version : ℤ) → option_map fault_of (open_refusal self.now.limits self.now.table (record { uri = uri.now; language = language; version = version; text = text.now })) ≡ Some fault) }
+        ensures short { OnOk result (length text.now ≤ 1073741824) }
+    {
+        if self.documents.contains_key(uri) {
+            return Err(StoreFault::AlreadyOpen);
+        }
+        if self.documents.len() >= self.limits.max_docs() {
+            return Err(StoreFault::TooManyDocuments);
+        }
+        if text.len() > self.limits.max_text() {
+            return Err(StoreFault::TextTooLong);
+        }
+        Ok(())
+    }
+
+    /// Opens a document (LSP 3.17, DidOpenTextDocument): it goes last. Refuses, in this order, [`StoreFault::AlreadyOpen`],
+    /// [`StoreFault::TooManyDocuments`] and [`StoreFault::TextTooLong`]; and [`StoreFault::NoMemory`]. The texts are moved in, not
+    /// copied. Costs a hash look-up and a search through the text for its lines.
+    pub fn open(
+        &mut self,
+        uri: String,
+        language: String,
+        version: i32,
+        text: String,
+    ) -> Result<(), StoreFault>
+        ensures taken { OnOk result (Takes self.old (opens (record { uri = string_bytes uri; language = string_bytes language; version = version; text = string_bytes text })) self.new) }
+        ensures same { OnErr result (self.new ≡ self.old) }
+        ensures told { IfErr result (IsRefused self.old (opens (record { uri = string_bytes uri; language = string_bytes language; version = version; text = string_bytes text }))) }
+    {
+        self.may_open(&uri, &text)?;
+        let held = Held::new(*self.documents.allocator(), language, version, text)?;
+        self.documents.insert(uri, held)?;
+        Ok(())
+    }
+
+    /// Changes an open document (LSP 3.17, DidChangeTextDocument): it gets the text that the batch means, and the version. Refuses, in
+    /// this order, [`StoreFault::NotOpen`], [`StoreFault::StaleVersion`], [`StoreFault::TooManyChanges`], [`StoreFault::Edit`], and
+    /// [`StoreFault::TextTooLong`] where the text that the batch leaves is too long, whatever stood between; and
+    /// [`StoreFault::NoMemory`]. Costs a hash look-up, and what the batch costs to apply.
+    pub fn change(
+        &mut self,
+        uri: &str,
+        version: i32,
+        encoding: Encoding,
+        changes: &[Change],
+    ) -> Result<(), StoreFault>
+        ensures taken { OnOk result (Takes self.old (changing uri.now version encoding (map edit_of changes.now)) self.new) }
+        ensures same { OnErr result (self.new ≡ self.old) }
+        ensures told { IfErr result (IsRefused self.old (changing uri.now version encoding (map edit_of changes.now))) }
+    {
+        let limits = self.limits;
+        let Some(held) = self.documents.get_mut(uri) else {
+            return Err(StoreFault::NotOpen);
+        };
+        held.change(&limits, version, encoding, changes)?;
+        Ok(())
+    }
+
+    /// Closes an open document (LSP 3.17, DidCloseTextDocument); it is taken out, and the others keep their order. Refuses
+    /// [`StoreFault::NotOpen`]. Takes no memory. Costs a hash look-up, and one step for each document that was opened later.
+    pub fn close(&mut self, uri: &str) -> Result<(), StoreFault>
+        ensures taken { OnOk result (Takes self.old (closes uri.now) self.new) }
+        ensures same { OnErr result (self.new ≡ self.old) }
+        ensures told { IfErr result (λ fault. (fault ≡ NotOpen) × IsRefused self.old (closes uri.now) fault) }
+    {
+        let Some(_) = self.documents.shift_remove(uri) else {
+            return Err(StoreFault::NotOpen);
+        };
+        Ok(())
+    }
+}
