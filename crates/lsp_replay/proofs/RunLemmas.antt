@@ -4,6 +4,7 @@ use Rattle.std.specs.Prelude.{min, nat_eq, IfOk, IfErr}
 use Rattle.std.proofs.lemmas.List.{length-append, length-take, drop-take, take-append-drop}
 use Rattle.std.specs.Io.KnownBytes.{Consumes, Appends, Keeps, IsAtEnd}
 use Rattle.std.proofs.KnownBytes.{Appends-nil, Consumes-trans, Consumes-kept}
+use Rattle.std.proofs.lemmas.Bool.{eqb-true}
 use Rattle.lsp_frame.specs.Faults.{place_behind}
 use Rattle.lsp_frame.specs.Frame.{Spells}
 use Rattle.lsp_frame.specs.Header.{lines_bytes}
@@ -224,11 +225,11 @@ module _ (reading : Reading) (course : List Record → Course) (left held : Opti
   }
 
   pub ran_finished : (left_now : Option (List ℕ)) (ended told_end : Bool) (place : ℕ) (s : Splitter) (now : List Record → Course) (held_now held_new : Option (List ℕ)) (answer : Result Outcome EngineFault) → told_end ≡ true
-      → IfOk answer (λ outcome. (input : List ℕ) → Went reading course held input [] s now held_now → AtEnd reading course input held held_new outcome)
-      → IfErr answer (λ fault. (input : List ℕ) → Went reading course held input [] s now held_now → IsEndFault reading course input held held_new place fault)
+      → IfOk answer (λ outcome. (rules : Reading) (at_first : List Record → Course) (held_first : Option (List ℕ)) (input : List ℕ) → Went rules at_first held_first input [] s now held_now → AtEnd rules at_first input held_first held_new outcome)
+      → IfErr answer (λ fault. (rules : Reading) (at_first : List Record → Course) (held_first : Option (List ℕ)) (input : List ℕ) → Went rules at_first held_first input [] s now held_now → IsEndFault rules at_first input held_first held_new place fault)
       → Runs reading course left held left_now ended place [] s now held_now → Ran reading course told_end left left_now held held_new answer
-  ran_finished left_now ended told_end place s now held_now held_new (Ok outcome) told ends fails r = ran_to_end left_now ended told_end place s now held_now held_new outcome told ends r
-  ran_finished left_now ended told_end place s now held_now held_new (Err fault) told ends fails r = ran_into_end_fault left_now ended told_end place s now held_now held_new fault told fails r
+  ran_finished left_now ended told_end place s now held_now held_new (Ok outcome) told ends fails r = ran_to_end left_now ended told_end place s now held_now held_new outcome told (ends reading course held) r
+  ran_finished left_now ended told_end place s now held_now held_new (Err fault) told ends fails r = ran_into_end_fault left_now ended told_end place s now held_now held_new fault told (fails reading course held) r
 
 -- Which calls were made when a fault came.
 pub called_fault : (reads_old reads_new writes_old writes_new allowed turns : ℕ) (read_failed write_failed ended : Bool) (left : Option (List ℕ)) (fault : EngineFault) → BothSpend reads_old reads_new writes_old writes_new allowed turns
@@ -266,3 +267,30 @@ both_reads reads_old reads_now reads_new writes_old writes_new allowed turns lef
   most = omega (arith, both.most, more.most);
   exact = λ a b. omega (arith, a, b, both.exact, more.exact, more.least);
 }
+
+pub both_at_start : (reads_old reads_new writes allowed turns left : ℕ) → turns ≡ allowed → Spends reads_old reads_new turns left → BothSpend reads_old reads_new writes writes allowed left
+both_at_start reads_old reads_new writes allowed turns left is spent = record {
+  within = omega (arith, spent.within);
+  reads = spent.least;
+  writes = omega arith;
+  most = omega (arith, spent.most);
+  exact = λ a b. omega (arith, a, spent.exact);
+}
+
+pub rose_more : (old now new : ℕ) → old ≤ now → Rose now new → Rose old new
+rose_more old now new more rose = λ room. omega (arith, rose room)
+
+pub read_not_write : (fault : EngineFault) → (fault ≡ Read) ⊎ (fault ≡ TooManyTurns) → fault ≡ Write → ⊥
+read_not_write fault (inl is) other = let two : Read ≡ Write = sym is ∙ other in cc
+read_not_write fault (inr is) other = let two : TooManyTurns ≡ Write = sym is ∙ other in cc
+
+pub read_not_ended : (fault : EngineFault) (ended : Bool) (A B : Type 0) → (fault ≡ Read) ⊎ (fault ≡ TooManyTurns) → (fault ≡ Read → A × (ended ≡ false) × B) → (fault ≡ TooManyTurns → ⊥) → ended ≡ true → ⊥
+read_not_ended fault ended A B (inl is) failed other told = ended_not ended (failed is).1 told
+read_not_ended fault ended A B (inr is) failed other told = other is
+
+-- a test of a number
+pub n_is_zero : (n : ℕ) → n ≡ 0 → nat_eq n 0 ≡ true
+n_is_zero n is = ap (λ k. nat_eq k 0) is
+
+pub zero_is : (n : ℕ) → nat_eq n 0 ≡ true → n ≡ 0
+zero_is n is = eqb-true n 0 is

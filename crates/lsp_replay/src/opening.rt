@@ -1,6 +1,6 @@
 //! The first bytes of an input, as many as tell its version.
 
-ghost use Rattle.std.specs.Prelude.{◌≡◌, ◌<◌, ◌≤◌, ◌++◌, ◌↔◌, ◌⊎◌, [], ℕ, List, true, false, IfOk, IfErr, OnOk, length, take, drop};
+ghost use Rattle.std.specs.Prelude.{◌≡◌, ◌<◌, ◌≤◌, ◌^◌, ◌++◌, ◌↔◌, ◌⊎◌, [], ℕ, List, true, false, IfOk, IfErr, OnOk, length, take, drop};
 ghost use Rattle.std.specs.Io.KnownBytes.{Consumes, IsAtEnd};
 ghost use Rattle.lsp_replay.specs.Ports.{Rose};
 ghost use Rattle.lsp_replay.specs.Turns.{Spends};
@@ -29,6 +29,7 @@ pub fn read_opening<R: Source>(
 ) -> Result<Opening, EngineFault>
     requires { 18 ≤ length buf.old }
     ensures bound { IfOk result (λ opening. opening.len ≤ length buf.new) }
+    ensures fits { IfOk result (λ opening. opening.len < 2 ^ 64) }
     ensures read { IfOk result (λ opening. Consumes (R.left reader.old) (R.left reader.new) (take opening.len buf.new)) }
     ensures known { IfOk result (λ opening. (more : List ℕ) → (opening.ended ≡ true → more ≡ []) →
         IsVersion versions opening.version (take opening.len buf.new ++ more)) }

@@ -28,6 +28,7 @@ impl Splitter {
     /// Behind the line of a log of this version.
     pub fn new(alloc: Global, limits: Limits, version: Version) -> Splitter
         ensures ready { IsReady result }
+        ensures version { result.version ≡ version }
         ensures stands { (reading : Reading) (input more : List ℕ) → reading.max_body ≡ limits.max_body → IsOpen reading input version more → Stands reading input more [] result }
     {
         let place = version.line().len() as u64;
