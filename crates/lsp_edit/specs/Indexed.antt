@@ -1,6 +1,6 @@
 -- A text that is kept with its lines, under batches of changes.
 use Rattle.std.specs.Prelude.{ℕ, ◌≡◌, ◌≤◌, if◌then◌else◌, nat_lt, List, length, encode_utf8_all, Result, Ok, Err}
-use Rattle.std.specs.Str.{chars}
+use Rattle.std.specs.Str.{IsUtf8, chars}
 use Rattle.lsp_edit.specs.declared.fault.EditFault.{EditFault}
 use Rattle.lsp_edit.specs.declared.fault.EditFault.TheVariants as edit
 use Rattle.lsp_edit.specs.declared.fault.Side.{Side}
@@ -27,10 +27,12 @@ told_as (edit.InsideCharacter change side) = EditOf (edit.InsideCharacter change
 told_as (edit.ReversedRange change) = EditOf (edit.ReversedRange change)
 told_as edit.NoMemory = NoMemory
 
--- `answered` is the canonical batch of what `batch` means on the text with these bytes, of which at most `max_len` bytes are left.
+-- `answered` is the canonical batch of what `batch` means on the text with these bytes, of which at most `max_len` bytes are left; and
+-- what holds of every batch on that text.
 pub record IsCanonicalBatch (units : ℕ → ℕ) (max_len : ℕ) (before : List ℕ) (batch answered : List Edit) : Type 0 where
+  pub utf8 : IsUtf8 before
   pub items : List Item
   pub means : meaning units (chars before) batch ≡ Ok items
   pub within : length (bytes_left before items) ≤ max_len
   pub is : answered ≡ canonical units (chars before) items
-  pub law : IsCanonical units (chars before) batch items
+  pub law : (other : List Edit) (others : List Item) → meaning units (chars before) other ≡ Ok others → IsCanonical units (chars before) other others

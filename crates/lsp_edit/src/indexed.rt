@@ -1,7 +1,7 @@
 //! A text that is kept with its lines.
 
 ghost use Rattle.std.specs.Prelude.{◌≡◌, ◌≤◌, ◌⊎◌, IfErr, IfOk, OnErr, OnOk, Err, Ok, length, map, string_bytes, string_len, sum_by};
-ghost use Rattle.std.specs.Str.{chars};
+ghost use Rattle.std.specs.Str.{IsUtf8, chars};
 ghost use Rattle.lsp_text.specs.LineStarts.{Indexes};
 ghost use Rattle.lsp_text.specs.Units.{units_in};
 ghost use Rattle.lsp_edit.specs.declared.indexed.TextFault.TheVariants.{NoMemory};
@@ -102,6 +102,7 @@ impl IndexedText {
     ) -> Result<Pieces<'a>, TextFault>
         requires size { length self.now ≤ MAX_OLD_TEXT }
         requires fits { sum_by (λ change. string_len change.text) changes.now ≤ MAX_NEW_TEXT }
+        ensures utf8 { OnOk result (IsUtf8 self.now) }
         ensures means { IfOk result (λ pieces. Means (chars self.now) (meaning (units_in encoding) (chars self.now) (map edit_of changes.now)) (length changes.now) pieces) }
         ensures within { IfOk result (λ pieces. length (edited_bytes pieces) ≤ max_len) }
         ensures told { IfErr result (λ fault. (fault ≡ NoMemory) ⊎ (text_within max_len self.now (meaning (units_in encoding) (chars self.now) (map edit_of changes.now)) ≡ Err fault)) }

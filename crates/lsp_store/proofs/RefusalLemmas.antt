@@ -111,3 +111,6 @@ module _ (limits : Bounds) (before : List ℕ) where
   pub text_told : (meant : Result (List Item) (ℕ × Fault)) (fault : TextFault) → (fault ≡ text.NoMemory) ⊎ (text_within limits.max_text before meant ≡ Err fault) → IsRefusal (meaning_refusal limits before meant) (told_as fault)
   text_told meant fault told =
       ⊎_elim (λ (e : fault ≡ text.NoMemory). inl (ap told_as e)) (λ (e : text_within limits.max_text before meant ≡ Err fault). inr (meaning_told meant fault e)) told
+
+  pub meant_within : (meant : Result (List Item) (ℕ × Fault)) (items : List Item) → meant ≡ Ok items → length (bytes_left before items) ≤ limits.max_text → meaning_refusal limits before meant ≡ None
+  meant_within meant items is within = rw (is, le-ltb limits.max_text (length (bytes_left before items)) within) refl

@@ -101,6 +101,14 @@ module _ (limits : Bounds) (es : List (String Global × Held)) (kept : StoreData
             limits = refl;
           })
 
+  -- ---- the document that was found
+
+  pub held_at : (uri : List ℕ) (held : Held) → Some held ≡ lookup (at_uri uri) es → entry_at kept.table uri ≡ Some (entry_under uri held)
+  held_at uri held found = sym (ap (λ (d : StoreData). entry_at d.table uri) view) ∙ (entry_at-lookup uri es ∙ ap (option_map (entry_under uri)) (sym found))
+
+  pub limits_are : limits ≡ kept.limits
+  limits_are = ap (λ (d : StoreData). d.limits) view
+
   -- ---- closing
 
   pub close_absent : (uri : List ℕ) → None ≡ lookup (at_uri uri) es → IsRefused kept (closes uri) NotOpen

@@ -1,5 +1,7 @@
 -- How the calls of this crate tell why they refuse.
 use Rattle.std.specs.Prelude.{◌≡◌, ◌⊎◌, Option, Some, option_map}
+use Rattle.lsp_frame.specs.declared.written.EncodeFault.{EncodeFault}
+use Rattle.lsp_frame.specs.declared.written.EncodeFault.TheVariants as encode
 use Rattle.lsp_edit.specs.declared.indexed.TextFault.{TextFault}
 use Rattle.lsp_edit.specs.declared.indexed.TextFault.TheVariants as text
 use Rattle.lsp_edit.specs.Faults.{fault_at}
@@ -23,6 +25,11 @@ abbrev pub told_as : TextFault → StoreFault
 told_as (text.Edit fault) = Edit fault
 told_as text.TooLong = TextTooLong
 told_as text.NoMemory = NoMemory
+
+-- how a fault of writing a frame is told
+abbrev pub encode_told_as : EncodeFault → StoreFault
+encode_told_as (encode.BodyTooLong len) = BodyTooLong len
+encode_told_as encode.NoMemory = NoMemory
 
 -- A fault tells want of memory, or the refusal.
 abbrev pub IsRefusal : Option Refusal → StoreFault → Type 0

@@ -1,3 +1,4 @@
 pub mod Table
 pub mod Faults
 pub mod Opened
+pub mod Message

@@ -4,6 +4,7 @@ ghost use Rattle.std.specs.Prelude.{◌≡◌};
 ghost use Rattle.lsp_store.specs.declared.fault.StoreFault.TheVariants.{NoMemory};
 
 use lsp_edit::{EditFault, TextFault};
+use lsp_frame::EncodeFault;
 use std::alloc::{AllocError, AllocFailed};
 use thiserror::Error;
 
@@ -49,6 +50,19 @@ impl From<TextFault> for StoreFault {
             TextFault::Edit(fault) => StoreFault::Edit(fault),
             TextFault::TooLong => StoreFault::TextTooLong,
             TextFault::NoMemory => StoreFault::NoMemory,
+        }
+    }
+}
+
+impl From<EncodeFault> for StoreFault {
+    ghost use Rattle.lsp_store.specs.Faults.{encode_told_as};
+
+    ghost from_gives = { λ fault told. told ≡ encode_told_as fault };
+
+    fn from(fault: EncodeFault) -> StoreFault {
+        match fault {
+            EncodeFault::BodyTooLong { len } => StoreFault::BodyTooLong { len },
+            EncodeFault::NoMemory => StoreFault::NoMemory,
         }
     }
 }

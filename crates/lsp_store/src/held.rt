@@ -23,6 +23,7 @@ impl Held {
     ghost use Rattle.lsp_text.specs.Units.{units_in};
     ghost use Rattle.lsp_edit.specs.Batch.{meaning};
     ghost use Rattle.lsp_edit.specs.Edited.{edit_of};
+    ghost use Rattle.lsp_edit.specs.Indexed.{IsCanonicalBatch};
     ghost use Rattle.lsp_store.specs.Table.{changed, entry_refusal, meaning_refusal};
     ghost use Rattle.lsp_store.specs.Faults.{fault_of, IsRefusal};
     ghost use Rattle.lsp_store.specs.Opened.{entry_under};
@@ -83,5 +84,23 @@ impl Held {
         self.text.change(encoding, changes, limits.max_text())?;
         self.version = version;
         Ok(())
+    }
+
+    /// The canonical batch of what a batch means on the document's text. Refuses as a change does.
+    pub fn canonical(
+        &self,
+        limits: &Limits,
+        version: i32,
+        encoding: Encoding,
+        changes: &[Change],
+    ) -> Result<Vec<Change>, StoreFault>
+        ensures accepted { OnOk result ((uri : List ℕ) → entry_refusal limits.now (units_in encoding) (entry_under uri self.now) version (map edit_of changes.now) ≡ None) }
+        ensures batch { IfOk result (λ made. IsCanonicalBatch (units_in encoding) limits.now.max_text self.now.text (map edit_of changes.now) (map edit_of made.items)) }
+        ensures short { (length self.now.text ≤ 1073741824) × (limits.now.max_text ≤ 1073741824) }
+        ensures told { IfErr result (λ fault. (uri : List ℕ) → IsRefusal (entry_refusal limits.now (units_in encoding) (entry_under uri self.now) version (map edit_of changes.now)) fault) }
+    {
+        let max_text = limits.max_text();
+        self.may_change(limits, version, changes)?;
+        Ok(self.text.canonical(encoding, changes, max_text)?)
     }
 }

@@ -3,9 +3,11 @@
 //! - `store`: the documents in order of opening, and what opens, changes and closes them.
 //! - `document`: an open document as a caller reads it.
 //! - `held`: what is kept of a document, and how a batch of changes is put into it.
+//! - `canonical`: the one message in which an accepted batch of changes is written.
 //! - `fault`: why a call is refused.
 #![tactic(auto)]
 
+mod canonical;
 mod document;
 mod fault;
 mod held;

@@ -20,8 +20,8 @@ use std::marker::Model;
 /// The open documents, in order of opening, within limits. Clauses see the limits and the table of documents.
 #[derive(Drop)]
 pub struct Store {
-    limits: Limits,
-    documents: IndexMap<String, Held>,
+    pub limits: Limits,
+    pub documents: IndexMap<String, Held>,
 }
 
 impl Model for Store {

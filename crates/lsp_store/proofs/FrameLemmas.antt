@@ -1,0 +1,37 @@
+-- A written frame has one body.
+use Rattle.std.proofs.Common.{ℕ, ◌≡◌, ◌+◌, ◌<◌, ◌≤◌, ◌^◌, List, [], ◌∷◌, ◌++◌, length, codes, decimal, sym, ap, ◌∙◌, subst, arith}
+use Rattle.std.proofs.lemmas.Fmt.{decimal_is_IsNumeral}
+use Rattle.std.proofs.lemmas.List.{append_assoc, append_cancel_left, length-append}
+use Rattle.std.specs.Char.{digit_value}
+use Rattle.std.specs.Str.Parse.{AllDigits}
+use Rattle.lsp_frame.specs.Frame.{frame}
+
+-- what stands behind the first carriage return, where digits stand before it
+behind_return : (xs ys a b : List ℕ) → AllDigits 10 xs → AllDigits 10 ys → xs ++ 13 ∷ a ≡ ys ++ 13 ∷ b → a ≡ b
+behind_return [] [] a b p q e = cc
+behind_return [] (y ∷ ys) a b p q e = let first : y ≡ 13 = cc in let bad : digit_value 13 < 10 = subst (λ (n : ℕ). digit_value n < 10) first q.0 in absurd (omega (arith, bad))
+behind_return (x ∷ xs) [] a b p q e = let first : x ≡ 13 = cc in let bad : digit_value 13 < 10 = subst (λ (n : ℕ). digit_value n < 10) first p.0 in absurd (omega (arith, bad))
+behind_return (x ∷ xs) (y ∷ ys) a b p q e = let rest : xs ++ 13 ∷ a ≡ ys ++ 13 ∷ b = cc in behind_return xs ys a b p.1 q.1 rest
+
+abbrev end_and : List ℕ → List ℕ
+end_and body = 10 ∷ 13 ∷ 10 ∷ body
+
+four : (a b c d : List ℕ) → a ++ b ++ c ++ d ≡ a ++ (b ++ (c ++ d))
+four a b c d = simp append_assoc
+
+body_len : (body : List ℕ) → length body ≤ length (frame body)
+unfolding frame
+body_len body = simp length-append (omega arith)
+
+same_behind : (body other : List ℕ) → length body < 2 ^ 64 → length other < 2 ^ 64 → frame body ≡ frame other → body ≡ other
+unfolding frame
+same_behind body other small few e =
+    let cut : decimal (length body) ++ (13 ∷ end_and body) ≡ decimal (length other) ++ (13 ∷ end_and other) =
+    append_cancel_left (codes "Content-Length: ") _ _
+    (sym (four (codes "Content-Length: ") (decimal (length body)) (codes "\r\n\r\n") body) ∙ (e ∙ four (codes "Content-Length: ") (decimal (length other)) (codes "\r\n\r\n") other)) in
+    append_cancel_left (10 ∷ 13 ∷ 10 ∷ []) body other
+    (behind_return (decimal (length body)) (decimal (length other)) (end_and body) (end_and other) (decimal_is_IsNumeral (length body) small).0.1 (decimal_is_IsNumeral (length other) few).0.1 cut)
+
+-- Equal frames have equal bodies.
+pub frame_one : (body other : List ℕ) → length (frame body) < 2 ^ 64 → frame body ≡ frame other → body ≡ other
+frame_one body other small e = same_behind body other (omega (arith, body_len body, small)) (omega (arith, body_len other, small, ap length e)) e

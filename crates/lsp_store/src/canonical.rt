@@ -1,0 +1,83 @@
+//! The one message in which an accepted batch of changes is written.
+
+ghost use Rattle.std.specs.Prelude.{◌≡◌, ◌≤◌, ◌↔◌, List, None, IfErr, IfOk, OnOk, length, map};
+ghost use Rattle.lsp_frame.specs.Frame.{frame};
+ghost use Rattle.lsp_text.specs.Units.{units_in};
+ghost use Rattle.lsp_edit.specs.Batch.{Edit};
+ghost use Rattle.lsp_edit.specs.Edited.{edit_of};
+ghost use Rattle.lsp_message.specs.Outgoing.{OutgoingData, body_of};
+ghost use Rattle.lsp_message.specs.Sent.{IsProper, IsReadAsSent, IsReadBack};
+ghost use Rattle.lsp_store.specs.Faults.{IsRefusal};
+ghost use Rattle.lsp_store.specs.Table.{change_refusal};
+ghost use Rattle.lsp_store.specs.Message.{AreTexts, DoAlike, IsCanonicalOn, IsReadAs, IsSettled, body_refusal, canonical_batch, canonical_frame, change_body, message_refusal};
+
+use crate::fault::StoreFault;
+use crate::store::Store;
+use lsp_edit::Change;
+use lsp_frame::{Limits, encode};
+use lsp_message::{ChangeParams, Outgoing, write};
+use lsp_text::Encoding;
+use std::alloc::Global;
+
+/// The frame of the `textDocument/didChange` of a batch.
+fn framed_change(
+    alloc: Global,
+    limits: &Limits,
+    uri: &str,
+    version: i32,
+    changes: Vec<Change>,
+) -> Result<Vec<u8>, StoreFault>
+    ensures framed { IfOk result (λ bytes. bytes.items ≡ frame (change_body uri.now version (map edit_of changes.items))) }
+    ensures within { OnOk result (body_refusal limits.now (change_body uri.now version (map edit_of changes.items)) ≡ None) }
+    ensures told { IfErr result (IsRefusal (body_refusal limits.now (change_body uri.now version (map edit_of changes.items)))) }
+    ensures read_as { OnOk result ((m : OutgoingData) → IsProper m → IsReadAsSent m) }
+    ensures read_back { OnOk result ((m : OutgoingData) → IsProper m → IsReadBack m) }
+    ensures unique { OnOk result ((m n : OutgoingData) → IsProper m → IsProper n → body_of m ≡ body_of n → m ≡ n) }
+{
+    let uri = String::from_str(alloc, uri)?;
+    let message = Outgoing::DidChange(ChangeParams {
+        uri,
+        version,
+        changes,
+    });
+    let body = write(alloc, &message)?;
+    Ok(encode(alloc, limits, &body)?)
+}
+
+impl Store {
+    /// The frame of the one message in which a batch on an open document is written: a `textDocument/didChange` with the canonical
+    /// batch, which keeps the same old characters and inserts the same texts between them. Refuses as [`Store::change`] does, then
+    /// [`StoreFault::BodyTooLong`]; changes nothing. Costs a hash look-up, what the batch costs to apply, and the message's bytes.
+    pub fn canonical_message(
+        &self,
+        uri: &str,
+        version: i32,
+        encoding: Encoding,
+        changes: &[Change],
+    ) -> Result<Vec<u8>, StoreFault>
+        ensures framed { IfOk result (λ bytes. bytes.items ≡ canonical_frame (units_in encoding) self.now.table uri.now version (map edit_of changes.now)) }
+        ensures accepted { OnOk result (message_refusal self.now.limits (units_in encoding) self.now.table uri.now version (map edit_of changes.now) ≡ None) }
+        ensures told { IfErr result (IsRefusal (message_refusal self.now.limits (units_in encoding) self.now.table uri.now version (map edit_of changes.now))) }
+        // What holds of the batch that is written.
+        ensures canonical { OnOk result (IsCanonicalOn (units_in encoding) self.now.table uri.now (map edit_of changes.now)) }
+        // Of every other batch that is accepted here the canonical message has the same bytes exactly if both do the same.
+        ensures exactly { OnOk result ((other : List Edit) → AreTexts other
+            → change_refusal self.now.limits (units_in encoding) self.now.table uri.now version other ≡ None
+            → (canonical_frame (units_in encoding) self.now.table uri.now version (map edit_of changes.now)
+            ≡ canonical_frame (units_in encoding) self.now.table uri.now version other)
+            ↔ DoAlike (units_in encoding) self.now.table uri.now (map edit_of changes.now) other) }
+        // The batch that is written is accepted here, leaves the same, and has the same canonical message.
+        ensures again { OnOk result (IsSettled self.now.limits (units_in encoding) self.now.table uri.now version (map edit_of changes.now)
+            (canonical_batch (units_in encoding) self.now.table uri.now (map edit_of changes.now))) }
+        // The other end reads that batch, under this URI and version.
+        ensures read { OnOk result (IsReadAs uri.now version (canonical_batch (units_in encoding) self.now.table uri.now (map edit_of changes.now))) }
+    {
+        let Some(held) = self.documents.get(uri) else {
+            return Err(StoreFault::NotOpen);
+        };
+        let changes = held.canonical(&self.limits, version, encoding, changes)?;
+        let alloc = *self.documents.allocator();
+        let bytes = framed_change(alloc, &self.limits, uri, version, changes)?;
+        Ok(bytes)
+    }
+}
