@@ -176,15 +176,15 @@ no_record reading input records s ready at other spelling body more spells e =
     let plain : mark_part s.version s.side ++ s.framer.held ≡ mark_of s.version other ++ (spelling ++ more) = sym (append-nil (held_of s)) ∙ e in
     elim (some_or s.side) [
       | inl known ↦
-        let known_plain : mark_of s.version known.0 ++ s.framer.held ≡ mark_of s.version other ++ (spelling ++ more) =
-        ap (λ (o : Option Side). mark_part s.version o ++ s.framer.held) (sym known.1) ∙ plain in
-        let same : s.framer.held ≡ spelling ++ more = behind_mark s.version known.0 other s.framer.held (spelling ++ more) known_plain in
-        let nothing : more ≡ [] = at.one spelling body more spells same in
-        let all : spelling ≡ s.framer.held = sym (same ∙ ap (λ z. spelling ++ z) nothing ∙ append-nil spelling) in
-        none (record { body = body; spells = subst (λ (z : List ℕ). Spells reading.max_body z body) all spells })
+          let known_plain : mark_of s.version known.0 ++ s.framer.held ≡ mark_of s.version other ++ (spelling ++ more) =
+          ap (λ (o : Option Side). mark_part s.version o ++ s.framer.held) (sym known.1) ∙ plain in
+          let same : s.framer.held ≡ spelling ++ more = behind_mark s.version known.0 other s.framer.held (spelling ++ more) known_plain in
+          let nothing : more ≡ [] = at.one spelling body more spells same in
+          let all : spelling ≡ s.framer.held = sym (same ∙ ap (λ z. spelling ++ z) nothing ∙ append-nil spelling) in
+          none (record { body = body; spells = subst (λ (z : List ℕ). Spells reading.max_body z body) all spells })
       | inr unknown ↦
-        let empty : mark_part s.version s.side ++ s.framer.held ≡ [] = ap (λ (o : Option Side). mark_part s.version o ++ s.framer.held) unknown ∙ ready.fed.between unknown in
-        omega (arith, ap length plain, ap length empty, length-append (mark_of s.version other) (spelling ++ more), length-append spelling more, frame_len reading.max_body spelling body spells)
+          let empty : mark_part s.version s.side ++ s.framer.held ≡ [] = ap (λ (o : Option Side). mark_part s.version o ++ s.framer.held) unknown ∙ ready.fed.between unknown in
+          omega (arith, ap length plain, ap length empty, length-append (mark_of s.version other) (spelling ++ more), length-append spelling more, frame_len reading.max_body spelling body spells)
     ]
 
 pub cut_at_end : (reading : Reading) (input : List ℕ) (records : List Record) (s : Splitter) → IsReady s → Stands reading input [] records s → (held_of s ≡ [] → ⊥) → IsCut reading.max_body (log_at s records [])
@@ -232,8 +232,8 @@ module _ (reading : Reading) (course : List Record → Course) (held : Option (L
     goes_on = ap (λ (c : Course). c.stop) (went_whole s now held_now w) ∙ quiet.unstopped;
     tells = told ∙ sym (ap (λ (c : Course). c.outcome) (went_whole s now held_now w));
     wrote = subst (λ (z : List ℕ). Appends held held_new z)
-      (ap (λ z. z ++ (now []).last s.line_due) (sym (went_out s now held_now quiet w)) ∙ ap (λ z. (course w.records).out ++ z) (sym (went_last s now held_now w)))
-      (Appends-trans held held_now held_new w.out ((now []).last s.line_due) w.wrote wrote);
+        (ap (λ z. z ++ (now []).last s.line_due) (sym (went_out s now held_now quiet w)) ∙ ap (λ z. (course w.records).out ++ z) (sym (went_last s now held_now w)))
+        (Appends-trans held held_now held_new w.out ((now []).last s.line_due) w.wrote wrote);
   }
 
   broken_last : (s : Splitter) (now : List Record → Course) (held_now held_new : Option (List ℕ)) → IsQuiet now → held_of s ≡ []

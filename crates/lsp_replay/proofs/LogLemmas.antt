@@ -53,7 +53,7 @@ are_push max_body version place due (q ∷ rs) r each is =
     omega (arith, length-append (record_bytes version q) (together version rs [])) in
     let later : IsRecord max_body version (place + length (record_bytes version q) + length (together version rs [])) (due_behind false rs) r =
     subst (λ (b : Bool). IsRecord max_body version (place + length (record_bytes version q) + length (together version rs [])) b r) (sym (due_later rs))
-      (subst (λ (n : ℕ). IsRecord max_body version n false r) len is) in
+    (subst (λ (n : ℕ). IsRecord max_body version n false r) len is) in
     (each.0, are_push max_body version (place + length (record_bytes version q)) false rs r each.1 later)
 
 -- the first of some bytes

@@ -62,15 +62,15 @@ pub stays : (versions : Bool) (version : Version) (bytes more : List ℕ) → (v
 stays versions One bytes more last one = λ looks rest e.
     elim (cases_lt (length bytes) 18) [
       | inl short ↦
-        let front : take (length bytes) (bytes ++ more) ≡ bytes = take_at bytes more (length bytes) refl in
-        let line : take (length bytes) (version_line ++ rest) ≡ take (length bytes) version_line = take-append-le (length bytes) version_line rest (omega (arith, short)) in
-        let none : more ≡ [] = last looks (short, sym front ∙ ap (take (length bytes)) e ∙ line) in
-        one looks rest (sym (append-nil bytes) ∙ ap (λ z. bytes ++ z) (sym none) ∙ e)
+          let front : take (length bytes) (bytes ++ more) ≡ bytes = take_at bytes more (length bytes) refl in
+          let line : take (length bytes) (version_line ++ rest) ≡ take (length bytes) version_line = take-append-le (length bytes) version_line rest (omega (arith, short)) in
+          let none : more ≡ [] = last looks (short, sym front ∙ ap (take (length bytes)) e ∙ line) in
+          one looks rest (sym (append-nil bytes) ∙ ap (λ z. bytes ++ z) (sym none) ∙ e)
       | inr long ↦
-        let some : take 18 (bytes ++ more) ≡ take 18 bytes = take-append-le 18 bytes more long in
-        let line : take 18 (version_line ++ rest) ≡ version_line = take_at version_line rest 18 refl in
-        let is : take 18 bytes ≡ version_line = sym some ∙ ap (take 18) e ∙ line in
-        one looks (drop 18 bytes) (sym (take-append-drop 18 bytes) ∙ ap (λ z. z ++ drop 18 bytes) is)
+          let some : take 18 (bytes ++ more) ≡ take 18 bytes = take-append-le 18 bytes more long in
+          let line : take 18 (version_line ++ rest) ≡ version_line = take_at version_line rest 18 refl in
+          let is : take 18 bytes ≡ version_line = sym some ∙ ap (take 18) e ∙ line in
+          one looks (drop 18 bytes) (sym (take-append-drop 18 bytes) ∙ ap (λ z. z ++ drop 18 bytes) is)
     ]
 stays versions Two bytes more last two = two_stays versions bytes more two
 

@@ -124,7 +124,7 @@ module _ (reading : Reading) (course : List Record → Course) (left held : Opti
             reads = record {
               version = version;
               is = ap (λ z. z ++ piece) at.reads.is ∙ append_assoc (line_of s.version) (together s.version w.records (held_of s ++ [])) piece
-                ∙ ap (λ z. line_of s.version ++ z) (sym (together_more s.version w.records (held_of s ++ []) piece) ∙ ap (λ z. together s.version w.records (z ++ piece)) before);
+                  ∙ ap (λ z. line_of s.version ++ z) (sym (together_more s.version w.records (held_of s ++ []) piece) ∙ ap (λ z. together s.version w.records (z ++ piece)) before);
               each = at.reads.each;
             };
             limit = at.limit;

@@ -173,7 +173,6 @@ one_side : (version : Version) (side : Side) → IsSide version (Some side) → 
 one_side One side is e = is
 one_side Two side is e = let other : Two ≡ One = e in cc
 
-
 -- the record that is held, with this body
 abbrev pub record_at : Splitter → List ℕ → Record
 record_at s body = record { head = head_of s; spelling = s.framer.held; body = body }
@@ -193,9 +192,9 @@ known_reads reading input more body records s was is spells at =
     record {
       version = at.reads.version;
       is = at.reads.is ∙ ap (λ z. line_of s.version ++ together s.version records (z ++ more)) bytes
-        ∙ ap (λ z. line_of s.version ++ z) (sym (together_push s.version records (record_at s body) more));
+          ∙ ap (λ z. line_of s.version ++ z) (sym (together_push s.version records (record_at s body) more));
       each = are_push reading.max_body s.version (length (line_of s.version)) (is_line_due s.version []) records (record_at s body) at.reads.each
-        (subst (λ (b : Bool). IsRecord reading.max_body s.version (length (line_of s.version) + length (together s.version records [])) b (record_at s body)) (sym (due_now s.version records)) record_here);
+          (subst (λ (b : Bool). IsRecord reading.max_body s.version (length (line_of s.version) + length (together s.version records [])) b (record_at s body)) (sym (due_now s.version records)) record_here);
     }
 
 given_known : (reading : Reading) (input more body : List ℕ) (records : List Record) (s : Splitter) (f : Framing) (was : Side) (side : Option Side) (mark place : ℕ) → s.side ≡ Some was
@@ -238,7 +237,7 @@ pub given_stands : (reading : Reading) (input more body : List ℕ) (records : L
     → f ≡ given_up s.framer → IsSide s.version side → mark_part s.version side ≡ [] → ((was : Side) → mark ≡ length (mark_of s.version was))
     → place ≡ min (min (s.place + mark) (2 ^ 64 - 1) + length s.framer.held) (2 ^ 64 - 1) → Spells reading.max_body s.framer.held body → Stands reading input more records s
     → Stands reading input more (records ++ record_at s body ∷ [])
-      (record { framer = f; version = s.version; side = side; place = place; line_due = false })
+    (record { framer = f; version = s.version; side = side; place = place; line_due = false })
 given_stands reading input more body records s f side mark place some e sided none marked placed spells at =
     let known : KnownSide s.side = known_side s.side some in
     given_known reading input more body records s f known.side side mark place known.is e sided none (marked known.side) placed spells at

@@ -91,8 +91,8 @@ pub record Ran (reading : Reading) (course : List Record → Course) (ended : Bo
   pub input : List ℕ
   pub read : Consumes left_old left_new input
   pub came : MatchResult result
-    (λ outcome. Stopped reading course input held_old held_new (Ok outcome) ⊎ ((ended ≡ true) × AtEnd reading course input held_old held_new outcome))
-    (IsRunFault reading course ended input held_old held_new)
+      (λ outcome. Stopped reading course input held_old held_new (Ok outcome) ⊎ ((ended ≡ true) × AtEnd reading course input held_old held_new outcome))
+      (IsRunFault reading course ended input held_old held_new)
 
 -- Which calls were made: at most as many as allowed; a fault of reading or writing only where the reader or the
 -- writer tells that its last call failed, and as many calls as allowed where one more was to be made. And where the

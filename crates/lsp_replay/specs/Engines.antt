@@ -27,7 +27,11 @@ use Rattle.lsp_replay.specs.declared.outcome.EngineFault.{EngineFault}
 use Rattle.lsp_replay.specs.declared.outcome.EngineFault.TheVariants.{BadLog, BodyTooLong}
 use Rattle.lsp_replay.specs.Log.{Record, version_line, mark_of}
 use Rattle.lsp_replay.specs.Course.{Course, written_first, stopped}
-use Rattle.lsp_replay.specs.Session.{Session, Verdict, answered, recorded, bad, Judged, judge, outcome_of}
+use Rattle.lsp_server.specs.declared.config.Config.{Config}
+use Rattle.lsp_server.specs.declared.config.EncodingChoice.TheVariants.{Fixed}
+use Rattle.lsp_server.specs.declared.config.Sync.TheVariants.{Incremental}
+use Rattle.lsp_replay.specs.declared.engines.Settings.{Settings}
+use Rattle.lsp_replay.specs.Session.{Session, opened, Verdict, answered, recorded, bad, Judged, judge, outcome_of}
 
 -- ---- every engine goes through the records with a session
 
@@ -175,3 +179,18 @@ converting = record {
   end_gives = λ s line_due. line_before s;
   outcome = outcome_of;
 }
+
+-- ---- the engines, from their settings and an input's records to what they give
+
+-- How the log commands are set up: a server in the encoding that the user names.
+abbrev pub log_config : Settings → Config
+log_config settings = record { limits = settings.limits; choice = Fixed settings.encoding; sync = Incremental }
+
+abbrev pub replies : Config → List Record → Course
+replies config = course_in serving (opened config)
+
+abbrev pub verdicts : Settings → List Record → Course
+verdicts settings = course_in checking (opened (log_config settings))
+
+abbrev pub report : Settings → List Record → Course
+report settings = course_in replaying (opened (log_config settings))

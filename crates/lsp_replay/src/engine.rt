@@ -12,8 +12,8 @@ ghost use Rattle.lsp_replay.specs.Engine.{Stopped, AtEnd, IsPieceFault, Ran, Cal
 ghost use Rattle.lsp_replay.specs.Progress.{IsHandled, IsHandleFault, IsLastFault, IsEndFault, Went};
 
 use crate::handler::{Handler, Output};
-use crate::outcome::{EngineFault, Outcome};
 use crate::opening::read_opening;
+use crate::outcome::{EngineFault, Outcome};
 use crate::port::{Sink, Source};
 use crate::record::Head;
 use crate::splitter::Splitter;

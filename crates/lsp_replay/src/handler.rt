@@ -53,15 +53,11 @@ pub trait Handler {
 
     /// Gives a part of what the end of the input gives, or the last of it with the outcome. `line_due`: is it the
     /// first part, and the input a log of version 2 without records?
-    fn finish(
-        &mut self,
-        line_due: bool,
-        made: &mut Vec<u8>,
-    ) -> Result<Option<Outcome>, EngineFault>
+    fn finish(&mut self, line_due: bool, made: &mut Vec<u8>) -> Result<Option<Outcome>, EngineFault>
         requires { made.old.items ≡ [] }
         ensures ok { IfOk result (λ end. MatchOption end
             (((course self.old []).last line_due ≡ made.new.items ++ (course self.new []).last false)
-                × ((course self.new []).outcome ≡ (course self.old []).outcome) × (parts self.new < parts self.old))
+            × ((course self.new []).outcome ≡ (course self.old []).outcome) × (parts self.new < parts self.old))
             (λ outcome. ((course self.old []).last line_due ≡ made.new.items) × (outcome ≡ (course self.old []).outcome))) }
         ensures err { IfErr result (λ fault. fault ≡ EngineFault.NoMemory) };
 

@@ -7,22 +7,24 @@
 //! - `outcome`: how a run ends.
 #![tactic(auto)]
 
-mod check;
-mod convert;
+mod checking;
+mod converting;
 mod engine;
+mod engines;
 mod handler;
 mod opening;
 mod outcome;
 mod port;
 mod record;
-mod replay;
-mod serve;
+mod replaying;
+mod serving;
 mod session;
 mod splitter;
 mod stop;
 mod told;
 mod turns;
 
+pub use engines::{Settings, check, replay, serve};
 pub use outcome::{EngineFault, Outcome};
 pub use port::{Sink, Source};
 pub use stop::{Call, StopReader, StopWriter};

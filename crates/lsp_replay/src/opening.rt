@@ -54,7 +54,11 @@ pub fn read_opening<R: Source>(
         let bytes = &buf[..len];
         if !is_undecided(bytes, versions, ended) {
             let version = version_of(bytes, versions);
-            return Ok(Opening { version, len, ended });
+            return Ok(Opening {
+                version,
+                len,
+                ended,
+            });
         }
     }
 }

@@ -7,23 +7,25 @@ use Rattle.lsp_replay.proofs.EngineLemmas.{IsQuiet, went_cut, went_at_end, last_
 use Rattle.lsp_replay.proofs.engine.finish_run.Goals as goal
 
 pub returns-then-not-at_rest-clause-fault : goal.returns-then-not-at_rest-clause-fault
-returns-then-not-at_rest-clause-fault g c = λ reading course held input w.
-    (refl, went_cut reading course held input c.args.splitter.now (g.H.Handler.course c.args.handler.now) (g.W.Sink.held c.args.writer.now) c.requires
+returns-then-not-at_rest-clause-fault g c = λ reading course held input w. (
+  refl,
+  went_cut reading course held input c.args.splitter.now (g.H.Handler.course c.args.handler.now) (g.W.Sink.held c.args.writer.now) c.requires
       (record { silent = g.met.H.Handler.silent c.args.handler.now; unstopped = g.met.H.Handler.unstopped c.args.handler.now })
-      (λ nothing. let two : false ≡ true = sym c.if-not-at_rest.true ∙ c.at_rest.ensures.1 nothing in cc) w)
+      (λ nothing. let two : false ≡ true = sym c.if-not-at_rest.true ∙ c.at_rest.ensures.1 nothing in cc) w,
+)
 
 pub returns-clause-fault : goal.returns-clause-fault
 returns-clause-fault g c =
     err_and c.write_last.result _ _ _ c.write_last.ensures.front c.write_last.ensures.kind (λ fault front kind reading course held input w.
-      last_fault reading course held input c.args.place c.args.splitter.now (g.H.Handler.course c.args.handler.now) (g.W.Sink.held c.args.writer.now) (g.W.Sink.held c.write_last.new.writer) fault
-      (record { silent = g.met.H.Handler.silent c.args.handler.now; unstopped = g.met.H.Handler.unstopped c.args.handler.now })
-      (c.at_rest.ensures.0 c.if-not-at_rest.false)
-      (subst (λ b. AppendsFront (g.W.Sink.held c.args.writer.now) (g.W.Sink.held c.write_last.new.writer) ((g.H.Handler.course c.args.handler.now []).last b)) c.line_due.ensures front) kind w)
+    last_fault reading course held input c.args.place c.args.splitter.now (g.H.Handler.course c.args.handler.now) (g.W.Sink.held c.args.writer.now) (g.W.Sink.held c.write_last.new.writer) fault
+    (record { silent = g.met.H.Handler.silent c.args.handler.now; unstopped = g.met.H.Handler.unstopped c.args.handler.now })
+    (c.at_rest.ensures.0 c.if-not-at_rest.false)
+    (subst (λ b. AppendsFront (g.W.Sink.held c.args.writer.now) (g.W.Sink.held c.write_last.new.writer) ((g.H.Handler.course c.args.handler.now []).last b)) c.line_due.ensures front) kind w)
 
 pub returns-clause-at_end : goal.returns-clause-at_end
 returns-clause-at_end g c =
     ok_and c.write_last.result _ _ _ c.write_last.ensures.wrote c.write_last.ensures.outcome (λ outcome wrote told reading course held input w.
-      went_at_end reading course held input c.args.splitter.now (g.H.Handler.course c.args.handler.now) (g.W.Sink.held c.args.writer.now) (g.W.Sink.held c.write_last.new.writer) outcome
-      (record { silent = g.met.H.Handler.silent c.args.handler.now; unstopped = g.met.H.Handler.unstopped c.args.handler.now })
-      (c.at_rest.ensures.0 c.if-not-at_rest.false)
-      (subst (λ b. Appends (g.W.Sink.held c.args.writer.now) (g.W.Sink.held c.write_last.new.writer) ((g.H.Handler.course c.args.handler.now []).last b)) c.line_due.ensures wrote) told w)
+    went_at_end reading course held input c.args.splitter.now (g.H.Handler.course c.args.handler.now) (g.W.Sink.held c.args.writer.now) (g.W.Sink.held c.write_last.new.writer) outcome
+    (record { silent = g.met.H.Handler.silent c.args.handler.now; unstopped = g.met.H.Handler.unstopped c.args.handler.now })
+    (c.at_rest.ensures.0 c.if-not-at_rest.false)
+    (subst (λ b. Appends (g.W.Sink.held c.args.writer.now) (g.W.Sink.held c.write_last.new.writer) ((g.H.Handler.course c.args.handler.now []).last b)) c.line_due.ensures wrote) told w)

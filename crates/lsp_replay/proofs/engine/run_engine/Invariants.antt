@@ -11,7 +11,7 @@ invariant-pieces g l = record {
   to : l.to ≤ length l.buf;
   ready : IsReady l.splitter;
   runs : Runs (record { max_body = l.fn.reading.limits.max_body; versions = l.fn.reading.versions }) (g.H.Handler.course l.fn.handler) (g.R.Source.left l.fn.reader) (g.W.Sink.held l.fn.writer)
-    (g.R.Source.left l.reader) l.ended l.place (take (l.to - l.from) (drop l.from l.buf)) l.splitter (g.H.Handler.course l.handler) (g.W.Sink.held l.writer);
+      (g.R.Source.left l.reader) l.ended l.place (take (l.to - l.from) (drop l.from l.buf)) l.splitter (g.H.Handler.course l.handler) (g.W.Sink.held l.writer);
   ended : g.R.Source.has_ended l.reader ≡ true ↔ l.ended ≡ true;
   at_end : l.ended ≡ true → IsAtEnd (g.R.Source.left l.reader);
   rose : Rose (g.R.Source.count l.fn.reader) (g.R.Source.count l.reader);

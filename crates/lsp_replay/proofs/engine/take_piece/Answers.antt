@@ -11,10 +11,10 @@ pub returns-in_err-at-clause-fault : goal.returns-in_err-at-clause-fault
 returns-in_err-at-clause-fault g c =
     let p = err_from_is_err_and c.from_residual.result c.from_residual.ensures.1 in
     rw (p.1, p.2) (λ reading course held input w.
-      fed_fault reading course held input c.args.piece.now _ c.bytes.at c.bytes.splitter (g.H.Handler.course c.bytes.handler) (g.W.Sink.held c.bytes.writer) (g.W.Sink.held c.bytes.writer) _
-      c.bytes.invariant.within refl (λ records at. c.in_err-at.ensures.fault reading input records at)
-      (record { silent = g.met.H.Handler.silent c.bytes.handler; unstopped = g.met.H.Handler.unstopped c.bytes.handler }) (Appends-nil (g.W.Sink.held c.bytes.writer))
-      (c.bytes.invariant.went reading course held input w))
+    fed_fault reading course held input c.args.piece.now _ c.bytes.at c.bytes.splitter (g.H.Handler.course c.bytes.handler) (g.W.Sink.held c.bytes.writer) (g.W.Sink.held c.bytes.writer) _
+    c.bytes.invariant.within refl (λ records at. c.in_err-at.ensures.fault reading input records at)
+    (record { silent = g.met.H.Handler.silent c.bytes.handler; unstopped = g.met.H.Handler.unstopped c.bytes.handler }) (Appends-nil (g.W.Sink.held c.bytes.writer))
+    (c.bytes.invariant.went reading course held input w))
 
 pub returns-in_err-at-clause-failed : goal.returns-in_err-at-clause-failed
 returns-in_err-at-clause-failed g c =
@@ -30,15 +30,15 @@ pub returns-in_err-outcome-clause-fault : goal.returns-in_err-outcome-clause-fau
 returns-in_err-outcome-clause-fault g c =
     let p = err_from_is_err_and c.from_residual-in_err-outcome.result c.from_residual-in_err-outcome.ensures.1 in
     rw (p.1, p.2) (λ reading course held input w.
-      c.in_err-outcome.ensures.fault reading course held input (drop (c.bytes.at + c.in_ok-at.field-0) c.args.piece.now)
-      (went_fed reading course held input c.args.piece.now _ c.bytes.at c.in_ok-at.field-0 c.bytes.splitter c.feed.new.self (g.H.Handler.course c.bytes.handler) (g.W.Sink.held c.bytes.writer)
-        c.bytes.invariant.within refl (λ records at. c.in_ok-at.ensures.stands reading input records at) (c.bytes.invariant.went reading course held input w)))
+    c.in_err-outcome.ensures.fault reading course held input (drop (c.bytes.at + c.in_ok-at.field-0) c.args.piece.now)
+    (went_fed reading course held input c.args.piece.now _ c.bytes.at c.in_ok-at.field-0 c.bytes.splitter c.feed.new.self (g.H.Handler.course c.bytes.handler) (g.W.Sink.held c.bytes.writer)
+    c.bytes.invariant.within refl (λ records at. c.in_ok-at.ensures.stands reading input records at) (c.bytes.invariant.went reading course held input w)))
 
 pub returns-in-Some-clause-went : goal.returns-in-Some-clause-went
 returns-in-Some-clause-went g c = λ reading course held input w.
     rw c.in-Some.is at (c.in_ok-outcome.ensures.went reading course held input (drop (c.bytes.at + c.in_ok-at.field-0) c.args.piece.now)
-      (went_fed reading course held input c.args.piece.now _ c.bytes.at c.in_ok-at.field-0 c.bytes.splitter c.feed.new.self (g.H.Handler.course c.bytes.handler) (g.W.Sink.held c.bytes.writer)
-        c.bytes.invariant.within refl (λ records at. c.in_ok-at.ensures.stands reading input records at) (c.bytes.invariant.went reading course held input w)))
+    (went_fed reading course held input c.args.piece.now _ c.bytes.at c.in_ok-at.field-0 c.bytes.splitter c.feed.new.self (g.H.Handler.course c.bytes.handler) (g.W.Sink.held c.bytes.writer)
+    c.bytes.invariant.within refl (λ records at. c.in_ok-at.ensures.stands reading input records at) (c.bytes.invariant.went reading course held input w)))
 
 pub bytes-preserved : goal.bytes-preserved
 bytes-preserved g c = record {
@@ -46,9 +46,9 @@ bytes-preserved g c = record {
   ready = c.in_ok-outcome.ensures.ready;
   version = c.in_ok-outcome.ensures.version ∙ c.in_ok-at.ensures.version ∙ c.bytes.invariant.version;
   went = λ reading course held input w.
-    rw c.in_default.is at (c.in_ok-outcome.ensures.went reading course held input (drop (c.bytes.at + c.in_ok-at.field-0) c.args.piece.now)
+      rw c.in_default.is at (c.in_ok-outcome.ensures.went reading course held input (drop (c.bytes.at + c.in_ok-at.field-0) c.args.piece.now)
       (went_fed reading course held input c.args.piece.now _ c.bytes.at c.in_ok-at.field-0 c.bytes.splitter c.feed.new.self (g.H.Handler.course c.bytes.handler) (g.W.Sink.held c.bytes.writer)
-        c.bytes.invariant.within refl (λ records at. c.in_ok-at.ensures.stands reading input records at) (c.bytes.invariant.went reading course held input w)));
+      c.bytes.invariant.within refl (λ records at. c.in_ok-at.ensures.stands reading input records at) (c.bytes.invariant.went reading course held input w)));
   spent = record {
     within = omega (arith, c.bytes.invariant.spent.within, c.in_ok-outcome.ensures.spent.within);
     least = omega (arith, c.bytes.invariant.spent.least, c.in_ok-outcome.ensures.spent.least);

@@ -12,8 +12,8 @@ invariant-bytes g l = record {
   ready : IsReady l.splitter;
   version : l.splitter.version ≡ l.fn.splitter.version;
   went : (reading : Reading) (course : List Record → Course) (held : Option (List ℕ)) (input : List ℕ) →
-    Went reading course held input l.piece l.fn.splitter (g.H.Handler.course l.fn.handler) (g.W.Sink.held l.fn.writer) →
-    Went reading course held input (drop l.at l.piece) l.splitter (g.H.Handler.course l.handler) (g.W.Sink.held l.writer);
+      Went reading course held input l.piece l.fn.splitter (g.H.Handler.course l.fn.handler) (g.W.Sink.held l.fn.writer) →
+      Went reading course held input (drop l.at l.piece) l.splitter (g.H.Handler.course l.handler) (g.W.Sink.held l.writer);
   spent : Spends (g.W.Sink.count l.fn.writer) (g.W.Sink.count l.writer) l.fn.turns.left l.turns.left;
 }
 

@@ -12,16 +12,19 @@ returns-in_err-write_given-clause-front g c =
     let part = part_is c.in_ok-end.end ((g.H.Handler.course c.parts.handler []).last c.parts.due) c.finish.new.made.items _ _ _ _ c.in_ok-end.ensures.ok in
     let before = c.parts.invariant.wrote in
     rw p.1 (part_cut _ _ _ _ before.0 c.finish.new.made.items part.0 (before.1 ∙ ap (λ z. before.0 ++ z) part.1) before.2
-      (subst (λ (z : List ℕ). AppendsFront (g.W.Sink.held c.parts.writer) (g.W.Sink.held c.write_given.new.writer) z) c.deref.ensures.value c.in_err-write_given.ensures.front))
+    (subst (λ (z : List ℕ). AppendsFront (g.W.Sink.held c.parts.writer) (g.W.Sink.held c.write_given.new.writer) z) c.deref.ensures.value c.in_err-write_given.ensures.front))
 
 pub parts-preserved : goal.parts-preserved
 parts-preserved g c =
     let part = rw c.in-None.is at c.in_ok-end.ensures.ok in
     let before = c.parts.invariant.wrote in
     record {
-      wrote = (before.0 ++ c.finish.new.made.items, before.1 ∙ ap (λ z. before.0 ++ z) part.0 ∙ sym (append_assoc before.0 c.finish.new.made.items ((g.H.Handler.course c.finish.new.self []).last _)),
+      wrote = (
+        before.0 ++ c.finish.new.made.items,
+        before.1 ∙ ap (λ z. before.0 ++ z) part.0 ∙ sym (append_assoc before.0 c.finish.new.made.items ((g.H.Handler.course c.finish.new.self []).last _)),
         Appends-trans _ _ _ before.0 c.finish.new.made.items before.2
-        (subst (λ (z : List ℕ). Appends (g.W.Sink.held c.parts.writer) (g.W.Sink.held c.write_given.new.writer) z) c.deref.ensures.value c.in_ok-write_given.ensures.wrote));
+            (subst (λ (z : List ℕ). Appends (g.W.Sink.held c.parts.writer) (g.W.Sink.held c.write_given.new.writer) z) c.deref.ensures.value c.in_ok-write_given.ensures.wrote),
+      );
       outcome = part.1 ∙ c.parts.invariant.outcome;
       spent = record {
         within = omega (arith, c.parts.invariant.spent.within, c.in_ok-write_given.ensures.spent.within);

@@ -15,6 +15,6 @@ returns-in-Err c = record {
   stands = tt;
   kind = rw c.from.ensures (frame_kind c.in-Err.fault);
   fault = λ reading input records at. rw c.from.ensures
-    (feed_fault reading input c.args.piece.now records c.args.self.now c.feed.new.self c.in-Err.fault (not_none c.args.self.now.side c.is_none.result c.is_none.ensures c.if-is_none.false)
+      (feed_fault reading input c.args.piece.now records c.args.self.now c.feed.new.self c.in-Err.fault (not_none c.args.self.now.side c.is_none.result c.is_none.ensures c.if-is_none.false)
       c.in-Err.ensures.fault c.requires.fed.sound at);
 }

@@ -1,6 +1,7 @@
 //! `convert`: a log of version 2, with the server's replies, of one of version 1.
 
 ghost use Rattle.std.specs.Prelude.{◌≡◌, ◌++◌, refl, OnOk};
+ghost use Rattle.lsp_replay.specs.Session.{opened};
 ghost use Rattle.lsp_replay.specs.Engines.{converting, course_in, line_before, reply_record};
 ghost use Rattle.lsp_replay.specs.Verdicts.{verdict_view};
 
@@ -8,8 +9,8 @@ use crate::handler::{Given, Handler, Output};
 use crate::outcome::{EngineFault, Outcome};
 use crate::record::{Head, VERSION_LINE};
 use crate::session::{Session, Verdict};
-use lsp_server::Answer;
-use std::alloc::AllocError;
+use lsp_server::{Answer, Config};
+use std::alloc::{AllocError, Global};
 
 /// Writes each record with its mark, and behind it the reply.
 #[derive(Drop)]
@@ -29,10 +30,23 @@ impl Convert {
     }
 }
 
+impl Convert {
+    /// Before the first record, over a new server.
+    pub fn new(alloc: Global, config: Config) -> Convert
+        ensures session { result.session ≡ opened config }
+    {
+        let session = Session::new(alloc, config);
+        Convert { session }
+    }
+}
+
 impl Handler for Convert {
     ghost course = { λ convert. course_in converting convert.session };
+
     ghost parts = { λ convert. 0 };
+
     ghost silent = { λ _. refl };
+
     ghost unstopped = { λ _. refl };
 
     fn handle(

@@ -2,12 +2,14 @@
 
 ghost use Rattle.std.specs.Prelude.{◌≡◌, ◌++◌, ◌-◌, refl, IfOk, OnOk, length};
 ghost use Rattle.serde_json.specs.View.{view};
+ghost use Rattle.lsp_replay.specs.Session.{opened};
 ghost use Rattle.lsp_replay.specs.Engines.{replaying_from, course_in, document_line, document_value};
 
 use crate::handler::{Given, Handler, Output};
 use crate::outcome::{EngineFault, Outcome};
 use crate::record::Head;
 use crate::session::{Session, Verdict};
+use lsp_server::Config;
 use lsp_store::Document;
 use serde_json::{Value, json};
 use std::alloc::{AllocError, Global};
@@ -21,10 +23,28 @@ pub struct Replay {
     pub next: usize,
 }
 
+impl Replay {
+    /// Before the first record, over a new server.
+    pub fn new(alloc: Global, config: Config) -> Replay
+        ensures session { result.session ≡ opened config }
+        ensures next { result.next ≡ 0 }
+    {
+        let session = Session::new(alloc, config);
+        Replay {
+            session,
+            alloc,
+            next: 0,
+        }
+    }
+}
+
 impl Handler for Replay {
     ghost course = { λ replay. course_in (replaying_from replay.next) replay.session };
+
     ghost parts = { λ replay. length replay.session.server.table - replay.next };
+
     ghost silent = { λ _. refl };
+
     ghost unstopped = { λ _. refl };
 
     fn handle(
@@ -64,7 +84,11 @@ impl Handler for Replay {
 }
 
 #[tactic(auto, unfolding(crate::specs::Engines::document_line))]
-fn push_document(alloc: Global, made: &mut Vec<u8>, document: &Document<'_>) -> Result<(), AllocError>
+fn push_document(
+    alloc: Global,
+    made: &mut Vec<u8>,
+    document: &Document<'_>,
+) -> Result<(), AllocError>
     ensures { OnOk result (made.new.items ≡ made.old.items ++ document_line document.now) }
 {
     let line = value_of(alloc, document)?.to_vec(alloc)?;

@@ -3,6 +3,7 @@
 ghost use Rattle.std.specs.Prelude.{◌≡◌, ◌++◌, refl, OnOk, decimal};
 ghost use Rattle.lsp_server.specs.Seen.{answer_view};
 ghost use Rattle.lsp_replay.specs.Course.{Course};
+ghost use Rattle.lsp_replay.specs.Session.{opened};
 ghost use Rattle.lsp_replay.specs.Engines.{checking, course_in, check_line, code_word, label, store_label, edit_label, verdict_word, word_of};
 ghost use Rattle.lsp_replay.specs.Verdicts.{verdict_view};
 
@@ -13,9 +14,9 @@ use crate::session::{Session, Verdict};
 use itoa::Buffer;
 use lsp_edit::EditFault;
 use lsp_message::ErrorCode;
-use lsp_server::{Answer, Refusal};
+use lsp_server::{Answer, Config, Refusal};
 use lsp_store::StoreFault;
-use std::alloc::AllocError;
+use std::alloc::{AllocError, Global};
 
 /// Writes a line for each record.
 #[derive(Drop)]
@@ -23,10 +24,23 @@ pub struct Check {
     pub session: Session,
 }
 
+impl Check {
+    /// Before the first record, over a new server.
+    pub fn new(alloc: Global, config: Config) -> Check
+        ensures session { result.session ≡ opened config }
+    {
+        let session = Session::new(alloc, config);
+        Check { session }
+    }
+}
+
 impl Handler for Check {
     ghost course = { λ check. course_in checking check.session };
+
     ghost parts = { λ check. 0 };
+
     ghost silent = { λ _. refl };
+
     ghost unstopped = { λ _. refl };
 
     fn handle(

@@ -1,13 +1,15 @@
 //! `serve`: a server's end between a reader and a writer.
 
 ghost use Rattle.std.specs.Prelude.{◌≡◌, refl};
+ghost use Rattle.lsp_replay.specs.Session.{opened};
 ghost use Rattle.lsp_replay.specs.Engines.{serving, course_in};
 
 use crate::handler::{Given, Handler, Output};
 use crate::outcome::{EngineFault, Outcome};
 use crate::record::Head;
 use crate::session::{Session, Verdict};
-use lsp_server::Answer;
+use lsp_server::{Answer, Config};
+use std::alloc::Global;
 
 /// Writes each reply as it comes, up to `exit`.
 #[derive(Drop)]
@@ -27,10 +29,23 @@ impl Serve {
     }
 }
 
+impl Serve {
+    /// Before the first record, over a new server.
+    pub fn new(alloc: Global, config: Config) -> Serve
+        ensures session { result.session ≡ opened config }
+    {
+        let session = Session::new(alloc, config);
+        Serve { session }
+    }
+}
+
 impl Handler for Serve {
     ghost course = { λ serve. course_in serving serve.session };
+
     ghost parts = { λ serve. 0 };
+
     ghost silent = { λ _. refl };
+
     ghost unstopped = { λ _. refl };
 
     fn handle(
