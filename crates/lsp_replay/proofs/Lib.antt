@@ -5,3 +5,4 @@ pub mod EngineLemmas
 pub mod OpeningLemmas
 pub mod RunLemmas
 pub mod ReportLemmas
+pub mod NormalLemmas

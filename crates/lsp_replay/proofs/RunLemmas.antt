@@ -68,9 +68,9 @@ module _ (reading : Reading) (course : List Record → Course) (left held : Opti
       → Consumes left left_now (take len buf)
       → ((more : List ℕ) → (ended ≡ true → more ≡ []) → IsVersion reading.versions version (take len buf ++ more))
       → length (line_of version) ≤ len → take len buf ≡ line_of version ++ drop (length (line_of version)) (take len buf)
-      → ((input more : List ℕ) → IsOpen reading input version more → Stands reading input more [] s)
+      → (reading.only_one ≡ true → version ≡ One) → ((input more : List ℕ) → IsOpen reading input version more → Stands reading input more [] s)
       → Runs reading course left held left_now ended place (take (len - size) (drop size buf)) s course held
-  runs_at_start left_now ended len place size buf s version within fits sized placed same read known short front stands =
+  runs_at_start left_now ended len place size buf s version within fits sized placed same read known short front accepted stands =
       let all : length (take len buf) ≡ len = omega (arith, length-take len buf) in
       let sum : size + (len - size) ≡ len = omega (arith, sized, short) in
       let rest : drop size (take (size + (len - size)) buf) ≡ take (len - size) (drop size buf) = drop-take size (len - size) buf in
@@ -83,7 +83,7 @@ module _ (reading : Reading) (course : List Record → Course) (left held : Opti
         read = read;
         went = record {
           records = [];
-          stands = stands (take len buf) (take (len - size) (drop size buf)) (record { known = whole; is = front ∙ ap (λ z. line_of version ++ z) piece });
+          stands = stands (take len buf) (take (len - size) (drop size buf)) (record { known = whole; accepted = accepted; is = front ∙ ap (λ z. line_of version ++ z) piece });
           out = [];
           courses = λ others. refl;
           wrote = Appends-nil held;
@@ -123,6 +123,7 @@ module _ (reading : Reading) (course : List Record → Course) (left held : Opti
           stands = record {
             reads = record {
               version = version;
+              accepted = at.reads.accepted;
               is = ap (λ z. z ++ piece) at.reads.is ∙ append_assoc (line_of s.version) (together s.version w.records (held_of s ++ [])) piece
                   ∙ ap (λ z. line_of s.version ++ z) (sym (together_more s.version w.records (held_of s ++ []) piece) ∙ ap (λ z. together s.version w.records (z ++ piece)) before);
               each = at.reads.each;
@@ -163,7 +164,8 @@ module _ (reading : Reading) (course : List Record → Course) (left held : Opti
   piece_fault told_end input held_new (BodyTooLong place) why = why
   piece_fault told_end input held_new NoMemory why = inl why
   piece_fault told_end input held_new TooManyTurns why = inl why
-  piece_fault told_end input held_new (BadLog place) why = why
+  piece_fault told_end input held_new (BadLog place) (inl why) = inl why
+  piece_fault told_end input held_new (BadLog place) (inr why) = inr (inl why)
 
   pub ran_into_fault : (left_now : Option (List ℕ)) (ended told_end : Bool) (place : ℕ) (piece : List ℕ) (s : Splitter) (now : List Record → Course) (held_now held_new : Option (List ℕ)) (fault : EngineFault)
       → ((input : List ℕ) → Went reading course held input piece s now held_now → IsPieceFault reading course input held held_new fault)
@@ -205,6 +207,17 @@ module _ (reading : Reading) (course : List Record → Course) (left held : Opti
     came = read_fault told_end r.input held_now fault kind (went_read reading course held r.input s now held_now ready quiet r.went);
   }
 
+  -- A log of version 2 was refused.
+  pub ran_refused : (left_now : Option (List ℕ)) (told_end : Bool) (fault : EngineFault) (input : List ℕ) (version : Version) → (fault ≡ BadLog 0) × (reading.only_one ≡ true) × (version ≡ Two)
+      → Consumes left left_now input → ((more : List ℕ) → more ≡ [] → IsVersion reading.versions version (input ++ more)) → Ran reading course told_end left left_now held held (Err fault)
+  ran_refused left_now told_end fault input version why read known =
+      let two : IsVersion reading.versions Two input = subst (λ (v : Version). IsVersion reading.versions v input) why.2 (subst (λ (z : List ℕ). IsVersion reading.versions version z) (append-nil input) (known [] refl)) in
+      record {
+        input = input;
+        read = read;
+        came = subst (IsRunFault reading course told_end input held held) (sym why.0) (inr (inr (record { only_one = why.1; version = two; placed = refl; wrote = Appends-nil held })));
+      }
+
   -- Some first bytes of the line are no log of version 2, and begin no frame.
   pub ran_unopened : (left_new : Option (List ℕ)) (told_end : Bool) (fault : EngineFault) → IsQuiet course → IsBelowLine left left_new → (fault ≡ Read) ⊎ (fault ≡ TooManyTurns)
       → Ran reading course told_end left left_new held held (Err fault)
@@ -215,6 +228,7 @@ module _ (reading : Reading) (course : List Record → Course) (left held : Opti
       log = record { version = One; records = []; rest = below.0 };
       reads = record {
         version = λ looks more e. omega (arith, ap length e, length-append version_line more, below.1.0);
+        accepted = λ _. refl;
         is = refl;
         each = tt;
       };

@@ -65,6 +65,7 @@ fed_stands reading input piece records s f k e part one at =
     let stands : Stands reading input (drop k piece) records (record s { framer = record s.framer { held = s.framer.held ++ take k piece } }) = record {
       reads = record {
         version = at.reads.version;
+        accepted = at.reads.accepted;
         is = at.reads.is ∙ ap (λ z. line_of s.version ++ together s.version records z) (sym all);
         each = at.reads.each;
       };
@@ -143,6 +144,7 @@ marked_stands reading input piece tail mark records s side f none nothing is sai
     let stands : Stands reading input tail records (record s { framer = record s.framer { place = place_behind s.framer.place 1 }; side = Some side }) = record {
       reads = record {
         version = at.reads.version;
+        accepted = at.reads.accepted;
         is = at.reads.is ∙ ap (λ z. line_of s.version ++ together s.version records z) all;
         each = at.reads.each;
       };
@@ -185,12 +187,14 @@ known_reads reading input more body records s was is spells at =
     let len = input_len reading input (log_at s records more) at.reads in
     let record_here : IsRecord reading.max_body s.version (length (line_of s.version) + length (together s.version records [])) (is_line_due s.version records) (record_at s body) = record {
       spells = spells;
+      version_is = refl;
       side = λ one. ap side_of is ∙ one_side s.version was (subst (λ (o : Option Side). IsSide s.version o) is at.side) one;
       placed = at.placed ∙ ap (place_behind 0) (omega (arith, len));
       due = at.due;
     } in
     record {
       version = at.reads.version;
+      accepted = at.reads.accepted;
       is = at.reads.is ∙ ap (λ z. line_of s.version ++ together s.version records (z ++ more)) bytes
           ∙ ap (λ z. line_of s.version ++ z) (sym (together_push s.version records (record_at s body) more));
       each = are_push reading.max_body s.version (length (line_of s.version)) (is_line_due s.version []) records (record_at s body) at.reads.each
@@ -211,6 +215,7 @@ given_known reading input more body records s f was side mark place is e sided n
     let stands : Stands reading input more (records ++ record_at s body ∷ []) (record { framer = given_up s.framer; version = s.version; side = side; place = place; line_due = false }) = record {
       reads = record {
         version = reads.version;
+        accepted = reads.accepted;
         is = reads.is ∙ ap (λ z. line_of s.version ++ together s.version (records ++ record_at s body ∷ []) ((z ++ []) ++ more)) (sym none);
         each = reads.each;
       };
@@ -262,6 +267,7 @@ new_stands reading input more s nothing limit framed none side placed due at_sta
     record {
       reads = record {
         version = at_start.known;
+        accepted = at_start.accepted;
         is = at_start.is ∙ ap (λ z. line_of s.version ++ (z ++ more)) (sym held);
         each = tt;
       };

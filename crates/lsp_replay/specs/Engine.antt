@@ -5,9 +5,10 @@ use Rattle.lsp_frame.specs.Faults.{place_behind}
 use Rattle.lsp_replay.specs.declared.outcome.Outcome.{Outcome}
 use Rattle.lsp_replay.specs.declared.outcome.EngineFault.{EngineFault}
 use Rattle.lsp_replay.specs.declared.outcome.EngineFault.TheVariants.{Read, Write, Frame, Truncated, BodyTooLong, NoMemory, TooManyTurns, BadLog}
+use Rattle.lsp_replay.specs.declared.record.Version.TheVariants.{Two}
 use Rattle.lsp_replay.specs.Ports.{Rose}
 use Rattle.lsp_replay.specs.Turns.{AppendsFront}
-use Rattle.lsp_replay.specs.Log.{Reading, Record, Log, IsReadAs, HasNoRecord, IsCut, IsMalformed, IsBadMark, is_line_due}
+use Rattle.lsp_replay.specs.Log.{Reading, Record, Log, IsVersion, IsReadAs, HasNoRecord, IsCut, IsMalformed, IsBadMark, is_line_due}
 use Rattle.lsp_replay.specs.Course.{Course}
 
 -- A record ended the run: what was written is the output of the records up to it.
@@ -68,6 +69,13 @@ IsPieceFault reading course input old new TooManyTurns = Broken reading course i
 IsPieceFault reading course input old new (BadLog place) =
     Stopped reading course input old new (Err (BadLog place)) ⊎ Reached reading course input old new (IsBadMark input place)
 
+-- Version 2 is refused, and the input is of it. Nothing was written.
+pub record IsRefused (reading : Reading) (input : List ℕ) (old new : Option (List ℕ)) (place : ℕ) : Type 0 where
+  pub only_one : reading.only_one ≡ true
+  pub version : IsVersion reading.versions Two input
+  pub placed : place ≡ 0
+  pub wrote : Appends old new []
+
 -- The reader told the end, and a fault came in writing what the end of the input gives.
 abbrev pub BreaksAtEnd : Reading → (List Record → Course) → Bool → List ℕ → Option (List ℕ) → Option (List ℕ) → Type 0
 BreaksAtEnd reading course ended input old new = (ended ≡ true) × BrokenAtEnd reading course input old new
@@ -84,7 +92,7 @@ IsRunFault reading course ended input old new NoMemory =
     Reached reading course input old new (λ _. Unit {0}) ⊎ BreaksAtEnd reading course ended input old new
 IsRunFault reading course ended input old new TooManyTurns = Broken reading course input old new ⊎ BreaksAtEnd reading course ended input old new
 IsRunFault reading course ended input old new (BadLog place) =
-    Stopped reading course input old new (Err (BadLog place)) ⊎ Reached reading course input old new (IsBadMark input place)
+    Stopped reading course input old new (Err (BadLog place)) ⊎ (Reached reading course input old new (IsBadMark input place) ⊎ IsRefused reading input old new place)
 
 -- An engine ran: what it wrote and answered is what this course has for the bytes that it read.
 pub record Ran (reading : Reading) (course : List Record → Course) (ended : Bool) (left_old left_new held_old held_new : Option (List ℕ)) (result : Result Outcome EngineFault) : Type 0 where

@@ -1,5 +1,5 @@
 -- What each engine gives for the records of a log.
-use Rattle.std.specs.Prelude.{ℕ, Bool, ◌==◌, ◌++◌, if◌then◌else◌, nat_lt, length, map, drop, List, [], ◌∷◌, Option, Some, None, Result, Ok, Err, codes, decimal, flat_map}
+use Rattle.std.specs.Prelude.{ℕ, Bool, true, false, ◌==◌, ◌++◌, if◌then◌else◌, nat_lt, length, map, drop, List, [], ◌∷◌, Option, Some, None, Result, Ok, Err, codes, decimal, flat_map}
 use Rattle.serde_json.specs.Data.{Data, number, string, object, member, no_members}
 use Rattle.serde_json.specs.Find.{of_integer}
 use Rattle.serde_json.specs.Written.{compact_text}
@@ -12,6 +12,7 @@ use Rattle.lsp_message.specs.declared.outgoing.ErrorCode.TheVariants.{ParseError
 use Rattle.lsp_message.specs.Message.{reading}
 use Rattle.lsp_message.specs.Outgoing.{OutgoingData, body_of}
 use Rattle.lsp_message.specs.Params.{ChangeData}
+use Rattle.lsp_store.specs.Message.{canonical_body}
 use Rattle.lsp_store.specs.Table.{Entry}
 use Rattle.lsp_store.specs.declared.fault.StoreFault.{StoreFault}
 use Rattle.lsp_store.specs.declared.fault.StoreFault.TheVariants.{AlreadyOpen, TooManyDocuments, TextTooLong, NotOpen, StaleVersion, TooManyChanges, Edit}
@@ -25,7 +26,7 @@ use Rattle.lsp_replay.specs.declared.record.Side.TheVariants.{Client, Server}
 use Rattle.lsp_replay.specs.declared.outcome.Outcome.{Outcome}
 use Rattle.lsp_replay.specs.declared.outcome.EngineFault.{EngineFault}
 use Rattle.lsp_replay.specs.declared.outcome.EngineFault.TheVariants.{BadLog, BodyTooLong}
-use Rattle.lsp_replay.specs.Log.{Record, version_line, mark_of}
+use Rattle.lsp_replay.specs.Log.{Reading, Record, version_line, mark_of}
 use Rattle.lsp_replay.specs.Course.{Course, written_first, stopped}
 use Rattle.lsp_server.specs.declared.config.Config.{Config}
 use Rattle.lsp_server.specs.declared.config.EncodingChoice.TheVariants.{Fixed}
@@ -163,6 +164,47 @@ replaying_from index = record {
 abbrev pub replaying : View
 replaying = replaying_from 0
 
+-- ---- `normalise`: each accepted change in its one canonical message, and every other byte as it is
+
+abbrev pub change_in : IncomingData → Option ChangeData
+change_in (did_change params) = params
+change_in m = None
+
+-- the body of the canonical message of a batch on the documents of a server
+abbrev pub normal_body : State → ChangeData → List ℕ
+normal_body server p = canonical_body (units_in (encoding_of server)) server.table p.uri p.version (map edit_of p.changes)
+
+abbrev pub line_if : Bool → List ℕ
+line_if line_due = if line_due then version_line else []
+
+-- what stands in front of a record's frame
+abbrev pub front_of : Session → Record → List ℕ
+front_of s r = line_if r.head.line_due ++ mark_of s.version r.head.side
+
+-- the canonical body of an accepted change; other records have none
+abbrev pub normal_if : State → Option ChangeData → Verdict → Option (List ℕ)
+normal_if server (Some p) (answered changed) = Some (normal_body server p)
+normal_if server change verdict = None
+
+abbrev pub normal_of : Session → List ℕ → Verdict → Option (List ℕ)
+normal_of s body verdict = normal_if s.server (change_in (asked (reading body))) verdict
+
+-- A record is written with its own frame, or with the frame of its canonical body, unless that is too long.
+abbrev pub written : ℕ → Record → List ℕ → Option (List ℕ) → Gives
+written max_body r front None = gives (front ++ r.spelling)
+written max_body r front (Some body) = if nat_lt max_body (length body) then ends [] (Err (BodyTooLong r.head.place)) else gives (front ++ frame body)
+
+abbrev pub normal_gives : Session → Record → Judged → Gives
+normal_gives s r j = written s.server.config.limits.max_body r (front_of j.session r) (normal_of s r.body j.verdict)
+
+-- A log of version 2 without records is its line.
+abbrev pub normalising : View
+normalising = record {
+  record_gives = λ s r j. unless_bad r j.verdict (normal_gives s r j);
+  end_gives = λ s line_due. line_if line_due;
+  outcome = outcome_of;
+}
+
 -- ---- `convert`: a log of version 2, with the replies in it
 
 abbrev pub reply_record : Verdict → List ℕ
@@ -194,3 +236,19 @@ verdicts settings = course_in checking (opened (log_config settings))
 
 abbrev pub report : Settings → List Record → Course
 report settings = course_in replaying (opened (log_config settings))
+
+abbrev pub normal : Settings → List Record → Course
+normal settings = course_in normalising (opened (log_config settings))
+
+abbrev pub converted : Settings → List Record → Course
+converted settings = course_in converting (opened (log_config settings))
+
+-- How each input is read: `serve` reads frames and no log; the log commands read both versions, and `convert` takes version 1 alone.
+abbrev pub as_stream : Config → Reading
+as_stream config = record { max_body = config.limits.max_body; versions = false; only_one = false }
+
+abbrev pub as_log : Settings → Reading
+as_log settings = record { max_body = settings.limits.max_body; versions = true; only_one = false }
+
+abbrev pub as_converted : Settings → Reading
+as_converted settings = record { max_body = settings.limits.max_body; versions = true; only_one = true }

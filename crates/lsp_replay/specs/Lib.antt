@@ -7,6 +7,7 @@ pub mod Splitting
 pub mod Course
 pub mod Engine
 pub mod Progress
+pub mod Copy
 pub mod Session
 pub mod Verdicts
 pub mod Engines

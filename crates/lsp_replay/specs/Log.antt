@@ -10,10 +10,12 @@ use Rattle.lsp_replay.specs.declared.record.Side.{Side}
 use Rattle.lsp_replay.specs.declared.record.Side.TheVariants.{Client, Server}
 use Rattle.lsp_replay.specs.declared.record.Head.{Head}
 
--- how an input is read: the greatest length of a body, and whether a log of version 2 is looked for
+-- how an input is read: the greatest length of a body, whether a log of version 2 is looked for, and whether it is
+-- refused then
 pub record Reading : Type 0 where
   pub max_body : ℕ
   pub versions : Bool
+  pub only_one : Bool
 
 -- the line that a log of version 2 begins with
 abbrev pub version_line : List ℕ
@@ -60,6 +62,7 @@ is_line_due Two (r ∷ rs) = false
 -- a record whose first byte stands at a place
 pub record IsRecord (max_body : ℕ) (version : Version) (place : ℕ) (line_due : Bool) (r : Record) : Type 0 where
   pub spells : Spells max_body r.spelling r.body
+  pub version_is : r.head.version ≡ version
   pub side : version ≡ One → r.head.side ≡ Client
   pub placed : r.head.place ≡ place_behind 0 place
   pub due : r.head.line_due ≡ line_due
@@ -76,9 +79,10 @@ pub record Log : Type 0 where
   pub records : List Record
   pub rest : List ℕ
 
--- The input is the line of its version, these records, and then the rest.
+-- The input is the line of its version, these records, and then the rest; its version isn't refused.
 pub record IsReadAs (reading : Reading) (input : List ℕ) (log : Log) : Type 0 where
   pub version : IsVersion reading.versions log.version input
+  pub accepted : reading.only_one ≡ true → log.version ≡ One
   pub is : input ≡ line_of log.version ++ together log.version log.records log.rest
   pub each : AreRecords reading.max_body log.version (length (line_of log.version)) (is_line_due log.version []) log.records
 

@@ -1,5 +1,5 @@
 -- Where a splitter stands in a log.
-use Rattle.std.specs.Prelude.{ℕ, ◌≡◌, ◌-◌, ◌<◌, false, List, [], ◌++◌, length, Option, None, Some}
+use Rattle.std.specs.Prelude.{ℕ, ◌≡◌, ◌-◌, false, true, List, [], ◌++◌, length, Option, None, Some}
 use Rattle.lsp_frame.specs.Stream.{IsFrame, IsPart, HoldsOne}
 use Rattle.lsp_frame.specs.Faults.{place_behind}
 use Rattle.lsp_replay.specs.declared.record.Version.{Version}
@@ -55,6 +55,7 @@ pub record Stands (reading : Reading) (input more : List ℕ) (records : List Re
 -- the input at its start: the line of its version, and then these bytes
 pub record IsOpen (reading : Reading) (input : List ℕ) (version : Version) (more : List ℕ) : Type 0 where
   pub known : IsVersion reading.versions version input
+  pub accepted : reading.only_one ≡ true → version ≡ One
   pub is : input ≡ line_of version ++ more
 
 -- who wrote the record that comes in
@@ -64,7 +65,7 @@ side_of (Some side) = side
 
 -- the head of the record that comes in
 abbrev pub head_of : Splitter → Head
-head_of s = record { side = side_of s.side; place = s.place; line_due = s.line_due }
+head_of s = record { version = s.version; side = side_of s.side; place = s.place; line_due = s.line_due }
 
 -- why the rest of the input is not taken
 abbrev pub IsSplitFault : ℕ → List ℕ → Log → EngineFault → Type 0

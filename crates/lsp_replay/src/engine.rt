@@ -15,7 +15,7 @@ use crate::handler::{Handler, Output};
 use crate::opening::read_opening;
 use crate::outcome::{EngineFault, Outcome};
 use crate::port::{Sink, Source};
-use crate::record::Head;
+use crate::record::{Head, Version};
 use crate::splitter::Splitter;
 use crate::turns::{Turns, read_piece, write_given};
 use lsp_frame::Limits;
@@ -30,6 +30,19 @@ pub struct InputRules {
     pub limits: Limits,
     /// Is a log of version 2 looked for?
     pub versions: bool,
+    /// Is it refused then?
+    pub only_one: bool,
+}
+
+/// Refuses a log of version 2 where only version 1 is taken.
+fn accept(version: Version, only_one: bool) -> Result<(), EngineFault>
+    ensures ok { OnOk result (only_one ≡ true → version ≡ Version.One) }
+    ensures err { IfErr result (λ fault. (fault ≡ EngineFault.BadLog 0) × (only_one ≡ true) × (version ≡ Version.Two)) }
+{
+    match version {
+        Version::Two if only_one => Err(EngineFault::BadLog { place: 0 }),
+        _ => Ok(()),
+    }
 }
 
 /// Hands a record to the handler, and writes what it gives.
@@ -194,10 +207,10 @@ pub fn run_engine<R: Source, W: Sink, H: Handler>(
     reader: &mut R,
     writer: &mut W,
     handler: &mut H,
-    reading: InputRules,
+    rules: InputRules,
     max_turns: u64,
 ) -> Result<Outcome, EngineFault>
-    ensures ran { Ran (record { max_body = reading.limits.max_body; versions = reading.versions }) (H.course handler.old) (R.has_ended reader.new)
+    ensures ran { Ran (record { max_body = rules.limits.max_body; versions = rules.versions; only_one = rules.only_one }) (H.course handler.old) (R.has_ended reader.new)
         (R.left reader.old) (R.left reader.new) (W.held writer.old) (W.held writer.new) result }
     ensures called { Called (R.count reader.old) (R.count reader.new) (W.count writer.old) (W.count writer.new) max_turns
         (R.has_failed reader.new) (W.has_failed writer.new) (R.has_ended reader.new) (R.left reader.new) result }
@@ -205,8 +218,9 @@ pub fn run_engine<R: Source, W: Sink, H: Handler>(
     let mut turns = Turns::new(max_turns);
     let mut buf = [0u8; PIECE];
     let mut made = Vec::new(alloc);
-    let opening = read_opening(reader, &mut buf, reading.versions, &mut turns)?;
-    let mut splitter = Splitter::new(alloc, reading.limits, opening.version);
+    let opening = read_opening(reader, &mut buf, rules.versions, &mut turns)?;
+    accept(opening.version, rules.only_one)?;
+    let mut splitter = Splitter::new(alloc, rules.limits, opening.version);
     let mut from = opening.version.line().len();
     let mut to = opening.len;
     let mut ended = opening.ended;
@@ -232,3 +246,8 @@ pub fn run_engine<R: Source, W: Sink, H: Handler>(
         ended = to == 0;
     }
 }
+
+#[cfg(test)]
+mod copier;
+#[cfg(test)]
+mod tests;

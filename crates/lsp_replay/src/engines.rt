@@ -2,10 +2,12 @@
 
 ghost use Rattle.std.specs.Prelude.{◌≡◌, true, false};
 ghost use Rattle.lsp_replay.specs.Engine.{Ran, Called};
-ghost use Rattle.lsp_replay.specs.Engines.{log_config, replies, report, verdicts};
+ghost use Rattle.lsp_replay.specs.Engines.{log_config, normal, as_stream, as_log, as_converted, replies, report, verdicts, converted};
 
 use crate::checking::Check;
+use crate::converting::Convert;
 use crate::engine::{InputRules, run_engine};
+use crate::normalising::Normalise;
 use crate::outcome::{EngineFault, Outcome};
 use crate::port::{Sink, Source};
 use crate::replaying::Replay;
@@ -25,8 +27,8 @@ pub struct Settings {
 
 impl Settings {
     /// The server that the records of a log are handed to.
-    fn config(self) -> Config
-        ensures { result ≡ log_config self }
+    fn config(&self) -> Config
+        ensures { result ≡ log_config self.now }
     {
         Config {
             limits: self.limits,
@@ -35,13 +37,14 @@ impl Settings {
         }
     }
 
-    /// Both versions of a log are read.
-    fn rules(self) -> InputRules
-        ensures { result ≡ record { limits = self.limits; versions = true } }
+    /// How the log is read; `only_one`: is version 1 alone taken?
+    fn rules(&self, only_one: bool) -> InputRules
+        ensures { result ≡ record { limits = self.now.limits; versions = true; only_one = only_one } }
     {
         InputRules {
             limits: self.limits,
             versions: true,
+            only_one,
         }
     }
 }
@@ -58,16 +61,17 @@ pub fn serve<R: Source, W: Sink>(
     config: Config,
     max_turns: u64,
 ) -> Result<Outcome, EngineFault>
-    ensures ran { Ran (record { max_body = config.limits.max_body; versions = false }) (replies config) (R.has_ended reader.new)
+    ensures ran { Ran (as_stream config) (replies config) (R.has_ended reader.new)
         (R.left reader.old) (R.left reader.new) (W.held writer.old) (W.held writer.new) result }
     ensures called { Called (R.count reader.old) (R.count reader.new) (W.count writer.old) (W.count writer.new) max_turns
         (R.has_failed reader.new) (W.has_failed writer.new) (R.has_ended reader.new) (R.left reader.new) result }
 {
-    let mut serve = Serve::new(alloc, config);
     let rules = InputRules {
         limits: config.limits,
         versions: false,
+        only_one: false,
     };
+    let mut serve = Serve::new(alloc, config);
     run_engine(alloc, reader, writer, &mut serve, rules, max_turns)
 }
 
@@ -82,20 +86,14 @@ pub fn check<R: Source, W: Sink>(
     settings: Settings,
     max_turns: u64,
 ) -> Result<Outcome, EngineFault>
-    ensures ran { Ran (record { max_body = settings.limits.max_body; versions = true }) (verdicts settings) (R.has_ended reader.new)
+    ensures ran { Ran (as_log settings) (verdicts settings) (R.has_ended reader.new)
         (R.left reader.old) (R.left reader.new) (W.held writer.old) (W.held writer.new) result }
     ensures called { Called (R.count reader.old) (R.count reader.new) (W.count writer.old) (W.count writer.new) max_turns
         (R.has_failed reader.new) (W.has_failed writer.new) (R.has_ended reader.new) (R.left reader.new) result }
 {
+    let rules = settings.rules(false);
     let mut check = Check::new(alloc, settings.config());
-    run_engine(
-        alloc,
-        reader,
-        writer,
-        &mut check,
-        settings.rules(),
-        max_turns,
-    )
+    run_engine(alloc, reader, writer, &mut check, rules, max_turns)
 }
 
 /// The documents that are open at the end of a log: writes a line of JSON for each, in order of opening. The status is 1 where
@@ -109,18 +107,55 @@ pub fn replay<R: Source, W: Sink>(
     settings: Settings,
     max_turns: u64,
 ) -> Result<Outcome, EngineFault>
-    ensures ran { Ran (record { max_body = settings.limits.max_body; versions = true }) (report settings) (R.has_ended reader.new)
+    ensures ran { Ran (as_log settings) (report settings) (R.has_ended reader.new)
         (R.left reader.old) (R.left reader.new) (W.held writer.old) (W.held writer.new) result }
     ensures called { Called (R.count reader.old) (R.count reader.new) (W.count writer.old) (W.count writer.new) max_turns
         (R.has_failed reader.new) (W.has_failed writer.new) (R.has_ended reader.new) (R.left reader.new) result }
 {
+    let rules = settings.rules(false);
     let mut replay = Replay::new(alloc, settings.config());
-    run_engine(
-        alloc,
-        reader,
-        writer,
-        &mut replay,
-        settings.rules(),
-        max_turns,
-    )
+    run_engine(alloc, reader, writer, &mut replay, rules, max_turns)
+}
+
+/// A log of version 2 of one of version 1: its line, then each record with its mark, and behind it the server's reply, if it gives one.
+/// The status is 1 where something was refused, else 0. A log of version 2 is refused as soon as its line was read.
+///
+/// Costs and memory are those of [`serve`].
+pub fn convert<R: Source, W: Sink>(
+    alloc: Global,
+    reader: &mut R,
+    writer: &mut W,
+    settings: Settings,
+    max_turns: u64,
+) -> Result<Outcome, EngineFault>
+    ensures ran { Ran (as_converted settings) (converted settings) (R.has_ended reader.new)
+        (R.left reader.old) (R.left reader.new) (W.held writer.old) (W.held writer.new) result }
+    ensures called { Called (R.count reader.old) (R.count reader.new) (W.count writer.old) (W.count writer.new) max_turns
+        (R.has_failed reader.new) (W.has_failed writer.new) (R.has_ended reader.new) (R.left reader.new) result }
+{
+    let rules = settings.rules(true);
+    let mut convert = Convert::new(alloc, settings.config());
+    run_engine(alloc, reader, writer, &mut convert, rules, max_turns)
+}
+
+/// A log in which each accepted change is its one canonical message, and everything else is as it was, byte for byte. The status is 1
+/// where something was refused, else 0. An accepted change whose canonical body would be over the limit is
+/// [`EngineFault::BodyTooLong`].
+///
+/// Costs and memory are those of [`serve`].
+pub fn normalise<R: Source, W: Sink>(
+    alloc: Global,
+    reader: &mut R,
+    writer: &mut W,
+    settings: Settings,
+    max_turns: u64,
+) -> Result<Outcome, EngineFault>
+    ensures ran { Ran (as_log settings) (normal settings) (R.has_ended reader.new)
+        (R.left reader.old) (R.left reader.new) (W.held writer.old) (W.held writer.new) result }
+    ensures called { Called (R.count reader.old) (R.count reader.new) (W.count writer.old) (W.count writer.new) max_turns
+        (R.has_failed reader.new) (W.has_failed writer.new) (R.has_ended reader.new) (R.left reader.new) result }
+{
+    let rules = settings.rules(false);
+    let mut normalise = Normalise::new(alloc, settings.config());
+    run_engine(alloc, reader, writer, &mut normalise, rules, max_turns)
 }

@@ -12,6 +12,7 @@ mod converting;
 mod engine;
 mod engines;
 mod handler;
+mod normalising;
 mod opening;
 mod outcome;
 mod port;
@@ -24,7 +25,7 @@ mod stop;
 mod told;
 mod turns;
 
-pub use engines::{Settings, check, replay, serve};
+pub use engines::{Settings, check, convert, normalise, replay, serve};
 pub use outcome::{EngineFault, Outcome};
 pub use port::{Sink, Source};
 pub use stop::{Call, StopReader, StopWriter};

@@ -55,6 +55,8 @@ impl Side {
 /// What is known of a record beside its frame.
 #[derive(Clone, Copy, Debug, PartialEq, Eq)]
 pub struct Head {
+    /// Of the log that it stands in.
+    pub version: Version,
     /// In version 1 all records are the client's.
     pub side: Side,
     /// Where its first byte stands in the input, in version 2 its mark. It stays at the greatest value of a `u64`.

@@ -3,7 +3,7 @@
 ghost use Rattle.std.specs.Prelude.{◌≡◌, ◌++◌, ◌-◌, refl, IfOk, OnOk, length};
 ghost use Rattle.serde_json.specs.View.{view};
 ghost use Rattle.lsp_replay.specs.Session.{opened};
-ghost use Rattle.lsp_replay.specs.Engines.{replaying_from, course_in, document_line, document_value};
+ghost use Rattle.lsp_replay.specs.Engines.{replaying, replaying_from, course_in, document_line, document_value};
 
 use crate::handler::{Given, Handler, Output};
 use crate::outcome::{EngineFault, Outcome};
@@ -27,7 +27,7 @@ impl Replay {
     /// Before the first record, over a new server.
     pub fn new(alloc: Global, config: Config) -> Replay
         ensures session { result.session ≡ opened config }
-        ensures next { result.next ≡ 0 }
+        ensures course { course_in (replaying_from result.next) result.session ≡ course_in replaying (opened config) }
     {
         let session = Session::new(alloc, config);
         Replay {

@@ -1,21 +1,29 @@
 //! A server over the records of a log.
 
-ghost use Rattle.std.specs.Prelude.{◌≡◌, IfOk, OnOk, MatchOption, option_map, Some};
+ghost use Rattle.std.specs.Prelude.{◌≡◌, IfOk, OnOk, MatchOption, option_map, map, string_bytes, Some, None};
 ghost use Rattle.serde_json.specs.View.{view};
 ghost use Rattle.lsp_message.specs.Message.{reading};
 ghost use Rattle.lsp_message.specs.Agreement.{announced_of};
-ghost use Rattle.lsp_message.specs.Seen.{id_view, message_view};
+ghost use Rattle.lsp_message.specs.Seen.{change_view, id_view, message_view};
+ghost use Rattle.lsp_text.specs.Units.{units_in};
+ghost use Rattle.lsp_edit.specs.Edited.{edit_of};
+ghost use Rattle.lsp_store.specs.Table.{change_refusal};
+ghost use Rattle.lsp_server.specs.Step.{encoding_of};
 ghost use Rattle.lsp_server.specs.Seen.{incoming_view, answer_view};
 ghost use Rattle.lsp_replay.specs.Ports.{one_more};
-ghost use Rattle.lsp_replay.specs.Session.{opened, judge_at, judge_incoming, is_early, is_change, is_refused, is_refusing, expected_after, hear_for, settle_by, result_for, result_in, same_id, versioned, outcome_of};
-ghost use Rattle.lsp_replay.specs.Verdicts.{verdict_view};
+ghost use Rattle.lsp_replay.specs.Session.{answered, opened, judge_at, judge_from, judge_incoming, is_early, is_change, is_refused, is_refusing, expected_after, hear_for, settle_by, result_for, result_in, same_id, versioned, outcome_of};
+ghost use Rattle.lsp_replay.specs.Engines.{change_in, normal_body, normal_if, normal_of};
+ghost use Rattle.lsp_replay.specs.Verdicts.{IsTold, verdict_view};
+ghost use Rattle.lsp_server.specs.Answer.{changed};
 
 use crate::outcome::Outcome as Ending;
 use crate::record::{Head, Side, Version};
 use lsp_message::{
-    ErrorCode, Id, Message, Outcome, ParamsFault, ReadFault, read, result_initialize,
+    ChangeParams, ErrorCode, Id, Message, Outcome, ParamsFault, ReadFault, read, result_initialize,
 };
 use lsp_server::{Answer, Config, Incoming, Phase, Server};
+use lsp_store::StoreFault;
+use lsp_text::Encoding;
 use serde_json::Value;
 use std::alloc::{AllocError, Global};
 use std::marker::Model;
@@ -29,6 +37,15 @@ pub enum Verdict {
     Recorded,
     /// A record that belongs in no log.
     Bad,
+}
+
+/// How the one message is told in which an accepted change is written.
+#[derive(Debug, PartialEq, Eq, Drop)]
+pub enum Canonical {
+    /// Its frame.
+    Frame(Vec<u8>),
+    /// Its body is over the limit.
+    TooLong,
 }
 
 /// A server that the records of a log are handed to, and what is counted.
@@ -46,7 +63,7 @@ pub struct Session {
 
 impl Model for Session {
     ghost use Rattle.std.specs.Prelude.{option_map};
-    ghost use Rattle.lsp_message.specs.Seen.{id_view, message_view};
+    ghost use Rattle.lsp_message.specs.Seen.{id_view};
     ghost use Rattle.lsp_replay.specs.Session as spec;
 
     ghost Value = { spec.Session };
@@ -91,6 +108,13 @@ impl Session {
         &self.server
     }
 
+    /// The version of the log, as far as its records told it.
+    pub fn version(&self) -> Version
+        ensures { result ≡ self.now.version }
+    {
+        self.version
+    }
+
     /// How many bodies were handled.
     pub fn messages(&self) -> u64
         ensures { result ≡ self.now.messages }
@@ -131,6 +155,102 @@ impl Session {
         };
         self.records = one_more(self.records);
         Ok(verdict)
+    }
+
+    /// The same, and for an accepted change the one message in which it is written.
+    #[tactic(auto, using(crate::proofs::NormalLemmas::same_server))]
+    pub fn judge_and_write(
+        &mut self,
+        head: Head,
+        body: &[u8],
+    ) -> Result<(Verdict, Option<Canonical>), AllocError>
+        ensures verdict { IfOk result (λ told. verdict_view told.0 ≡ (judge_at self.old head body.now).verdict) }
+        ensures session { OnOk result (self.new ≡ (judge_at self.old head body.now).session) }
+        ensures written { IfOk result (λ told. IsTold self.old.server.config.limits.max_body
+            (normal_of self.old body.now (judge_at self.old head body.now).verdict) told.1) }
+    {
+        self.see_version(head.line_due);
+        let told = self.write_from(head.side, body)?;
+        self.records = one_more(self.records);
+        Ok(told)
+    }
+
+    /// Judges a record of one side, and tells the one message of an accepted change.
+    #[tactic(auto, using(crate::proofs::NormalLemmas::heard_has_none))]
+    fn write_from(
+        &mut self,
+        side: Side,
+        body: &[u8],
+    ) -> Result<(Verdict, Option<Canonical>), AllocError>
+        ensures verdict { IfOk result (λ told. verdict_view told.0 ≡ (judge_from self.old side body.now).verdict) }
+        ensures session { OnOk result (self.new ≡ (judge_from self.old side body.now).session) }
+        ensures written { IfOk result (λ told. IsTold self.old.server.config.limits.max_body
+            (normal_of self.old body.now (judge_from self.old side body.now).verdict) told.1) }
+    {
+        match side {
+            Side::Client => {
+                let incoming = Incoming::read(self.alloc, body)?;
+                self.take_and_write(incoming)
+            }
+            Side::Server => Ok((self.hear(body)?, None)),
+        }
+    }
+
+    /// Judges a client's record, and tells the one message of an accepted change.
+    fn take_and_write(
+        &mut self,
+        incoming: Incoming,
+    ) -> Result<(Verdict, Option<Canonical>), AllocError>
+        ensures verdict { IfOk result (λ told. verdict_view told.0 ≡ (judge_incoming self.old (incoming_view incoming)).verdict) }
+        ensures session { OnOk result (self.new ≡ (judge_incoming self.old (incoming_view incoming)).session) }
+        ensures written { IfOk result (λ told. IsTold self.old.server.config.limits.max_body
+            (normal_if self.old.server (change_in (incoming_view incoming)) (judge_incoming self.old (incoming_view incoming)).verdict) told.1) }
+    {
+        let canonical = self.canonical(&incoming)?;
+        match self.take(incoming)? {
+            Verdict::Answered(Answer::Changed) => {
+                Ok((Verdict::Answered(Answer::Changed), canonical))
+            }
+            verdict => Ok((verdict, None)),
+        }
+    }
+
+    /// The one message of a change, if it is one that is accepted.
+    fn canonical(&self, incoming: &Incoming) -> Result<Option<Canonical>, AllocError>
+        ensures written { IfOk result (λ told. (judge_incoming self.now (incoming_view incoming.now)).verdict ≡ answered changed
+            → IsTold self.now.server.config.limits.max_body
+            (option_map (normal_body self.now.server) (change_in (incoming_view incoming.now))) told) }
+    {
+        let Incoming::DidChange(Some(params)) = incoming else {
+            return Ok(None);
+        };
+        if self.server.phase() != Phase::Running {
+            return Ok(None);
+        }
+        self.canonical_change(params)
+    }
+
+    /// The one message of a change that is not refused.
+    fn canonical_change(&self, params: &ChangeParams) -> Result<Option<Canonical>, AllocError>
+        ensures { IfOk result (λ told. change_refusal self.now.server.config.limits (units_in (encoding_of self.now.server)) self.now.server.table
+            (string_bytes params.now.uri) params.now.version (map edit_of params.now.changes.items) ≡ None
+            → IsTold self.now.server.config.limits.max_body (Some (normal_body self.now.server (change_view params.now))) told) }
+    {
+        let encoding = self.server.encoding().unwrap_or(Encoding::Utf16);
+        let written = self.server.store().canonical_message(
+            &params.uri,
+            params.version,
+            encoding,
+            &params.changes,
+        );
+        match written {
+            Ok(frame) => Ok(Some(Canonical::Frame(frame))),
+            Err(fault) => match fault {
+                StoreFault::BodyTooLong { .. } => Ok(Some(Canonical::TooLong)),
+                StoreFault::NoMemory => Err(AllocError),
+                _ => Ok(None),
+            },
+        }
     }
 
     /// The first record of a log of version 2 tells its version.

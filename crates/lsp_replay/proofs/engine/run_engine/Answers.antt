@@ -2,25 +2,31 @@ use Rattle.std.proofs.Common.{refl, arith, ◌≡◌, ◌-◌, ℕ, List, sym, a
 use Rattle.std.proofs.lemmas.List.{length-take}
 use Rattle.std.specs.Io.KnownBytes.{Consumes}
 use Rattle.std.proofs.lemmas.Result.{err_from_is_err_and}
-use Rattle.lsp_replay.proofs.RunLemmas.{runs_at_start, runs_on, runs_more, ran_stopped, ran_into_fault, ran_finished, ran_unread, ran_unopened, called_fault, piece_not_read, both_at_start, both_writes, both_reads, rose_more, read_not_write, read_not_ended, n_is_zero, zero_is}
+use Rattle.lsp_replay.proofs.RunLemmas.{runs_at_start, runs_on, runs_more, ran_stopped, ran_into_fault, ran_finished, ran_unread, ran_unopened, ran_refused, called_fault, piece_not_read, both_at_start, both_writes, both_reads, rose_more, read_not_write, read_not_ended, n_is_zero, zero_is}
 use Rattle.lsp_replay.proofs.engine.run_engine.Goals as goal
 
 pub returns-in_err-opening-clause-ran : goal.returns-in_err-opening-clause-ran
 returns-in_err-opening-clause-ran g c =
     let p = err_from_is_err_and c.from_residual.result c.from_residual.ensures.1 in
-    rw (p.1, p.2) (ran_unopened (record { max_body = c.args.reading.limits.max_body; versions = c.args.reading.versions }) (g.H.Handler.course c.args.handler.now) (g.R.Source.left c.args.reader.now) (g.W.Sink.held c.args.writer.now)
+    rw (p.1, p.2) (ran_unopened (record { max_body = c.args.rules.limits.max_body; versions = c.args.rules.versions; only_one = c.args.rules.only_one }) (g.H.Handler.course c.args.handler.now) (g.R.Source.left c.args.reader.now) (g.W.Sink.held c.args.writer.now)
     (g.R.Source.left c.read_opening.new.reader) _ _ (record { silent = g.met.H.Handler.silent c.args.handler.now; unstopped = g.met.H.Handler.unstopped c.args.handler.now })
     c.in_err-opening.ensures.below c.in_err-opening.ensures.fault)
+
+pub returns-in_err-accept-clause-ran : goal.returns-in_err-accept-clause-ran
+returns-in_err-accept-clause-ran g c =
+    let p = err_from_is_err_and c.from_residual-in_err-accept.result c.from_residual-in_err-accept.ensures.1 in
+    rw (p.1, p.2) (ran_refused (record { max_body = c.args.rules.limits.max_body; versions = c.args.rules.versions; only_one = c.args.rules.only_one }) (g.H.Handler.course c.args.handler.now) (g.R.Source.left c.args.reader.now) (g.W.Sink.held c.args.writer.now)
+    (g.R.Source.left c.read_opening.new.reader) _ _ _ c.in_ok-opening.opening.version c.in_err-accept.ensures.err c.in_ok-opening.ensures.read (λ more none. c.in_ok-opening.ensures.known more (λ _. none)))
 
 pub pieces-init : goal.pieces-init
 pieces-init g c = record {
   from = omega (arith, ap length c.line-from.ensures, c.in_ok-opening.ensures.line);
   to = c.in_ok-opening.ensures.bound;
   ready = c.new-splitter.ensures.ready;
-  runs = runs_at_start (record { max_body = c.args.reading.limits.max_body; versions = c.args.reading.versions }) (g.H.Handler.course c.args.handler.now) (g.R.Source.left c.args.reader.now) (g.W.Sink.held c.args.writer.now)
+  runs = runs_at_start (record { max_body = c.args.rules.limits.max_body; versions = c.args.rules.versions; only_one = c.args.rules.only_one }) (g.H.Handler.course c.args.handler.now) (g.R.Source.left c.args.reader.now) (g.W.Sink.held c.args.writer.now)
       (g.R.Source.left c.read_opening.new.reader) c.in_ok-opening.opening.ended c.in_ok-opening.opening.len _ _ _ c.new-splitter.result c.in_ok-opening.opening.version c.in_ok-opening.ensures.bound c.in_ok-opening.ensures.fits (ap length c.line-from.ensures) refl c.new-splitter.ensures.version
-      c.in_ok-opening.ensures.read c.in_ok-opening.ensures.known c.in_ok-opening.ensures.line c.in_ok-opening.ensures.front
-      (λ input more at_start. c.new-splitter.ensures.stands (record { max_body = c.args.reading.limits.max_body; versions = c.args.reading.versions }) input more refl at_start);
+      c.in_ok-opening.ensures.read c.in_ok-opening.ensures.known c.in_ok-opening.ensures.line c.in_ok-opening.ensures.front c.in_ok-accept.ensures.ok
+      (λ input more at_start. c.new-splitter.ensures.stands (record { max_body = c.args.rules.limits.max_body; versions = c.args.rules.versions; only_one = c.args.rules.only_one }) input more refl at_start);
   ended = c.in_ok-opening.ensures.ended;
   at_end = c.in_ok-opening.ensures.at_end;
   rose = c.in_ok-opening.ensures.rose;
@@ -30,42 +36,42 @@ pieces-init g c = record {
 pub returns-in_err-end-clause-ran : goal.returns-in_err-end-clause-ran
 returns-in_err-end-clause-ran g c =
     let p = err_from_is_err_and c.from_residual-in_err-end.result c.from_residual-in_err-end.ensures.1 in
-    rw (p.1, p.2) (ran_into_fault (record { max_body = c.args.reading.limits.max_body; versions = c.args.reading.versions }) (g.H.Handler.course c.args.handler.now) (g.R.Source.left c.args.reader.now) (g.W.Sink.held c.args.writer.now)
+    rw (p.1, p.2) (ran_into_fault (record { max_body = c.args.rules.limits.max_body; versions = c.args.rules.versions; only_one = c.args.rules.only_one }) (g.H.Handler.course c.args.handler.now) (g.R.Source.left c.args.reader.now) (g.W.Sink.held c.args.writer.now)
     (g.R.Source.left c.pieces.reader) c.pieces.ended (g.R.Source.has_ended c.pieces.reader) c.pieces.place _ c.pieces.splitter (g.H.Handler.course c.pieces.handler) (g.W.Sink.held c.pieces.writer) (g.W.Sink.held c.take_piece.new.writer) _
-    (λ input w. c.in_err-end.ensures.fault (record { max_body = c.args.reading.limits.max_body; versions = c.args.reading.versions }) (g.H.Handler.course c.args.handler.now) (g.W.Sink.held c.args.writer.now) input w) c.pieces.invariant.runs)
+    (λ input w. c.in_err-end.ensures.fault (record { max_body = c.args.rules.limits.max_body; versions = c.args.rules.versions; only_one = c.args.rules.only_one }) (g.H.Handler.course c.args.handler.now) (g.W.Sink.held c.args.writer.now) input w) c.pieces.invariant.runs)
 
 pub returns-in_err-end-clause-called : goal.returns-in_err-end-clause-called
 returns-in_err-end-clause-called g c =
     let p = err_from_is_err_and c.from_residual-in_err-end.result c.from_residual-in_err-end.ensures.1 in
     let runs = c.pieces.invariant.runs in
-    let why = c.in_err-end.ensures.fault (record { max_body = c.args.reading.limits.max_body; versions = c.args.reading.versions }) (g.H.Handler.course c.args.handler.now) (g.W.Sink.held c.args.writer.now) runs.input runs.went in
+    let why = c.in_err-end.ensures.fault (record { max_body = c.args.rules.limits.max_body; versions = c.args.rules.versions; only_one = c.args.rules.only_one }) (g.H.Handler.course c.args.handler.now) (g.W.Sink.held c.args.writer.now) runs.input runs.went in
     rw (p.1, p.2) (called_fault _ _ _ _ _ c.take_piece.new.turns.left _ _ _ _ _ (both_writes _ _ _ _ _ _ _ _ c.pieces.invariant.spent c.in_err-end.ensures.spent) c.in_err-end.ensures.none_left
     (λ is. absurd (piece_not_read _ (g.H.Handler.course c.args.handler.now) _ _ _ _ why is))
     (λ is. let failed = c.in_err-end.ensures.failed is in (failed.0, rose_more _ _ _ c.pieces.invariant.spent.writes failed.1)) (λ _ told. (c.pieces.invariant.at_end (c.pieces.invariant.ended.0 told), c.pieces.invariant.rose)))
 
 pub returns-in-Some-clause-ran : goal.returns-in-Some-clause-ran
-returns-in-Some-clause-ran g c = ran_stopped (record { max_body = c.args.reading.limits.max_body; versions = c.args.reading.versions }) (g.H.Handler.course c.args.handler.now) (g.R.Source.left c.args.reader.now) (g.W.Sink.held c.args.writer.now)
+returns-in-Some-clause-ran g c = ran_stopped (record { max_body = c.args.rules.limits.max_body; versions = c.args.rules.versions; only_one = c.args.rules.only_one }) (g.H.Handler.course c.args.handler.now) (g.R.Source.left c.args.reader.now) (g.W.Sink.held c.args.writer.now)
     (g.R.Source.left c.pieces.reader) c.pieces.ended (g.R.Source.has_ended c.pieces.reader) c.pieces.place _ c.pieces.splitter (g.H.Handler.course c.pieces.handler) (g.W.Sink.held c.pieces.writer) (g.W.Sink.held c.take_piece.new.writer) c.in-Some.outcome
-    (λ input w. rw c.in-Some.is at (c.in_ok-end.ensures.went (record { max_body = c.args.reading.limits.max_body; versions = c.args.reading.versions }) (g.H.Handler.course c.args.handler.now) (g.W.Sink.held c.args.writer.now) input w)) c.pieces.invariant.runs
+    (λ input w. rw c.in-Some.is at (c.in_ok-end.ensures.went (record { max_body = c.args.rules.limits.max_body; versions = c.args.rules.versions; only_one = c.args.rules.only_one }) (g.H.Handler.course c.args.handler.now) (g.W.Sink.held c.args.writer.now) input w)) c.pieces.invariant.runs
 
 pub returns-then-ended-clause-ran : goal.returns-then-ended-clause-ran
 returns-then-ended-clause-ran g c =
-    ran_finished (record { max_body = c.args.reading.limits.max_body; versions = c.args.reading.versions }) (g.H.Handler.course c.args.handler.now) (g.R.Source.left c.args.reader.now) (g.W.Sink.held c.args.writer.now)
+    ran_finished (record { max_body = c.args.rules.limits.max_body; versions = c.args.rules.versions; only_one = c.args.rules.only_one }) (g.H.Handler.course c.args.handler.now) (g.R.Source.left c.args.reader.now) (g.W.Sink.held c.args.writer.now)
     (g.R.Source.left c.pieces.reader) c.pieces.ended (g.R.Source.has_ended c.pieces.reader) c.pieces.place c.take_piece.new.splitter (g.H.Handler.course c.take_piece.new.handler)
     (g.W.Sink.held c.take_piece.new.writer) (g.W.Sink.held c.finish_run.new.writer) c.finish_run.result (c.pieces.invariant.ended.1 c.if-ended.true) c.finish_run.ensures.at_end c.finish_run.ensures.fault
-    (runs_on (record { max_body = c.args.reading.limits.max_body; versions = c.args.reading.versions }) (g.H.Handler.course c.args.handler.now) (g.R.Source.left c.args.reader.now) (g.W.Sink.held c.args.writer.now) (g.R.Source.left c.pieces.reader) c.pieces.ended c.pieces.place _ c.pieces.splitter c.take_piece.new.splitter
+    (runs_on (record { max_body = c.args.rules.limits.max_body; versions = c.args.rules.versions; only_one = c.args.rules.only_one }) (g.H.Handler.course c.args.handler.now) (g.R.Source.left c.args.reader.now) (g.W.Sink.held c.args.writer.now) (g.R.Source.left c.pieces.reader) c.pieces.ended c.pieces.place _ c.pieces.splitter c.take_piece.new.splitter
     (g.H.Handler.course c.pieces.handler) (g.H.Handler.course c.take_piece.new.handler) (g.W.Sink.held c.pieces.writer) (g.W.Sink.held c.take_piece.new.writer) c.in_ok-end.ensures.version
-    (λ input w. rw c.in_default.is at (c.in_ok-end.ensures.went (record { max_body = c.args.reading.limits.max_body; versions = c.args.reading.versions }) (g.H.Handler.course c.args.handler.now) (g.W.Sink.held c.args.writer.now) input w)) c.pieces.invariant.runs)
+    (λ input w. rw c.in_default.is at (c.in_ok-end.ensures.went (record { max_body = c.args.rules.limits.max_body; versions = c.args.rules.versions; only_one = c.args.rules.only_one }) (g.H.Handler.course c.args.handler.now) (g.W.Sink.held c.args.writer.now) input w)) c.pieces.invariant.runs)
 
 pub returns-in_err-to-clause-ran : goal.returns-in_err-to-clause-ran
 returns-in_err-to-clause-ran g c =
     let p = err_from_is_err_and c.from_residual-in_err-to.result c.from_residual-in_err-to.ensures.1 in
-    rw (p.1, p.2) (ran_unread (record { max_body = c.args.reading.limits.max_body; versions = c.args.reading.versions }) (g.H.Handler.course c.args.handler.now) (g.R.Source.left c.args.reader.now) (g.W.Sink.held c.args.writer.now)
+    rw (p.1, p.2) (ran_unread (record { max_body = c.args.rules.limits.max_body; versions = c.args.rules.versions; only_one = c.args.rules.only_one }) (g.H.Handler.course c.args.handler.now) (g.R.Source.left c.args.reader.now) (g.W.Sink.held c.args.writer.now)
     (g.R.Source.left c.pieces.reader) (g.R.Source.left c.read_piece.new.reader) c.pieces.ended _ c.pieces.place c.take_piece.new.splitter (g.H.Handler.course c.take_piece.new.handler) (g.W.Sink.held c.take_piece.new.writer) _
     c.in_ok-end.ensures.ready (record { silent = g.met.H.Handler.silent c.take_piece.new.handler; unstopped = g.met.H.Handler.unstopped c.take_piece.new.handler }) c.in_err-to.ensures.kept c.in_err-to.ensures.fault
-    (runs_on (record { max_body = c.args.reading.limits.max_body; versions = c.args.reading.versions }) (g.H.Handler.course c.args.handler.now) (g.R.Source.left c.args.reader.now) (g.W.Sink.held c.args.writer.now) (g.R.Source.left c.pieces.reader) c.pieces.ended c.pieces.place _ c.pieces.splitter c.take_piece.new.splitter
+    (runs_on (record { max_body = c.args.rules.limits.max_body; versions = c.args.rules.versions; only_one = c.args.rules.only_one }) (g.H.Handler.course c.args.handler.now) (g.R.Source.left c.args.reader.now) (g.W.Sink.held c.args.writer.now) (g.R.Source.left c.pieces.reader) c.pieces.ended c.pieces.place _ c.pieces.splitter c.take_piece.new.splitter
     (g.H.Handler.course c.pieces.handler) (g.H.Handler.course c.take_piece.new.handler) (g.W.Sink.held c.pieces.writer) (g.W.Sink.held c.take_piece.new.writer) c.in_ok-end.ensures.version
-    (λ input w. rw c.in_default.is at (c.in_ok-end.ensures.went (record { max_body = c.args.reading.limits.max_body; versions = c.args.reading.versions }) (g.H.Handler.course c.args.handler.now) (g.W.Sink.held c.args.writer.now) input w)) c.pieces.invariant.runs))
+    (λ input w. rw c.in_default.is at (c.in_ok-end.ensures.went (record { max_body = c.args.rules.limits.max_body; versions = c.args.rules.versions; only_one = c.args.rules.only_one }) (g.H.Handler.course c.args.handler.now) (g.W.Sink.held c.args.writer.now) input w)) c.pieces.invariant.runs))
 
 pub returns-in_err-to-clause-called : goal.returns-in_err-to-clause-called
 returns-in_err-to-clause-called g c =
@@ -83,13 +89,13 @@ pieces-preserved g c =
       from = omega arith;
       to = c.in_ok-to.ensures.bound;
       ready = c.in_ok-end.ensures.ready;
-      runs = runs_more (record { max_body = c.args.reading.limits.max_body; versions = c.args.reading.versions }) (g.H.Handler.course c.args.handler.now) (g.R.Source.left c.args.reader.now) (g.W.Sink.held c.args.writer.now)
+      runs = runs_more (record { max_body = c.args.rules.limits.max_body; versions = c.args.rules.versions; only_one = c.args.rules.only_one }) (g.H.Handler.course c.args.handler.now) (g.R.Source.left c.args.reader.now) (g.W.Sink.held c.args.writer.now)
           (g.R.Source.left c.pieces.reader) (g.R.Source.left c.read_piece.new.reader) c.pieces.ended _ c.pieces.place c.saturating_add-place.result c.in_ok-to.to _ c.take_piece.new.splitter (g.H.Handler.course c.take_piece.new.handler)
           (g.W.Sink.held c.take_piece.new.writer) c.if-ended.false (omega (arith, ap length piece, length-take c.in_ok-to.to c.read_piece.new.buf, c.in_ok-to.ensures.bound)) c.saturating_add-place.ensures
           (subst (λ (z : List ℕ). Consumes (g.R.Source.left c.pieces.reader) (g.R.Source.left c.read_piece.new.reader) z) (sym piece) c.in_ok-to.ensures.read)
-          (runs_on (record { max_body = c.args.reading.limits.max_body; versions = c.args.reading.versions }) (g.H.Handler.course c.args.handler.now) (g.R.Source.left c.args.reader.now) (g.W.Sink.held c.args.writer.now) (g.R.Source.left c.pieces.reader) c.pieces.ended c.pieces.place _ c.pieces.splitter c.take_piece.new.splitter
+          (runs_on (record { max_body = c.args.rules.limits.max_body; versions = c.args.rules.versions; only_one = c.args.rules.only_one }) (g.H.Handler.course c.args.handler.now) (g.R.Source.left c.args.reader.now) (g.W.Sink.held c.args.writer.now) (g.R.Source.left c.pieces.reader) c.pieces.ended c.pieces.place _ c.pieces.splitter c.take_piece.new.splitter
           (g.H.Handler.course c.pieces.handler) (g.H.Handler.course c.take_piece.new.handler) (g.W.Sink.held c.pieces.writer) (g.W.Sink.held c.take_piece.new.writer) c.in_ok-end.ensures.version
-          (λ input w. rw c.in_default.is at (c.in_ok-end.ensures.went (record { max_body = c.args.reading.limits.max_body; versions = c.args.reading.versions }) (g.H.Handler.course c.args.handler.now) (g.W.Sink.held c.args.writer.now) input w)) c.pieces.invariant.runs);
+          (λ input w. rw c.in_default.is at (c.in_ok-end.ensures.went (record { max_body = c.args.rules.limits.max_body; versions = c.args.rules.versions; only_one = c.args.rules.only_one }) (g.H.Handler.course c.args.handler.now) (g.W.Sink.held c.args.writer.now) input w)) c.pieces.invariant.runs);
       ended = (λ told. n_is_zero c.in_ok-to.to (c.in_ok-to.ensures.ended.0 told), λ zero. c.in_ok-to.ensures.ended.1 (zero_is c.in_ok-to.to zero));
       at_end = λ zero. c.in_ok-to.ensures.at_end (zero_is c.in_ok-to.to zero);
       rose = rose_more _ _ _ c.pieces.invariant.spent.reads c.in_ok-to.ensures.rose;

@@ -10,7 +10,7 @@ invariant-pieces g l = record {
   from : l.from ≤ l.to;
   to : l.to ≤ length l.buf;
   ready : IsReady l.splitter;
-  runs : Runs (record { max_body = l.fn.reading.limits.max_body; versions = l.fn.reading.versions }) (g.H.Handler.course l.fn.handler) (g.R.Source.left l.fn.reader) (g.W.Sink.held l.fn.writer)
+  runs : Runs (record { max_body = l.fn.rules.limits.max_body; versions = l.fn.rules.versions; only_one = l.fn.rules.only_one }) (g.H.Handler.course l.fn.handler) (g.R.Source.left l.fn.reader) (g.W.Sink.held l.fn.writer)
       (g.R.Source.left l.reader) l.ended l.place (take (l.to - l.from) (drop l.from l.buf)) l.splitter (g.H.Handler.course l.handler) (g.W.Sink.held l.writer);
   ended : g.R.Source.has_ended l.reader ≡ true ↔ l.ended ≡ true;
   at_end : l.ended ≡ true → IsAtEnd (g.R.Source.left l.reader);
