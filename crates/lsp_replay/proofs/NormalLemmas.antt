@@ -1,5 +1,6 @@
 -- What the canonical message of a record is told by.
-use Rattle.std.proofs.Common.{◌≡◌, ◌≢◌, ◌≤◌, ◌<◌, ◌⊎◌, inl, inr, ℕ, Bool, true, false, List, [], ◌∷◌, map, length, string_bytes, refl, ap, if◌then◌else◌, nat_lt, ltb-true, ltb-false}
+use Rattle.std.proofs.Common.{◌≡◌, ◌≢◌, ◌≤◌, ◌<◌, ◌⊎◌, inl, inr, ℕ, Bool, true, false, List, [], ◌∷◌, map, length, string_bytes, refl, ap, if◌then◌else◌, nat_lt, ltb-true, ltb-false, le-ltb, lt-ltb, ◌++◌, Vec, Global, IfOk}
+use Rattle.std.specs.declared.alloc.AllocError.{AllocError}
 use Rattle.std.specs.Prelude.{Option, Some, None, option_map, Result, Ok, Err}
 use Rattle.serde_json.specs.Data.{Data}
 use Rattle.lsp_text.specs.Units.{units_in}
@@ -24,7 +25,12 @@ use Rattle.lsp_server.specs.Answer.{AnswerData, Sent, changed, as_sent}
 use Rattle.lsp_server.specs.Incoming.{did_change}
 use Rattle.lsp_server.specs.Step.{State, edit_of, encoding_of, obeyed, obeys, change_command, step_in}
 use Rattle.lsp_replay.specs.Session.{Session, Verdict, answered, recorded, bad, Judged, judged, judge_incoming, hear_for, heard, settle_by, settle_in, result_for, versioned}
-use Rattle.lsp_replay.specs.Engines.{normal_if}
+use Rattle.lsp_replay.specs.Engines.{normal_if, normal_body, written, gives, ends}
+use Rattle.lsp_replay.specs.Log.{Record}
+use Rattle.lsp_replay.specs.Verdicts.{IsTold}
+use Rattle.lsp_replay.specs.declared.session.Canonical.{Canonical}
+use Rattle.lsp_replay.specs.declared.session.Canonical.TheVariants.{Frame, TooLong}
+use Rattle.lsp_replay.specs.declared.outcome.EngineFault.TheVariants as fault
 
 -- a record that isn't answered has no canonical message
 none_unless_answered : (server : State) (change : Option ChangeData) (verdict : Verdict) → (verdict ≡ recorded) ⊎ (verdict ≡ bad)
@@ -95,6 +101,32 @@ edits_of (change ∷ changes) = ap (λ edits. given.edit_of change ∷ edits) (e
 pub accepted_as_given : (s : Session) (p : ChangeParams) → (judge_incoming s (did_change (Some (change_view p)))).verdict ≡ answered changed
     → change_refusal s.server.config.limits (units_in (encoding_of s.server)) s.server.table (string_bytes p.uri) p.version (map given.edit_of p.changes.items) ≡ None
 accepted_as_given s p e = rw (← edits_of p.changes.items) (accepted s (change_view p) e)
+
+-- So what is told of a batch that was not refused is told of a change that was accepted.
+pub told_if : (s : Session) (p : ChangeParams) (result : Result (Option Canonical) AllocError)
+    → IfOk result (λ told. change_refusal s.server.config.limits (units_in (encoding_of s.server)) s.server.table (string_bytes p.uri) p.version (map given.edit_of p.changes.items) ≡ None
+    → IsTold s.server.config.limits.max_body (Some (normal_body s.server (change_view p))) told)
+    → IfOk result (λ told. (judge_incoming s (did_change (Some (change_view p)))).verdict ≡ answered changed
+    → IsTold s.server.config.limits.max_body (Some (normal_body s.server (change_view p))) told)
+told_if s p (Ok told) tells = λ e. tells (accepted_as_given s p e)
+told_if s p (Err fault) tells = tt
+
+-- ---- what is written, where a message is told
+
+pub written_as_is : (max_body : ℕ) (r : Record) (front : List ℕ) (normal : Option (List ℕ)) → IsTold max_body normal None
+    → written max_body r front normal ≡ gives (front ++ r.spelling)
+written_as_is max_body r front None told = refl
+written_as_is max_body r front (Some body) told = absurd told
+
+pub written_framed : (max_body : ℕ) (r : Record) (front : List ℕ) (normal : Option (List ℕ)) (bytes : Vec ℕ Global) → IsTold max_body normal (Some (Frame bytes))
+    → written max_body r front normal ≡ gives (front ++ bytes.items)
+written_framed max_body r front None bytes told = cc
+written_framed max_body r front (Some body) bytes told = rw (le-ltb max_body (length body) told.1, told.0) refl
+
+pub written_too_long : (max_body : ℕ) (r : Record) (front : List ℕ) (normal : Option (List ℕ)) → IsTold max_body normal (Some TooLong)
+    → written max_body r front normal ≡ ends [] (Err (fault.BodyTooLong r.head.place))
+written_too_long max_body r front None told = cc
+written_too_long max_body r front (Some body) told = rw (lt-ltb max_body (length body) told) refl
 
 -- ---- what the store answers, where the change is not refused
 

@@ -1,9 +1,11 @@
 //! `normalise`: a log in which each accepted change is its one canonical message.
 
-ghost use Rattle.std.specs.Prelude.{◌≡◌, ◌++◌, false, refl, OnOk, None};
+ghost use Rattle.std.specs.Prelude.{ℕ, ◌≡◌, ◌⊎◌, ◌++◌, List, [], Option, false, refl, IfOk, IfErr, OnOk, None, Err};
 ghost use Rattle.lsp_replay.specs.Log.{mark_of};
+ghost use Rattle.lsp_replay.specs.Course.{output_of};
 ghost use Rattle.lsp_replay.specs.Session.{opened};
-ghost use Rattle.lsp_replay.specs.Engines.{normalising, course_in, line_if};
+ghost use Rattle.lsp_replay.specs.Engines.{normalising, course_in, line_if, written, gives, ends};
+ghost use Rattle.lsp_replay.specs.Verdicts.{IsTold};
 
 use crate::handler::{Given, Handler, Output};
 use crate::outcome::{EngineFault, Outcome};
@@ -45,20 +47,13 @@ impl Handler for Normalise {
         if verdict == Verdict::Bad {
             return Err(EngineFault::BadLog { place: head.place });
         }
-        push_line(made, head.line_due)?;
-        push_mark(made, self.session.version(), head.side)?;
-        match canonical {
-            Some(Canonical::TooLong) => Err(EngineFault::BodyTooLong { place: head.place }),
-            Some(Canonical::Frame(frame)) => {
-                made.extend_from_slice(&frame)?;
-                Ok(given(Output::Made))
-            }
-            None if made.is_empty() => Ok(given(Output::Frame)),
-            None => {
-                made.extend_from_slice(spelling)?;
-                Ok(given(Output::Made))
-            }
-        }
+        let version = self.session.version();
+        let output = push_record(made, head, version, spelling, canonical)?;
+        Ok(Given {
+            output,
+            flush: false,
+            end: None,
+        })
     }
 
     fn finish(
@@ -71,13 +66,39 @@ impl Handler for Normalise {
     }
 }
 
-fn given(output: Output) -> Given
-    ensures { result ≡ record { output = output; flush = false; end = None } }
+#[tactic(auto, using(crate::proofs::NormalLemmas::written_as_is, crate::proofs::NormalLemmas::written_framed, crate::proofs::NormalLemmas::written_too_long))]
+/// Writes a record that stands in a log, with its mark: as it is, or as its one message was told.
+fn push_record(
+    made: &mut Vec<u8>,
+    head: Head,
+    version: Version,
+    spelling: &[u8],
+    canonical: Option<Canonical>,
+) -> Result<Output, EngineFault>
+    requires { made.old.items ≡ [] }
+    ensures ok { IfOk result (λ output. (max_body : ℕ) → (normal : Option (List ℕ)) → (body : List ℕ) → IsTold max_body normal canonical →
+        written max_body (record { head = head; spelling = spelling.now; body = body }) (line_if head.line_due ++ mark_of version head.side) normal
+        ≡ gives (output_of output spelling.now made.new.items)) }
+    ensures err { IfErr result (λ fault. (fault ≡ EngineFault.NoMemory) ⊎ ((fault ≡ EngineFault.BodyTooLong head.place)
+        × ((max_body : ℕ) → (normal : Option (List ℕ)) → (body : List ℕ) → IsTold max_body normal canonical →
+        written max_body (record { head = head; spelling = spelling.now; body = body }) (line_if head.line_due ++ mark_of version head.side) normal
+        ≡ ends [] (Err (EngineFault.BodyTooLong head.place))))) }
 {
-    Given {
-        output,
-        flush: false,
-        end: None,
+    push_line(made, head.line_due)?;
+    push_mark(made, version, head.side)?;
+    let Some(told) = canonical else {
+        if made.is_empty() {
+            return Ok(Output::Frame);
+        }
+        made.extend_from_slice(spelling)?;
+        return Ok(Output::Made);
+    };
+    match told {
+        Canonical::TooLong => Err(EngineFault::BodyTooLong { place: head.place }),
+        Canonical::Frame(frame) => {
+            made.extend_from_slice(&frame)?;
+            Ok(Output::Made)
+        }
     }
 }
 

@@ -221,7 +221,10 @@ impl Session {
             → IsTold self.now.server.config.limits.max_body
             (option_map (normal_body self.now.server) (change_in (incoming_view incoming.now))) told) }
     {
-        let Incoming::DidChange(Some(params)) = incoming else {
+        let Incoming::DidChange(params) = incoming else {
+            return Ok(None);
+        };
+        let Some(params) = params else {
             return Ok(None);
         };
         if self.server.phase() != Phase::Running {
