@@ -66,8 +66,15 @@ impl Handler for Normalise {
     }
 }
 
-#[tactic(auto, using(crate::proofs::NormalLemmas::written_as_is, crate::proofs::NormalLemmas::written_framed, crate::proofs::NormalLemmas::written_too_long))]
 /// Writes a record that stands in a log, with its mark: as it is, or as its one message was told.
+#[tactic(
+    auto,
+    using(
+        crate::proofs::NormalLemmas::written_as_is,
+        crate::proofs::NormalLemmas::written_framed,
+        crate::proofs::NormalLemmas::written_too_long,
+    )
+)]
 fn push_record(
     made: &mut Vec<u8>,
     head: Head,
