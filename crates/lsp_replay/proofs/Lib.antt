@@ -4,3 +4,5 @@ pub mod SplitLemmas
 pub mod EngineLemmas
 pub mod OpeningLemmas
 pub mod RunLemmas
+pub mod ReportLemmas
+pub mod NormalLemmas

@@ -8,3 +8,6 @@ pub mod Course
 pub mod Engine
 pub mod Progress
 pub mod Copy
+pub mod Session
+pub mod Verdicts
+pub mod Engines

@@ -8,17 +8,25 @@
 //! - `turns`: reads, writes and flushes in a bounded number of calls.
 #![tactic(auto)]
 
+mod checking;
+mod converting;
 mod engine;
+mod engines;
 mod handler;
+mod normalising;
 mod opening;
 mod outcome;
 mod port;
 mod record;
+mod replaying;
+mod serving;
+mod session;
 mod splitter;
 mod stop;
 mod told;
 mod turns;
 
+pub use engines::{Settings, check, convert, normalise, replay, serve};
 pub use outcome::{EngineFault, Outcome};
 pub use port::{Sink, Source};
 pub use stop::{Call, StopReader, StopWriter};

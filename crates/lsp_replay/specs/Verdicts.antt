@@ -1,0 +1,21 @@
+-- What the types of `src/session.rt` stand for in the definitions.
+use Rattle.std.specs.Prelude.{ℕ, ◌≡◌, ◌<◌, ◌≤◌, List, length, Option, Some, None}
+use Rattle.lsp_frame.specs.Frame.{frame}
+use Rattle.lsp_server.specs.Seen.{answer_view}
+use Rattle.lsp_replay.specs.declared.session.Verdict.{Verdict}
+use Rattle.lsp_replay.specs.declared.session.Verdict.TheVariants.{Answered, Recorded, Bad}
+use Rattle.lsp_replay.specs.declared.session.Canonical.{Canonical}
+use Rattle.lsp_replay.specs.declared.session.Canonical.TheVariants.{Frame, TooLong}
+use Rattle.lsp_replay.specs.Session as spec
+
+abbrev pub verdict_view : Verdict → spec.Verdict
+verdict_view (Answered answer) = spec.answered (answer_view answer)
+verdict_view Recorded = spec.recorded
+verdict_view Bad = spec.bad
+
+-- A canonical body is told: its frame, or that it is too long. Where there is none, nothing is told.
+abbrev pub IsTold : ℕ → Option (List ℕ) → Option Canonical → Type 0
+IsTold max_body None told = told ≡ None
+IsTold max_body (Some body) None = ⊥
+IsTold max_body (Some body) (Some (Frame bytes)) = (bytes.items ≡ frame body) × (length body ≤ max_body)
+IsTold max_body (Some body) (Some TooLong) = max_body < length body

@@ -1,0 +1,163 @@
+//! `check`: what a server answers to each record of a log, line by line.
+
+ghost use Rattle.std.specs.Prelude.{◌≡◌, ◌++◌, refl, OnOk, decimal};
+ghost use Rattle.lsp_server.specs.Seen.{answer_view};
+ghost use Rattle.lsp_replay.specs.Course.{Course};
+ghost use Rattle.lsp_replay.specs.Session.{opened};
+ghost use Rattle.lsp_replay.specs.Engines.{checking, course_in, check_line, code_word, label, store_label, edit_label, verdict_word, word_of};
+ghost use Rattle.lsp_replay.specs.Verdicts.{verdict_view};
+
+use crate::handler::{Given, Handler, Output};
+use crate::outcome::{EngineFault, Outcome};
+use crate::record::Head;
+use crate::session::{Session, Verdict};
+use itoa::Buffer;
+use lsp_edit::EditFault;
+use lsp_message::ErrorCode;
+use lsp_server::{Answer, Config, Refusal};
+use lsp_store::StoreFault;
+use std::alloc::{AllocError, Global};
+
+/// Writes a line for each record.
+#[derive(Drop)]
+pub struct Check {
+    pub session: Session,
+}
+
+impl Check {
+    /// Before the first record, over a new server.
+    pub fn new(alloc: Global, config: Config) -> Check
+        ensures session { result.session ≡ opened config }
+    {
+        let session = Session::new(alloc, config);
+        Check { session }
+    }
+}
+
+impl Handler for Check {
+    ghost course = { λ check. course_in checking check.session };
+
+    ghost parts = { λ check. 0 };
+
+    ghost silent = { λ _. refl };
+
+    ghost unstopped = { λ _. refl };
+
+    fn handle(
+        &mut self,
+        head: Head,
+        _spelling: &[u8],
+        body: &[u8],
+        made: &mut Vec<u8>,
+    ) -> Result<Given, EngineFault> {
+        let verdict = self.session.judge(head, body)?;
+        if verdict == Verdict::Bad {
+            return Err(EngineFault::BadLog { place: head.place });
+        }
+        push_line(made, self.session.records(), &verdict)?;
+        Ok(Given {
+            output: Output::Made,
+            flush: false,
+            end: None,
+        })
+    }
+
+    fn finish(
+        &mut self,
+        _line_due: bool,
+        _made: &mut Vec<u8>,
+    ) -> Result<Option<Outcome>, EngineFault> {
+        Ok(Some(self.session.outcome()))
+    }
+}
+
+fn push_line(made: &mut Vec<u8>, number: u64, verdict: &Verdict) -> Result<(), AllocError>
+    ensures { OnOk result (made.new.items ≡ made.old.items ++ check_line number (verdict_view verdict.now)) }
+{
+    let mut digits = Buffer::new();
+    made.extend_from_slice(digits.format(number).as_bytes())?;
+    made.extend_from_slice(b" ")?;
+    push_verdict(made, verdict)?;
+    made.extend_from_slice(b"\n")?;
+    Ok(())
+}
+
+fn push_verdict(made: &mut Vec<u8>, verdict: &Verdict) -> Result<(), AllocError>
+    ensures { OnOk result (made.new.items ≡ made.old.items ++ verdict_word (verdict_view verdict.now)) }
+{
+    match verdict {
+        Verdict::Answered(answer) => push_answer(made, answer)?,
+        Verdict::Recorded => made.extend_from_slice(b"server")?,
+        Verdict::Bad => {}
+    }
+    Ok(())
+}
+
+fn push_answer(made: &mut Vec<u8>, answer: &Answer) -> Result<(), AllocError>
+    ensures { OnOk result (made.new.items ≡ made.old.items ++ word_of (answer_view answer.now)) }
+{
+    match answer {
+        Answer::Reply { code, .. } => made.extend_from_slice(code_word(*code).as_bytes())?,
+        Answer::Changed => made.extend_from_slice(b"changed")?,
+        Answer::Dropped => made.extend_from_slice(b"dropped")?,
+        Answer::Ignored => made.extend_from_slice(b"ignored")?,
+        Answer::Refused(refusal) => {
+            made.extend_from_slice(b"refused ")?;
+            made.extend_from_slice(label(*refusal).as_bytes())?;
+        }
+        Answer::Exit(status) => {
+            made.extend_from_slice(b"exit ")?;
+            let mut digits = Buffer::new();
+            made.extend_from_slice(digits.format(*status).as_bytes())?;
+        }
+    }
+    Ok(())
+}
+
+fn code_word(code: Option<ErrorCode>) -> &'static str
+    ensures { result.now ≡ code_word code }
+{
+    match code {
+        None => "reply",
+        Some(ErrorCode::ParseError) => "error -32700",
+        Some(ErrorCode::InvalidRequest) => "error -32600",
+        Some(ErrorCode::MethodNotFound) => "error -32601",
+        Some(ErrorCode::InvalidParams) => "error -32602",
+        Some(ErrorCode::ServerNotInitialized) => "error -32002",
+    }
+}
+
+/// The letters of a refusal.
+fn label(refusal: Refusal) -> &'static str
+    ensures { result.now ≡ label refusal }
+{
+    match refusal {
+        Refusal::InvalidParams => "M4",
+        Refusal::Store(fault) => store_label(fault),
+    }
+}
+
+fn store_label(fault: StoreFault) -> &'static str
+    ensures { result.now ≡ store_label fault }
+{
+    match fault {
+        StoreFault::AlreadyOpen => "S1",
+        StoreFault::TooManyDocuments => "S2",
+        StoreFault::TextTooLong => "S3",
+        StoreFault::NotOpen => "S4",
+        StoreFault::StaleVersion { .. } => "S5",
+        StoreFault::TooManyChanges => "S6",
+        StoreFault::Edit(fault) => edit_label(fault),
+        StoreFault::BodyTooLong { .. } | StoreFault::NoMemory => "",
+    }
+}
+
+fn edit_label(fault: EditFault) -> &'static str
+    ensures { result.now ≡ edit_label fault }
+{
+    match fault {
+        EditFault::InsideCharacter { .. } => "E1",
+        EditFault::ReversedRange { .. } => "E2",
+        EditFault::NoMemory => "",
+    }
+}

@@ -1,0 +1,92 @@
+//! `convert`: a log of version 2, with the server's replies, of one of version 1.
+
+ghost use Rattle.std.specs.Prelude.{◌≡◌, ◌++◌, refl, OnOk};
+ghost use Rattle.lsp_replay.specs.Session.{opened};
+ghost use Rattle.lsp_replay.specs.Engines.{converting, course_in, line_before, reply_record};
+ghost use Rattle.lsp_replay.specs.Verdicts.{verdict_view};
+
+use crate::handler::{Given, Handler, Output};
+use crate::outcome::{EngineFault, Outcome};
+use crate::record::{Head, VERSION_LINE};
+use crate::session::{Session, Verdict};
+use lsp_server::{Answer, Config};
+use std::alloc::{AllocError, Global};
+
+/// Writes each record with its mark, and behind it the reply.
+#[derive(Drop)]
+pub struct Convert {
+    pub session: Session,
+}
+
+impl Convert {
+    /// The line stands in front of the first record, or alone where there is none.
+    fn push_line(&self, made: &mut Vec<u8>) -> Result<(), AllocError>
+        ensures { OnOk result (made.new.items ≡ made.old.items ++ line_before self.now.session) }
+    {
+        if self.session.records() == 0 {
+            made.extend_from_slice(VERSION_LINE)?;
+        }
+        Ok(())
+    }
+}
+
+impl Convert {
+    /// Before the first record, over a new server.
+    pub fn new(alloc: Global, config: Config) -> Convert
+        ensures session { result.session ≡ opened config }
+    {
+        let session = Session::new(alloc, config);
+        Convert { session }
+    }
+}
+
+impl Handler for Convert {
+    ghost course = { λ convert. course_in converting convert.session };
+
+    ghost parts = { λ convert. 0 };
+
+    ghost silent = { λ _. refl };
+
+    ghost unstopped = { λ _. refl };
+
+    fn handle(
+        &mut self,
+        head: Head,
+        spelling: &[u8],
+        body: &[u8],
+        made: &mut Vec<u8>,
+    ) -> Result<Given, EngineFault> {
+        self.push_line(made)?;
+        let verdict = self.session.judge(head, body)?;
+        if verdict == Verdict::Bad {
+            return Err(EngineFault::BadLog { place: head.place });
+        }
+        made.extend_from_slice(b">")?;
+        made.extend_from_slice(spelling)?;
+        push_reply(made, &verdict)?;
+        Ok(Given {
+            output: Output::Made,
+            flush: false,
+            end: None,
+        })
+    }
+
+    fn finish(
+        &mut self,
+        _line_due: bool,
+        made: &mut Vec<u8>,
+    ) -> Result<Option<Outcome>, EngineFault> {
+        self.push_line(made)?;
+        Ok(Some(self.session.outcome()))
+    }
+}
+
+fn push_reply(made: &mut Vec<u8>, verdict: &Verdict) -> Result<(), AllocError>
+    ensures { OnOk result (made.new.items ≡ made.old.items ++ reply_record (verdict_view verdict.now)) }
+{
+    if let Verdict::Answered(Answer::Reply { frame, .. }) = verdict {
+        made.extend_from_slice(b"<")?;
+        made.extend_from_slice(frame)?;
+    }
+    Ok(())
+}

@@ -1,0 +1,161 @@
+//! The engines: from a reader to a writer, over a server.
+
+ghost use Rattle.std.specs.Prelude.{◌≡◌, true, false};
+ghost use Rattle.lsp_replay.specs.Engine.{Ran, Called};
+ghost use Rattle.lsp_replay.specs.Engines.{log_config, normal, as_stream, as_log, as_converted, replies, report, verdicts, converted};
+
+use crate::checking::Check;
+use crate::converting::Convert;
+use crate::engine::{InputRules, run_engine};
+use crate::normalising::Normalise;
+use crate::outcome::{EngineFault, Outcome};
+use crate::port::{Sink, Source};
+use crate::replaying::Replay;
+use crate::serving::Serve;
+use lsp_frame::Limits;
+use lsp_server::{Config, EncodingChoice, Sync};
+use lsp_text::Encoding;
+use std::alloc::Global;
+
+/// How a log is read.
+#[derive(Clone, Copy, Debug, PartialEq, Eq)]
+pub struct Settings {
+    pub limits: Limits,
+    /// The encoding of positions in a log of version 1; one of version 2 tells its own.
+    pub encoding: Encoding,
+}
+
+impl Settings {
+    /// The server that the records of a log are handed to.
+    fn config(&self) -> Config
+        ensures { result ≡ log_config self.now }
+    {
+        Config {
+            limits: self.limits,
+            choice: EncodingChoice::Fixed(self.encoding),
+            sync: Sync::Incremental,
+        }
+    }
+
+    /// How the log is read; `only_one`: is version 1 alone taken?
+    fn rules(&self, only_one: bool) -> InputRules
+        ensures { result ≡ record { limits = self.now.limits; versions = true; only_one = only_one } }
+    {
+        InputRules {
+            limits: self.limits,
+            versions: true,
+            only_one,
+        }
+    }
+}
+
+/// A server's end of a session: writes each reply to the client's frames as it comes, and flushes it before more is read. Ends at
+/// `exit`, with its status; nothing behind it is looked at. Where the input ends without one the status is 1.
+///
+/// At most `max_turns` reads, writes and flushes are made. Linear in the input, and what the messages cost; keeps the open documents,
+/// one message and one piece of 4,096 bytes.
+pub fn serve<R: Source, W: Sink>(
+    alloc: Global,
+    reader: &mut R,
+    writer: &mut W,
+    config: Config,
+    max_turns: u64,
+) -> Result<Outcome, EngineFault>
+    ensures ran { Ran (as_stream config) (replies config) (R.has_ended reader.new)
+        (R.left reader.old) (R.left reader.new) (W.held writer.old) (W.held writer.new) result }
+    ensures called { Called (R.count reader.old) (R.count reader.new) (W.count writer.old) (W.count writer.new) max_turns
+        (R.has_failed reader.new) (W.has_failed writer.new) (R.has_ended reader.new) (R.left reader.new) result }
+{
+    let rules = InputRules {
+        limits: config.limits,
+        versions: false,
+        only_one: false,
+    };
+    let mut serve = Serve::new(alloc, config);
+    run_engine(alloc, reader, writer, &mut serve, rules, max_turns)
+}
+
+/// What a server answers to each record of a log: writes a line for each, its number from 1 and a word, as soon as it is whole. The
+/// status is 1 where something was refused, else 0.
+///
+/// Costs and memory are those of [`serve`].
+pub fn check<R: Source, W: Sink>(
+    alloc: Global,
+    reader: &mut R,
+    writer: &mut W,
+    settings: Settings,
+    max_turns: u64,
+) -> Result<Outcome, EngineFault>
+    ensures ran { Ran (as_log settings) (verdicts settings) (R.has_ended reader.new)
+        (R.left reader.old) (R.left reader.new) (W.held writer.old) (W.held writer.new) result }
+    ensures called { Called (R.count reader.old) (R.count reader.new) (W.count writer.old) (W.count writer.new) max_turns
+        (R.has_failed reader.new) (W.has_failed writer.new) (R.has_ended reader.new) (R.left reader.new) result }
+{
+    let rules = settings.rules(false);
+    let mut check = Check::new(alloc, settings.config());
+    run_engine(alloc, reader, writer, &mut check, rules, max_turns)
+}
+
+/// The documents that are open at the end of a log: writes a line of JSON for each, in order of opening. The status is 1 where
+/// something was refused, else 0. After a fault while reading nothing is written.
+///
+/// Costs and memory are those of [`serve`].
+pub fn replay<R: Source, W: Sink>(
+    alloc: Global,
+    reader: &mut R,
+    writer: &mut W,
+    settings: Settings,
+    max_turns: u64,
+) -> Result<Outcome, EngineFault>
+    ensures ran { Ran (as_log settings) (report settings) (R.has_ended reader.new)
+        (R.left reader.old) (R.left reader.new) (W.held writer.old) (W.held writer.new) result }
+    ensures called { Called (R.count reader.old) (R.count reader.new) (W.count writer.old) (W.count writer.new) max_turns
+        (R.has_failed reader.new) (W.has_failed writer.new) (R.has_ended reader.new) (R.left reader.new) result }
+{
+    let rules = settings.rules(false);
+    let mut replay = Replay::new(alloc, settings.config());
+    run_engine(alloc, reader, writer, &mut replay, rules, max_turns)
+}
+
+/// A log of version 2 of one of version 1: its line, then each record with its mark, and behind it the server's reply, if it gives one.
+/// The status is 1 where something was refused, else 0. A log of version 2 is refused as soon as its line was read.
+///
+/// Costs and memory are those of [`serve`].
+pub fn convert<R: Source, W: Sink>(
+    alloc: Global,
+    reader: &mut R,
+    writer: &mut W,
+    settings: Settings,
+    max_turns: u64,
+) -> Result<Outcome, EngineFault>
+    ensures ran { Ran (as_converted settings) (converted settings) (R.has_ended reader.new)
+        (R.left reader.old) (R.left reader.new) (W.held writer.old) (W.held writer.new) result }
+    ensures called { Called (R.count reader.old) (R.count reader.new) (W.count writer.old) (W.count writer.new) max_turns
+        (R.has_failed reader.new) (W.has_failed writer.new) (R.has_ended reader.new) (R.left reader.new) result }
+{
+    let rules = settings.rules(true);
+    let mut convert = Convert::new(alloc, settings.config());
+    run_engine(alloc, reader, writer, &mut convert, rules, max_turns)
+}
+
+/// A log in which each accepted change is its one canonical message, and everything else is as it was, byte for byte. The status is 1
+/// where something was refused, else 0. An accepted change whose canonical body would be over the limit is
+/// [`EngineFault::BodyTooLong`].
+///
+/// Costs and memory are those of [`serve`].
+pub fn normalise<R: Source, W: Sink>(
+    alloc: Global,
+    reader: &mut R,
+    writer: &mut W,
+    settings: Settings,
+    max_turns: u64,
+) -> Result<Outcome, EngineFault>
+    ensures ran { Ran (as_log settings) (normal settings) (R.has_ended reader.new)
+        (R.left reader.old) (R.left reader.new) (W.held writer.old) (W.held writer.new) result }
+    ensures called { Called (R.count reader.old) (R.count reader.new) (W.count writer.old) (W.count writer.new) max_turns
+        (R.has_failed reader.new) (W.has_failed writer.new) (R.has_ended reader.new) (R.left reader.new) result }
+{
+    let rules = settings.rules(false);
+    let mut normalise = Normalise::new(alloc, settings.config());
+    run_engine(alloc, reader, writer, &mut normalise, rules, max_turns)
+}

@@ -1,0 +1,425 @@
+//! A server over the records of a log.
+
+ghost use Rattle.std.specs.Prelude.{◌≡◌, IfOk, OnOk, MatchOption, option_map, map, string_bytes, Some, None};
+ghost use Rattle.serde_json.specs.View.{view};
+ghost use Rattle.lsp_message.specs.Message.{reading};
+ghost use Rattle.lsp_message.specs.Agreement.{announced_of};
+ghost use Rattle.lsp_message.specs.Seen.{change_view, id_view, message_view};
+ghost use Rattle.lsp_text.specs.Units.{units_in};
+ghost use Rattle.lsp_edit.specs.Edited.{edit_of};
+ghost use Rattle.lsp_store.specs.Table.{change_refusal};
+ghost use Rattle.lsp_server.specs.Step.{encoding_of};
+ghost use Rattle.lsp_server.specs.Seen.{incoming_view, answer_view};
+ghost use Rattle.lsp_replay.specs.Ports.{one_more};
+ghost use Rattle.lsp_replay.specs.Session.{answered, opened, judge_at, judge_from, judge_incoming, is_early, is_change, is_refused, is_refusing, expected_after, hear_for, settle_by, result_for, result_in, same_id, versioned, outcome_of};
+ghost use Rattle.lsp_replay.specs.Engines.{change_in, normal_body, normal_if, normal_of};
+ghost use Rattle.lsp_replay.specs.Verdicts.{IsTold, verdict_view};
+ghost use Rattle.lsp_server.specs.Answer.{changed};
+
+use crate::outcome::Outcome as Ending;
+use crate::record::{Head, Side, Version};
+use lsp_message::{
+    ChangeParams, ErrorCode, Id, Message, Outcome, ParamsFault, ReadFault, read, result_initialize,
+};
+use lsp_server::{Answer, Config, Incoming, Phase, Server};
+use lsp_store::StoreFault;
+use lsp_text::Encoding;
+use serde_json::Value;
+use std::alloc::{AllocError, Global};
+use std::marker::Model;
+
+/// What becomes of a record.
+#[derive(Debug, PartialEq, Eq, Drop)]
+pub enum Verdict {
+    /// A client's record, and what the server answers to it.
+    Answered(Answer),
+    /// A server's record.
+    Recorded,
+    /// A record that belongs in no log.
+    Bad,
+}
+
+/// How the one message is told in which an accepted change is written.
+#[derive(Debug, PartialEq, Eq, Drop)]
+pub enum Canonical {
+    /// Its frame.
+    Frame(Vec<u8>),
+    /// Its body is over the limit.
+    TooLong,
+}
+
+/// A server that the records of a log are handed to, and what is counted.
+#[derive(Drop)]
+pub struct Session {
+    alloc: Global,
+    server: Server,
+    version: Version,
+    // The id of the accepted `initialize`, until a log of version 2 tells the result.
+    expected: Option<Id>,
+    records: u64,
+    messages: u64,
+    refusals: u64,
+}
+
+impl Model for Session {
+    ghost use Rattle.std.specs.Prelude.{option_map};
+    ghost use Rattle.lsp_message.specs.Seen.{id_view};
+    ghost use Rattle.lsp_replay.specs.Session as spec;
+
+    ghost Value = { spec.Session };
+
+    ghost view = { λ s. record {
+      server = s.server;
+      version = s.version;
+      expected = option_map id_view s.expected;
+      records = s.records;
+      messages = s.messages;
+      refusals = s.refusals;
+    } };
+}
+
+impl Session {
+    /// Before the first record, over a new server.
+    pub fn new(alloc: Global, config: Config) -> Session
+        ensures { result ≡ opened config }
+    {
+        Session {
+            alloc,
+            server: Server::new(alloc, config),
+            version: Version::One,
+            expected: None,
+            records: 0,
+            messages: 0,
+            refusals: 0,
+        }
+    }
+
+    /// How many records came.
+    pub fn records(&self) -> u64
+        ensures { result ≡ self.now.records }
+    {
+        self.records
+    }
+
+    /// The server as it is now.
+    pub fn server(&self) -> &Server
+        ensures { result.now ≡ self.now.server }
+    {
+        &self.server
+    }
+
+    /// The version of the log, as far as its records told it.
+    pub fn version(&self) -> Version
+        ensures { result ≡ self.now.version }
+    {
+        self.version
+    }
+
+    /// How many bodies were handled.
+    pub fn messages(&self) -> u64
+        ensures { result ≡ self.now.messages }
+    {
+        self.messages
+    }
+
+    /// How many of them were refused.
+    pub fn refusals(&self) -> u64
+        ensures { result ≡ self.now.refusals }
+    {
+        self.refusals
+    }
+
+    /// How the end of the input ends a log command.
+    pub fn outcome(&self) -> Ending
+        ensures { result ≡ outcome_of self.now }
+    {
+        Ending {
+            status: if self.refusals == 0 { 0 } else { 1 },
+            messages: self.messages,
+            refused: self.refusals,
+        }
+    }
+
+    /// Judges a record. Fails only where memory runs out.
+    pub fn judge(&mut self, head: Head, body: &[u8]) -> Result<Verdict, AllocError>
+        ensures verdict { IfOk result (λ v. verdict_view v ≡ (judge_at self.old head body.now).verdict) }
+        ensures session { OnOk result (self.new ≡ (judge_at self.old head body.now).session) }
+    {
+        self.see_version(head.line_due);
+        let verdict = match head.side {
+            Side::Client => {
+                let incoming = Incoming::read(self.alloc, body)?;
+                self.take(incoming)?
+            }
+            Side::Server => self.hear(body)?,
+        };
+        self.records = one_more(self.records);
+        Ok(verdict)
+    }
+
+    /// The same, and for an accepted change the one message in which it is written.
+    #[tactic(auto, using(crate::proofs::NormalLemmas::same_server))]
+    pub fn judge_and_write(
+        &mut self,
+        head: Head,
+        body: &[u8],
+    ) -> Result<(Verdict, Option<Canonical>), AllocError>
+        ensures verdict { IfOk result (λ told. verdict_view told.0 ≡ (judge_at self.old head body.now).verdict) }
+        ensures session { OnOk result (self.new ≡ (judge_at self.old head body.now).session) }
+        ensures written { IfOk result (λ told. IsTold self.old.server.config.limits.max_body
+            (normal_of self.old body.now (judge_at self.old head body.now).verdict) told.1) }
+    {
+        self.see_version(head.line_due);
+        let told = self.write_from(head.side, body)?;
+        self.records = one_more(self.records);
+        Ok(told)
+    }
+
+    /// Judges a record of one side, and tells the one message of an accepted change.
+    #[tactic(auto, using(crate::proofs::NormalLemmas::heard_has_none))]
+    fn write_from(
+        &mut self,
+        side: Side,
+        body: &[u8],
+    ) -> Result<(Verdict, Option<Canonical>), AllocError>
+        ensures verdict { IfOk result (λ told. verdict_view told.0 ≡ (judge_from self.old side body.now).verdict) }
+        ensures session { OnOk result (self.new ≡ (judge_from self.old side body.now).session) }
+        ensures written { IfOk result (λ told. IsTold self.old.server.config.limits.max_body
+            (normal_of self.old body.now (judge_from self.old side body.now).verdict) told.1) }
+    {
+        match side {
+            Side::Client => {
+                let incoming = Incoming::read(self.alloc, body)?;
+                self.take_and_write(incoming)
+            }
+            Side::Server => Ok((self.hear(body)?, None)),
+        }
+    }
+
+    /// Judges a client's record, and tells the one message of an accepted change.
+    fn take_and_write(
+        &mut self,
+        incoming: Incoming,
+    ) -> Result<(Verdict, Option<Canonical>), AllocError>
+        ensures verdict { IfOk result (λ told. verdict_view told.0 ≡ (judge_incoming self.old (incoming_view incoming)).verdict) }
+        ensures session { OnOk result (self.new ≡ (judge_incoming self.old (incoming_view incoming)).session) }
+        ensures written { IfOk result (λ told. IsTold self.old.server.config.limits.max_body
+            (normal_if self.old.server (change_in (incoming_view incoming)) (judge_incoming self.old (incoming_view incoming)).verdict) told.1) }
+    {
+        let canonical = self.canonical(&incoming)?;
+        match self.take(incoming)? {
+            Verdict::Answered(Answer::Changed) => {
+                Ok((Verdict::Answered(Answer::Changed), canonical))
+            }
+            verdict => Ok((verdict, None)),
+        }
+    }
+
+    /// The one message of a change, if it is one that is accepted.
+    fn canonical(&self, incoming: &Incoming) -> Result<Option<Canonical>, AllocError>
+        ensures written { IfOk result (λ told. (judge_incoming self.now (incoming_view incoming.now)).verdict ≡ answered changed
+            → IsTold self.now.server.config.limits.max_body
+            (option_map (normal_body self.now.server) (change_in (incoming_view incoming.now))) told) }
+    {
+        let Incoming::DidChange(params) = incoming else {
+            return Ok(None);
+        };
+        let Some(params) = params else {
+            return Ok(None);
+        };
+        if self.server.phase() != Phase::Running {
+            return Ok(None);
+        }
+        self.canonical_change(params)
+    }
+
+    /// The one message of a change that is not refused.
+    fn canonical_change(&self, params: &ChangeParams) -> Result<Option<Canonical>, AllocError>
+        ensures { IfOk result (λ told. change_refusal self.now.server.config.limits (units_in (encoding_of self.now.server)) self.now.server.table
+            (string_bytes params.now.uri) params.now.version (map edit_of params.now.changes.items) ≡ None
+            → IsTold self.now.server.config.limits.max_body (Some (normal_body self.now.server (change_view params.now))) told) }
+    {
+        let encoding = self.server.encoding().unwrap_or(Encoding::Utf16);
+        let written = self.server.store().canonical_message(
+            &params.uri,
+            params.version,
+            encoding,
+            &params.changes,
+        );
+        match written {
+            Ok(frame) => Ok(Some(Canonical::Frame(frame))),
+            Err(fault) => match fault {
+                StoreFault::BodyTooLong { .. } => Ok(Some(Canonical::TooLong)),
+                StoreFault::NoMemory => Err(AllocError),
+                _ => Ok(None),
+            },
+        }
+    }
+
+    /// The first record of a log of version 2 tells its version.
+    fn see_version(&mut self, line_due: bool)
+        ensures { self.new ≡ versioned self.old line_due }
+    {
+        if line_due {
+            self.version = Version::Two;
+        }
+    }
+
+    /// Judges a client's record, by what its body asks.
+    fn take(&mut self, incoming: Incoming) -> Result<Verdict, AllocError>
+        ensures verdict { IfOk result (λ v. verdict_view v ≡ (judge_incoming self.old (incoming_view incoming)).verdict) }
+        ensures session { OnOk result (self.new ≡ (judge_incoming self.old (incoming_view incoming)).session) }
+    {
+        if self.server.phase() == Phase::Ended || self.is_early(&incoming) {
+            return Ok(Verdict::Bad);
+        }
+        let expected = self.begun_by(&incoming)?;
+        let Ok(answer) = self.server.handle_incoming(incoming) else {
+            return Err(AllocError);
+        };
+        if expected.is_some() {
+            self.expected = expected;
+        }
+        self.messages = one_more(self.messages);
+        if is_refused(&answer) {
+            self.refusals = one_more(self.refusals);
+        }
+        Ok(Verdict::Answered(answer))
+    }
+
+    /// Is it a change that comes before the result of `initialize`, which tells its encoding?
+    fn is_early(&self, incoming: &Incoming) -> bool
+        ensures { result ≡ is_early self.now (incoming_view incoming.now) }
+    {
+        self.expected.is_some()
+            && self.server.phase() == Phase::Running
+            && matches!(incoming, Incoming::DidChange(_))
+    }
+
+    /// The id of an `initialize` that is accepted, in a log that will tell the result.
+    fn begun_by(&self, incoming: &Incoming) -> Result<Option<Id>, AllocError>
+        ensures { IfOk result (λ begun. MatchOption begun
+            (expected_after self.now (incoming_view incoming.now) ≡ self.now.expected)
+            (λ id. expected_after self.now (incoming_view incoming.now) ≡ Some (id_view id))) }
+    {
+        if self.version != Version::Two || self.server.phase() != Phase::New {
+            return Ok(None);
+        }
+        match incoming {
+            Incoming::Initialize {
+                id,
+                offers: Some(_),
+            } => Ok(Some(copied(id)?)),
+            _ => Ok(None),
+        }
+    }
+
+    /// Judges a server's record: the result of `initialize` alone is looked at.
+    fn hear(&mut self, body: &[u8]) -> Result<Verdict, AllocError>
+        ensures verdict { IfOk result (λ v. verdict_view v ≡ (hear_for self.old self.old.expected body.now).verdict) }
+        ensures session { OnOk result (self.new ≡ (hear_for self.old self.old.expected body.now).session) }
+    {
+        let result = match &self.expected {
+            None => None,
+            Some(id) => result_for(self.alloc, id, body)?,
+        };
+        match result {
+            None => Ok(Verdict::Recorded),
+            Some(result) => self.settle(result),
+        }
+    }
+
+    /// Goes on in the encoding that a result of `initialize` announces.
+    fn settle(&mut self, value: Value) -> Result<Verdict, AllocError>
+        ensures verdict { IfOk result (λ v. verdict_view v ≡ (settle_by self.old (announced_of (view value))).verdict) }
+        ensures session { OnOk result (self.new ≡ (settle_by self.old (announced_of (view value))).session) }
+    {
+        match result_initialize(self.alloc, value) {
+            Ok(announced) => match announced.encoding {
+                Some(encoding) => {
+                    self.server.settle(encoding);
+                    self.expected = None;
+                    Ok(Verdict::Recorded)
+                }
+                None => Ok(Verdict::Bad),
+            },
+            Err(ParamsFault::InvalidParams) => Ok(Verdict::Bad),
+            Err(ParamsFault::NoMemory) => Err(AllocError),
+        }
+    }
+}
+
+/// One more, up to the greatest value.
+fn one_more(count: u64) -> u64
+    ensures { result ≡ one_more count }
+{
+    count.saturating_add(1)
+}
+
+/// Does an answer count as refused?
+fn is_refused(answer: &Answer) -> bool
+    ensures { result ≡ is_refused (answer_view answer.now) }
+{
+    match answer {
+        Answer::Reply { code, .. } => is_refusing(*code),
+        Answer::Refused(_) => true,
+        Answer::Exit(status) => *status != 0,
+        Answer::Changed | Answer::Dropped | Answer::Ignored => false,
+    }
+}
+
+/// Does an error reply count as refused?
+fn is_refusing(code: Option<ErrorCode>) -> bool
+    ensures { result ≡ is_refusing code }
+{
+    match code {
+        None | Some(ErrorCode::MethodNotFound) => false,
+        Some(_) => true,
+    }
+}
+
+fn copied(id: &Id) -> Result<Id, AllocError>
+    ensures { IfOk result (λ copy. id_view copy ≡ id_view id.now) }
+{
+    match id {
+        Id::Whole(number) => Ok(Id::Whole(*number)),
+        Id::Text(text) => Ok(Id::Text(text.clone()?)),
+    }
+}
+
+fn same_id(id: &Id, other: &Id) -> bool
+    ensures { result ≡ same_id (id_view id.now) (id_view other.now) }
+{
+    match (id, other) {
+        (Id::Whole(number), Id::Whole(other)) => number == other,
+        (Id::Text(text), Id::Text(other)) => text.as_str() == other.as_str(),
+        _ => false,
+    }
+}
+
+/// The result that a body gives to the request of an id, if it is a response that does.
+fn result_for(alloc: Global, id: &Id, body: &[u8]) -> Result<Option<Value>, AllocError>
+    ensures { IfOk result (λ value. option_map view value ≡ result_for (id_view id.now) (reading body.now)) }
+{
+    match read(alloc, body) {
+        Ok(message) => Ok(result_in(id, message)),
+        Err(ReadFault::NoMemory) => Err(AllocError),
+        Err(_) => Ok(None),
+    }
+}
+
+/// The result that a message gives to the request of an id.
+fn result_in(id: &Id, message: Message) -> Option<Value>
+    ensures { option_map view result ≡ result_in (id_view id.now) (message_view message) }
+{
+    let Message::Response { id: other, outcome } = message else {
+        return None;
+    };
+    if !same_id(id, &other?) {
+        return None;
+    }
+    match outcome {
+        Outcome::Given(value) => Some(value),
+        Outcome::Failed => None,
+    }
+}
