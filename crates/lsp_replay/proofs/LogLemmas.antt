@@ -1,8 +1,7 @@
 -- Records one after another.
-use Rattle.std.proofs.Common.{◌≡◌, ℕ, ◌+◌, ◌-◌, ◌≤◌, Bool, true, false, List, [], ◌∷◌, ◌++◌, length, refl, sym, ◌∙◌, ap, subst, arith, drop, Some, None}
+use Rattle.std.proofs.Common.{◌≡◌, ℕ, ◌+◌, Bool, false, List, [], ◌∷◌, ◌++◌, length, refl, sym, ap, subst, arith, drop, Some, None}
 use Rattle.std.specs.Prelude.{slice_get}
 use Rattle.std.proofs.lemmas.List.{length-append}
-use Rattle.lsp_frame.specs.Faults.{place_behind}
 use Rattle.lsp_replay.specs.declared.record.Version.{Version}
 use Rattle.lsp_replay.specs.declared.record.Version.TheVariants.{One, Two}
 use Rattle.lsp_replay.specs.Log.{Record, IsRecord, AreRecords, Reading, Log, IsReadAs, together, record_bytes, line_of, is_line_due}

@@ -1,5 +1,5 @@
 -- A run between two reads, and its end.
-use Rattle.std.proofs.Common.{◌≡◌, ℕ, ◌+◌, ◌-◌, ◌<◌, ◌≤◌, ◌^◌, Bool, true, false, List, [], ◌∷◌, ◌++◌, length, take, drop, Option, Some, None, Result, Ok, Err, refl, sym, ◌∙◌, ap, subst, arith, append_assoc, append-nil, inl, inr, ◌⊎◌, ◌||◌}
+use Rattle.std.proofs.Common.{◌≡◌, ℕ, ◌+◌, ◌-◌, ◌<◌, ◌≤◌, ◌^◌, Bool, true, false, List, [], ◌∷◌, ◌++◌, length, take, drop, Option, Result, Ok, Err, refl, sym, ◌∙◌, ap, subst, arith, append_assoc, append-nil, inl, inr, ◌⊎◌, ◌||◌}
 use Rattle.std.specs.Prelude.{min, nat_eq, IfOk, IfErr}
 use Rattle.std.proofs.lemmas.List.{length-append, length-take, drop-take, take-append-drop}
 use Rattle.std.specs.Io.KnownBytes.{Consumes, Appends, Keeps, IsAtEnd}
@@ -14,11 +14,11 @@ use Rattle.lsp_replay.specs.declared.outcome.EngineFault.TheVariants.{Read, Writ
 use Rattle.lsp_replay.specs.declared.record.Version.{Version}
 use Rattle.lsp_replay.specs.declared.record.Version.TheVariants.{One, Two}
 use Rattle.lsp_replay.specs.declared.splitter.Splitter.{Splitter}
-use Rattle.lsp_replay.specs.Log.{Reading, Record, Log, IsReadAs, IsVersion, HasNoRecord, line_of, version_line, together, record_bytes, mark_of}
+use Rattle.lsp_replay.specs.Log.{Reading, Record, IsVersion, HasNoRecord, line_of, version_line, together, record_bytes}
 use Rattle.lsp_replay.specs.Opening.{IsLineFront, IsBelowLine}
 use Rattle.lsp_replay.specs.Splitting.{IsReady, IsOpen, Stands, held_of}
 use Rattle.lsp_replay.specs.Course.{Course}
-use Rattle.lsp_replay.specs.Engine.{Stopped, Reached, Broken, AtEnd, Ran, Called, IsPieceFault, IsRunFault}
+use Rattle.lsp_replay.specs.Engine.{Stopped, Reached, AtEnd, Ran, Called, IsPieceFault, IsRunFault}
 use Rattle.lsp_replay.specs.Progress.{Went, Runs, IsEndFault, BothSpend}
 use Rattle.lsp_replay.specs.Ports.{Rose}
 use Rattle.lsp_replay.specs.Turns.{Spends}

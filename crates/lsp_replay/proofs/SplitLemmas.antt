@@ -1,5 +1,5 @@
 -- A splitter on its way through a log.
-use Rattle.std.proofs.Common.{◌≡◌, ℕ, ◌+◌, ◌-◌, ◌<◌, ◌≤◌, ◌^◌, Bool, true, false, List, [], ◌∷◌, ◌++◌, length, take, drop, Option, Some, None, refl, sym, ◌∙◌, ap, subst, arith, append_assoc, append-nil, inl, inr, ◌⊎◌}
+use Rattle.std.proofs.Common.{◌≡◌, ℕ, ◌+◌, ◌-◌, ◌≤◌, ◌^◌, Bool, true, false, List, [], ◌∷◌, ◌++◌, length, take, drop, Option, Some, None, refl, sym, ◌∙◌, ap, subst, arith, append_assoc, inl, inr, ◌⊎◌}
 use Rattle.std.specs.Prelude.{min, not, is_some}
 use Rattle.std.proofs.lemmas.List.{length-append, take-append-drop}
 use Rattle.lsp_frame.specs.Frame.{Spells}
@@ -12,11 +12,11 @@ use Rattle.lsp_frame.specs.declared.fault.FrameFault.TheVariants as fault_of
 use Rattle.lsp_replay.specs.declared.record.Version.{Version}
 use Rattle.lsp_replay.specs.declared.record.Version.TheVariants.{One, Two}
 use Rattle.lsp_replay.specs.declared.record.Side.{Side}
-use Rattle.lsp_replay.specs.declared.record.Side.TheVariants.{Client, Server}
+use Rattle.lsp_replay.specs.declared.record.Side.TheVariants.{Client}
 use Rattle.lsp_replay.specs.declared.splitter.Splitter.{Splitter}
-use Rattle.lsp_replay.specs.Log.{Reading, Record, Log, IsRecord, IsReadAs, IsMalformed, IsBadMark, line_of, mark_of, is_line_due, together, record_bytes}
+use Rattle.lsp_replay.specs.Log.{Reading, Record, IsRecord, IsReadAs, IsMalformed, IsBadMark, line_of, mark_of, is_line_due, together, record_bytes}
 use Rattle.lsp_replay.specs.Splitting.{IsFed, IsReady, Stands, IsSplitFault, IsSide, IsOpen, mark_part, held_of, log_at, head_of, side_of}
-use Rattle.lsp_replay.proofs.LogLemmas.{together_push, together_len, input_len, are_push, due_now, not_due}
+use Rattle.lsp_replay.proofs.LogLemmas.{together_push, input_len, are_push, due_now, not_due}
 
 -- Nothing is the beginning of a frame, and no frame.
 pub nothing_part : (max_body : ℕ) → IsPart max_body []

@@ -4,7 +4,9 @@ use super::*;
 use crate::engine::copier::Copier;
 use crate::stop::{Call, StopReader, StopWriter};
 use crate::told::Told;
-use lsp_frame::FrameFault;
+use lsp_frame::{BadLimits, FrameFault};
+use std::alloc::AllocError;
+use std::process::Abort;
 use std::test::Fail;
 
 /// Which versions are read.
@@ -16,7 +18,7 @@ const ONLY_ONE: [bool; 2] = [true, true];
 
 /// What a run answered, wrote and did.
 #[derive(Drop)]
-struct Run {
+struct Report {
     answer: Result<Outcome, EngineFault>,
     output: Vec<u8>,
     flushes: usize,
@@ -42,13 +44,16 @@ const SMOOTH: Calls<'static> = Calls {
     turns: u64::MAX,
 };
 
-fn run(alloc: Global, input: &[u8], versions: [bool; 2], calls: Calls) -> Result<Run, Fail> {
+fn rules(versions: [bool; 2]) -> Result<InputRules, BadLimits> {
     let [versions, only_one] = versions;
-    let rules = InputRules {
+    Ok(InputRules {
         limits: Limits::new(4_096, 0, 1, 1)?,
         versions,
         only_one,
-    };
+    })
+}
+
+fn run(alloc: Global, input: &[u8], rules: InputRules, calls: Calls) -> Result<Report, AllocError> {
     let mut reader = Told::new(StopReader::new(input, calls.reads, calls.other_reads));
     let mut writer = Told::new(StopWriter::new(alloc, calls.writes, calls.other_writes));
     let mut copier = Copier {
@@ -65,7 +70,7 @@ fn run(alloc: Global, input: &[u8], versions: [bool; 2], calls: Calls) -> Result
     );
     let (reads, writes) = (Source::calls(&reader), Sink::calls(&writer));
     let written = writer.into_inner();
-    Ok(Run {
+    Ok(Report {
         answer,
         output: Vec::from_slice(alloc, written.bytes())?,
         flushes: written.flushes(),
@@ -96,7 +101,8 @@ fn bad_header(place: u64) -> Result<Outcome, EngineFault> {
 
 /// Compares a run however its bytes come and go: in one piece, byte by byte, and interrupted.
 fn check(
-    rt: HostRuntime,
+    rt: &impl Abort,
+    alloc: Global,
     input: &[u8],
     versions: [bool; 2],
     answer: Result<Outcome, EngineFault>,
@@ -118,7 +124,7 @@ fn check(
         ..SMOOTH
     };
     for calls in [SMOOTH, single, interrupted] {
-        let run = run(rt.alloc(), input, versions, calls)?;
+        let run = run(alloc, input, rules(versions)?, calls)?;
         assert!(rt; run.answer == answer);
         assert!(rt; run.output.as_slice() == output);
     }
@@ -132,21 +138,30 @@ const MARKED: &[u8] =
 
 #[test]
 fn records_of_version_1(rt: HostRuntime) -> Result<(), Fail> {
-    check(rt, b"", BOTH, done(0), b"")?;
-    check(rt, TWO_FRAMES, BOTH, done(2), TWO_FRAMES)?;
-    check(rt, TWO_FRAMES, UNMARKED, done(2), TWO_FRAMES)?;
-    check(rt, TWO_FRAMES, ONLY_ONE, done(2), TWO_FRAMES)?;
+    check(&rt, rt.alloc(), b"", BOTH, done(0), b"")?;
+    check(&rt, rt.alloc(), TWO_FRAMES, BOTH, done(2), TWO_FRAMES)?;
+    check(&rt, rt.alloc(), TWO_FRAMES, UNMARKED, done(2), TWO_FRAMES)?;
+    check(&rt, rt.alloc(), TWO_FRAMES, ONLY_ONE, done(2), TWO_FRAMES)?;
     let frame = b"Content-Length: 2\r\n\r\n[]";
-    check(rt, b"Content-Length: 2\r\n\r\n[", BOTH, truncated(22), b"")?;
     check(
-        rt,
+        &rt,
+        rt.alloc(),
+        b"Content-Length: 2\r\n\r\n[",
+        BOTH,
+        truncated(22),
+        b"",
+    )?;
+    check(
+        &rt,
+        rt.alloc(),
         b"Content-Length: 2\r\n\r\n[]C",
         BOTH,
         truncated(24),
         frame,
     )?;
     check(
-        rt,
+        &rt,
+        rt.alloc(),
         b"Content-Length: 2\r\n\r\n[]a b",
         BOTH,
         bad_header(24),
@@ -157,35 +172,91 @@ fn records_of_version_1(rt: HostRuntime) -> Result<(), Fail> {
 #[test]
 fn records_of_version_2(rt: HostRuntime) -> Result<(), Fail> {
     let line = b"lsp-session-log 2\n";
-    check(rt, line, BOTH, done(0), line)?;
-    check(rt, MARKED, BOTH, done(2), MARKED)?;
-    check(rt, b"lsp-session-log 2\n>", BOTH, truncated(19), b"")?;
-    check(rt, b"lsp-session-log 2\n>Content", BOTH, truncated(26), b"")?;
-    check(rt, b"lsp-session-log 2\nContent", BOTH, bad_log(18), b"")?;
-    check(rt, b"lsp-session-log 2\n>\n", BOTH, bad_header(19), b"")
+    check(&rt, rt.alloc(), line, BOTH, done(0), line)?;
+    check(&rt, rt.alloc(), MARKED, BOTH, done(2), MARKED)?;
+    check(
+        &rt,
+        rt.alloc(),
+        b"lsp-session-log 2\n>",
+        BOTH,
+        truncated(19),
+        b"",
+    )?;
+    check(
+        &rt,
+        rt.alloc(),
+        b"lsp-session-log 2\n>Content",
+        BOTH,
+        truncated(26),
+        b"",
+    )?;
+    check(
+        &rt,
+        rt.alloc(),
+        b"lsp-session-log 2\nContent",
+        BOTH,
+        bad_log(18),
+        b"",
+    )?;
+    check(
+        &rt,
+        rt.alloc(),
+        b"lsp-session-log 2\n>\n",
+        BOTH,
+        bad_header(19),
+        b"",
+    )
 }
 
 #[test]
 fn the_version_of_an_input(rt: HostRuntime) -> Result<(), Fail> {
-    check(rt, b"lsp-session-log 2", BOTH, bad_header(15), b"")?;
-    check(rt, b"lsp-session-log 3\n", BOTH, bad_header(15), b"")?;
-    check(rt, b"lsp", BOTH, truncated(3), b"")?;
-    check(rt, MARKED, UNMARKED, bad_header(15), b"")?;
-    check(rt, MARKED, ONLY_ONE, bad_log(0), b"")?;
-    check(rt, b"lsp-session-log 2\n>", ONLY_ONE, bad_log(0), b"")?;
-    check(rt, b"lsp-session-log 2", ONLY_ONE, bad_header(15), b"")
+    check(
+        &rt,
+        rt.alloc(),
+        b"lsp-session-log 2",
+        BOTH,
+        bad_header(15),
+        b"",
+    )?;
+    check(
+        &rt,
+        rt.alloc(),
+        b"lsp-session-log 3\n",
+        BOTH,
+        bad_header(15),
+        b"",
+    )?;
+    check(&rt, rt.alloc(), b"lsp", BOTH, truncated(3), b"")?;
+    check(&rt, rt.alloc(), MARKED, UNMARKED, bad_header(15), b"")?;
+    check(&rt, rt.alloc(), MARKED, ONLY_ONE, bad_log(0), b"")?;
+    check(
+        &rt,
+        rt.alloc(),
+        b"lsp-session-log 2\n>",
+        ONLY_ONE,
+        bad_log(0),
+        b"",
+    )?;
+    check(
+        &rt,
+        rt.alloc(),
+        b"lsp-session-log 2",
+        ONLY_ONE,
+        bad_header(15),
+        b"",
+    )
 }
 
 #[test]
 fn a_record_that_ends_the_run(rt: HostRuntime) -> Result<(), Fail> {
     let frame = b"Content-Length: 2\r\n\r\n[]";
     let exit = b"Content-Length: 2\r\n\r\n[]Content-Length: 0\r\n\r\n\r\n";
-    check(rt, exit, BOTH, done(1), frame)?;
+    check(&rt, rt.alloc(), exit, BOTH, done(1), frame)?;
     let bad = b"Content-Length: 2\r\n\r\n[]Content-Length: 1\r\n\r\n[";
-    check(rt, bad, BOTH, bad_log(23), frame)?;
+    check(&rt, rt.alloc(), bad, BOTH, bad_log(23), frame)?;
     let marked = b"lsp-session-log 2\n>Content-Length: 2\r\n\r\n[]<Content-Length: 1\r\n\r\n[";
     let first = b"lsp-session-log 2\n>Content-Length: 2\r\n\r\n[]";
-    check(rt, marked, BOTH, bad_log(42), first)
+    check(&rt, rt.alloc(), marked, BOTH, bad_log(42), first)
 }
 
 #[test]
@@ -203,7 +274,7 @@ fn each_read_fails_in_turn(rt: HostRuntime) -> Result<(), Fail> {
                 reads: &script,
                 ..SMOOTH
             };
-            let run = run(alloc, input, BOTH, calls)?;
+            let run = run(alloc, input, rules(BOTH)?, calls)?;
             assert!(rt; run.answer == Err(EngineFault::Read));
             let whole = if n < first { 0 } else { first };
             assert!(rt; Some(run.output.as_slice()) == input.get(..whole));
@@ -221,7 +292,7 @@ fn each_write_and_flush_fails_in_turn(rt: HostRuntime) -> Result<(), Fail> {
             let all = [Call::Take(99), Call::Take(99), Call::Take(99), call];
             let writes = all.get(3 - n..).unwrap_or(&[]);
             let calls = Calls { writes, ..SMOOTH };
-            let run = run(alloc, TWO_FRAMES, BOTH, calls)?;
+            let run = run(alloc, TWO_FRAMES, rules(BOTH)?, calls)?;
             // A flush takes no bytes, so it doesn't fail for taking none.
             let flushed = n % 2 == 1 && call == Call::Take(0);
             let written = if flushed { TWO_FRAMES.len() } else { written };
@@ -245,7 +316,7 @@ fn a_short_write_goes_on_with_the_rest(rt: HostRuntime) -> Result<(), Fail> {
         writes: &[Call::Take(10), Call::Interrupt, Call::Take(3), Call::Fail],
         ..SMOOTH
     };
-    let run = run(rt.alloc(), TWO_FRAMES, BOTH, calls)?;
+    let run = run(rt.alloc(), TWO_FRAMES, rules(BOTH)?, calls)?;
     assert!(rt; run.answer == Err(EngineFault::Write));
     assert!(rt; Some(run.output.as_slice()) == TWO_FRAMES.get(..13));
     Ok(())
@@ -263,7 +334,7 @@ fn output_and_flush_come_before_the_next_read(rt: HostRuntime) -> Result<(), Fai
         turns: 10,
         ..SMOOTH
     };
-    let run = run(alloc, &input, UNMARKED, calls)?;
+    let run = run(alloc, &input, rules(UNMARKED)?, calls)?;
     assert!(rt; run.answer == Err(EngineFault::TooManyTurns));
     assert_eq!(rt; (run.output.len(), run.flushes), (69, 3));
     assert_eq!(rt; (run.reads, run.writes), (4, 6));
@@ -275,33 +346,89 @@ fn no_call_is_made_beyond_those_allowed(rt: HostRuntime) -> Result<(), Fail> {
     // One read, a write and a flush for each record, and one read that tells the end.
     for turns in 0..6 {
         let calls = Calls { turns, ..SMOOTH };
-        let run = run(rt.alloc(), TWO_FRAMES, BOTH, calls)?;
+        let run = run(rt.alloc(), TWO_FRAMES, rules(BOTH)?, calls)?;
         assert!(rt; run.answer == Err(EngineFault::TooManyTurns));
         assert_eq!(rt; run.reads.saturating_add(run.writes), turns);
     }
     let calls = Calls { turns: 6, ..SMOOTH };
-    assert!(rt; run(rt.alloc(), TWO_FRAMES, BOTH, calls)?.answer == done(2));
+    assert!(rt; run(rt.alloc(), TWO_FRAMES, rules(BOTH)?, calls)?.answer == done(2));
+    Ok(())
+}
+
+#[test]
+fn calls_tell_what_the_inner_ones_answered(rt: HostRuntime) -> Result<(), Fail> {
+    let script = [Call::Take(2), Call::Interrupt, Call::Fail, Call::Take(9)];
+    let mut reader = Told::new(StopReader::new(b"abc", &script, Call::Take(1)));
+    let mut buf = [0u8; 4];
+    // What each read answers, whether it failed, and whether it told the end.
+    let cases = [
+        (Some(2), false, false),
+        (None, false, false),
+        (None, true, false),
+        (Some(1), false, false),
+        (Some(0), false, true),
+    ];
+    let mut calls = 0u64;
+    for (answer, failed, ended) in cases {
+        calls = calls.saturating_add(1);
+        assert_eq!(rt; Source::read(&mut reader, &mut buf).ok(), answer);
+        assert_eq!(rt; (Source::failed(&reader), reader.ended()), (failed, ended));
+        assert_eq!(rt; Source::calls(&reader), calls);
+    }
+    assert_eq!(rt; Source::read(&mut reader, &mut []).ok(), Some(0));
+    assert!(rt; !reader.ended());
+    Ok(())
+}
+
+#[test]
+fn writes_tell_what_the_inner_ones_answered(rt: HostRuntime) -> Result<(), Fail> {
+    let script = [Call::Take(2), Call::Interrupt, Call::Take(0), Call::Fail];
+    let mut writer = Told::new(StopWriter::new(rt.alloc(), &script, Call::Take(9)));
+    let cases = [
+        (Some(2), false),
+        (None, false),
+        (Some(0), true),
+        (None, true),
+        (Some(3), false),
+    ];
+    for (answer, failed) in cases {
+        assert_eq!(rt; Sink::write(&mut writer, b"abc").ok(), answer);
+        assert_eq!(rt; Sink::failed(&writer), failed);
+    }
+    assert!(rt; Sink::flush(&mut writer).is_ok() && Sink::calls(&writer) == 6);
+    let written = writer.into_inner();
+    assert!(rt; written.bytes() == b"ababc".as_slice() && written.flushes() == 1);
     Ok(())
 }
 
 #[test]
 fn refused_run(rt: HostRuntime) -> Result<(), Fail> {
+    let rules = rules(BOTH)?;
     let mut refused: usize = 0;
     for input in [MARKED, TWO_FRAMES] {
-        let mut copied = run(rt.alloc(), input, BOTH, SMOOTH);
-        let again = match &copied {
-            Ok(run) => run.answer == Err(EngineFault::NoMemory)
-                || run.answer == Err(EngineFault::Write),
-            Err(_) => true,
+        // The writer too takes memory, and fails where it gets none.
+        let copied = match run(rt.alloc(), input, rules, SMOOTH) {
+            Ok(run) if run.answer == done(2) => run,
+            Ok(run) => {
+                let fault = run.answer.err();
+                assert!(rt;
+                    fault == Some(EngineFault::NoMemory) || fault == Some(EngineFault::Write)
+                );
+                refused = refused.saturating_add(1);
+                run_again(rt.alloc(), input, rules)?
+            }
+            Err(_) => {
+                refused = refused.saturating_add(1);
+                run_again(rt.alloc(), input, rules)?
+            }
         };
-        if again {
-            refused = refused.saturating_add(1);
-            copied = run(rt.alloc(), input, BOTH, SMOOTH);
-        }
-        let copied = copied?;
         assert!(rt; copied.answer == done(2));
         assert!(rt; copied.output.as_slice() == input);
     }
     println!(rt; "refused {refused}")?;
     Ok(())
+}
+
+fn run_again(alloc: Global, input: &[u8], rules: InputRules) -> Result<Report, AllocError> {
+    run(alloc, input, rules, SMOOTH)
 }

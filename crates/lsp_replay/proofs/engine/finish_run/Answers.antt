@@ -1,9 +1,7 @@
-use Rattle.std.proofs.Common.{◌≡◌, [], true, false, refl, sym, ◌∙◌, subst, List, ℕ}
+use Rattle.std.proofs.Common.{◌≡◌, [], true, false, refl, sym, ◌∙◌, subst}
 use Rattle.std.specs.Io.KnownBytes.{Appends}
 use Rattle.lsp_replay.specs.Turns.{AppendsFront}
-use Rattle.lsp_replay.specs.Splitting.{held_of}
-use Rattle.lsp_replay.specs.Progress.{IsLastFault}
-use Rattle.lsp_replay.proofs.EngineLemmas.{IsQuiet, went_cut, went_at_end, last_fault, ok_and, err_and}
+use Rattle.lsp_replay.proofs.EngineLemmas.{went_cut, went_at_end, last_fault, ok_and, err_and}
 use Rattle.lsp_replay.proofs.engine.finish_run.Goals as goal
 
 pub returns-then-not-at_rest-clause-fault : goal.returns-then-not-at_rest-clause-fault

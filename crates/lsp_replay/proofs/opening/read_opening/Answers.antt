@@ -1,7 +1,6 @@
-use Rattle.std.proofs.Common.{ℕ, ◌≡◌, ◌≤◌, ◌-◌, true, length, arith}
-use Rattle.std.specs.Prelude.{nat_eq}
+use Rattle.std.proofs.Common.{ℕ, ◌≡◌, ◌≤◌, ◌-◌, length, arith}
 use Rattle.std.proofs.lemmas.List.{length-take, length-drop}
-use Rattle.lsp_replay.proofs.OpeningLemmas.{next_read, next_len, stays, behind_line, line_within}
+use Rattle.lsp_replay.proofs.OpeningLemmas.{next_read, next_len, stays}
 use Rattle.lsp_replay.proofs.opening.read_opening.Goals as goal
 
 pub returns-then-not-is_undecided-clause-read : goal.returns-then-not-is_undecided-clause-read

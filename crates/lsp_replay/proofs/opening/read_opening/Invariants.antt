@@ -1,4 +1,4 @@
-use Rattle.std.specs.Prelude.{◌≡◌, ◌<◌, length, take}
+use Rattle.std.specs.Prelude.{◌<◌, take}
 use Rattle.std.specs.Io.KnownBytes.{Consumes}
 use Rattle.lsp_replay.specs.Turns.{Spends}
 use Rattle.lsp_replay.specs.Opening.{IsLineFront}

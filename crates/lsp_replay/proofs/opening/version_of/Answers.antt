@@ -1,4 +1,4 @@
-use Rattle.std.proofs.Common.{drop, sym}
+use Rattle.std.proofs.Common.{drop}
 use Rattle.lsp_replay.proofs.OpeningLemmas.{starts_front}
 use Rattle.lsp_replay.specs.Log.{version_line}
 use Rattle.lsp_replay.proofs.opening.version_of.Goals as goal

@@ -1,5 +1,4 @@
 use Rattle.std.proofs.Common.{ℕ, take, drop, sym, arith}
-use Rattle.std.specs.Prelude.{OnErr}
 use Rattle.std.proofs.lemmas.Result.{err_from_is_err_and}
 use Rattle.std.proofs.lemmas.List.{length-take, length-drop, take-append-drop}
 use Rattle.lsp_replay.proofs.PortLemmas.{kept, nothing_more, more_written}
