@@ -70,7 +70,7 @@ impl Handler for Normalise {
 }
 
 /// Writes a record that stands in a log, with its mark: as it is, or as its one message was told.
-#[tactic(auto, using(crate::proofs::NormalLemmas::written_as_is, crate::proofs::NormalLemmas::written_framed, crate::proofs::NormalLemmas::written_too_long,))]
+#[tactic(auto, using(crate::proofs::NormalLemmas::written_as_is, crate::proofs::NormalLemmas::written_framed, crate::proofs::NormalLemmas::written_too_long))]
 fn push_record(
     made: &mut Vec<u8>,
     head: Head,
