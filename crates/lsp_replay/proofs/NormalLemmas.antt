@@ -23,7 +23,7 @@ use Rattle.lsp_server.specs.declared.phase.Phase.{Phase}
 use Rattle.lsp_server.specs.declared.phase.Phase.TheVariants.{New, Running, Down, Ended}
 use Rattle.lsp_server.specs.Answer.{AnswerData, Sent, changed, as_sent}
 use Rattle.lsp_server.specs.Incoming.{did_change}
-use Rattle.lsp_server.specs.Step.{State, edit_of, encoding_of, obeyed, obeys, change_command, step_in}
+use Rattle.lsp_server.specs.Step.{State, edit_of, encoding_of, obeyed, change_command, step_in}
 use Rattle.lsp_replay.specs.Session.{Session, Verdict, answered, recorded, bad, Judged, judged, judge_incoming, hear_for, heard, settle_by, settle_in, result_for, versioned}
 use Rattle.lsp_replay.specs.Engines.{normal_if, normal_body, written, gives, ends}
 use Rattle.lsp_replay.specs.Log.{Record}

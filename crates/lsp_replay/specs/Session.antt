@@ -6,14 +6,14 @@ use Rattle.serde_json.specs.Data.{Data}
 use Rattle.lsp_text.specs.declared.encoding.Encoding.{Encoding}
 use Rattle.lsp_message.specs.declared.agreement.Announced.{Announced}
 use Rattle.lsp_message.specs.declared.outgoing.ErrorCode.{ErrorCode}
-use Rattle.lsp_message.specs.declared.outgoing.ErrorCode.TheVariants.{ParseError, InvalidRequest, MethodNotFound, InvalidParams, ServerNotInitialized}
+use Rattle.lsp_message.specs.declared.outgoing.ErrorCode.TheVariants.{MethodNotFound}
 use Rattle.lsp_message.specs.Message.{IdData, OutcomeData, MessageData, Reading, reading}
 use Rattle.lsp_message.specs.Message as read
 use Rattle.lsp_message.specs.Agreement.{announced_of}
 use Rattle.lsp_server.specs.declared.phase.Phase.{Phase}
-use Rattle.lsp_server.specs.declared.phase.Phase.TheVariants.{New, Running, Down, Ended}
+use Rattle.lsp_server.specs.declared.phase.Phase.TheVariants.{New, Running, Ended}
 use Rattle.lsp_server.specs.Incoming.{IncomingData, asked, did_change, initialize}
-use Rattle.lsp_server.specs.Answer.{AnswerData, reply, changed, dropped, ignored, refused, exits, already_ended, Sent, as_sent}
+use Rattle.lsp_server.specs.Answer.{AnswerData, reply, refused, exits, Sent, as_sent}
 use Rattle.lsp_server.specs.declared.config.Config.{Config}
 use Rattle.lsp_server.specs.Step.{State, start, step_on, settled}
 use Rattle.lsp_replay.specs.declared.outcome.Outcome.{Outcome}

@@ -32,8 +32,11 @@ impl Normalise {
 
 impl Handler for Normalise {
     ghost course = { λ normalise. course_in normalising normalise.session };
+
     ghost parts = { λ normalise. 0 };
+
     ghost silent = { λ _. refl };
+
     ghost unstopped = { λ _. refl };
 
     fn handle(
@@ -67,14 +70,7 @@ impl Handler for Normalise {
 }
 
 /// Writes a record that stands in a log, with its mark: as it is, or as its one message was told.
-#[tactic(
-    auto,
-    using(
-        crate::proofs::NormalLemmas::written_as_is,
-        crate::proofs::NormalLemmas::written_framed,
-        crate::proofs::NormalLemmas::written_too_long,
-    )
-)]
+#[tactic(auto, using(crate::proofs::NormalLemmas::written_as_is, crate::proofs::NormalLemmas::written_framed, crate::proofs::NormalLemmas::written_too_long))]
 fn push_record(
     made: &mut Vec<u8>,
     head: Head,

@@ -240,12 +240,10 @@ impl Session {
             → IsTold self.now.server.config.limits.max_body (Some (normal_body self.now.server (change_view params.now))) told) }
     {
         let encoding = self.server.encoding().unwrap_or(Encoding::Utf16);
-        let written = self.server.store().canonical_message(
-            &params.uri,
-            params.version,
-            encoding,
-            &params.changes,
-        );
+        let written = self
+            .server
+            .store()
+            .canonical_message(&params.uri, params.version, encoding, &params.changes);
         match written {
             Ok(frame) => Ok(Some(Canonical::Frame(frame))),
             Err(fault) => match fault {

@@ -8,4 +8,4 @@ returns-clause-ran g c =
     let course = rw c.config.ensures at c.new-replay.ensures.course in
     let ran = rw c.rules-rules.ensures at c.run_engine.ensures.ran in
     subst (λ course. Ran (as_log c.args.settings) course (g.R.Source.has_ended c.run_engine.new.reader) (g.R.Source.left c.args.reader.now) (g.R.Source.left c.run_engine.new.reader)
-      (g.W.Sink.held c.args.writer.now) (g.W.Sink.held c.run_engine.new.writer) c.run_engine.result) course ran
+    (g.W.Sink.held c.args.writer.now) (g.W.Sink.held c.run_engine.new.writer) c.run_engine.result) course ran

@@ -1,5 +1,4 @@
-use Rattle.std.proofs.Common.{rules, ◌≡◌, ◌++◌, ◌-◌, ◌<◌, ◌+◌, ℕ, List, length, refl, sym, ◌∙◌}
-use Rattle.lsp_replay.specs.Engines.{report_from}
+use Rattle.std.proofs.Common.{rules, refl}
 use Rattle.lsp_replay.proofs.ReportLemmas.{report_part}
 use Rattle.lsp_replay.proofs.replaying.ReplayHandler.finish.Goals as goal
 

@@ -1,4 +1,3 @@
-use Rattle.std.proofs.Common.{◌≡◌, Some}
 use Rattle.lsp_replay.proofs.NormalLemmas.{told_if}
 use Rattle.lsp_replay.proofs.session.Session.canonical.Goals as goal
 

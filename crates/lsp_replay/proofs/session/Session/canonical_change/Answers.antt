@@ -1,10 +1,10 @@
-use Rattle.std.proofs.Common.{rules, ◌≡◌, ap, sym, refl, map, string_bytes, None, w32, to_z, of_z}
+use Rattle.std.proofs.Common.{rules, ◌≡◌, ap, refl, map, string_bytes, None, w32, to_z, of_z}
 use Rattle.std.proofs.lemmas.Int.{to_z-of_z}
 use Rattle.lsp_edit.specs.Edited.{edit_of}
 use Rattle.lsp_text.specs.Units.{units_in}
 use Rattle.lsp_store.specs.declared.fault.StoreFault.TheVariants.{NoMemory}
 use Rattle.lsp_store.specs.Faults.{IsRefusal}
-use Rattle.lsp_store.specs.Message.{canonical_body, canonical_frame, message_refusal}
+use Rattle.lsp_store.specs.Message.{canonical_frame, message_refusal}
 use Rattle.lsp_server.specs.Step.{encoding_of}
 use Rattle.lsp_replay.proofs.NormalLemmas.{edits_of, within, over}
 use Rattle.lsp_replay.proofs.session.Session.canonical_change.Goals as goal
@@ -17,9 +17,9 @@ returns-in-Ok c = λ none.
     let limits : c.store.result.now.limits ≡ c.args.self.now.server.config.limits = rw (c.store.ensures, server) refl in
     let table : c.store.result.now.table ≡ c.args.self.now.server.table = rw (c.store.ensures, server) refl in
     let framed : c.in-Ok.frame.items ≡ canonical_frame (units_in (encoding_of c.args.self.now.server)) c.args.self.now.server.table (string_bytes c.args.params.now.uri) c.args.params.now.version (map edit_of c.args.params.now.changes.items) =
-      rw (encoding, table, c.deref.ensures, version, c.deref-2.ensures.value) at c.in-Ok.ensures.framed in
+    rw (encoding, table, c.deref.ensures, version, c.deref-2.ensures.value) at c.in-Ok.ensures.framed in
     let accepted : message_refusal c.args.self.now.server.config.limits (units_in (encoding_of c.args.self.now.server)) c.args.self.now.server.table (string_bytes c.args.params.now.uri) c.args.params.now.version (map edit_of c.args.params.now.changes.items) ≡ None =
-      rw (encoding, limits, table, c.deref.ensures, version, c.deref-2.ensures.value) at c.in-Ok.ensures.accepted in
+    rw (encoding, limits, table, c.deref.ensures, version, c.deref-2.ensures.value) at c.in-Ok.ensures.accepted in
     rw (edits_of c.args.params.now.changes.items) (framed, within c.args.self.now.server.config.limits _ _ none accepted)
 
 pub returns-in-BodyTooLong : goal.returns-in-BodyTooLong
@@ -30,5 +30,5 @@ returns-in-BodyTooLong c = λ none.
     let limits : c.store.result.now.limits ≡ c.args.self.now.server.config.limits = rw (c.store.ensures, server) refl in
     let table : c.store.result.now.table ≡ c.args.self.now.server.table = rw (c.store.ensures, server) refl in
     let told : IsRefusal (message_refusal c.args.self.now.server.config.limits (units_in (encoding_of c.args.self.now.server)) c.args.self.now.server.table (string_bytes c.args.params.now.uri) c.args.params.now.version (map edit_of c.args.params.now.changes.items)) c.in-Err.fault =
-      rw (encoding, limits, table, c.deref.ensures, version, c.deref-2.ensures.value) at c.in-Err.ensures.told in
+    rw (encoding, limits, table, c.deref.ensures, version, c.deref-2.ensures.value) at c.in-Err.ensures.told in
     rw (edits_of c.args.params.now.changes.items) (over c.args.self.now.server.config.limits _ _ c.in-Err.fault none (λ (e : c.in-Err.fault ≡ NoMemory). cc) told).0
