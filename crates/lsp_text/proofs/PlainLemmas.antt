@@ -1,5 +1,5 @@
 -- The steps of the plain program: the indexes that a loop has before it, and the units that it has still to add.
-use Rattle.std.proofs.Common.{ℕ, suc, ◌≡◌, ◌+◌, ◌-◌, ◌<◌, ◌≤◌, ◌∷◌, ◌==◌, Bool, true, false, Option, Some, List, length, take, drop, get_or, filter, find, sum_by, encode_utf8_all, refl, sym, ap, ◌∙◌, arith, eq-eqb, le-ltb}
+use Rattle.std.proofs.Common.{ℕ, suc, ◌≡◌, ◌+◌, ◌-◌, ◌<◌, ◌≤◌, ◌∷◌, ◌==◌, Bool, true, false, Some, List, length, take, drop, get_or, filter, find, encode_utf8_all, refl, sym, ap, ◌∙◌, arith, eq-eqb, le-ltb}
 use Rattle.std.specs.Char.{len_utf8}
 use Rattle.std.proofs.lemmas.Bool.{ne_eqb, lt-leb}
 use Rattle.std.proofs.lemmas.List.{drop_more}
@@ -8,7 +8,7 @@ use Rattle.lsp_text.specs.declared.encoding.Encoding.{Encoding}
 use Rattle.lsp_text.specs.declared.encoding.Encoding.TheVariants.{Utf8, Utf16, Utf32}
 use Rattle.lsp_text.specs.declared.position.Position.{Position}
 use Rattle.lsp_text.specs.Text.{place_of}
-use Rattle.lsp_text.specs.TextLines.{numbers_from, first_or, last_or, line_ends, line_content, line_start, line_stop}
+use Rattle.lsp_text.specs.TextLines.{numbers_from, last_or, line_ends, line_content, line_start, line_stop}
 use Rattle.lsp_text.specs.Units.{units_in, units_between}
 use Rattle.lsp_text.specs.Positions.{denoted}
 use Rattle.lsp_text.specs.UnitLaws.{utf8_bounds, utf16_bounds, utf32_bounds}
@@ -20,13 +20,11 @@ row_more k n before =
     let next : suc k ≡ k + 1 = omega arith in
     rw count (ap (λ (j : ℕ). k ∷ numbers_from j (n - (k + 1))) next)
 
--- An index that passes is the first of the rest, one that fails leaves the rest as it is.
-pub first_here : (test : ℕ → Bool) (k n : ℕ) → k < n → test k ≡ true → first_or 0 (filter test (numbers_from k (n - k))) ≡ k
-first_here test k n before passes = rw (row_more k n before, passes) refl
-
+-- An index that fails leaves the filtered rest as it is.
 pub row_on : (test : ℕ → Bool) (k n : ℕ) → k < n → test k ≡ false → filter test (numbers_from k (n - k)) ≡ filter test (numbers_from (k + 1) (n - (k + 1)))
 row_on test k n before fails = rw (row_more k n before, fails) refl
 
+-- One that passes is the last so far, and the one that is found if it is wanted.
 pub last_on : (test : ℕ → Bool) (default k n : ℕ) → k < n → test k ≡ true →
     last_or default (filter test (numbers_from k (n - k))) ≡ last_or k (filter test (numbers_from (k + 1) (n - (k + 1))))
 last_on test default k n before passes = rw (row_more k n before, passes) refl

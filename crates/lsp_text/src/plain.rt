@@ -1,6 +1,6 @@
 //! The definitions as a plain program: a slow scan over the characters of a text, a function for each definition of `TextLines`,
 //! `Units` and `Positions` in `specs/`. It stands to be read, and `Lines` is compared with it. An index is counted in characters, and
-//! goes from 0 to their number. Nothing is kept and nothing is allocated; a resolved position costs up to the cube of the text's length.
+//! goes from 0 to their number. Nothing is kept or allocated. A position costs up to the square of the text's length, either way.
 
 ghost use Rattle.std.specs.Prelude.{◌≡◌, ◌≤◌, length, encode_utf8_all, option_map};
 ghost use Rattle.lsp_text.specs.Text.{place_of as spec_place_of};
