@@ -213,7 +213,7 @@ place_of_text lead units first some bytes utf8 c =
     ap (λ bs. byte_place lead bs c) (sym (encodes-chars bytes utf8)) ∙ place_of_bytes lead units first some (chars bytes) c
 
 -- In UTF-8 the units are the bytes.
-utf8_units : (cs : List ℕ) → sum_by len_utf8 cs ≡ length (encode_utf8_all cs)
+pub utf8_units : (cs : List ℕ) → sum_by len_utf8 cs ≡ length (encode_utf8_all cs)
 utf8_units [] = refl
 utf8_units (c ∷ cs) = omega (arith, sum_by-cons len_utf8 c cs, utf8_units cs, length-append (encode c) (encode_utf8_all cs), length-encode c)
 

@@ -22,3 +22,4 @@ pub mod PartLemmas
 pub mod SearchLemmas
 pub mod Examples
 pub mod LawLemmas
+pub mod PlainLemmas

@@ -4,6 +4,7 @@
 //! - `lines`: the line starts that are kept for a text, and the calls on them. Their work is in `ends` (the search for line ends),
 //!   `resolve` (from a position to its place), `exact` (and back), `in_line` (units in the bytes of one line) and `splice` (after an edit).
 //! - `starts`: the line of a place, by a binary search over any row of starts whose looks are counted.
+//! - `plain`: the definitions as a plain and slow program over the characters of a text, which `Lines` is compared with.
 //! - `laws`: what holds of the definitions alone. These stand in `specs/`: `Text`, `TextLines`, `Units`, `Positions`, in this order.
 #![tactic(auto)]
 
@@ -13,6 +14,7 @@ mod exact;
 mod in_line;
 mod laws;
 mod lines;
+pub mod plain;
 mod position;
 mod resolve;
 mod splice;

@@ -1,8 +1,9 @@
-//! Positions of many small texts, beside a plain and slow walk over their characters.
+//! Positions of many small texts, beside the plain program.
+ghost use Rattle.std.specs.Prelude.{◌≡◌, ◌≤◌, IfOk, length, encode_utf8_all};
 ghost use Rattle.lsp_text.specs.LineStarts.{Indexes};
 
 use super::{UTF8, UTF16, UTF32};
-use crate::{Encoding, Lines, Position, Units, Utf8, Utf16, Utf32};
+use crate::{Encoding, Lines, Position, plain};
 use std::alloc::{AllocError, Global};
 use std::test::Fail;
 
@@ -24,50 +25,24 @@ fn text_of(alloc: Global, number: u32) -> Result<String, AllocError> {
     Ok(text)
 }
 
-fn units_of(encoding: Encoding, c: char) -> u32 {
-    match encoding {
-        Encoding::Utf8 => Utf8::units(c),
-        Encoding::Utf16 => Utf16::units(c),
-        Encoding::Utf32 => Utf32::units(c),
-    }
+/// The characters of a text.
+fn characters(alloc: Global, text: &str) -> Result<Vec<char>, AllocError>
+    ensures { IfOk result (λ characters. length (encode_utf8_all characters.items) ≡ length text.now) }
+{
+    text.chars().collect(alloc)
 }
 
-/// The place that a position denotes, by a walk over the characters; `None` inside a character.
-fn walked(chars: &[char], encoding: Encoding, position: Position) -> Option<usize> {
-    let mut line: u32 = 0;
-    let mut character: u32 = 0;
-    let mut place: usize = 0;
-    for (index, c) in chars.iter().enumerate() {
-        if line == position.line {
-            if character > position.character {
-                return None;
-            }
-            if character == position.character || *c == '\n' || *c == '\r' {
-                return Some(place);
-            }
-        }
-        place = place.saturating_add(c.len_utf8());
-        character = character.saturating_add(units_of(encoding, *c));
-        let next = chars.get(index.saturating_add(1));
-        if *c == '\n' || (*c == '\r' && next != Some(&'\n')) {
-            line = line.saturating_add(1);
-            character = 0;
-        }
-    }
-    if line == position.line && character > position.character {
-        return None;
-    }
-    Some(place)
-}
-
-/// Whether all positions up to line 4, character 9 are resolved as by the walk.
-fn resolves_as_walked(lines: &Lines, text: &str, chars: &[char], encoding: Encoding) -> bool
-    requires { Indexes lines.now text.now }
+/// Whether all positions up to line 4, character 9 are resolved as by the plain program.
+fn resolves_plainly(lines: &Lines, text: &str, chars: &[char], encoding: Encoding) -> bool
+    requires indexed { Indexes lines.now text.now }
+    requires size { length (encode_utf8_all chars.now) ≤ 2147483648 }
 {
     for line in 0..5 {
         for character in 0..10 {
             let position = Position { line, character };
-            if lines.resolve(text, encoding, position).ok() != walked(chars, encoding, position) {
+            if lines.resolve(text, encoding, position).ok()
+                != plain::resolved(chars, encoding, position)
+            {
                 return false;
             }
         }
@@ -75,9 +50,10 @@ fn resolves_as_walked(lines: &Lines, text: &str, chars: &[char], encoding: Encod
     true
 }
 
-/// Whether each place has a position that the walk takes back to it, and only what lies inside a character or a CRLF is no place.
-fn places_as_walked(lines: &Lines, text: &str, chars: &[char], encoding: Encoding) -> bool
-    requires { Indexes lines.now text.now }
+/// Whether each place has a position that the plain program takes back to it, and only what lies inside a character or a CRLF is no place.
+fn has_plain_places(lines: &Lines, text: &str, chars: &[char], encoding: Encoding) -> bool
+    requires indexed { Indexes lines.now text.now }
+    requires size { length (encode_utf8_all chars.now) ≤ 2147483648 }
 {
     for place in 0..text.len().saturating_add(2) {
         let bytes = text.as_bytes();
@@ -87,7 +63,8 @@ fn places_as_walked(lines: &Lines, text: &str, chars: &[char], encoding: Encodin
             return false;
         }
         if lines.is_place(text, place)
-            && walked(chars, encoding, lines.position(text, encoding, place)) != Some(place)
+            && plain::resolved(chars, encoding, lines.position(text, encoding, place))
+                != Some(place)
         {
             return false;
         }
@@ -95,20 +72,50 @@ fn places_as_walked(lines: &Lines, text: &str, chars: &[char], encoding: Encodin
     true
 }
 
+/// Whether the indexes that split no CRLF have the plain program's positions, and only these are at places.
+fn has_plain_positions(lines: &Lines, text: &str, chars: &[char], encoding: Encoding) -> bool
+    requires indexed { Indexes lines.now text.now }
+    requires size { length (encode_utf8_all chars.now) ≤ 2147483648 }
+{
+    for index in 0..chars.len() + 1 {
+        let place = plain::place_of(chars, index);
+        if lines.is_place(text, place) == plain::splits_crlf(chars, index) {
+            return false;
+        }
+        if lines.is_place(text, place)
+            && lines.position(text, encoding, place)
+                != plain::exact_position(chars, encoding, index)
+        {
+            return false;
+        }
+    }
+    true
+}
+
+/// Whether there are as many lines as the plain program finds.
+fn has_plain_lines(lines: &Lines, chars: &[char]) -> bool {
+    lines.count() == plain::line_ends(chars).saturating_add(1)
+}
+
 #[test]
-fn positions_are_those_of_a_walk(rt: HostRuntime) -> Result<(), Fail> {
+fn positions_are_those_of_the_plain_program(rt: HostRuntime) -> Result<(), Fail> {
     for number in 0..TEXTS {
         let text = text_of(rt.alloc(), number)?;
         assert!(rt; text.len() <= 1000);
-        let chars: Vec<char> = text.chars().collect(rt.alloc())?;
+        let chars = characters(rt.alloc(), &text)?;
         let lines = Lines::new(rt.alloc(), text.as_str())?;
+        assert!(rt; has_plain_lines(&lines, &chars), "{text:?}");
         for encoding in [UTF8, UTF16, UTF32] {
             assert!(rt;
-                resolves_as_walked(&lines, text.as_str(), &chars, encoding),
+                resolves_plainly(&lines, text.as_str(), &chars, encoding),
                 "{text:?}"
             );
             assert!(rt;
-                places_as_walked(&lines, text.as_str(), &chars, encoding),
+                has_plain_positions(&lines, text.as_str(), &chars, encoding),
+                "{text:?}"
+            );
+            assert!(rt;
+                has_plain_places(&lines, text.as_str(), &chars, encoding),
                 "{text:?}"
             );
         }

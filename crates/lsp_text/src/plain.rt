@@ -1,0 +1,173 @@
+//! The definitions as a plain program: a slow scan over the characters of a text, a function for each definition of `TextLines`,
+//! `Units` and `Positions` in `specs/`. It stands to be read, and `Lines` is compared with it. An index is counted in characters, and
+//! goes from 0 to their number. Nothing is kept or allocated. A position costs up to the square of the text's length, either way.
+
+ghost use Rattle.std.specs.Prelude.{◌≡◌, ◌≤◌, length, encode_utf8_all, option_map};
+ghost use Rattle.lsp_text.specs.Text.{place_of as spec_place_of};
+ghost use Rattle.lsp_text.specs.TextLines.{ends_line as spec_ends_line, splits_crlf as spec_splits_crlf, line_at as spec_line_at, line_ends as spec_line_ends, is_in_content as spec_is_in_content, line_start as spec_line_start, line_stop as spec_line_stop};
+ghost use Rattle.lsp_text.specs.Units.{units_in, units_between as spec_units_between};
+ghost use Rattle.lsp_text.specs.Positions.{exact_position as spec_exact_position, denoted as spec_denoted};
+
+use crate::encoding::Encoding;
+use crate::position::Position;
+use crate::units::{Units, Utf8, Utf16, Utf32};
+
+/// Whether an index ends a line: a line feed stands before it, or a carriage return with no line feed behind it.
+pub fn ends_line(text: &[char], index: usize) -> bool
+    requires { index ≤ length text.now }
+    ensures { result ≡ spec_ends_line text.now index }
+{
+    if index == 0 {
+        return false;
+    }
+    match text[index - 1] {
+        '\n' => true,
+        '\r' => index == text.len() || text[index] != '\n',
+        _ => false,
+    }
+}
+
+/// Whether an index lies between a carriage return and a line feed.
+pub fn splits_crlf(text: &[char], index: usize) -> bool
+    requires { index ≤ length text.now }
+    ensures { result ≡ spec_splits_crlf text.now index }
+{
+    index > 0 && index < text.len() && text[index - 1] == '\r' && text[index] == '\n'
+}
+
+/// The line of an index: how many indexes up to it end a line.
+pub fn line_at(text: &[char], index: usize) -> usize
+    requires { index ≤ length text.now }
+    ensures value { result ≡ spec_line_at text.now index }
+    ensures within { result ≤ index }
+{
+    let mut line = 0;
+    for before in 0..index {
+        if ends_line(text, before + 1) {
+            line += 1;
+        }
+    }
+    line
+}
+
+/// How many line ends a text has. It has one line more.
+pub fn line_ends(text: &[char]) -> usize
+    ensures { result ≡ spec_line_ends text.now }
+{
+    line_at(text, text.len())
+}
+
+/// Whether an index belongs to the content of a line: it is of that line, and splits no CRLF.
+pub fn is_in_content(text: &[char], line: usize, index: usize) -> bool
+    requires { index ≤ length text.now }
+    ensures { result ≡ spec_is_in_content text.now line index }
+{
+    line_at(text, index) == line && !splits_crlf(text, index)
+}
+
+/// The first index of a line's content; 0 if the text has no such line.
+pub fn line_start(text: &[char], line: usize) -> usize
+    ensures { result ≡ spec_line_start text.now line }
+{
+    for index in 0..text.len() + 1 {
+        if is_in_content(text, line, index) {
+            return index;
+        }
+    }
+    0
+}
+
+/// The last index of a line's content; 0 if the text has no such line.
+pub fn line_stop(text: &[char], line: usize) -> usize
+    ensures value { result ≡ spec_line_stop text.now line }
+    ensures within { result ≤ length text.now }
+{
+    let mut stop = 0;
+    for index in 0..text.len() + 1 {
+        if is_in_content(text, line, index) {
+            stop = index;
+        }
+    }
+    stop
+}
+
+/// How many units a character has in an encoding.
+pub fn units(encoding: Encoding, character: char) -> u32
+    ensures { result ≡ units_in encoding character }
+{
+    match encoding {
+        Encoding::Utf8 => Utf8::units(character),
+        Encoding::Utf16 => Utf16::units(character),
+        Encoding::Utf32 => Utf32::units(character),
+    }
+}
+
+/// The units of the characters from one index to another, in a text of at most 2,147,483,648 bytes of UTF-8.
+pub fn units_between(text: &[char], encoding: Encoding, from: usize, to: usize) -> usize
+    requires within { to ≤ length text.now }
+    requires size { length (encode_utf8_all text.now) ≤ 2147483648 }
+    ensures value { result ≡ spec_units_between (units_in encoding) text.now from to }
+    ensures few { result ≤ 2147483648 }
+{
+    let mut count = 0;
+    for index in from..to {
+        count += units(encoding, text[index]) as usize;
+    }
+    count
+}
+
+/// The place of an index: how many bytes of UTF-8 stand before it. The text has at most 2,147,483,648 of them.
+pub fn place_of(text: &[char], index: usize) -> usize
+    requires within { index ≤ length text.now }
+    requires size { length (encode_utf8_all text.now) ≤ 2147483648 }
+    ensures { result ≡ spec_place_of text.now index }
+{
+    units_between(text, Encoding::Utf8, 0, index)
+}
+
+/// The exact position of an index of a text of at most 2,147,483,648 bytes of UTF-8.
+pub fn exact_position(text: &[char], encoding: Encoding, index: usize) -> Position
+    requires within { index ≤ length text.now }
+    requires size { length (encode_utf8_all text.now) ≤ 2147483648 }
+    ensures { result ≡ spec_exact_position (units_in encoding) text.now index }
+{
+    let line = line_at(text, index);
+    let start = line_start(text, line);
+    Position {
+        line: line as u32,
+        character: units_between(text, encoding, start, index) as u32,
+    }
+}
+
+/// The index that a position denotes in a text of at most 2,147,483,648 bytes of UTF-8; `None` inside a character.
+pub fn denoted(text: &[char], encoding: Encoding, position: Position) -> Option<usize>
+    requires { length (encode_utf8_all text.now) ≤ 2147483648 }
+    ensures { result ≡ spec_denoted (units_in encoding) text.now position }
+{
+    let (line, character) = (position.line as usize, position.character as usize);
+    if line_ends(text) < line {
+        return Some(text.len());
+    }
+    let start = line_start(text, line);
+    let stop = line_stop(text, line);
+    if units_between(text, encoding, start, stop) <= character {
+        return Some(stop);
+    }
+    for index in 0..text.len() + 1 {
+        if is_in_content(text, line, index)
+            && units_between(text, encoding, start, index) == character
+        {
+            return Some(index);
+        }
+    }
+    None
+}
+
+/// The place that a position denotes in a text of at most 2,147,483,648 bytes of UTF-8, in bytes; `None` inside a character.
+pub fn resolved(text: &[char], encoding: Encoding, position: Position) -> Option<usize>
+    requires { length (encode_utf8_all text.now) ≤ 2147483648 }
+    ensures { result ≡ option_map (spec_place_of text.now) (spec_denoted (units_in encoding) text.now position) }
+{
+    let index = denoted(text, encoding, position)?;
+    Some(place_of(text, index))
+}
