@@ -159,3 +159,6 @@ pub fn normalise<R: Source, W: Sink>(
     let mut normalise = Normalise::new(alloc, settings.config());
     run_engine(alloc, reader, writer, &mut normalise, rules, max_turns)
 }
+
+#[cfg(test)]
+mod tests;
