@@ -90,24 +90,14 @@ fn program<'a>(alloc: Global) -> Result<Command<'a>, AllocError> {
         .subcommand_required(true)
         .subcommand(serve(alloc)?)?
         .subcommand(of_logs(alloc, "check", texts::CHECK, texts::CHECK_EXAMPLE)?)?
-        .subcommand(of_logs(
-            alloc,
-            "replay",
-            texts::REPLAY,
-            texts::REPLAY_EXAMPLE,
-        )?)?
+        .subcommand(of_logs(alloc, "replay", texts::REPLAY, texts::REPLAY_EXAMPLE)?)?
         .subcommand(of_logs(
             alloc,
             "normalise",
             texts::NORMALISE,
             texts::NORMALISE_EXAMPLE,
         )?)?
-        .subcommand(of_logs(
-            alloc,
-            "convert",
-            texts::CONVERT,
-            texts::CONVERT_EXAMPLE,
-        )?)
+        .subcommand(of_logs(alloc, "convert", texts::CONVERT, texts::CONVERT_EXAMPLE)?)
 }
 
 fn serve<'a>(alloc: Global) -> Result<Command<'a>, AllocError> {

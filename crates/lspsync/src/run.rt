@@ -2,8 +2,7 @@
 
 use crate::command_line::{Call, parse};
 use clap::error as clap_error;
-use lsp_replay::{EngineFault, Outcome, Sink, Source};
-use lsp_replay::{check, convert, normalise, replay, serve};
+use lsp_replay::{EngineFault, Outcome, Sink, Source, check, convert, normalise, replay, serve};
 use std::alloc::Global;
 use std::io::{ErrorKind, Write};
 

@@ -1,8 +1,10 @@
 //! The texts of help.
 
-pub const PROGRAM: &str = "Keeps a copy of each open text equal to the editor's (Language Server Protocol 3.17), and reads recorded sessions";
+pub const PROGRAM: &str =
+    "Keeps a copy of each open text equal to the editor's (Language Server Protocol 3.17), and reads recorded sessions";
 
-pub const PROGRAM_NOTES: &str = "Each command reads standard input and writes standard output. A log is what an editor sent to its language
+pub const PROGRAM_NOTES: &str =
+    "Each command reads standard input and writes standard output. A log is what an editor sent to its language
 server, byte for byte. Where the editor starts `some-server`, let it start this, and it is recorded:
   tee session.log | some-server
 
@@ -12,9 +14,11 @@ error says what, and for 5 where: `lspsync: truncated at 505` is byte 505 of the
 
 `lspsync COMMAND --help` has the options of a command and an example to paste.";
 
-pub const SERVE: &str = "Be a language server that keeps the editor's documents and offers no other feature";
+pub const SERVE: &str =
+    "Be a language server that keeps the editor's documents and offers no other feature";
 
-pub const SERVE_EXAMPLE: &str = "It answers `initialize` and `shutdown`, takes the documents' messages, refuses every other request
+pub const SERVE_EXAMPLE: &str =
+    "It answers `initialize` and `shutdown`, takes the documents' messages, refuses every other request
 by `method not found`, and ends at `exit`. Put it where an editor wants a server's command. The
 status is 0 where the editor asked for `shutdown` before `exit`, else 1.
 
@@ -23,34 +27,41 @@ Example, which answers a recorded session; it ends before `exit`, so the status 
 
 pub const CHECK: &str = "Print what a server answers to each message of a log, a line for each";
 
-pub const CHECK_EXAMPLE: &str = "A line has the record's number and a word: `reply` or `error CODE` for a request, `changed`,
+pub const CHECK_EXAMPLE: &str =
+    "A line has the record's number and a word: `reply` or `error CODE` for a request, `changed`,
 `dropped`, `ignored` or `refused CAUSE` for a notification, `exit 0` or `exit 1`, and `server` for
 what the server sent. The status is 1 where an error (other than -32601) or a refusal is among them.
 
 Example, a session with two changes that a server must refuse:
   ./lspsync check < examples/stale-version.log";
 
-pub const REPLAY: &str = "Print the documents that are open at the end of a log, a line of JSON for each";
+pub const REPLAY: &str =
+    "Print the documents that are open at the end of a log, a line of JSON for each";
 
-pub const REPLAY_EXAMPLE: &str = "A line has the document's `languageId`, `text`, `uri` and `version`, in order of opening. The status
+pub const REPLAY_EXAMPLE: &str =
+    "A line has the document's `languageId`, `text`, `uri` and `version`, in order of opening. The status
 is 1 where something was refused. Nothing is printed where the log is faulty.
 
 Example, with the text alone where `jq` is there:
   ./lspsync replay < examples/typing.log
   ./lspsync replay < examples/typing.log | jq -r .text";
 
-pub const NORMALISE: &str = "Write a log with each accepted change as the one canonical message that means the same";
+pub const NORMALISE: &str =
+    "Write a log with each accepted change as the one canonical message that means the same";
 
-pub const NORMALISE_EXAMPLE: &str = "All other messages, and the refused ones, stay byte for byte. Two editors that kept the same
+pub const NORMALISE_EXAMPLE: &str =
+    "All other messages, and the refused ones, stay byte for byte. Two editors that kept the same
 characters and inserted the same texts give the same bytes, so such logs can be compared. The
 status is 1 where something was refused.
 
 Example, a change of the whole text, which becomes one with a range:
   ./lspsync normalise < examples/whole-text.log";
 
-pub const CONVERT: &str = "Write a log in the format of version 2, which holds the server's replies too";
+pub const CONVERT: &str =
+    "Write a log in the format of version 2, which holds the server's replies too";
 
-pub const CONVERT_EXAMPLE: &str = "The output begins with the line `lsp-session-log 2`. Then come the messages, each behind a mark:
+pub const CONVERT_EXAMPLE: &str =
+    "The output begins with the line `lsp-session-log 2`. Then come the messages, each behind a mark:
 `>` for the editor's, byte for byte, and `<` for the reply that a server gives to it. All log
 commands read both versions. The status is 1 where something was refused.
 
@@ -58,9 +69,11 @@ Example, and what stands in its output:
   ./lspsync convert < examples/whole-text.log
   ./lspsync convert < examples/whole-text.log | ./lspsync check";
 
-pub const ENCODING: &str = "What a position's character counts in this log; one of version 2 says it itself";
+pub const ENCODING: &str =
+    "What a position's character counts in this log; one of version 2 says it itself";
 
-pub const PREFERRED_ENCODING: &str = "What a position's character is to count, if the editor offers it; else utf-16";
+pub const PREFERRED_ENCODING: &str =
+    "What a position's character is to count, if the editor offers it; else utf-16";
 
 pub const SYNC: &str = "How the editor is asked to send changes: as whole texts or as ranges";
 

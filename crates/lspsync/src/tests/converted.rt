@@ -6,24 +6,45 @@ use std::test::Fail;
 /// The first line of a log of version 2.
 const LINE: &[u8] = b"lsp-session-log 2\n";
 
+/// A log of version 2 with the client's records, and the server's behind the first.
+fn recorded(alloc: Global, bodies: &[&str], server: &[&str]) -> Result<Vec<u8>, AllocError> {
+    let mut bytes = Vec::from_slice(alloc, LINE)?;
+    for (i, body) in bodies.iter().enumerate() {
+        bytes.extend_from_slice(b">")?;
+        bytes.extend_from_slice(&frame(alloc, body.as_bytes())?)?;
+        if i == 0 {
+            for reply in server {
+                bytes.extend_from_slice(b"<")?;
+                bytes.extend_from_slice(&frame(alloc, reply.as_bytes())?)?;
+            }
+        }
+    }
+    Ok(bytes)
+}
+
 #[test]
 fn a_converted_log_has_the_replies(rt: HostRuntime) -> Result<(), Fail> {
     let alloc = rt.alloc();
     let input = log(alloc, &[INITIALIZE, OPEN, WHOLE])?;
-    let converted = ran(alloc, &["lspsync", "convert"], &input)?;
-    assert_eq!(rt; (converted.status, converted.output.len()), (0, 680));
-    let answer = ran(alloc, &["lspsync", "check"], &converted.output)?;
-    assert_eq!(rt; answer.status, 0);
-    assert_eq!(rt;
-        answer.output.as_slice(),
-        b"1 reply\n2 server\n3 changed\n4 changed\n".as_slice()
-    );
-    let answer = ran(alloc, &["lspsync", "normalise"], &converted.output)?;
-    assert_eq!(rt; (answer.status, answer.output.len()), (0, 754));
-    let (kept, last) = answer.output.split_at(514);
-    assert_eq!(rt; kept, &converted.output[..514]);
-    assert_eq!(rt; last, log(alloc, &[CANONICAL])?.as_slice());
-    let answer = ran(alloc, &["lspsync", "convert"], &converted.output)?;
+    let both = recorded(alloc, &[INITIALIZE, OPEN, WHOLE], &[REPLY])?;
+    let normal = recorded(alloc, &[INITIALIZE, OPEN, CANONICAL], &[REPLY])?;
+    assert_eq!(rt; (both.len(), normal.len()), (680, 754));
+    let cases = [
+        ("convert", &input, both.as_slice()),
+        (
+            "check",
+            &both,
+            b"1 reply\n2 server\n3 changed\n4 changed\n".as_slice(),
+        ),
+        ("normalise", &both, normal.as_slice()),
+        ("normalise", &normal, normal.as_slice()),
+    ];
+    for (command, given, wanted) in cases {
+        let answer = ran(alloc, &["lspsync", command], given)?;
+        assert_eq!(rt; answer.status, 0, "at {command}");
+        assert_eq!(rt; answer.output.as_slice(), wanted, "at {command}");
+    }
+    let answer = ran(alloc, &["lspsync", "convert"], &both)?;
     assert_eq!(rt; answer.status, 5);
     assert!(rt; answer.output.is_empty());
     assert_eq!(rt;
@@ -57,29 +78,16 @@ fn an_empty_log_and_one_that_exits(rt: HostRuntime) -> Result<(), Fail> {
     Ok(())
 }
 
-/// A log of version 2 with the client's records, and the server's behind the first.
-fn recorded(alloc: Global, bodies: &[&str], server: &[&str]) -> Result<Vec<u8>, AllocError> {
-    let mut bytes = Vec::from_slice(alloc, LINE)?;
-    for (i, body) in bodies.iter().enumerate() {
-        bytes.extend_from_slice(b">")?;
-        bytes.extend_from_slice(&frame(alloc, body.as_bytes())?)?;
-        if i == 0 {
-            for reply in server {
-                bytes.extend_from_slice(b"<")?;
-                bytes.extend_from_slice(&frame(alloc, reply.as_bytes())?)?;
-            }
-        }
-    }
-    Ok(bytes)
-}
-
 #[test]
 fn a_change_before_the_result_of_initialize(rt: HostRuntime) -> Result<(), Fail> {
     let alloc = rt.alloc();
     let input = recorded(alloc, &[INITIALIZE, OPEN, WHOLE], &[])?;
     let answer = ran(alloc, &["lspsync", "check"], &input)?;
     assert_eq!(rt; answer.status, 5);
-    assert_eq!(rt; answer.output.as_slice(), b"1 reply\n2 changed\n".as_slice());
+    assert_eq!(rt;
+        answer.output.as_slice(),
+        b"1 reply\n2 changed\n".as_slice()
+    );
     assert_eq!(rt;
         answer.errors.as_slice(),
         b"lspsync: bad log at 360\n".as_slice()

@@ -52,18 +52,9 @@ fn each_fault_has_its_line_and_status(rt: HostRuntime) -> Result<(), Fail> {
 
 /// Inputs of `check`, and the line that each is told by.
 const FAULTY: [(&str, &str); 14] = [
-    (
-        "Content-Length 2",
-        "lspsync: frame fault F1 at 14\n",
-    ),
-    (
-        "Content-Length: 2\n",
-        "lspsync: frame fault F1 at 17\n",
-    ),
-    (
-        "Content-Length: 2\r[]",
-        "lspsync: frame fault F1 at 18\n",
-    ),
+    ("Content-Length 2", "lspsync: frame fault F1 at 14\n"),
+    ("Content-Length: 2\n", "lspsync: frame fault F1 at 17\n"),
+    ("Content-Length: 2\r[]", "lspsync: frame fault F1 at 18\n"),
     ("\r\n", "lspsync: frame fault F3 at 1\n"),
     (
         "Content-Length: 2\r\nContent-Length: 2\r\n\r\n[]",
@@ -85,20 +76,11 @@ const FAULTY: [(&str, &str); 14] = [
         "Content-Length: 2\r\nContent-Type: a; charset=latin1\r\n\r\n",
         "lspsync: frame fault F7 at 53\n",
     ),
-    (
-        "Content-Length: 5\r\n\r\nab",
-        "lspsync: truncated at 23\n",
-    ),
+    ("Content-Length: 5\r\n\r\nab", "lspsync: truncated at 23\n"),
     ("lsp-session-log 2\nx", "lspsync: bad log at 18\n"),
     ("lsp-session-log 2\n>", "lspsync: truncated at 19\n"),
-    (
-        "lsp-session-log 3\n",
-        "lspsync: frame fault F1 at 15\n",
-    ),
-    (
-        "lsp-session-log 2",
-        "lspsync: frame fault F1 at 15\n",
-    ),
+    ("lsp-session-log 3\n", "lspsync: frame fault F1 at 15\n"),
+    ("lsp-session-log 2", "lspsync: frame fault F1 at 15\n"),
 ];
 
 #[test]
@@ -138,7 +120,8 @@ fn a_cut_log_is_told_with_its_length(rt: HostRuntime) -> Result<(), Fail> {
         } else {
             340
         };
-        assert_eq!(rt; answer.output.as_slice(), &input[..whole], "at {len}");
+        assert!(rt; input.starts_with(&answer.output), "at {len}");
+        assert_eq!(rt; answer.output.len(), whole, "at {len}");
         let line = format!(in alloc; "lspsync: truncated at {len}\n")?;
         if len == whole {
             assert_eq!(rt; answer.status, 0, "at {len}");
@@ -168,7 +151,7 @@ fn a_canonical_body_at_the_limit_and_over_it(rt: HostRuntime) -> Result<(), Fail
             assert_eq!(rt; answer.output.len(), 340 + 24 + 4_096);
             assert!(rt; answer.errors.is_empty());
         } else {
-            assert_eq!(rt; answer.output.as_slice(), &input[..340]);
+            assert_eq!(rt; answer.output, log(alloc, &[INITIALIZE, OPEN])?);
             assert_eq!(rt;
                 answer.errors.as_slice(),
                 b"lspsync: body too long at 340\n".as_slice()

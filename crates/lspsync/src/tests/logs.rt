@@ -30,22 +30,13 @@ fn a_change_of_the_whole_text(rt: HostRuntime) -> Result<(), Fail> {
 #[test]
 fn a_whole_session_is_canonical_and_ends_at_exit(rt: HostRuntime) -> Result<(), Fail> {
     let alloc = rt.alloc();
-    let session = [
-        INITIALIZE,
-        INITIALIZED,
-        OPEN,
-        CHANGE,
-        CLOSE,
-        SHUTDOWN,
-        EXIT,
-    ];
+    let session = [INITIALIZE, INITIALIZED, OPEN, CHANGE, CLOSE, SHUTDOWN, EXIT];
     let input = log(alloc, &session)?;
     assert_eq!(rt; input.len(), 891);
     let answer = ran(alloc, &["lspsync", "normalise"], &input)?;
     assert_eq!(rt; answer.status, 0);
     assert_eq!(rt; answer.output, input);
-    let words =
-        "1 reply\n2 ignored\n3 changed\n4 changed\n5 changed\n6 reply\n7 exit 0\n";
+    let words = "1 reply\n2 ignored\n3 changed\n4 changed\n5 changed\n6 reply\n7 exit 0\n";
     let answer = ran(alloc, &["lspsync", "check"], &input)?;
     assert_eq!(rt; answer.status, 0);
     assert_eq!(rt; answer.output.as_slice(), words.as_bytes());
