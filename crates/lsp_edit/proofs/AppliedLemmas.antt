@@ -17,11 +17,12 @@ use Rattle.lsp_edit.specs.Items.{Item, Old, New, character_of, text_of}
 use Rattle.lsp_edit.specs.Batch.{Edit, Fault, InsideStart, InsideStop, Reversed, replaced, after_change}
 use Rattle.lsp_edit.specs.Faults.{fault_at, TellsFault, IsPlaces, in_order, ends_of, places_at}
 use Rattle.lsp_edit.specs.Keeps.{Keeps}
-use Rattle.lsp_edit.specs.Parts.{Part, items_of, bytes_of, AreParts, AreCut, AreOrdered, new_parts, replaced_parts}
+use Rattle.lsp_edit.specs.Parts.{Part, items_of, bytes_of, AreParts, AreCut, AreOrdered, NoneTouch, new_parts, replaced_parts}
 use Rattle.lsp_edit.specs.Edited.{ArePieces, Applied, Edited, edit_of, edited_text, edited_bytes, one_more}
 use Rattle.lsp_edit.proofs.KeepsLemmas.{after_change_keeps}
 use Rattle.lsp_edit.proofs.CutLemmas.{text_of-new, part_ordered}
 use Rattle.lsp_edit.proofs.CutPartsLemmas.{AreCutAt, cut_parts, parts_bytes}
+use Rattle.lsp_edit.proofs.MergedLemmas.{new_apart, replaced_apart}
 use Rattle.lsp_edit.proofs.PutLemmas.{replaced_items, replaced_few, new_items, new_few}
 
 -- A range whose places were told, with the indexes that they are of.
@@ -98,14 +99,15 @@ module _ (units : ℕ → ℕ) (before lines : List ℕ) (parts : List Part) (le
   now_long : len ≡ length (encode_utf8_all (text_of (chars before) (items_of (chars before) parts)))
   now_long = are.long ∙ ap length (parts_bytes before (IsUtf8-from_is_utf8 before are.utf8) parts are.are)
 
-  next_of : (change : Edit) (next : List Part) (next_len : ℕ) → after_change units (chars before) (items_of (chars before) parts) change ≡ Ok (items_of (chars before) next) → AreParts before next
+  next_of : (change : Edit) (next : List Part) (next_len : ℕ) → after_change units (chars before) (items_of (chars before) parts) change ≡ Ok (items_of (chars before) next) → AreParts before next → NoneTouch next
       → next_len ≡ length (bytes_of before next) → next_len ≤ 2147483648 → length next ≤ length parts + 2 → length next < 18446744073709551616 → IsNext units before lines parts changes change next next_len
-  next_of change next next_len made next_are long fits few small = record {
+  next_of change next next_len made next_are next_apart long fits few small = record {
     made = made;
     are = record {
       utf8 = are.utf8;
       indexed = are.indexed;
       are = next_are;
+      apart = next_apart;
       keeps = after_change_keeps (chars before) units (items_of (chars before) parts) (items_of (chars before) next) change are.keeps made;
       long = long;
       room = fits;
@@ -122,6 +124,7 @@ module _ (units : ℕ → ℕ) (before lines : List ℕ) (parts : List Part) (le
       next_of (record { range = None; text = chars new }) (new_parts new) (length new)
       (ap (λ (i : List Item). Ok i) (sym n.0))
       n.1
+      (new_apart new)
       (sym (ap length bytes))
       (omega arith)
       (omega (arith, new_few new))
@@ -228,6 +231,7 @@ module _ (units : ℕ → ℕ) (before lines : List ℕ) (parts : List Part) (le
         next_of (record { range = Some range; text = chars new }) (replaced_parts parts start stop new) (len - (stop - start) + length new)
         (rw (ends.low_is, ends.high_is, le-leb ends.low ends.high ends.order) (ap (λ (i : List Item). Ok i) (sym items)))
         are_parts
+        (replaced_apart parts start stop new are.apart)
         long
         (omega (arith, in_order_places))
         (replaced_few parts start stop new in_order_places.0)

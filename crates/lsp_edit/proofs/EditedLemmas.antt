@@ -9,7 +9,7 @@ use Rattle.lsp_text.specs.TextLines.{numbers_from}
 use Rattle.lsp_text.specs.LineStarts.{Indexes}
 use Rattle.lsp_text.proofs.PlaceLemmas.{place_end}
 use Rattle.lsp_edit.specs.Items.{Item, Old, New, plain, text_of}
-use Rattle.lsp_edit.specs.Parts.{Part, OldPart, NewPart, index_of, items_in, items_of, bytes_of, IsPart, AreParts, whole_parts}
+use Rattle.lsp_edit.specs.Parts.{Part, OldPart, NewPart, index_of, items_in, items_of, bytes_of, IsPart, AreParts, NoneTouch, whole_parts}
 use Rattle.lsp_edit.specs.Keeps.{Keeps}
 use Rattle.lsp_edit.specs.Edited.{ArePieces, Edited, edited_text, edited_bytes}
 use Rattle.lsp_edit.specs.Faults.{IsPlaces, places_at, ends_of}
@@ -35,6 +35,7 @@ plain_text text = text_row text 0 (length text) (omega arith) ∙ take_all (leng
 -- The parts of a text before any change: itself, if it isn't empty.
 pub record IsWhole (before : List ℕ) (parts : List Part) : Type 0 where
   pub are : AreParts before parts
+  pub apart : NoneTouch parts
   pub items : items_of (chars before) parts ≡ plain (chars before)
   pub few : length parts ≤ 1
 
@@ -42,13 +43,14 @@ whole_none : (before : List ℕ) → length before ≡ 0 → IsWhole before []
 whole_none before none =
     let e : before ≡ [] = nil_from_length before none in
     let c : chars before ≡ [] = ap chars e ∙ chars-nil in
-    record { are = tt; items = rw c refl; few = omega arith }
+    record { are = tt; apart = tt; items = rw c refl; few = omega arith }
 
 whole_some : (before : List ℕ) → IsUtf8 before → (length before ≡ 0 → ⊥) → IsWhole before (OldPart 0 (length before) ∷ [])
 whole_some before utf8 some =
     let n : length (chars before) - 0 ≡ length (chars before) = omega arith in
     record {
       are = ((omega arith, IsCharBoundary-start before utf8, IsCharBoundary-end before), tt);
+      apart = (tt, tt);
       items = append-nil (items_in (chars before) (OldPart 0 (length before)))
           ∙ ap₂ (λ (x y : ℕ). map Old (numbers_from x (y - x))) (index_first (chars before)) (index_last before utf8) ∙ ap (λ (x : ℕ). map Old (numbers_from 0 x)) n;
       few = omega arith;
@@ -67,6 +69,7 @@ begun before lines parts utf8 indexed whole = record {
   utf8 = is_utf8-from_IsUtf8 before utf8;
   indexed = indexed;
   are = whole.are;
+  apart = whole.apart;
   keeps = subst (Keeps (chars before) 0) (sym whole.items) (plain_keeps (chars before));
   long = sym (ap length (parts_bytes before utf8 parts whole.are ∙ (ap (λ (i : List Item). encode_utf8_all (text_of (chars before) i)) whole.items ∙ (ap encode_utf8_all (plain_text (chars before)) ∙ encodes-chars before utf8))));
   room = indexed.size;

@@ -12,6 +12,7 @@ pub mod IndexLemmas
 pub mod CutLemmas
 pub mod CutPartsLemmas
 pub mod PutLemmas
+pub mod MergedLemmas
 pub mod EndLemmas
 pub mod EditedLemmas
 pub mod AppliedLemmas
@@ -21,6 +22,7 @@ pub mod LawLemmas
 pub mod ThroughLemmas
 pub mod PassedLemmas
 pub mod SpansLemmas
+pub mod MarkLemmas
 pub mod CurrentLemmas
 pub mod ThenLemmas
 pub mod PlainLemmas

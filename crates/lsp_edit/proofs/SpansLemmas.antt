@@ -1,22 +1,16 @@
 -- Spans with some of their bytes replaced, in place.
-use Rattle.std.proofs.Common.{ℕ, ◌≡◌, ◌+◌, ◌-◌, ◌<◌, ◌≤◌, ◌⊎◌, List, [], ◌∷◌, ◌++◌, length, map, take, drop, min, drop-drop, refl, sym, ap, ap₂, ◌∙◌, arith, ⊎_elim}
+use Rattle.std.proofs.Common.{ℕ, ◌≡◌, ◌+◌, ◌-◌, ◌<◌, ◌≤◌, ◌⊎◌, List, [], ◌∷◌, ◌++◌, length, map, take, drop, sum_by, min, drop-drop, refl, sym, ap, ap₂, ◌∙◌, arith, ⊎_elim}
 use Rattle.std.proofs.lemmas.Bool.{cases_lt}
-use Rattle.std.proofs.lemmas.List.{drop_all, drop-map, map-append, map-id}
+use Rattle.std.proofs.lemmas.List.{drop_all, drop-map, length-append, length-take-le, map-append, map-id}
+use Rattle.std.proofs.Math.Seq.{take-append_seam}
 use Rattle.std.specs.declared.vec.IntoIter.{IntoIter}
 use Rattle.std.specs.Vec.Iter.{into_iter_items, into_iter_len, into_iter_steps}
 use Rattle.std.specs.Iterator.{Drains}
 use Rattle.std.proofs.lemmas.Iterator.{items_from_drains}
 use Rattle.std.proofs.lemmas.Iterator.Adapters.{YieldsList-from_vec}
 use Rattle.lsp_edit.specs.declared.span.Span.{Span}
-use Rattle.lsp_edit.specs.declared.spans.Spans.{Spans}
-use Rattle.lsp_edit.specs.declared.spans.Spans.TheVariants.{One, Many}
-use Rattle.lsp_edit.specs.Parts.{Part, part_of, parts_of, spans_in, front_parts, first_front, new_parts, put_first_back, replaced_parts, ArePassed, EndsBehind}
+use Rattle.lsp_edit.specs.Parts.{Part, part_of, parts_of, span_len, front_parts, first_front, IsMark, new_parts, put_first_back, replaced_parts, ArePassed, EndsBehind}
 use Rattle.lsp_edit.proofs.PassedLemmas.{replaced_is}
-
--- There are fewer spans than 64 bits count.
-pub spans_small : (spans : Spans) → length (spans_in spans) < 18446744073709551616
-spans_small (One span) = omega arith
-spans_small (Many spans) = omega (arith, spans.ok, spans.small)
 
 -- What a `Vec` gave, item by item, is what it held.
 pub drained_is : {Z : Type 0} (s : IntoIter Span Z) (xs fresh : List Span) → into_iter_items s ≡ fresh → into_iter_len s ≡ length fresh → Drains (into_iter_steps {X = Span} {Z = Z}) s xs → xs ≡ fresh
@@ -55,3 +49,11 @@ replaced_spans old now made first last passed more start stop past text order no
     all
     ∙ (ap₂ (λ (ms ts : List Part). parts_of (take first old) ++ (ms ++ ts)) made_is tail
     ∙ replaced_is (parts_of old) (parts_of (take first old)) (parts_of rest) (parts_of later) start stop passed more text order ended front_is (λ z. ap (λ (n : ℕ). parts_of (take n old)) (at_start z)) were behind (none_behind rest last))
+
+-- The spans before a change stay where they are.
+pub mark_stays : (old now made behind : List Span) (first passed : ℕ) → IsMark old first passed → now ≡ take first old ++ (made ++ behind) → IsMark now first passed
+mark_stays old now made behind first passed is now_is =
+    let long : length (take first old) ≡ first = length-take-le first old is.0 in
+    let same : take first now ≡ take first old = ap (take first) now_is ∙ (ap (λ (n : ℕ). take n (take first old ++ (made ++ behind))) (sym long) ∙ take-append_seam (take first old) (made ++ behind)) in
+    let all : length now ≡ length (take first old) + length (made ++ behind) = ap length now_is ∙ length-append (take first old) (made ++ behind) in
+    (omega (arith, all, long), is.1 ∙ ap (λ (spans : List Span). sum_by span_len spans) (sym same))

@@ -5,14 +5,21 @@ use Rattle.std.proofs.lemmas.Str.{IsUtf8-from_is_utf8, IsCharBoundary-start}
 use Rattle.lsp_edit.specs.Items.{Item, plain, text_of}
 use Rattle.lsp_edit.specs.Compose.{then_items}
 use Rattle.lsp_edit.specs.Keeps.{Keeps}
-use Rattle.lsp_edit.specs.Parts.{Part, items_of, bytes_of, AreParts, through_parts, AreThrough, Ascend}
+use Rattle.lsp_edit.specs.Parts.{Part, items_of, bytes_of, AreParts, NoneTouch, through_parts, AreThrough, Ascend}
 use Rattle.lsp_edit.specs.Edited.{ArePieces, Edited, both_counts, edited_text}
 use Rattle.lsp_edit.proofs.ComposeLemmas.{text_of-then, then-plain, then_keeps}
 use Rattle.lsp_edit.proofs.CutPartsLemmas.{parts_bytes}
 use Rattle.lsp_edit.proofs.EditedLemmas.{index_first}
 use Rattle.lsp_edit.proofs.AppliedLemmas.{seen}
+use Rattle.lsp_edit.proofs.MergedLemmas.{through_apart}
 use Rattle.lsp_edit.proofs.PassedLemmas.{through_few}
 use Rattle.lsp_edit.proofs.ThroughLemmas.{through_items, are_through, ascending}
+
+-- The parts of the old text come in order.
+pub pieces_ascend : (before lines : List ℕ) (parts : List Part) (len changes : ℕ) → ArePieces before lines parts len changes → Ascend 0 parts
+pieces_ascend before lines parts len changes are =
+    let utf8 : IsUtf8 before = IsUtf8-from_is_utf8 before are.utf8 in
+    ascending before utf8 0 parts (IsCharBoundary-start before utf8) are.are (subst (λ (n : ℕ). Keeps (chars before) n (items_of (chars before) parts)) (sym (index_first (chars before))) are.keeps)
 
 -- The fields of pieces over the text that other pieces left.
 pub record AreOver (before lines : List ℕ) (parts : List Part) (len changes : ℕ) (mid mid_lines : List ℕ) (more : List Part) (more_len more_changes : ℕ) : Type 0 where
@@ -39,7 +46,7 @@ module _ (before lines : List ℕ) (parts : List Part) (len changes : ℕ) (mid 
   over_through = are_through before mid utf8 mid_utf8 parts both.are.are both.over more both.were.are
 
   pub over_order : Ascend 0 more
-  over_order = ascending mid mid_utf8 0 more (IsCharBoundary-start mid mid_utf8) both.were.are (subst (λ (n : ℕ). Keeps (chars mid) n (items_of (chars mid) more)) (sym (index_first (chars mid))) both.were.keeps)
+  over_order = pieces_ascend mid mid_lines more more_len more_changes both.were
 
   told : (items_of (chars before) (through_parts parts more) ≡ then_items (items_of (chars before) parts) (items_of (chars mid) more)) × AreParts before (through_parts parts more)
   told = through_items before mid utf8 mid_utf8 parts both.are.are both.over more both.were.are
@@ -72,6 +79,7 @@ module _ (before lines : List ℕ) (parts : List Part) (len changes : ℕ) (mid 
       utf8 = both.are.utf8;
       indexed = both.are.indexed;
       are = subst (AreParts before) (sym is) told.1;
+      apart = subst NoneTouch (sym is) (through_apart parts more both.are.apart);
       keeps = subst (λ (ps : List Part). Keeps (chars before) 0 (items_of (chars before) ps)) (sym is) keeps;
       long = long ∙ ap (λ (ps : List Part). length (bytes_of before ps)) (sym is);
       room = both.were.room;

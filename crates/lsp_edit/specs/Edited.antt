@@ -9,7 +9,7 @@ use Rattle.lsp_edit.specs.declared.current.Current.{Current}
 use Rattle.lsp_edit.specs.Items.{Item, plain, text_of}
 use Rattle.lsp_edit.specs.Batch.{Edit, Fault, after_change}
 use Rattle.lsp_edit.specs.Keeps.{Keeps}
-use Rattle.lsp_edit.specs.Parts.{Part, AreParts, items_of, bytes_of}
+use Rattle.lsp_edit.specs.Parts.{Part, AreParts, NoneTouch, items_of, bytes_of}
 
 -- The old text, what became of it, and how many changes were made.
 pub record Edited : Type 0 where
@@ -23,6 +23,10 @@ edited_text edited = text_of edited.before edited.items
 
 abbrev pub edited_bytes : Edited → List ℕ
 edited_bytes edited = encode_utf8_all (edited_text edited)
+
+-- the bytes of the old text
+abbrev pub before_bytes : Edited → List ℕ
+before_bytes edited = encode_utf8_all edited.before
 
 -- a change with its text as characters
 abbrev pub edit_of : Change → Edit
@@ -46,12 +50,13 @@ abbrev pub lines_of : KeptLines → List ℕ
 lines_of (Own lines) = lines
 lines_of (Lent lines) = lines.now
 
--- What holds of the fields of pieces: the lines are those of the old text, the spans stand for parts of it and of new texts, which
--- keep each of its CRLFs whole, and there are at most two more of them for each change.
+-- What holds of the fields of pieces: the lines are those of the old text, the spans stand for parts of it and of new texts, none of
+-- which touches the next, they keep each of its CRLFs whole, and there are at most two more of them for each change.
 pub record ArePieces (before lines : List ℕ) (parts : List Part) (len changes : ℕ) : Type 0 where
   pub utf8 : is_utf8 before ≡ true
   pub indexed : Indexes lines before
   pub are : AreParts before parts
+  pub apart : NoneTouch parts
   pub keeps : Keeps (chars before) 0 (items_of (chars before) parts)
   pub long : len ≡ length (bytes_of before parts)
   pub room : len ≤ 2147483648

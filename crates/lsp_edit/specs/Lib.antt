@@ -4,6 +4,7 @@ pub mod Canonical
 pub mod Compose
 pub mod Keeps
 pub mod Parts
+pub mod Spans
 pub mod Laws
 pub mod Faults
 pub mod Edited

@@ -1,11 +1,9 @@
 -- What spans stand for: parts of the old text, told by places, and parts of new texts.
-use Rattle.std.specs.Prelude.{ℕ, suc, ◌≡◌, ◌+◌, ◌-◌, ◌<◌, ◌≤◌, true, if◌then◌else◌, ◌==◌, nat_lt, List, [], ◌∷◌, ◌++◌, length, map, take, drop, flat_map, IsCharBoundary}
+use Rattle.std.specs.Prelude.{ℕ, suc, ◌≡◌, ◌+◌, ◌-◌, ◌<◌, ◌≤◌, Bool, true, false, if◌then◌else◌, ◌==◌, nat_lt, List, [], ◌∷◌, ◌++◌, length, map, take, drop, flat_map, sum_by, IsCharBoundary}
 use Rattle.std.specs.Char.{len_utf8}
 use Rattle.std.specs.Str.{chars, is_utf8}
 use Rattle.lsp_edit.specs.declared.span.Span.{Span}
 use Rattle.lsp_edit.specs.declared.span.Span.TheVariants.{Old as OldSpan, New as NewSpan}
-use Rattle.lsp_edit.specs.declared.spans.Spans.{Spans}
-use Rattle.lsp_edit.specs.declared.spans.Spans.TheVariants.{One, Many}
 use Rattle.lsp_text.specs.TextLines.{numbers_from}
 use Rattle.lsp_edit.specs.Items.{Item, Old, New}
 
@@ -20,11 +18,6 @@ part_of (NewSpan text) = NewPart text.now
 
 abbrev pub parts_of : List Span → List Part
 parts_of spans = map part_of spans
-
--- the spans themselves, however they are kept
-abbrev pub spans_in : Spans → List Span
-spans_in (One span) = span ∷ []
-spans_in (Many spans) = spans.items
 
 -- The index of a place: how many characters of the text begin before it.
 abbrev pub index_of : List ℕ → ℕ → ℕ
@@ -131,6 +124,21 @@ abbrev pub NoneEmpty : List Part → Type 0
 NoneEmpty [] = Unit {0}
 NoneEmpty (part ∷ parts) = (0 < part_len part) × NoneEmpty parts
 
+-- Whether two neighbours are parts of the old text that touch.
+abbrev pub touch : Part → Part → Bool
+touch (OldPart from to) (OldPart next end) = to == next
+touch (OldPart from to) (NewPart bytes) = false
+touch (NewPart bytes) part = false
+
+-- A part does not touch the first of those behind it; and of parts no one touches the next.
+abbrev pub IsApart : Part → List Part → Type 0
+IsApart part [] = Unit {0}
+IsApart part (next ∷ parts) = touch part next ≡ false
+
+abbrev pub NoneTouch : List Part → Type 0
+NoneTouch [] = Unit {0}
+NoneTouch (part ∷ parts) = IsApart part parts × NoneTouch parts
+
 -- The parts between two places.
 abbrev pub between_parts : List Part → ℕ → ℕ → List Part
 between_parts parts from to = front_parts (back_parts parts from) (to - from)
@@ -176,6 +184,13 @@ AreOrdered (part ∷ parts) = IsOrdered part × AreOrdered parts
 -- The parts before a place behind `low` are `front` and those of `rest` before it.
 abbrev pub AreBefore : List Part → List Part → List Part → ℕ → ℕ → Type 0
 AreBefore parts front rest passed low = (place : ℕ) → low < place → front_parts parts place ≡ front ++ front_parts rest (place - passed)
+
+-- So many spans stand before one of them or before the end, and those have so many bytes.
+abbrev pub span_len : Span → ℕ
+span_len span = part_len (part_of span)
+
+abbrev pub IsMark : List Span → ℕ → ℕ → Type 0
+IsMark spans index place = (index ≤ length spans) × (place ≡ sum_by span_len (take index spans))
 
 -- The first part, if there is one, goes on behind a place.
 abbrev pub EndsBehind : List Part → ℕ → Type 0

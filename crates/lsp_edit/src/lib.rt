@@ -2,7 +2,7 @@
 //!
 //! - `change`: a change as the protocol writes it, and the limit on the texts of a batch.
 //! - `pieces`: a text that changes are applied to, its canonical batch, and two runs of changes put together; `composed`: a whole batch.
-//! - `spans`, `replace`, `through`: what became of the old text, in runs of it and of the changes' texts.
+//! - `spans`, `row`, `replace`, `through`: what became of the old text, in runs of it and of the changes' texts.
 //! - `current`: the text that changes meet, made late and changed in place.
 //! - `laws`: what holds of every batch and of its canonical batch.
 //! - `plain`: the definitions as a plain program, one item for each character, with the same contracts.
@@ -25,6 +25,7 @@ mod plain_tests;
 #[cfg(test)]
 mod refused_tests;
 mod replace;
+mod row;
 mod span;
 mod spans;
 #[cfg(test)]

@@ -5,9 +5,9 @@ ghost use Rattle.std.specs.Str.{chars};
 ghost use Rattle.lsp_text.specs.LineStarts.{Indexes};
 ghost use Rattle.lsp_text.specs.Units.{units_in};
 ghost use Rattle.lsp_edit.specs.Items.{Item, plain};
-ghost use Rattle.lsp_edit.specs.Parts.{AreParts, NoneEmpty, items_of, parts_of};
+ghost use Rattle.lsp_edit.specs.Parts.{AreParts, Ascend, NoneEmpty, NoneTouch, items_of, parts_of};
 ghost use Rattle.lsp_edit.specs.Compose.{then_items};
-ghost use Rattle.lsp_edit.specs.Edited.{Applied, both_counts, edit_of, edited_bytes, edited_text, lines_of};
+ghost use Rattle.lsp_edit.specs.Edited.{Applied, before_bytes, both_counts, edit_of, edited_bytes, edited_text, lines_of};
 ghost use Rattle.lsp_edit.specs.Faults.{IsPlaces, TellsFault, ends_of, places_at};
 ghost use Rattle.lsp_edit.specs.Batch.{Edit, after_change, meaning};
 ghost use Rattle.lsp_edit.specs.Canonical.{canonical};
@@ -19,6 +19,7 @@ use crate::current::{Current, text_of_spans};
 use crate::ends::ends;
 use crate::fault::EditFault;
 use crate::kept_lines::KeptLines;
+use crate::row::Row;
 use crate::span::Span;
 use crate::spans::Spans;
 use crate::through::spans_through;
@@ -44,7 +45,8 @@ pub struct Pieces<'a> {
 
 impl<'a> Model for Pieces<'a> {
     ghost use Rattle.std.specs.Str.{chars};
-    ghost use Rattle.lsp_edit.specs.Parts.{items_of, parts_of, spans_in, bytes_of};
+    ghost use Rattle.lsp_edit.specs.Parts.{items_of, parts_of, bytes_of};
+    ghost use Rattle.lsp_edit.specs.Spans.{spans_in};
     ghost use Rattle.lsp_edit.specs.Edited.{Edited, ArePieces, IsCurrent, lines_of};
 
     ghost Value = { Edited };
@@ -113,7 +115,7 @@ impl<'a> Pieces<'a> {
             alloc,
             before: first.before,
             lines: KeptLines::Lent(first.lines.get()),
-            spans: Spans::Many(spans),
+            spans: Spans::Many(Row::new(spans)),
             len: second.len,
             changes: first.changes.saturating_add(second.changes),
             current: None,
@@ -190,8 +192,8 @@ impl<'a> Pieces<'a> {
     }
 
     /// Applies a change to the text as it is now (LSP 3.17, TextDocumentContentChangeEvent). A fault leaves everything as it was, and
-    /// tells how many changes were applied before. Costs a walk over the spans up to its place and one move of those behind it; from the
-    /// second change with a range on also one move of the text and of the line starts behind it (at the second, one copy of the text).
+    /// tells how many changes were applied before. Costs a walk over the spans from the last change to this one and one move of those behind
+    /// it; from the second change with a range on also one move of the text and of the line starts behind it (at the second, one copy of the text).
     pub fn apply(&mut self, encoding: Encoding, change: &'a Change) -> Result<(), EditFault>
         requires { length (edited_bytes self.old) + string_len change.now.text ≤ MAX_TEXT }
         ensures applied { OnOk result (Applied (units_in encoding) self.old (edit_of change.now) self.new) }
@@ -224,10 +226,14 @@ impl<'a> Pieces<'a> {
         )
     }
 
-    /// The spans that stand for the text as it is now, in order. None is empty, and there are at most two more than one for each change.
+    /// The spans that stand for the text as it is now: runs of the old text in order, and texts of the changes or parts of them, none cut
+    /// inside a character. None is empty, two of the old text that touch are one, and there are at most two more than one for each change.
     pub fn spans(&self) -> &[Span<'a>]
         ensures items { items_of self.now.before (parts_of result.now) ≡ self.now.items }
+        ensures are { AreParts (before_bytes self.now) (parts_of result.now) }
+        ensures order { Ascend 0 (parts_of result.now) }
         ensures some { NoneEmpty (parts_of result.now) }
+        ensures merged { NoneTouch (parts_of result.now) }
         ensures few { length result.now ≤ 1 + 2 * self.now.changes }
     {
         self.spans.as_slice()

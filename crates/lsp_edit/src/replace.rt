@@ -1,7 +1,7 @@
 //! Spans of a text with some of its bytes replaced: at most two spans are cut, and one is put in.
 
 ghost use Rattle.std.specs.Prelude.{◌≡◌, ◌++◌, ◌-◌, ◌≤◌, ◌<◌, ℕ, OnOk, OnErr, IfOk, length, take, drop};
-ghost use Rattle.lsp_edit.specs.Parts.{AreBefore, AreCut, AreOrdered, ArePassed, EndsBehind, IsFirstCut, first_front, front_parts, new_parts, part_of, parts_of, put_first_back, put_part, replaced_parts};
+ghost use Rattle.lsp_edit.specs.Parts.{AreBefore, AreCut, AreOrdered, ArePassed, EndsBehind, IsFirstCut, IsMark, first_front, front_parts, new_parts, part_of, parts_of, put_first_back, put_part, replaced_parts};
 
 use crate::span::Span;
 use std::alloc::{AllocError, Global};
@@ -47,29 +47,51 @@ pub fn push_front<'a>(
     Ok(())
 }
 
-/// How many spans end at or before a place, and how many bytes those have.
-fn passed_by(spans: &[Span], low: usize) -> (usize, usize)
-    requires { AreOrdered (parts_of spans.now) }
-    ensures within { result.0 ≤ length spans.now }
+/// The span of an index, before which `passed` bytes stand; or, of those before it, the last one that begins before a place.
+fn back_to(spans: &[Span], index: usize, passed: usize, place: usize) -> (usize, usize)
+    requires marked { IsMark spans.now index passed }
+    requires ordered { AreOrdered (parts_of spans.now) }
+    requires some { 0 < place }
+    ensures marked { IsMark spans.now result.0 result.1 }
+    ensures before { result.1 < place }
+{
+    let mut index = index;
+    let mut passed = passed;
+    while index > 0 && passed >= place {
+        index -= 1;
+        passed -= spans[index].len();
+    }
+    (index, passed)
+}
+
+/// How many spans end at or before a place, and how many bytes those have. The walk begins at a span that begins there or before.
+fn passed_by(spans: &[Span], index: usize, passed: usize, low: usize) -> (usize, usize)
+    requires marked { IsMark spans.now index passed }
+    requires order { passed ≤ low }
+    requires ordered { AreOrdered (parts_of spans.now) }
+    ensures marked { IsMark spans.now result.0 result.1 }
     ensures passed { ArePassed (parts_of spans.now) (parts_of (drop result.0 spans.now)) result.1 low }
     ensures before { AreBefore (parts_of spans.now) (parts_of (take result.0 spans.now)) (parts_of (drop result.0 spans.now)) result.1 low }
     ensures behind { EndsBehind (parts_of (drop result.0 spans.now)) (low - result.1) }
 {
-    let mut passed = 0;
-    for (index, span) in spans.iter().enumerate() {
-        if low - passed < span.len() {
-            return (index, passed);
+    let mut passed = passed;
+    for next in index..spans.len() {
+        let len = spans[next].len();
+        if low - passed < len {
+            return (next, passed);
         }
-        passed += span.len();
+        passed += len;
     }
     (spans.len(), passed)
 }
 
-/// How many spans end before a place, and how many bytes those have. The next one is cut there, or ends there.
-fn ended_by(spans: &[Span], place: usize) -> (usize, usize)
+/// How many spans end before a place, and how many bytes those have. The next one is cut there, or ends there. The walk begins at the
+/// span of an index, before which `passed` bytes stand.
+fn ended_by(spans: &[Span], index: usize, passed: usize, place: usize) -> (usize, usize)
+    requires marked { IsMark spans.now index passed }
     requires ordered { AreOrdered (parts_of spans.now) }
     requires cut { AreCut (parts_of spans.now) place }
-    ensures within { result.0 ≤ length spans.now }
+    ensures marked { IsMark spans.now result.0 result.1 }
     ensures passed { ArePassed (parts_of spans.now) (parts_of (drop result.0 spans.now)) result.1 place }
     ensures front { front_parts (parts_of spans.now) place ≡ parts_of (take result.0 spans.now) ++ first_front (parts_of (drop result.0 spans.now)) (place - result.1) }
     ensures first { place - result.1 ≡ 0 → result.0 ≡ 0 }
@@ -78,7 +100,8 @@ fn ended_by(spans: &[Span], place: usize) -> (usize, usize)
     if place == 0 {
         return (0, 0);
     }
-    passed_by(spans, place - 1)
+    let (index, passed) = back_to(spans, index, passed, place);
+    passed_by(spans, index, passed, place - 1)
 }
 
 /// What takes the place of spans from the first one to that of the index `last`: what stands in the first before the place `start`,
@@ -108,24 +131,29 @@ fn between<'a>(
     Ok(made)
 }
 
-/// Puts a new text in place of the bytes between two places: at most two spans more. A refused growth changes nothing. Costs a walk to
-/// the place, and one move of the spans that follow.
+/// Puts a new text in place of the bytes between two places: at most two spans more. Tells the span that was cut there, or stands there
+/// now: how many stand before it, and how many bytes those have. A refused growth changes nothing. Costs a walk to the place from the
+/// span of the index `near`, before which `before` bytes stand, and one move of the spans that follow.
 pub fn replace<'a>(
     spans: &mut Vec<Span<'a>>,
+    near: usize,
+    before: usize,
     start: usize,
     stop: usize,
     text: &'a str,
-) -> Result<(), AllocError>
+) -> Result<(usize, usize), AllocError>
+    requires marked { IsMark spans.old.items near before }
     requires at_start { AreCut (parts_of spans.old.items) start }
     requires at_stop { AreCut (parts_of spans.old.items) stop }
     requires order { start ≤ stop }
     requires ordered { AreOrdered (parts_of spans.old.items) }
     ensures ok { OnOk result (parts_of spans.new.items ≡ replaced_parts (parts_of spans.old.items) start stop text.now) }
+    ensures marked { IfOk result (λ mark. IsMark spans.new.items mark.0 mark.1) }
     ensures err { OnErr result (spans.new.items ≡ spans.old.items) }
 {
-    let (first, passed) = ended_by(spans, start);
+    let (first, passed) = ended_by(spans, near, before, start);
     let rest = &spans[first..];
-    let (last, more) = passed_by(rest, stop - passed);
+    let (last, more) = passed_by(rest, 0, 0, stop - passed);
     let alloc = *spans.allocator();
     let made = between(
         alloc,
@@ -137,5 +165,5 @@ pub fn replace<'a>(
     )?;
     let past = first + rest.len().min(last + 1);
     let _ = spans.splice(first..past, made)?;
-    Ok(())
+    Ok((first, passed))
 }

@@ -16,7 +16,7 @@ pub enum Span<'a> {
 
 impl<'a> Span<'a> {
     /// How many bytes it stands for.
-    pub fn len(self) -> usize
+    pub(crate) fn len(self) -> usize
         requires { IsOrdered (part_of self) }
         ensures { result ≡ part_len (part_of self.entry) }
     {

@@ -1,9 +1,10 @@
 //! The spans of a text that changes were applied to. One span takes no memory.
 
-ghost use Rattle.std.specs.Prelude.{◌≡◌, ◌≤◌, ◌<◌, ◌^◌, OnOk, OnErr, length};
-ghost use Rattle.lsp_edit.specs.Parts.{AreCut, AreOrdered, new_parts, parts_of, replaced_parts, spans_in, whole_parts};
+ghost use Rattle.std.specs.Prelude.{◌≡◌, ◌≤◌, ◌<◌, ◌^◌, OnOk, OnErr, [], length};
+ghost use Rattle.lsp_edit.specs.Parts.{AreCut, AreOrdered, new_parts, parts_of, replaced_parts, whole_parts};
+ghost use Rattle.lsp_edit.specs.Spans.{spans_in};
 
-use crate::replace::replace;
+use crate::row::Row;
 use crate::span::Span;
 use std::alloc::{AllocError, Global};
 use std::slice;
@@ -12,16 +13,22 @@ use std::slice;
 #[derive(Drop)]
 pub enum Spans<'a> {
     One(Span<'a>),
-    Many(Vec<Span<'a>>),
+    Many(Row<'a>),
 }
 
 impl<'a> Spans<'a> {
+    fn none(alloc: Global) -> Self
+        ensures { spans_in result ≡ [] }
+    {
+        Spans::Many(Row::new(Vec::new(alloc)))
+    }
+
     /// The span of a text before any change, if the text isn't empty.
     pub fn whole(alloc: Global, before: &'a str) -> Self
         ensures { parts_of (spans_in result) ≡ whole_parts before.now }
     {
         if before.is_empty() {
-            return Spans::Many(Vec::new(alloc));
+            return Spans::none(alloc);
         }
         Spans::One(Span::Old {
             from: 0,
@@ -34,7 +41,7 @@ impl<'a> Spans<'a> {
         ensures { parts_of (spans_in result) ≡ new_parts text.now }
     {
         if text.is_empty() {
-            return Spans::Many(Vec::new(alloc));
+            return Spans::none(alloc);
         }
         Spans::One(Span::New(text))
     }
@@ -44,7 +51,7 @@ impl<'a> Spans<'a> {
     {
         match self {
             Spans::One(span) => slice::from_ref(span),
-            Spans::Many(spans) => spans,
+            Spans::Many(row) => row.as_slice(),
         }
     }
 
@@ -61,16 +68,18 @@ impl<'a> Spans<'a> {
         requires order { start ≤ stop }
         requires ordered { AreOrdered (parts_of (spans_in self.old)) }
         ensures ok { OnOk result (parts_of (spans_in self.new) ≡ replaced_parts (parts_of (spans_in self.old)) start stop text.now) }
+        ensures few { OnOk result (length (spans_in self.new) ≤ usize.MAX) }
         ensures err { OnErr result (spans_in self.new ≡ spans_in self.old) }
     {
         let one = match self {
             Spans::One(span) => *span,
-            Spans::Many(spans) => return replace(spans, start, stop, text),
+            Spans::Many(row) => return row.replace(start, stop, text),
         };
         let mut spans = Vec::with_capacity(alloc, 3)?;
         spans.push(one)?;
-        replace(&mut spans, start, stop, text)?;
-        *self = Spans::Many(spans);
+        let mut row = Row::new(spans);
+        row.replace(start, stop, text)?;
+        *self = Spans::Many(row);
         Ok(())
     }
 }

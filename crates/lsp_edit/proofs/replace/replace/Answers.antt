@@ -1,10 +1,10 @@
 use Rattle.std.proofs.Common.{ℕ, ◌≡◌, ◌++◌, ◌-◌, ◌+◌, length, take, drop, min, ap, ap₂, ◌∙◌, sym, arith}
 use Rattle.lsp_edit.proofs.PassedLemmas.{rest_all, drop_ordered, first_cut}
-use Rattle.lsp_edit.proofs.SpansLemmas.{drained_is, replaced_spans}
+use Rattle.lsp_edit.proofs.SpansLemmas.{drained_is, mark_stays, replaced_spans}
 use Rattle.lsp_edit.proofs.replace.replace.Goals as goal
 
-pub passed_by-last-requires : goal.passed_by-last-requires
-passed_by-last-requires c =
+pub passed_by-last-requires-clause-ordered : goal.passed_by-last-requires-clause-ordered
+passed_by-last-requires-clause-ordered c =
     rw (c.deref-2.ensures.value, rest_all c.args.spans.now.items c.ended_by-first.result.0) (drop_ordered c.args.spans.now.items c.ended_by-first.result.0 c.requires.ordered)
 
 pub between-requires-clause-stop : goal.between-requires-clause-stop
@@ -34,3 +34,8 @@ returns-clause-ok c =
     passed
     behind
     made
+
+pub returns-clause-marked : goal.returns-clause-marked
+returns-clause-marked c =
+    let gave = c.in_ok-splice.ensures.items in
+    mark_stays c.args.spans.now.items c.splice.new.self.items gave.1 (drop (c.ended_by-first.result.0 + c.min.result) c.args.spans.now.items) c.ended_by-first.result.0 c.ended_by-first.result.1 (rw c.deref.ensures.value at c.ended_by-first.ensures.marked) gave.4

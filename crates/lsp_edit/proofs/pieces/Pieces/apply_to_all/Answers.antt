@@ -1,6 +1,7 @@
 use Rattle.std.proofs.Common.{ℕ, length, arith, None}
 use Rattle.std.specs.Str.{chars}
-use Rattle.lsp_edit.specs.Parts.{parts_of, spans_in, new_parts}
+use Rattle.lsp_edit.specs.Parts.{parts_of, new_parts}
+use Rattle.lsp_edit.specs.Spans.{spans_in}
 use Rattle.lsp_edit.specs.Edited.{lines_of}
 use Rattle.lsp_edit.proofs.PutLemmas.{new_few}
 use Rattle.lsp_edit.proofs.AppliedLemmas.{IsNext, all_next, room_told, next_told, next_holds}

@@ -6,10 +6,10 @@ use Rattle.std.proofs.lemmas.Str.{IsUtf8-string_bytes}
 use Rattle.std.proofs.lemmas.Result.{err_from_is_err_and}
 use Rattle.lsp_text.specs.Units.{units_in}
 use Rattle.lsp_edit.specs.Items.{text_of}
-use Rattle.lsp_edit.specs.Parts.{Part, part_of, parts_of, spans_in, bytes_of, replaced_parts}
+use Rattle.lsp_edit.specs.Parts.{Part, part_of, parts_of, bytes_of, replaced_parts}
+use Rattle.lsp_edit.specs.Spans.{spans_in}
 use Rattle.lsp_edit.specs.Edited.{IsCurrent, lines_of}
 use Rattle.lsp_edit.proofs.CurrentLemmas.{current_is}
-use Rattle.lsp_edit.proofs.SpansLemmas.{spans_small}
 use Rattle.lsp_edit.proofs.AppliedLemmas.{fault_told, IsNext, IsRanged, ranged, next_told, next_holds}
 use Rattle.lsp_edit.proofs.pieces.Pieces.apply_to_range.Goals as goal
 use Rattle.lsp_edit.proofs.pieces.Pieces.apply_to_range.Goals.{in-None, in-Some+in_ok-replaced-in-Some}
@@ -68,7 +68,7 @@ invariant_of-self-2 c =
     = ranged (units_in c.args.encoding) c.args.range _ _ _ _ _ c.self.invariant.0 c.args.self.now (c.self.view_is ∙ c.in_ok-start.ensures.same) c.args.text.now c.utf8.text c.requires _ _ c.in_ok-start.ensures.places in
     let made : parts_of (spans_in c.replace.new.self) ≡ replaced_parts (parts_of (spans_in c.self.inside.spans)) c.in_ok-start.start c.in_ok-start.stop c.args.text.now = c.in_ok-replace.ensures.ok in
     let n : length (parts_of (spans_in c.replace.new.self)) ≡ length (spans_in c.replace.new.self) = length-map (spans_in c.replace.new.self) part_of in
-    let small : length (replaced_parts (parts_of (spans_in c.self.inside.spans)) c.in_ok-start.start c.in_ok-start.stop c.args.text.now) < 18446744073709551616 = omega (arith, n, ap length made, spans_small c.replace.new.self) in
+    let small : length (replaced_parts (parts_of (spans_in c.self.inside.spans)) c.in_ok-start.start c.in_ok-start.stop c.args.text.now) < 18446744073709551616 = omega (arith, n, ap length made, c.in_ok-replace.ensures.few) in
     let current : IsCurrent (bytes_of c.self.inside.before.now (parts_of (spans_in c.replace.new.self))) c.match-take.current
     = elim c.match-take.branch [
       | in-None w ↦ rw w.current-is tt
@@ -86,5 +86,5 @@ returns-clause-applied c =
     = ranged (units_in c.args.encoding) c.args.range _ _ _ _ _ c.self.invariant.0 c.args.self.now (c.self.view_is ∙ c.in_ok-start.ensures.same) c.args.text.now c.utf8.text c.requires _ _ c.in_ok-start.ensures.places in
     let made : parts_of (spans_in c.replace.new.self) ≡ replaced_parts (parts_of (spans_in c.self.inside.spans)) c.in_ok-start.start c.in_ok-start.stop c.args.text.now = c.in_ok-replace.ensures.ok in
     let n : length (parts_of (spans_in c.replace.new.self)) ≡ length (spans_in c.replace.new.self) = length-map (spans_in c.replace.new.self) part_of in
-    let small : length (replaced_parts (parts_of (spans_in c.self.inside.spans)) c.in_ok-start.start c.in_ok-start.stop c.args.text.now) < 18446744073709551616 = omega (arith, n, ap length made, spans_small c.replace.new.self) in
+    let small : length (replaced_parts (parts_of (spans_in c.self.inside.spans)) c.in_ok-start.start c.in_ok-start.stop c.args.text.now) < 18446744073709551616 = omega (arith, n, ap length made, c.in_ok-replace.ensures.few) in
     next_told (units_in c.args.encoding) _ _ _ _ _ _ _ (r.next small) c.args.self.now (c.self.view_is ∙ c.in_ok-start.ensures.same) _ made _ c.saturating_add-self-inside.ensures

@@ -1,7 +1,8 @@
 use Rattle.std.proofs.Common.{◌≡◌, ◌+◌, length, arith, sym, ap, ◌∙◌, leb-true, le-leb, encode_utf8_all}
 use Rattle.std.specs.Str.{chars}
 use Rattle.lsp_edit.specs.Items.{text_of}
-use Rattle.lsp_edit.specs.Parts.{parts_of, spans_in, items_of}
+use Rattle.lsp_edit.specs.Parts.{parts_of, items_of}
+use Rattle.lsp_edit.specs.Spans.{spans_in}
 use Rattle.lsp_edit.proofs.EditedLemmas.{now_bytes}
 use Rattle.lsp_edit.proofs.pieces.Pieces.has_room.Goals as goal
 

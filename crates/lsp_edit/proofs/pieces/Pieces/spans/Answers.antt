@@ -1,5 +1,23 @@
+use Rattle.std.proofs.Common.{List, ℕ, ap, sym, ◌∙◌, subst, encode_utf8_all}
+use Rattle.std.specs.Str.{chars}
+use Rattle.std.proofs.lemmas.Str.{IsUtf8-from_is_utf8, encodes-chars}
+use Rattle.lsp_edit.specs.Edited.{Edited, before_bytes}
+use Rattle.lsp_edit.specs.Parts.{AreParts, parts_of}
+use Rattle.lsp_edit.specs.Spans.{spans_in}
 use Rattle.lsp_edit.proofs.LawLemmas.{none_empty}
+use Rattle.lsp_edit.proofs.ThenLemmas.{pieces_ascend}
 use Rattle.lsp_edit.proofs.pieces.Pieces.spans.Goals as goal
+
+pub returns-clause-are : goal.returns-clause-are
+returns-clause-are c =
+    rw c.as_slice.ensures
+    (subst (λ (bytes : List ℕ). AreParts bytes (parts_of (spans_in c.self.inside.spans))) (sym (encodes-chars c.self.inside.before.now (IsUtf8-from_is_utf8 c.self.inside.before.now c.self.invariant.0.utf8)) ∙ ap before_bytes c.self.view_is) c.self.invariant.0.are)
+
+pub returns-clause-order : goal.returns-clause-order
+returns-clause-order c = rw c.as_slice.ensures (pieces_ascend _ _ _ _ _ c.self.invariant.0)
 
 pub returns-clause-some : goal.returns-clause-some
 returns-clause-some c = rw c.as_slice.ensures (none_empty _ _ c.self.invariant.0.are)
+
+pub returns-clause-merged : goal.returns-clause-merged
+returns-clause-merged c = rw c.as_slice.ensures c.self.invariant.0.apart

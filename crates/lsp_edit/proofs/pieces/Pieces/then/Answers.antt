@@ -2,7 +2,8 @@ use Rattle.std.proofs.Common.{ℕ, ◌≡◌, List, length, Ok, refl, sym, ap, �
 use Rattle.std.proofs.lemmas.List.{length-map}
 use Rattle.lsp_edit.specs.Batch.{meaning}
 use Rattle.lsp_edit.specs.Edited.{lines_of}
-use Rattle.lsp_edit.specs.Parts.{part_of, parts_of, spans_in, through_parts}
+use Rattle.lsp_edit.specs.Parts.{part_of, parts_of, through_parts}
+use Rattle.lsp_edit.specs.Spans.{spans_in}
 use Rattle.lsp_edit.proofs.ComposeLemmas.{then_means, then_associative}
 use Rattle.lsp_edit.proofs.ThenLemmas.{AreOver, over_seen, over_through, over_order, then_holds, then_told}
 use Rattle.lsp_edit.proofs.pieces.Pieces.then.Goals as goal
@@ -23,8 +24,10 @@ invariant_of-result c =
     = over_seen _ _ _ _ _ _ _ _ _ _ c.first.invariant.0 c.second.invariant.0 c.args.first.now c.args.second.now c.first.view_is c.second.view_is c.requires in
     let made : parts_of c.in_ok-spans.spans.items ≡ through_parts (parts_of (spans_in c.first.inside.spans)) (parts_of (spans_in c.second.inside.spans)) = rw (c.as_slice.ensures, c.as_slice-2.ensures) at c.in_ok-spans.ensures in
     let n : length (parts_of c.in_ok-spans.spans.items) ≡ length c.in_ok-spans.spans.items = length-map c.in_ok-spans.spans.items part_of in
+    let same : parts_of c.new.result ≡ parts_of c.in_ok-spans.spans.items = ap parts_of c.new.ensures in
+    let m : length (parts_of c.new.result) ≡ length (parts_of c.in_ok-spans.spans.items) = ap length same in
     rw c.get.ensures
-    (then_holds _ _ _ _ _ _ _ _ _ _ both _ made (omega (arith, n, c.in_ok-spans.spans.ok, c.in_ok-spans.spans.small)) _ c.saturating_add.ensures, tt)
+    (then_holds _ _ _ _ _ _ _ _ _ _ both _ (same ∙ made) (omega (arith, n, m, c.in_ok-spans.spans.ok, c.in_ok-spans.spans.small)) _ c.saturating_add.ensures, tt)
 
 pub returns-clause-composed : goal.returns-clause-composed
 returns-clause-composed c =
@@ -32,7 +35,9 @@ returns-clause-composed c =
     = over_seen _ _ _ _ _ _ _ _ _ _ c.first.invariant.0 c.second.invariant.0 c.args.first.now c.args.second.now c.first.view_is c.second.view_is c.requires in
     let made : parts_of c.in_ok-spans.spans.items ≡ through_parts (parts_of (spans_in c.first.inside.spans)) (parts_of (spans_in c.second.inside.spans)) = rw (c.as_slice.ensures, c.as_slice-2.ensures) at c.in_ok-spans.ensures in
     let n : length (parts_of c.in_ok-spans.spans.items) ≡ length c.in_ok-spans.spans.items = length-map c.in_ok-spans.spans.items part_of in
-    then_told _ _ _ _ _ _ _ _ _ _ both _ made (omega (arith, n, c.in_ok-spans.spans.ok, c.in_ok-spans.spans.small)) _ c.saturating_add.ensures c.args.first.now c.args.second.now c.first.view_is c.second.view_is
+    let same : parts_of c.new.result ≡ parts_of c.in_ok-spans.spans.items = ap parts_of c.new.ensures in
+    let m : length (parts_of c.new.result) ≡ length (parts_of c.in_ok-spans.spans.items) = ap length same in
+    then_told _ _ _ _ _ _ _ _ _ _ both _ (same ∙ made) (omega (arith, n, m, c.in_ok-spans.spans.ok, c.in_ok-spans.spans.small)) _ c.saturating_add.ensures c.args.first.now c.args.second.now c.first.view_is c.second.view_is
 
 pub returns-clause-means : goal.returns-clause-means
 returns-clause-means c units batch next one two =
