@@ -1,7 +1,9 @@
 //! `replay`: the documents that are open at the end of a log.
 
-ghost use Rattle.std.specs.Prelude.{◌≡◌, ◌++◌, ◌-◌, refl, IfOk, OnOk, length};
-ghost use Rattle.serde_json.specs.View.{view};
+ghost use Rattle.std.specs.Prelude.{◌≡◌, ◌∷◌, ◌++◌, ◌-◌, [], refl, OnOk, length};
+ghost use Rattle.std.specs.Fmt.{signed_decimal};
+ghost use Rattle.json.specs.Token as token;
+ghost use Rattle.lsp_message.specs.Tokens.{Appends, tokens_of};
 ghost use Rattle.lsp_replay.specs.Session.{opened};
 ghost use Rattle.lsp_replay.specs.Engines.{replaying, replaying_from, course_in, document_line, document_value};
 
@@ -9,10 +11,11 @@ use crate::handler::{Given, Handler, Output};
 use crate::outcome::{EngineFault, Outcome};
 use crate::record::Head;
 use crate::session::{Session, Verdict};
+use json::Writer;
 use lsp_server::Config;
 use lsp_store::Document;
-use serde_json::{Value, json};
 use std::alloc::{AllocError, Global};
+use std::mem::replace;
 
 /// Writes a line for each document that is open at the end, in order of opening.
 #[derive(Drop)]
@@ -83,7 +86,7 @@ impl Handler for Replay {
     }
 }
 
-#[tactic(auto, unfolding(crate::specs::Engines::document_line))]
+/// Writes a document's line. No text is copied but into it.
 fn push_document(
     alloc: Global,
     made: &mut Vec<u8>,
@@ -91,19 +94,34 @@ fn push_document(
 ) -> Result<(), AllocError>
     ensures { OnOk result (made.new.items ≡ made.old.items ++ document_line document.now) }
 {
-    let line = value_of(alloc, document)?.to_vec(alloc)?;
-    made.extend_from_slice(&line)?;
+    let mut writer = Writer::new(replace(made, Vec::new(alloc)));
+    write_document(&mut writer, document)?;
+    *made = writer.into_inner();
     made.extend_from_slice(b"\n")?;
     Ok(())
 }
 
-fn value_of(alloc: Global, document: &Document<'_>) -> Result<Value, AllocError>
-    ensures { IfOk result (λ value. view value ≡ document_value document.now) }
+fn write_document(writer: &mut Writer, document: &Document<'_>) -> Result<(), AllocError>
+    ensures { OnOk result (Appends writer.old writer.new (tokens_of (document_value document.now))) }
 {
-    json!(in alloc; {
-        "languageId": document.language(),
-        "text": document.text(),
-        "uri": document.uri(),
-        "version": document.version(),
-    })
+    writer.begin_object()?;
+    text_member(writer, "languageId", document.language())?;
+    text_member(writer, "text", document.text())?;
+    text_member(writer, "uri", document.uri())?;
+    integer_member(writer, "version", document.version())?;
+    writer.end_object()
+}
+
+fn text_member(writer: &mut Writer, name: &str, text: &str) -> Result<(), AllocError>
+    ensures { OnOk result (Appends writer.old writer.new (token.key name.now ∷ token.string text.now ∷ [])) }
+{
+    writer.key(name)?;
+    writer.string(text)
+}
+
+fn integer_member(writer: &mut Writer, name: &str, number: i32) -> Result<(), AllocError>
+    ensures { OnOk result (Appends writer.old writer.new (token.key name.now ∷ token.number (signed_decimal number) ∷ [])) }
+{
+    writer.key(name)?;
+    writer.i64(i64::from(number))
 }

@@ -145,3 +145,6 @@ impl<T: Write> Sink for Told<T> {
         self.calls
     }
 }
+
+#[cfg(test)]
+mod tests;

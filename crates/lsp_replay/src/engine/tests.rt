@@ -356,52 +356,6 @@ fn no_call_is_made_beyond_those_allowed(rt: HostRuntime) -> Result<(), Fail> {
 }
 
 #[test]
-fn calls_tell_what_the_inner_ones_answered(rt: HostRuntime) -> Result<(), Fail> {
-    let script = [Call::Take(2), Call::Interrupt, Call::Fail, Call::Take(9)];
-    let mut reader = Told::new(StopReader::new(b"abc", &script, Call::Take(1)));
-    let mut buf = [0u8; 4];
-    // What each read answers, whether it failed, and whether it told the end.
-    let cases = [
-        (Some(2), false, false),
-        (None, false, false),
-        (None, true, false),
-        (Some(1), false, false),
-        (Some(0), false, true),
-    ];
-    let mut calls = 0u64;
-    for (answer, failed, ended) in cases {
-        calls = calls.saturating_add(1);
-        assert_eq!(rt; Source::read(&mut reader, &mut buf).ok(), answer);
-        assert_eq!(rt; (Source::failed(&reader), reader.ended()), (failed, ended));
-        assert_eq!(rt; Source::calls(&reader), calls);
-    }
-    assert_eq!(rt; Source::read(&mut reader, &mut []).ok(), Some(0));
-    assert!(rt; !reader.ended());
-    Ok(())
-}
-
-#[test]
-fn writes_tell_what_the_inner_ones_answered(rt: HostRuntime) -> Result<(), Fail> {
-    let script = [Call::Take(2), Call::Interrupt, Call::Take(0), Call::Fail];
-    let mut writer = Told::new(StopWriter::new(rt.alloc(), &script, Call::Take(9)));
-    let cases = [
-        (Some(2), false),
-        (None, false),
-        (Some(0), true),
-        (None, true),
-        (Some(3), false),
-    ];
-    for (answer, failed) in cases {
-        assert_eq!(rt; Sink::write(&mut writer, b"abc").ok(), answer);
-        assert_eq!(rt; Sink::failed(&writer), failed);
-    }
-    assert!(rt; Sink::flush(&mut writer).is_ok() && Sink::calls(&writer) == 6);
-    let written = writer.into_inner();
-    assert!(rt; written.bytes() == b"ababc".as_slice() && written.flushes() == 1);
-    Ok(())
-}
-
-#[test]
 fn refused_run(rt: HostRuntime) -> Result<(), Fail> {
     let rules = rules(BOTH)?;
     let mut refused: usize = 0;

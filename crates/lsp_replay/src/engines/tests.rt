@@ -1,68 +1,145 @@
-//! Worked sessions through the five engines.
+//! Sessions and logs through the five engines, over readers and writers in memory.
+
+mod documents;
+mod failures;
+mod refused;
+mod sessions;
+mod versions;
+mod words;
 
 use super::*;
 use crate::stop::{Call, StopReader, StopWriter};
 use crate::told::Told;
-use lsp_frame::{FrameFault, frame};
+use lsp_frame::{BadLimits, frame};
 use std::alloc::AllocError;
 use std::test::Fail;
 
 const INITIALIZE: &str =
-    "{\"id\":1,\"jsonrpc\":\"2.0\",\"method\":\"initialize\",\"params\":{\"capabilities\":{\"general\":{\"positionEncodings\":[\"utf-16\"]}},\"processId\":null,\"rootUri\":null}}";
-
-const OPEN: &str =
-    "{\"jsonrpc\":\"2.0\",\"method\":\"textDocument/didOpen\",\"params\":{\"textDocument\":{\"languageId\":\"plaintext\",\"text\":\"abc\",\"uri\":\"file:///a\",\"version\":1}}}";
-
-const WHOLE: &str =
-    "{\"jsonrpc\":\"2.0\",\"method\":\"textDocument/didChange\",\"params\":{\"contentChanges\":[{\"text\":\"aXc\"}],\"textDocument\":{\"uri\":\"file:///a\",\"version\":2}}}";
-
-const CANONICAL: &str =
-    "{\"jsonrpc\":\"2.0\",\"method\":\"textDocument/didChange\",\"params\":{\"contentChanges\":[{\"range\":{\"end\":{\"character\":3,\"line\":0},\"start\":{\"character\":0,\"line\":0}},\"text\":\"aXc\"}],\"textDocument\":{\"uri\":\"file:///a\",\"version\":2}}}";
-
-const REVERSED: &str =
-    "{\"jsonrpc\":\"2.0\",\"method\":\"textDocument/didChange\",\"params\":{\"contentChanges\":[{\"range\":{\"end\":{\"character\":1,\"line\":0},\"start\":{\"character\":2,\"line\":0}},\"text\":\"\"}],\"textDocument\":{\"uri\":\"file:///a\",\"version\":2}}}";
-
-const EXIT: &str = "{\"jsonrpc\":\"2.0\",\"method\":\"exit\"}";
+    r#"{"id":1,"jsonrpc":"2.0","method":"initialize","params":{"capabilities":{"general":{"positionEncodings":["utf-16"]}},"processId":null,"rootUri":null}}"#;
 
 const REPLY: &str =
-    "{\"id\":1,\"jsonrpc\":\"2.0\",\"result\":{\"capabilities\":{\"positionEncoding\":\"utf-16\",\"textDocumentSync\":{\"change\":2,\"openClose\":true}}}}";
+    r#"{"id":1,"jsonrpc":"2.0","result":{"capabilities":{"positionEncoding":"utf-16","textDocumentSync":{"change":2,"openClose":true}}}}"#;
 
-const WORKED: [&str; 3] = [INITIALIZE, OPEN, WHOLE];
+const INITIALIZED: &str = r#"{"jsonrpc":"2.0","method":"initialized","params":{}}"#;
 
-const NORMAL: [&str; 3] = [INITIALIZE, OPEN, CANONICAL];
+const OPEN: &str =
+    r#"{"jsonrpc":"2.0","method":"textDocument/didOpen","params":{"textDocument":{"languageId":"plaintext","text":"abc","uri":"file:///a","version":1}}}"#;
 
-const REFUSED: [&str; 3] = [INITIALIZE, OPEN, REVERSED];
+const WHOLE: &str =
+    r#"{"jsonrpc":"2.0","method":"textDocument/didChange","params":{"contentChanges":[{"text":"aXc"}],"textDocument":{"uri":"file:///a","version":2}}}"#;
 
-const BRIEF: [&str; 2] = [INITIALIZE, EXIT];
+const CLOSE: &str =
+    r#"{"jsonrpc":"2.0","method":"textDocument/didClose","params":{"textDocument":{"uri":"file:///a"}}}"#;
 
-const AFTER_EXIT: [&str; 3] = [INITIALIZE, EXIT, EXIT];
+const SHUTDOWN: &str = r#"{"id":2,"jsonrpc":"2.0","method":"shutdown"}"#;
 
-const REPLIES: [&str; 1] = [REPLY];
+const SHUT_DOWN: &str = r#"{"id":2,"jsonrpc":"2.0","result":null}"#;
 
-/// The engines of logs.
-#[derive(Clone, Copy)]
+const EXIT: &str = r#"{"jsonrpc":"2.0","method":"exit"}"#;
+
+/// The line that a log of version 2 begins with.
+const LINE: &[u8] = b"lsp-session-log 2\n";
+
+/// What `replay` writes for the document behind the session `WORKED`.
+const WORKED_REPORT: &[u8] =
+    b"{\"languageId\":\"plaintext\",\"text\":\"aXc\",\"uri\":\"file:///a\",\"version\":2}\n";
+
+/// A document is opened, and its whole text replaced.
+const WORKED: &[&str] = &[INITIALIZE, OPEN, WHOLE];
+
+/// Exit without `shutdown`.
+const BRIEF: &[&str] = &[INITIALIZE, EXIT];
+
+#[derive(Clone, Copy, Debug, PartialEq, Eq)]
 enum Command {
+    Serve,
     Check,
     Replay,
     Normalise,
     Convert,
 }
 
-/// What a run answered and wrote.
+/// How reader and writer behave, and how many calls are allowed.
+#[derive(Clone, Copy)]
+struct Calls<'a> {
+    reads: &'a [Call],
+    other_reads: Call,
+    writes: &'a [Call],
+    other_writes: Call,
+    turns: u64,
+}
+
+/// Each call moves all that it can.
+const SMOOTH: Calls<'static> = Calls {
+    reads: &[],
+    other_reads: Call::Take(usize::MAX),
+    writes: &[],
+    other_writes: Call::Take(usize::MAX),
+    turns: u64::MAX,
+};
+
+/// Each call moves one byte.
+const SINGLE: Calls<'static> = Calls {
+    reads: &[],
+    other_reads: Call::Take(1),
+    writes: &[],
+    other_writes: Call::Take(1),
+    turns: u64::MAX,
+};
+
+/// What a run answered, wrote and did.
 #[derive(Drop)]
 struct Report {
     answer: Result<Outcome, EngineFault>,
     output: Vec<u8>,
+    flushes: usize,
+    reads: u64,
+    writes: u64,
 }
 
-fn settings() -> Result<Settings, Fail> {
+/// The limits by default, and UTF-16.
+fn settings() -> Result<Settings, BadLimits> {
     Ok(Settings {
         limits: Limits::new(16_777_216, 16_777_216, 1_024, 65_536)?,
         encoding: Encoding::Utf16,
     })
 }
 
-/// The frames of some bodies, one after another.
+/// Runs an engine over an input.
+fn run_with(
+    alloc: Global,
+    command: Command,
+    input: &[u8],
+    settings: Settings,
+    calls: Calls,
+) -> Result<Report, AllocError> {
+    let mut reader = Told::new(StopReader::new(input, calls.reads, calls.other_reads));
+    let mut writer = Told::new(StopWriter::new(alloc, calls.writes, calls.other_writes));
+    let (from, to, turns) = (&mut reader, &mut writer, calls.turns);
+    let answer = match command {
+        Command::Serve => serve(alloc, from, to, settings.config(), turns),
+        Command::Check => check(alloc, from, to, settings, turns),
+        Command::Replay => replay(alloc, from, to, settings, turns),
+        Command::Normalise => normalise(alloc, from, to, settings, turns),
+        Command::Convert => convert(alloc, from, to, settings, turns),
+    };
+    let (reads, writes) = (Source::calls(&reader), Sink::calls(&writer));
+    let written = writer.into_inner();
+    Ok(Report {
+        answer,
+        output: Vec::from_slice(alloc, written.bytes())?,
+        flushes: written.flushes(),
+        reads,
+        writes,
+    })
+}
+
+/// The same with the usual settings, where each call moves all that it can.
+fn run(alloc: Global, command: Command, input: &[u8]) -> Result<Report, Fail> {
+    Ok(run_with(alloc, command, input, settings()?, SMOOTH)?)
+}
+
+/// The frames of some bodies, one after another: a log of version 1.
 fn log(alloc: Global, bodies: &[&str]) -> Result<Vec<u8>, AllocError> {
     let mut bytes = Vec::new(alloc);
     for body in bodies {
@@ -71,30 +148,35 @@ fn log(alloc: Global, bodies: &[&str]) -> Result<Vec<u8>, AllocError> {
     Ok(bytes)
 }
 
-fn run(alloc: Global, command: Command, input: &[u8]) -> Result<Report, Fail> {
-    let settings = settings()?;
-    let all = Call::Take(usize::MAX);
-    let mut reader = Told::new(StopReader::new(input, &[], all));
-    let mut writer = Told::new(StopWriter::new(alloc, &[], all));
-    let turns = u64::MAX;
-    let answer = match command {
-        Command::Check => check(alloc, &mut reader, &mut writer, settings, turns),
-        Command::Replay => replay(alloc, &mut reader, &mut writer, settings, turns),
-        Command::Normalise => normalise(alloc, &mut reader, &mut writer, settings, turns),
-        Command::Convert => convert(alloc, &mut reader, &mut writer, settings, turns),
-    };
-    let output = Vec::from_slice(alloc, writer.into_inner().bytes())?;
-    Ok(Report { answer, output })
+/// A log of version 2, of records with their marks.
+fn marked(alloc: Global, records: &[(&str, &str)]) -> Result<Vec<u8>, AllocError> {
+    let mut bytes = Vec::from_slice(alloc, LINE)?;
+    for (mark, body) in records {
+        bytes.extend_from_slice(mark.as_bytes())?;
+        bytes.extend_from_slice(&frame(alloc, body.as_bytes())?)?;
+    }
+    Ok(bytes)
 }
 
-fn serve_all(alloc: Global, input: &[u8]) -> Result<Report, Fail> {
-    let config = settings()?.config();
-    let all = Call::Take(usize::MAX);
-    let mut reader = Told::new(StopReader::new(input, &[], all));
-    let mut writer = Told::new(StopWriter::new(alloc, &[], all));
-    let answer = serve(alloc, &mut reader, &mut writer, config, u64::MAX);
-    let output = Vec::from_slice(alloc, writer.into_inner().bytes())?;
-    Ok(Report { answer, output })
+/// A `didOpen`, its text as it stands in JSON.
+fn open(alloc: Global, uri: &str, text: &str) -> Result<String, AllocError> {
+    format!(in alloc;
+        r#"{{"jsonrpc":"2.0","method":"textDocument/didOpen","params":{{"textDocument":{{"languageId":"plaintext","text":"{text}","uri":"{uri}","version":1}}}}}}"#
+    )
+}
+
+/// A `didChange` of the document `file:///a`, with these content changes.
+fn change(alloc: Global, version: i32, changes: &str) -> Result<String, AllocError> {
+    format!(in alloc;
+        r#"{{"jsonrpc":"2.0","method":"textDocument/didChange","params":{{"contentChanges":[{changes}],"textDocument":{{"uri":"file:///a","version":{version}}}}}}}"#
+    )
+}
+
+/// A content change of a part of the first line.
+fn edit(alloc: Global, from: u32, to: u32, text: &str) -> Result<String, AllocError> {
+    format!(in alloc;
+        r#"{{"range":{{"end":{{"character":{to},"line":0}},"start":{{"character":{from},"line":0}}}},"text":"{text}"}}"#
+    )
 }
 
 fn ended(status: u8, messages: u64, refused: u64) -> Result<Outcome, EngineFault> {
@@ -103,138 +185,4 @@ fn ended(status: u8, messages: u64, refused: u64) -> Result<Outcome, EngineFault
         messages,
         refused,
     })
-}
-
-#[test]
-fn a_log_is_checked_replayed_and_normalised(rt: HostRuntime) -> Result<(), Fail> {
-    let alloc = rt.alloc();
-    let input = log(alloc, &WORKED)?;
-    assert_eq!(rt; input.len(), 506);
-    let checked = run(alloc, Command::Check, &input)?;
-    assert_eq!(rt; checked.answer, ended(0, 3, 0));
-    assert_eq!(rt;
-        checked.output.as_slice(),
-        b"1 reply\n2 changed\n3 changed\n".as_slice()
-    );
-    let replayed = run(alloc, Command::Replay, &input)?;
-    assert_eq!(rt; replayed.answer, ended(0, 3, 0));
-    let line =
-        b"{\"languageId\":\"plaintext\",\"text\":\"aXc\",\"uri\":\"file:///a\",\"version\":2}\n";
-    assert_eq!(rt; replayed.output.as_slice(), line.as_slice());
-    let normal = log(alloc, &NORMAL)?;
-    let normalised = run(alloc, Command::Normalise, &input)?;
-    assert_eq!(rt; normalised.answer, ended(0, 3, 0));
-    assert_eq!(rt; normalised.output, normal);
-    let again = run(alloc, Command::Normalise, &normal)?;
-    assert_eq!(rt; again.output, normal);
-    Ok(())
-}
-
-#[test]
-fn a_refused_change_keeps_its_bytes(rt: HostRuntime) -> Result<(), Fail> {
-    let alloc = rt.alloc();
-    let input = log(alloc, &REFUSED)?;
-    let checked = run(alloc, Command::Check, &input)?;
-    assert_eq!(rt; checked.answer, ended(1, 3, 1));
-    assert_eq!(rt;
-        checked.output.as_slice(),
-        b"1 reply\n2 changed\n3 refused E2\n".as_slice()
-    );
-    let normalised = run(alloc, Command::Normalise, &input)?;
-    assert_eq!(rt; normalised.answer, ended(1, 3, 1));
-    assert_eq!(rt; normalised.output, input);
-    Ok(())
-}
-
-#[test]
-fn a_converted_log_has_the_replies(rt: HostRuntime) -> Result<(), Fail> {
-    let alloc = rt.alloc();
-    let converted = run(alloc, Command::Convert, &log(alloc, &WORKED)?)?;
-    assert_eq!(rt; converted.answer, ended(0, 3, 0));
-    assert_eq!(rt; converted.output.len(), 680);
-    let checked = run(alloc, Command::Check, &converted.output)?;
-    assert_eq!(rt; checked.answer, ended(0, 3, 0));
-    assert_eq!(rt;
-        checked.output.as_slice(),
-        b"1 reply\n2 server\n3 changed\n4 changed\n".as_slice()
-    );
-    let normalised = run(alloc, Command::Normalise, &converted.output)?;
-    assert_eq!(rt; normalised.answer, ended(0, 3, 0));
-    assert_eq!(rt; normalised.output.len(), 754);
-    let twice = run(alloc, Command::Convert, &converted.output)?;
-    assert_eq!(rt; twice.answer, Err(EngineFault::BadLog { place: 0 }));
-    assert_eq!(rt; twice.output.len(), 0);
-    Ok(())
-}
-
-#[test]
-fn a_change_comes_behind_the_result(rt: HostRuntime) -> Result<(), Fail> {
-    let alloc = rt.alloc();
-    let mut input = Vec::from_slice(alloc, b"lsp-session-log 2\n")?;
-    for body in WORKED {
-        input.extend_from_slice(b">")?;
-        input.extend_from_slice(&frame(alloc, body.as_bytes())?)?;
-    }
-    let checked = run(alloc, Command::Check, &input)?;
-    assert_eq!(rt; checked.answer, Err(EngineFault::BadLog { place: 360 }));
-    assert_eq!(rt;
-        checked.output.as_slice(),
-        b"1 reply\n2 changed\n".as_slice()
-    );
-    Ok(())
-}
-
-#[test]
-fn an_exit_ends_a_session(rt: HostRuntime) -> Result<(), Fail> {
-    let alloc = rt.alloc();
-    let input = log(alloc, &BRIEF)?;
-    let served = serve_all(alloc, &input)?;
-    assert_eq!(rt; served.answer, ended(1, 2, 1));
-    assert_eq!(rt; served.output, log(alloc, &REPLIES)?);
-    assert_eq!(rt; served.output.len(), 152);
-    let converted = run(alloc, Command::Convert, &input)?;
-    assert_eq!(rt; converted.answer, ended(1, 2, 1));
-    assert_eq!(rt; converted.output.len(), 400);
-    let checked = run(alloc, Command::Check, &converted.output)?;
-    assert_eq!(rt; checked.answer, ended(1, 2, 1));
-    assert_eq!(rt;
-        checked.output.as_slice(),
-        b"1 reply\n2 server\n3 exit 1\n".as_slice()
-    );
-    let after = run(alloc, Command::Check, &log(alloc, &AFTER_EXIT)?)?;
-    assert_eq!(rt; after.answer, Err(EngineFault::BadLog { place: 227 }));
-    assert_eq!(rt; after.output.as_slice(), b"1 reply\n2 exit 1\n".as_slice());
-    Ok(())
-}
-
-#[test]
-fn the_line_of_a_log_is_looked_for(rt: HostRuntime) -> Result<(), Fail> {
-    let alloc = rt.alloc();
-    let bad_header = Err(EngineFault::Frame(FrameFault::BadHeader { place: 15 }));
-    assert_eq!(rt;
-        run(alloc, Command::Check, b"lsp-session-log 3\n")?.answer,
-        bad_header
-    );
-    assert_eq!(rt;
-        run(alloc, Command::Check, b"lsp-session-log 2")?.answer,
-        bad_header
-    );
-    let bad_mark = Err(EngineFault::BadLog { place: 18 });
-    assert_eq!(rt;
-        run(alloc, Command::Check, b"lsp-session-log 2\nx")?.answer,
-        bad_mark
-    );
-    let cut = Err(EngineFault::Truncated { place: 19 });
-    assert_eq!(rt;
-        run(alloc, Command::Check, b"lsp-session-log 2\n>")?.answer,
-        cut
-    );
-    let empty = run(alloc, Command::Convert, b"")?;
-    assert_eq!(rt; empty.answer, ended(0, 0, 0));
-    assert_eq!(rt; empty.output.as_slice(), b"lsp-session-log 2\n".as_slice());
-    let replayed = run(alloc, Command::Replay, &empty.output)?;
-    assert_eq!(rt; replayed.answer, ended(0, 0, 0));
-    assert_eq!(rt; replayed.output.len(), 0);
-    assert_eq!(rt; serve_all(alloc, b"")?.answer, ended(1, 0, 0));
-    Ok(())
 }

@@ -1,0 +1,142 @@
+//! Worked sessions: what each engine writes and answers.
+
+use super::*;
+use lsp_frame::FrameFault;
+
+#[test]
+fn a_log_is_checked_replayed_and_normalised(rt: HostRuntime) -> Result<(), Fail> {
+    let alloc = rt.alloc();
+    let input = log(alloc, WORKED)?;
+    assert_eq!(rt; input.len(), 506);
+    let checked = run(alloc, Command::Check, &input)?;
+    assert_eq!(rt; checked.answer, ended(0, 3, 0));
+    assert_eq!(rt;
+        checked.output.as_slice(),
+        b"1 reply\n2 changed\n3 changed\n".as_slice()
+    );
+    let replayed = run(alloc, Command::Replay, &input)?;
+    assert_eq!(rt; replayed.answer, ended(0, 3, 0));
+    assert_eq!(rt; replayed.output.as_slice(), WORKED_REPORT);
+    let canonical = change(alloc, 2, &edit(alloc, 0, 3, "aXc")?)?;
+    assert_eq!(rt; canonical.len(), 217);
+    let normal = log(alloc, &[INITIALIZE, OPEN, &canonical])?;
+    for log in [&input, &normal] {
+        let normalised = run(alloc, Command::Normalise, log)?;
+        assert_eq!(rt; normalised.answer, ended(0, 3, 0));
+        assert_eq!(rt; normalised.output, normal);
+    }
+    Ok(())
+}
+
+#[test]
+fn an_editors_session_is_served(rt: HostRuntime) -> Result<(), Fail> {
+    let alloc = rt.alloc();
+    let edited = change(alloc, 2, &edit(alloc, 1, 2, "X")?)?;
+    let session = [
+        INITIALIZE,
+        INITIALIZED,
+        OPEN,
+        &edited,
+        CLOSE,
+        SHUTDOWN,
+        EXIT,
+    ];
+    let mut input = log(alloc, &session)?;
+    let replies = log(alloc, &[REPLY, SHUT_DOWN])?;
+    assert_eq!(rt; (input.len(), replies.len()), (891, 212));
+    let served = run(alloc, Command::Serve, &input)?;
+    assert_eq!(rt; (served.answer, served.flushes), (ended(0, 7, 0), 2));
+    assert_eq!(rt; served.output, replies);
+    // Nothing behind the exit is looked at, though it was read.
+    input.extend_from_slice(b"no header")?;
+    let more = run(alloc, Command::Serve, &input)?;
+    assert_eq!(rt; more.answer, ended(0, 7, 0));
+    assert_eq!(rt; more.output, replies);
+    // A log command goes on behind it, and takes no more of the client.
+    let log = run(alloc, Command::Normalise, input.get(..891).unwrap_or(&[]))?;
+    assert_eq!(rt; log.answer, ended(0, 7, 0));
+    let fault = EngineFault::Frame(FrameFault::BadHeader { place: 893 });
+    assert_eq!(rt; run(alloc, Command::Check, &input)?.answer, Err(fault));
+    input.truncate(891);
+    input.extend_from_slice(&frame(alloc, EXIT.as_bytes())?)?;
+    let twice = Err(EngineFault::BadLog { place: 891 });
+    assert_eq!(rt; run(alloc, Command::Normalise, &input)?.answer, twice);
+    assert_eq!(rt; run(alloc, Command::Serve, &input)?.answer, ended(0, 7, 0));
+    Ok(())
+}
+
+#[test]
+fn a_session_ends_with_its_exit_or_its_input(rt: HostRuntime) -> Result<(), Fail> {
+    let alloc = rt.alloc();
+    let hover = r#"{"id":"q","jsonrpc":"2.0","method":"textDocument/hover"}"#;
+    let early =
+        r#"{"error":{"code":-32002,"message":"server not initialized"},"id":"q","jsonrpc":"2.0"}"#;
+    let late = r#"{"error":{"code":-32600,"message":"invalid request"},"id":"q","jsonrpc":"2.0"}"#;
+    assert_eq!(rt; (early.len(), log(alloc, &[REPLY])?.len()), (85, 152));
+    // The bodies, the answer, and the replies.
+    let sessions: &[(&[&str], Result<Outcome, EngineFault>, &[&str])] = &[
+        (&[], ended(1, 0, 0), &[]),
+        (BRIEF, ended(1, 2, 1), &[REPLY]),
+        (&[hover, OPEN, EXIT, EXIT], ended(1, 3, 2), &[early]),
+        (&[INITIALIZE, OPEN], ended(1, 2, 0), &[REPLY]),
+        (
+            &[INITIALIZE, SHUTDOWN, hover, WHOLE, EXIT],
+            ended(0, 5, 1),
+            &[REPLY, SHUT_DOWN, late],
+        ),
+    ];
+    for (bodies, answer, replies) in sessions {
+        let served = run(alloc, Command::Serve, &log(alloc, bodies)?)?;
+        assert_eq!(rt; served.answer, *answer);
+        assert_eq!(rt; served.output, log(alloc, replies)?);
+        assert_eq!(rt; served.flushes, replies.len());
+    }
+    Ok(())
+}
+
+#[test]
+fn faults_have_their_places(rt: HostRuntime) -> Result<(), Fail> {
+    let alloc = rt.alloc();
+    let worked = log(alloc, WORKED)?;
+    let cut = worked.get(..505).unwrap_or(&[]);
+    let after_exit = log(alloc, &[INITIALIZE, EXIT, EXIT])?;
+    let bad_header = EngineFault::Frame(FrameFault::BadHeader { place: 15 });
+    let faults: &[(&[u8], EngineFault, &[u8])] = &[
+        (
+            b"Content-Length: 5\r\n\r\nab",
+            EngineFault::Truncated { place: 23 },
+            b"",
+        ),
+        (
+            cut,
+            EngineFault::Truncated { place: 505 },
+            b"1 reply\n2 changed\n",
+        ),
+        (
+            &after_exit,
+            EngineFault::BadLog { place: 227 },
+            b"1 reply\n2 exit 1\n",
+        ),
+        (b"lsp-session-log 3\n", bad_header, b""),
+        (b"lsp-session-log 2", bad_header, b""),
+        (
+            b"lsp-session-log 2\nx",
+            EngineFault::BadLog { place: 18 },
+            b"",
+        ),
+        (
+            b"lsp-session-log 2\n>",
+            EngineFault::Truncated { place: 19 },
+            b"",
+        ),
+    ];
+    for (input, fault, lines) in faults {
+        let checked = run(alloc, Command::Check, input)?;
+        assert_eq!(rt; checked.answer, Err(*fault));
+        assert_eq!(rt; checked.output.as_slice(), *lines);
+        let replayed = run(alloc, Command::Replay, input)?;
+        assert_eq!(rt; replayed.answer, Err(*fault));
+        assert_eq!(rt; replayed.output.len(), 0);
+    }
+    Ok(())
+}
