@@ -31,7 +31,7 @@ cat >session.el <<'ELISP'
   (eglot--signal-textDocument/didChange))
 (find-file "notes.txt")
 (let ((command (format "tee session.log | '%s' serve" (getenv "LSPSYNC"))))
-  (eglot 'text-mode (cons 'transient default-directory) 'eglot-lsp-server
+  (eglot '(text-mode) (cons 'transient default-directory) 'eglot-lsp-server
          (list "sh" "-c" command) "plaintext"))
 (edit "first" ", a heading")
 (edit "second" ", längere 😀")
@@ -46,7 +46,7 @@ cat >session.el <<'ELISP'
 (save-buffer)
 (eglot-shutdown (eglot-current-server))
 ELISP
-LSPSYNC="$program" emacs --batch -Q --eval "(package-initialize)" -l session.el 2>emacs.log || cat emacs.log
+LSPSYNC="$program" emacs --batch -q --eval "(package-initialize)" -l session.el 2>emacs.log || cat emacs.log
 
 echo "what a server answers to each message:"
 "$program" check <session.log
