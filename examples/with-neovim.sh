@@ -31,6 +31,7 @@ local id = vim.lsp.start_client({
 vim.lsp.buf_attach_client(0, id)
 vim.wait(5000, function() return vim.lsp.buf_is_attached(0, id) end, 10)
 local function edit(keys)
+    vim.o.undolevels = vim.o.undolevels -- so that `u` undoes one edit, not all of them
     vim.cmd("normal! " .. keys)
     vim.wait(50)
 end
@@ -46,10 +47,10 @@ vim.cmd("%s/line/row/g")
 vim.wait(50)
 vim.cmd("write")
 vim.lsp.stop_client(id)
-vim.wait(5000, function() return done end, 10)
+vim.wait(1000, function() return done end, 10) -- `tee` may stay until Neovim closes its end
 vim.cmd("qall!")
 LUA
-LSPSYNC="$program" nvim --headless -u NONE -i NONE -n notes.txt -S session.lua
+LSPSYNC="$program" nvim --headless -u NONE -i NONE -n notes.txt -S session.lua 2>neovim.log
 
 echo "what a server answers to each message:"
 "$program" check <session.log

@@ -1,7 +1,8 @@
 //! The words that the program is called with.
 
-mod texts;
+mod help;
 
+use crate::command_line::help::{Limit, Page};
 use clap::builder::ValueParser;
 use clap::{Arg, ArgMatches, Command, Error};
 use lsp_frame::Limits;
@@ -84,55 +85,30 @@ static ENCODINGS: [&str; 3] = ["utf-8", "utf-16", "utf-32"];
 static KINDS: [&str; 2] = ["full", "incremental"];
 
 fn program<'a>(alloc: Global) -> Result<Command<'a>, AllocError> {
-    Command::new(alloc, "lspsync")
-        .about(texts::PROGRAM)
-        .after_help(texts::PROGRAM_NOTES)
-        .subcommand_required(true)
-        .subcommand(serve(alloc)?)?
-        .subcommand(of_logs(alloc, "check", texts::CHECK, texts::CHECK_EXAMPLE)?)?
-        .subcommand(of_logs(alloc, "replay", texts::REPLAY, texts::REPLAY_EXAMPLE)?)?
-        .subcommand(of_logs(
-            alloc,
-            "normalise",
-            texts::NORMALISE,
-            texts::NORMALISE_EXAMPLE,
-        )?)?
-        .subcommand(of_logs(alloc, "convert", texts::CONVERT, texts::CONVERT_EXAMPLE)?)
+    let mut program = Command::new(alloc, "lspsync")
+        .about(help::about())
+        .after_help(help::notes())
+        .subcommand_required(true);
+    for page in help::pages() {
+        program = program.subcommand(subcommand(alloc, page)?)?;
+    }
+    Ok(program)
 }
 
-fn serve<'a>(alloc: Global) -> Result<Command<'a>, AllocError> {
+fn subcommand<'a>(alloc: Global, page: Page) -> Result<Command<'a>, AllocError> {
     let encoding = choice(alloc, "encoding", ENCODINGS.as_slice(), "utf-16");
-    let sync = choice(alloc, "sync", KINDS.as_slice(), "incremental");
-    let command = Command::new(alloc, "serve")
-        .about(texts::SERVE)
-        .after_help(texts::SERVE_EXAMPLE)
-        .arg(encoding.help(texts::PREFERRED_ENCODING))?
-        .arg(sync.help(texts::SYNC))?;
-    with_limits(alloc, command)
-}
-
-/// A command that reads a log.
-fn of_logs<'a>(
-    alloc: Global,
-    name: &'a str,
-    about: &'a str,
-    example: &'a str,
-) -> Result<Command<'a>, AllocError> {
-    let encoding = choice(alloc, "encoding", ENCODINGS.as_slice(), "utf-16");
-    let command = Command::new(alloc, name)
-        .about(about)
-        .after_help(example)
-        .arg(encoding.help(texts::ENCODING))?;
-    with_limits(alloc, command)
-}
-
-/// The command with the options that all of them have.
-fn with_limits<'a>(alloc: Global, command: Command<'a>) -> Result<Command<'a>, AllocError> {
-    command
-        .arg(limit(alloc, "max-body", (4_096, 1_073_741_824), "16777216").help(texts::MAX_BODY))?
-        .arg(limit(alloc, "max-text", (0, 1_073_741_824), "16777216").help(texts::MAX_TEXT))?
-        .arg(limit(alloc, "max-docs", (1, 65_536), "1024").help(texts::MAX_DOCS))?
-        .arg(limit(alloc, "max-changes", (1, 1_048_576), "65536").help(texts::MAX_CHANGES))
+    let mut command = Command::new(alloc, page.name)
+        .about(page.about)
+        .after_help(page.example)
+        .arg(encoding.help(page.encoding))?;
+    if let Some(help) = page.sync {
+        let sync = choice(alloc, "sync", KINDS.as_slice(), "incremental");
+        command = command.arg(sync.help(help))?;
+    }
+    for limit in help::limits() {
+        command = command.arg(number(alloc, limit))?;
+    }
+    Ok(command)
 }
 
 /// An option with one of these names.
@@ -144,12 +120,12 @@ fn choice<'a>(alloc: Global, name: &'a str, names: &'a [&'a str], default: &'a s
         .default_value(default)
 }
 
-/// An option with a number from the first of `range` to the second.
-fn limit<'a>(alloc: Global, name: &'a str, range: (u64, u64), default: &'a str) -> Arg<'a> {
-    let (least, greatest) = range;
-    Arg::new(alloc, name)
-        .long(name)
+/// An option with a number in a range.
+fn number<'a>(alloc: Global, limit: Limit) -> Arg<'a> {
+    Arg::new(alloc, limit.name)
+        .long(limit.name)
         .value_name("N")
-        .value_parser(ValueParser::unsigned(least, greatest))
-        .default_value(default)
+        .value_parser(ValueParser::unsigned(limit.least, limit.greatest))
+        .default_value(limit.default)
+        .help(limit.help)
 }

@@ -29,20 +29,19 @@ fn a_converted_log_has_the_replies(rt: HostRuntime) -> Result<(), Fail> {
     let both = recorded(alloc, &[INITIALIZE, OPEN, WHOLE], &[REPLY])?;
     let normal = recorded(alloc, &[INITIALIZE, OPEN, CANONICAL], &[REPLY])?;
     assert_eq!(rt; (both.len(), normal.len()), (680, 754));
-    let cases = [
-        ("convert", &input, both.as_slice()),
-        (
-            "check",
-            &both,
-            b"1 reply\n2 server\n3 changed\n4 changed\n".as_slice(),
-        ),
-        ("normalise", &both, normal.as_slice()),
-        ("normalise", &normal, normal.as_slice()),
-    ];
-    for (command, given, wanted) in cases {
-        let answer = ran(alloc, &["lspsync", command], given)?;
-        assert_eq!(rt; answer.status, 0, "at {command}");
-        assert_eq!(rt; answer.output.as_slice(), wanted, "at {command}");
+    let answer = ran(alloc, &["lspsync", "convert"], &input)?;
+    assert_eq!(rt; answer.status, 0);
+    assert_eq!(rt; answer.output, both);
+    let answer = ran(alloc, &["lspsync", "check"], &both)?;
+    assert_eq!(rt; answer.status, 0);
+    assert_eq!(rt;
+        answer.output.as_slice(),
+        b"1 reply\n2 server\n3 changed\n4 changed\n".as_slice()
+    );
+    for given in [&both, &normal] {
+        let answer = ran(alloc, &["lspsync", "normalise"], given)?;
+        assert_eq!(rt; answer.status, 0);
+        assert_eq!(rt; answer.output, normal);
     }
     let answer = ran(alloc, &["lspsync", "convert"], &both)?;
     assert_eq!(rt; answer.status, 5);

@@ -70,58 +70,54 @@ fn accepted_changes_alone_are_written_anew(rt: HostRuntime) -> Result<(), Fail> 
     Ok(())
 }
 
+/// A change of the whole text to so many letters. Its canonical body has 214 bytes more than they are.
+fn letters(alloc: Global, count: usize, version: i32) -> Result<String, AllocError> {
+    let mut whole = String::from_str(alloc, r#"{"text":""#)?;
+    for _ in 0..count {
+        whole.push('x')?;
+    }
+    whole.push_str(r#""}"#)?;
+    change(alloc, version, &whole)
+}
+
+/// What a log that ends with such a change is written as: its answer, and how many of its first bytes are kept and how many come behind.
+type Written = (Result<Outcome, EngineFault>, usize, usize);
+
 #[test]
 fn a_canonical_body_reaches_the_limit(rt: HostRuntime) -> Result<(), Fail> {
     let alloc = rt.alloc();
-    let limits = Limits::new(4_096, 4_096, 1, 1)?;
     let settings = Settings {
-        limits,
+        limits: Limits::new(4_096, 4_096, 1, 1)?,
         ..settings()?
     };
-    // How many letters, of which version, and the place of the fault in a log of version 1 and of version 2. A canonical body
-    // has 214 bytes more than its text.
-    for (letters, version, places) in [
-        (3_882, 2, None),
-        (3_883, 2, Some((340, 513))),
-        (3_883, 1, None),
-    ] {
-        let mut whole = String::from_str(alloc, r#"{"text":""#)?;
-        for _ in 0..letters {
-            whole.push('x')?;
-        }
-        whole.push_str(r#""}"#)?;
-        let body = change(alloc, version, &whole)?;
-        let first = log(alloc, &[INITIALIZE, OPEN, &body])?;
-        let second = marked(
-            alloc,
-            &[(">", INITIALIZE), ("<", REPLY), (">", OPEN), (">", &body)],
-        )?;
-        for (input, place, marks) in [
-            (first, places.map(|both| both.0), 0usize),
-            (second, places.map(|both| both.1), 1),
-        ] {
-            let normalised = run_with(alloc, Command::Normalise, &input, settings, SMOOTH)?;
-            match place {
-                Some(place) => {
-                    assert_eq!(rt; normalised.answer, Err(EngineFault::BodyTooLong { place }));
-                    assert_eq!(rt;
-                        Some(normalised.output.as_slice()),
-                        input.get(..place as usize)
-                    );
-                }
-                None if version == 1 => {
-                    assert_eq!(rt; normalised.answer, ended(1, 3, 1));
-                    assert_eq!(rt; normalised.output, input);
-                }
-                None => {
-                    assert_eq!(rt; normalised.answer, ended(0, 3, 0));
-                    let kept = if marks == 0 { 340 } else { 514 };
-                    assert_eq!(rt; normalised.output.len(), kept + 24 + 4_096);
-                }
-            }
-            // Other engines write no canonical body.
-            let checked = run_with(alloc, Command::Check, &input, settings, SMOOTH)?;
-            assert_eq!(rt; checked.answer.is_ok(), true);
+    let too_long = |place| Err(EngineFault::BodyTooLong { place });
+    // A canonical frame at the limit has 24 bytes of header; a stale change of 3,883 letters keeps its frame, of a body of 4,023.
+    let cases: [(usize, i32, [Written; 2]); 3] = [
+        (
+            3_882,
+            2,
+            [(ended(0, 3, 0), 340, 4_120), (ended(0, 3, 0), 514, 4_120)],
+        ),
+        (3_883, 2, [(too_long(340), 340, 0), (too_long(513), 513, 0)]),
+        (
+            3_883,
+            1,
+            [(ended(1, 3, 1), 340, 4_047), (ended(1, 3, 1), 514, 4_047)],
+        ),
+    ];
+    for (count, version, written) in cases {
+        let body = letters(alloc, count, version)?;
+        let begun = [(">", INITIALIZE), ("<", REPLY), (">", OPEN)];
+        let [first, second, third] = begun;
+        let logs = [
+            log(alloc, &[INITIALIZE, OPEN, &body])?,
+            marked(alloc, &[first, second, third, (">", &body)])?,
+        ];
+        for (input, (answer, kept, more)) in logs.iter().zip(written) {
+            let run = run_with(alloc, Command::Normalise, input, settings, SMOOTH)?;
+            assert_eq!(rt; run.answer, answer);
+            assert_eq!(rt; run.output.get(..kept), input.get(..kept));
+            assert_eq!(rt; run.output.len(), kept + more);
         }
     }
     Ok(())

@@ -135,60 +135,42 @@ impl<'a> Case<'a> {
     }
 }
 
-/// The runs that are tried.
-fn cases(logs: &Logs) -> [Case<'_>; 8] {
-    let (first, second) = (&logs.worked, &logs.converted);
-    let served = Case::new(
-        Command::Serve,
-        &logs.session,
-        &logs.replies,
-        &[(172, 152), (836, 212)],
-        b"RWFRRRRRWFR",
-    );
+/// An editor's session up to its exit.
+fn served(logs: &Logs) -> Case<'_> {
+    let records = &[(172, 152), (836, 212)];
+    let order = b"RWFRRRRRWFR";
+    Case {
+        answer: ended(0, 7, 0),
+        flushes: &[152, 213],
+        reads: FRAMES,
+        ..Case::new(Command::Serve, &logs.session, &logs.replies, records, order)
+    }
+}
+
+/// The log commands over a log of version 1.
+fn over_version_1(logs: &Logs) -> [Case<'_>; 4] {
+    let log = &logs.worked;
+    let checked = &[(172, 8), (340, 18), (506, 28)];
+    let normal = &[(172, 172), (340, 340), (506, 580)];
+    let converted = &[(172, 344), (340, 513), (506, 680)];
     [
-        Case {
-            answer: ended(0, 7, 0),
-            flushes: &[152, 213],
-            reads: FRAMES,
-            ..served
-        },
-        Case::new(
-            Command::Check,
-            first,
-            CHECK_1,
-            &[(172, 8), (340, 18), (506, 28)],
-            b"RWWWR",
-        ),
-        Case::new(Command::Replay, first, WORKED_REPORT, &[], b"RRW"),
-        Case::new(
-            Command::Normalise,
-            first,
-            &logs.normal,
-            &[(172, 172), (340, 340), (506, 580)],
-            b"RWWWR",
-        ),
-        Case::new(
-            Command::Convert,
-            first,
-            second,
-            &[(172, 344), (340, 513), (506, 680)],
-            b"RWWWR",
-        ),
-        Case::new(
-            Command::Check,
-            second,
-            CHECK_2,
-            &[(191, 8), (344, 17), (513, 27), (680, 37)],
-            b"RWWWWR",
-        ),
-        Case::new(Command::Replay, second, WORKED_REPORT, &[], b"RRW"),
-        Case::new(
-            Command::Normalise,
-            second,
-            &logs.normal_converted,
-            &[(191, 191), (344, 344), (513, 513), (680, 754)],
-            b"RWWWWR",
-        ),
+        Case::new(Command::Check, log, CHECK_1, checked, b"RWWWR"),
+        Case::new(Command::Replay, log, WORKED_REPORT, &[], b"RRW"),
+        Case::new(Command::Normalise, log, &logs.normal, normal, b"RWWWR"),
+        Case::new(Command::Convert, log, &logs.converted, converted, b"RWWWR"),
+    ]
+}
+
+/// Those that take one, over a log of version 2.
+fn over_version_2(logs: &Logs) -> [Case<'_>; 3] {
+    let log = &logs.converted;
+    let output = &logs.normal_converted;
+    let checked = &[(191, 8), (344, 17), (513, 27), (680, 37)];
+    let normal = &[(191, 191), (344, 344), (513, 513), (680, 754)];
+    [
+        Case::new(Command::Check, log, CHECK_2, checked, b"RWWWWR"),
+        Case::new(Command::Replay, log, WORKED_REPORT, &[], b"RRW"),
+        Case::new(Command::Normalise, log, output, normal, b"RWWWWR"),
     ]
 }
 
@@ -274,20 +256,26 @@ fn fail_writes(rt: &impl Abort, alloc: Global, case: &Case) -> Result<(), Fail> 
 }
 
 #[test]
-fn each_read_fails_in_turn(rt: HostRuntime) -> Result<(), Fail> {
+fn each_read_of_a_session_fails_in_turn(rt: HostRuntime) -> Result<(), Fail> {
+    let logs = Logs::new(rt.alloc())?;
+    fail_reads(&rt, rt.alloc(), &served(&logs))
+}
+
+#[test]
+fn each_read_of_version_1_fails_in_turn(rt: HostRuntime) -> Result<(), Fail> {
     let alloc = rt.alloc();
     let logs = Logs::new(alloc)?;
-    for case in &cases(&logs)[..5] {
+    for case in &over_version_1(&logs) {
         fail_reads(&rt, alloc, case)?;
     }
     Ok(())
 }
 
 #[test]
-fn each_read_of_a_marked_log_fails_in_turn(rt: HostRuntime) -> Result<(), Fail> {
+fn each_read_of_version_2_fails_in_turn(rt: HostRuntime) -> Result<(), Fail> {
     let alloc = rt.alloc();
     let logs = Logs::new(alloc)?;
-    for case in &cases(&logs)[5..] {
+    for case in &over_version_2(&logs) {
         fail_reads(&rt, alloc, case)?;
     }
     Ok(())
@@ -297,19 +285,50 @@ fn each_read_of_a_marked_log_fails_in_turn(rt: HostRuntime) -> Result<(), Fail> 
 fn each_write_and_flush_fails_in_turn(rt: HostRuntime) -> Result<(), Fail> {
     let alloc = rt.alloc();
     let logs = Logs::new(alloc)?;
-    for case in &cases(&logs)[..5] {
+    fail_writes(&rt, alloc, &served(&logs))?;
+    for case in &over_version_1(&logs) {
         fail_writes(&rt, alloc, case)?;
     }
     Ok(())
 }
 
 #[test]
-fn each_write_for_a_marked_log_fails_in_turn(rt: HostRuntime) -> Result<(), Fail> {
+fn each_write_of_version_2_fails_in_turn(rt: HostRuntime) -> Result<(), Fail> {
     let alloc = rt.alloc();
     let logs = Logs::new(alloc)?;
-    for case in &cases(&logs)[5..] {
+    for case in &over_version_2(&logs) {
         fail_writes(&rt, alloc, case)?;
     }
+    Ok(())
+}
+
+/// Runs an engine with so many calls allowed as it needs, and with each smaller number: its calls come in their order.
+fn count_turns(rt: &impl Abort, alloc: Global, case: &Case) -> Result<(), Fail> {
+    let (mut reads, mut writes, mut flushes) = (0usize, 0usize, 0usize);
+    for (turns, call) in case.order.iter().enumerate() {
+        let calls = Calls {
+            reads: case.reads,
+            turns: turns as u64,
+            ..SMOOTH
+        };
+        let fault = Err(EngineFault::TooManyTurns);
+        let run = case.meets(rt, alloc, calls, fault, case.written_by(writes))?;
+        assert_eq!(rt; run.reads, reads as u64);
+        assert_eq!(rt; run.writes, (writes + flushes) as u64);
+        assert_eq!(rt; run.flushes, flushes);
+        match call {
+            b'R' => reads += 1,
+            b'W' => writes += 1,
+            _ => flushes += 1,
+        }
+    }
+    let calls = Calls {
+        reads: case.reads,
+        turns: case.order.len() as u64,
+        ..SMOOTH
+    };
+    let run = case.meets(rt, alloc, calls, case.answer, case.output.len())?;
+    assert_eq!(rt; (run.reads, run.flushes), (reads as u64, flushes));
     Ok(())
 }
 
@@ -317,32 +336,12 @@ fn each_write_for_a_marked_log_fails_in_turn(rt: HostRuntime) -> Result<(), Fail
 fn output_is_written_and_flushed_before_the_next_read(rt: HostRuntime) -> Result<(), Fail> {
     let alloc = rt.alloc();
     let logs = Logs::new(alloc)?;
-    for case in cases(&logs) {
-        let (mut reads, mut writes, mut flushes) = (0usize, 0usize, 0usize);
-        for (turns, call) in case.order.iter().enumerate() {
-            let calls = Calls {
-                reads: case.reads,
-                turns: turns as u64,
-                ..SMOOTH
-            };
-            let fault = Err(EngineFault::TooManyTurns);
-            let run = case.meets(&rt, alloc, calls, fault, case.written_by(writes))?;
-            assert_eq!(rt; run.reads, reads as u64);
-            assert_eq!(rt; run.writes, (writes + flushes) as u64);
-            assert_eq!(rt; run.flushes, flushes);
-            match call {
-                b'R' => reads += 1,
-                b'W' => writes += 1,
-                _ => flushes += 1,
-            }
-        }
-        let calls = Calls {
-            reads: case.reads,
-            turns: case.order.len() as u64,
-            ..SMOOTH
-        };
-        let run = case.meets(&rt, alloc, calls, case.answer, case.output.len())?;
-        assert_eq!(rt; (run.reads, run.flushes), (reads as u64, flushes));
+    count_turns(&rt, alloc, &served(&logs))?;
+    for case in &over_version_1(&logs) {
+        count_turns(&rt, alloc, case)?;
+    }
+    for case in &over_version_2(&logs) {
+        count_turns(&rt, alloc, case)?;
     }
     Ok(())
 }
@@ -351,7 +350,7 @@ fn output_is_written_and_flushed_before_the_next_read(rt: HostRuntime) -> Result
 fn a_reader_and_a_writer_that_stop(rt: HostRuntime) -> Result<(), Fail> {
     let alloc = rt.alloc();
     let logs = Logs::new(alloc)?;
-    let served = cases(&logs)[0];
+    let served = served(&logs);
     let first = Calls {
         reads: &[Call::Take(172)],
         other_reads: Call::Fail,

@@ -94,48 +94,53 @@ fn a_session_ends_with_its_exit_or_its_input(rt: HostRuntime) -> Result<(), Fail
     Ok(())
 }
 
+/// Inputs that no log is, and their faults.
+const FAULTS: &[(&[u8], EngineFault)] = &[
+    (
+        b"Content-Length: 5\r\n\r\nab",
+        EngineFault::Truncated { place: 23 },
+    ),
+    (
+        b"lsp-session-log 3\n",
+        EngineFault::Frame(FrameFault::BadHeader { place: 15 }),
+    ),
+    (
+        b"lsp-session-log 2",
+        EngineFault::Frame(FrameFault::BadHeader { place: 15 }),
+    ),
+    (b"lsp-session-log 2\nx", EngineFault::BadLog { place: 18 }),
+    (
+        b"lsp-session-log 2\n>",
+        EngineFault::Truncated { place: 19 },
+    ),
+];
+
 #[test]
 fn faults_have_their_places(rt: HostRuntime) -> Result<(), Fail> {
     let alloc = rt.alloc();
     let worked = log(alloc, WORKED)?;
     let cut = worked.get(..505).unwrap_or(&[]);
     let after_exit = log(alloc, &[INITIALIZE, EXIT, EXIT])?;
-    let bad_header = EngineFault::Frame(FrameFault::BadHeader { place: 15 });
-    let faults: &[(&[u8], EngineFault, &[u8])] = &[
-        (
-            b"Content-Length: 5\r\n\r\nab",
-            EngineFault::Truncated { place: 23 },
-            b"",
-        ),
+    // With the lines of the records before.
+    let begun: [(&[u8], EngineFault, &str); 2] = [
         (
             cut,
             EngineFault::Truncated { place: 505 },
-            b"1 reply\n2 changed\n",
+            "1 reply\n2 changed\n",
         ),
         (
             &after_exit,
             EngineFault::BadLog { place: 227 },
-            b"1 reply\n2 exit 1\n",
-        ),
-        (b"lsp-session-log 3\n", bad_header, b""),
-        (b"lsp-session-log 2", bad_header, b""),
-        (
-            b"lsp-session-log 2\nx",
-            EngineFault::BadLog { place: 18 },
-            b"",
-        ),
-        (
-            b"lsp-session-log 2\n>",
-            EngineFault::Truncated { place: 19 },
-            b"",
+            "1 reply\n2 exit 1\n",
         ),
     ];
-    for (input, fault, lines) in faults {
+    let at_once = FAULTS.iter().map(|(input, fault)| (*input, *fault, ""));
+    for (input, fault, lines) in begun.into_iter().chain(at_once) {
         let checked = run(alloc, Command::Check, input)?;
-        assert_eq!(rt; checked.answer, Err(*fault));
-        assert_eq!(rt; checked.output.as_slice(), *lines);
+        assert_eq!(rt; checked.answer, Err(fault));
+        assert_eq!(rt; checked.output.as_slice(), lines.as_bytes());
         let replayed = run(alloc, Command::Replay, input)?;
-        assert_eq!(rt; replayed.answer, Err(*fault));
+        assert_eq!(rt; replayed.answer, Err(fault));
         assert_eq!(rt; replayed.output.len(), 0);
     }
     Ok(())
