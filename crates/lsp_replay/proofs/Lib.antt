@@ -6,3 +6,7 @@ pub mod OpeningLemmas
 pub mod RunLemmas
 pub mod ReportLemmas
 pub mod NormalLemmas
+pub mod ContentLemmas
+pub mod ReadLemmas
+pub mod AskedLemmas
+pub mod StateLemmas
