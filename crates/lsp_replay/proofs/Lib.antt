@@ -10,3 +10,4 @@ pub mod ContentLemmas
 pub mod ReadLemmas
 pub mod AskedLemmas
 pub mod StateLemmas
+pub mod SettledLemmas
