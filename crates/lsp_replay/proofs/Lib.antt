@@ -11,3 +11,6 @@ pub mod ReadLemmas
 pub mod AskedLemmas
 pub mod StateLemmas
 pub mod SettledLemmas
+pub mod JudgeLemmas
+pub mod LineLemmas
+pub mod NormalisedLemmas
