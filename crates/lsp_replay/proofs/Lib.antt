@@ -14,3 +14,4 @@ pub mod SettledLemmas
 pub mod JudgeLemmas
 pub mod LineLemmas
 pub mod NormalisedLemmas
+pub mod WroteLemmas

@@ -248,6 +248,7 @@ none_together limits ranges at version s (r ∷ rs) e = absurd (let lengths = ap
 -- What `normalise` writes of a log is a log, of which the same is told and the same is written.
 pub normal_law : NormalLaw
 normal_law settings ranges input log reads whole goes = record {
+  outcome = w.outcome;
   tells = record {
     log = next;
     reads = record { version = version_is settings.limits.max_body log.version qs bytes w.are is; accepted = λ e. absurd (let bad_one : false ≡ true = e in cc); is = is; each = w.are };

@@ -22,8 +22,9 @@ pub record TellsAlike (settings : Settings) (records : List Record) (bytes : Lis
   pub to_end : (report settings log.records).stop ≡ None
   pub alike : report settings log.records ≡ report settings records
 
--- The same, and `normalise` writes of it the same bytes.
+-- The same, and `normalise` writes of it the same bytes. Its own status and counts are those of `replay`.
 pub record IsNormal (settings : Settings) (records : List Record) (bytes : List ℕ) : Type 0 where
+  pub outcome : (normal settings records).outcome ≡ (report settings records).outcome
   pub tells : TellsAlike settings records bytes
   pub goes_on : (normal settings tells.log.records).stop ≡ None
   pub again : all_of (normal settings) tells.log ≡ bytes
