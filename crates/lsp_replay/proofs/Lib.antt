@@ -6,3 +6,12 @@ pub mod OpeningLemmas
 pub mod RunLemmas
 pub mod ReportLemmas
 pub mod NormalLemmas
+pub mod ContentLemmas
+pub mod ReadLemmas
+pub mod AskedLemmas
+pub mod StateLemmas
+pub mod SettledLemmas
+pub mod JudgeLemmas
+pub mod LineLemmas
+pub mod NormalisedLemmas
+pub mod WroteLemmas

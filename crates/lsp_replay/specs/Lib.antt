@@ -11,3 +11,4 @@ pub mod Copy
 pub mod Session
 pub mod Verdicts
 pub mod Engines
+pub mod Laws

@@ -1,8 +1,10 @@
 //! The engines: from a reader to a writer, over a server.
 
-ghost use Rattle.std.specs.Prelude.{◌≡◌, true, false};
+ghost use Rattle.std.specs.Prelude.{◌≡◌, true, false, IfOk};
 ghost use Rattle.lsp_replay.specs.Engine.{Ran, Called};
 ghost use Rattle.lsp_replay.specs.Engines.{log_config, normal, as_stream, as_log, as_converted, replies, report, verdicts, converted};
+ghost use Rattle.lsp_frame.specs.Limits.{AreInRange};
+ghost use Rattle.lsp_replay.specs.Laws.{IsNormal, Wrote};
 
 use crate::checking::Check;
 use crate::converting::Convert;
@@ -35,6 +37,15 @@ impl Settings {
             choice: EncodingChoice::Fixed(self.encoding),
             sync: Sync::Incremental,
         }
+    }
+
+    /// Tells that the limits are in their ranges, as all limits are; it does nothing else.
+    fn known(&self)
+        ensures { AreInRange self.now.limits }
+    {
+        let limits = self.limits;
+        let _bytes = (limits.max_body(), limits.max_text());
+        let _counts = (limits.max_docs(), limits.max_changes());
     }
 
     /// How the log is read; `only_one`: is version 1 alone taken?
@@ -152,9 +163,11 @@ pub fn normalise<R: Source, W: Sink>(
 ) -> Result<Outcome, EngineFault>
     ensures ran { Ran (as_log settings) (normal settings) (R.has_ended reader.new)
         (R.left reader.old) (R.left reader.new) (W.held writer.old) (W.held writer.new) result }
+    ensures normal { IfOk result (Wrote settings (IsNormal settings) (R.left reader.old) (R.left reader.new) (W.held writer.old) (W.held writer.new)) }
     ensures called { Called (R.count reader.old) (R.count reader.new) (W.count writer.old) (W.count writer.new) max_turns
         (R.has_failed reader.new) (W.has_failed writer.new) (R.has_ended reader.new) (R.left reader.new) result }
 {
+    settings.known();
     let rules = settings.rules(false);
     let mut normalise = Normalise::new(alloc, settings.config());
     run_engine(alloc, reader, writer, &mut normalise, rules, max_turns)

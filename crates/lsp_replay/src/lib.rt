@@ -13,6 +13,7 @@ mod converting;
 mod engine;
 mod engines;
 mod handler;
+mod laws;
 mod normalising;
 mod opening;
 mod outcome;
@@ -27,6 +28,7 @@ mod told;
 mod turns;
 
 pub use engines::{Settings, check, convert, normalise, replay, serve};
+pub use laws::log_laws;
 pub use outcome::{EngineFault, Outcome};
 pub use port::{Sink, Source};
 pub use stop::{Call, StopReader, StopWriter};

@@ -86,7 +86,7 @@ scalar-at [] index all = refl
 scalar-at (c ∷ old) zero all = (and_parts (scalar c) (all_scalars old) all).0
 scalar-at (c ∷ old) (suc index) all = scalar-at old index (and_parts (scalar c) (all_scalars old) all).1
 
-scalar-text : (old : List ℕ) (items : List Item) → all_scalars old ≡ true → NewAreScalar items → all_scalars (text_of old items) ≡ true
+pub scalar-text : (old : List ℕ) (items : List Item) → all_scalars old ≡ true → NewAreScalar items → all_scalars (text_of old items) ≡ true
 scalar-text old [] all p = refl
 scalar-text old (Old index ∷ items) all p = and_from (scalar (slice_index old index)) (all_scalars (text_of old items)) (scalar-at old index all) (scalar-text old items all p)
 scalar-text old (New character ∷ items) all p = and_from (scalar character) (all_scalars (text_of old items)) p.0 (scalar-text old items all p.1)

@@ -1,0 +1,195 @@
+-- What becomes of a record is told by its body, its side and whether the line is due; the canonical body of an accepted change is judged as
+-- the change was.
+use Rattle.std.proofs.Common.{◌≡◌, ◌≢◌, ℕ, ◌≤◌, Bool, true, false, List, [], ◌∷◌, length, Option, Some, None, refl, sym, ap, ◌∙◌, subst, arith}
+use Rattle.std.specs.Prelude.{⊤, if◌then◌else◌, option_map}
+use Rattle.serde_json.specs.Data.{Data}
+use Rattle.lsp_frame.specs.Limits.{Bounds, AreInRange}
+use Rattle.lsp_text.specs.declared.encoding.Encoding.{Encoding}
+use Rattle.lsp_message.specs.declared.agreement.Announced.{Announced}
+use Rattle.lsp_message.specs.Agreement.{announced_of}
+use Rattle.lsp_message.specs.Message.{IdData, reading}
+use Rattle.lsp_message.specs.Params.{ChangeData}
+use Rattle.lsp_server.specs.Answer.{AnswerData, Sent, reply, changed, dropped, ignored, already_ended, refused, exits, as_sent}
+use Rattle.lsp_server.specs.Incoming.{IncomingData, not_json, not_a_message, response, initialize, shutdown, other_request, exit, did_open, did_change, did_close, other_notification, asked}
+use Rattle.lsp_server.specs.Step.{State, Step, step_on, settled}
+use Rattle.lsp_replay.specs.declared.record.Version.{Version}
+use Rattle.lsp_replay.specs.declared.record.Version.TheVariants.{One, Two}
+use Rattle.lsp_replay.specs.declared.record.Side.{Side}
+use Rattle.lsp_replay.specs.declared.record.Side.TheVariants.{Client, Server}
+use Rattle.lsp_replay.specs.declared.record.Head.{Head}
+use Rattle.lsp_replay.specs.Log.{Record}
+use Rattle.lsp_replay.specs.Session.{Session, Verdict, answered, recorded, bad, Judged, judged, judge, judge_at, judge_from, judge_incoming, handled, hear_for, heard, settle_by, settle_in, result_for, versioned, is_ended, is_early, is_new, expected_of, count_if, is_refused}
+use Rattle.lsp_replay.specs.Ports.{one_more}
+use Rattle.lsp_replay.specs.Engines.{change_in, normal_if, normal_of, normal_body}
+use Rattle.lsp_replay.proofs.NormalLemmas.{accepted, heard_has_none}
+use Rattle.lsp_replay.proofs.AskedLemmas.{IsProperAsked, IsProperIncoming, asked_proper}
+use Rattle.lsp_replay.proofs.StateLemmas.{IsHeldState, step_on_held}
+use Rattle.lsp_replay.proofs.SettledLemmas.{IsSettledChange, settled_change}
+
+-- ---- what holds of a session whatever is judged
+
+both : (P : Judged → Type 0) (b : Bool) (x y : Judged) → P x → P y → P (if b then x else y)
+both P true x y p q = p
+both P false x y p q = q
+
+module _ (P : Judged → Type 0) (s : Session) where
+  of_settled_in : P (judged bad s) → ((encoding : Encoding) → P (judged recorded (record s { server = settled s.server encoding; expected = None }))) → (encoding : Option Encoding) → P (settle_in s encoding)
+  of_settled_in refuses goes None = refuses
+  of_settled_in refuses goes (Some encoding) = goes encoding
+
+  of_settled : P (judged bad s) → ((encoding : Encoding) → P (judged recorded (record s { server = settled s.server encoding; expected = None }))) → (announced : Option Announced) → P (settle_by s announced)
+  of_settled refuses goes None = refuses
+  of_settled refuses goes (Some announced) = of_settled_in refuses goes announced.encoding
+
+  of_result : P (judged recorded s) → P (judged bad s) → ((encoding : Encoding) → P (judged recorded (record s { server = settled s.server encoding; expected = None }))) → (result : Option Data) → P (heard s result)
+  of_result stays refuses goes None = stays
+  of_result stays refuses goes (Some result) = of_settled refuses goes (announced_of result)
+
+  of_heard : P (judged recorded s) → P (judged bad s) → ((encoding : Encoding) → P (judged recorded (record s { server = settled s.server encoding; expected = None }))) → (id : Option IdData) (body : List ℕ) → P (hear_for s id body)
+  of_heard stays refuses goes None body = stays
+  of_heard stays refuses goes (Some id) body = of_result stays refuses goes (result_for id (reading body))
+
+  of_incoming : (m : IncomingData) → P (judged bad s) → P (handled s m (step_on s.server m).state (as_sent (step_on s.server m).answer)) → P (judge_incoming s m)
+  of_incoming m refuses goes =
+      both P (is_ended s.server.phase) (judged bad s) (if is_early s m then judged bad s else handled s m (step_on s.server m).state (as_sent (step_on s.server m).answer)) refuses
+      (both P (is_early s m) (judged bad s) (handled s m (step_on s.server m).state (as_sent (step_on s.server m).answer)) refuses goes)
+
+from_version : (s : Session) (side : Side) (body : List ℕ) → (judge_from s side body).session.version ≡ s.version
+from_version s Client body = of_incoming (λ (j : Judged). j.session.version ≡ s.version) s (asked (reading body)) refl refl
+from_version s Server body = of_heard (λ (j : Judged). j.session.version ≡ s.version) s refl refl (λ encoding. refl) s.expected body
+
+-- the version of a log at a record, which the line tells
+pub record IsVersionAt (version : Version) (line_due : Bool) (s : Session) : Type 0 where
+  pub told : line_due ≡ true → version ≡ Two
+  pub kept : line_due ≡ false → s.version ≡ version
+
+versioned_is : (version : Version) (line_due : Bool) (s : Session) → IsVersionAt version line_due s → (versioned s line_due).version ≡ version
+versioned_is version true s is = sym (is.told refl)
+versioned_is version false s is = is.kept refl
+
+pub judged_version : (version : Version) (s : Session) (head : Head) (body : List ℕ) → IsVersionAt version head.line_due s → (judge_at s head body).session.version ≡ version
+judged_version version s head body is = from_version (versioned s head.line_due) head.side body ∙ versioned_is version head.line_due s is
+
+from_held : (limits : Bounds) (s : Session) (side : Side) (body : List ℕ) → IsHeldState limits s.server → IsHeldState limits (judge_from s side body).session.server
+from_held limits s Client body held =
+    of_incoming (λ (j : Judged). IsHeldState limits j.session.server) s (asked (reading body)) held (step_on_held limits s.server (asked (reading body)) (asked_proper body) held)
+from_held limits s Server body held =
+    of_heard (λ (j : Judged). IsHeldState limits j.session.server) s held held (λ encoding. record { limit = held.limit; table = held.table }) s.expected body
+
+at_held : (limits : Bounds) (s : Session) (line_due : Bool) (side : Side) (body : List ℕ) → IsHeldState limits s.server → IsHeldState limits (judge_from (versioned s line_due) side body).session.server
+at_held limits s true side body held = from_held limits (record s { version = Two }) side body held
+at_held limits s false side body held = from_held limits s side body held
+
+pub judged_held : (limits : Bounds) (s : Session) (r : Record) → IsHeldState limits s.server → IsHeldState limits (judge s r).session.server
+judged_held limits s r held = at_held limits s r.head.line_due r.head.side r.body held
+
+-- ---- the record of an accepted change
+
+record IsNormalCase (server : State) (m : IncomingData) (verdict : Verdict) (body : List ℕ) : Type 0 where
+  change : ChangeData
+  asks : m ≡ did_change (Some change)
+  told : verdict ≡ answered changed
+  is : body ≡ normal_body server change
+
+abbrev CaseOf : State → Option ChangeData → Verdict → List ℕ → Type 0
+CaseOf server change verdict body = (p : ChangeData) × (change ≡ Some p) × (verdict ≡ answered changed) × (body ≡ normal_body server p)
+
+none_some : (server : State) (change : Option ChangeData) (verdict : Verdict) (body : List ℕ) → None ≡ Some body → CaseOf server change verdict body
+none_some server change verdict body e = absurd (cc)
+
+by_change : (server : State) (change : Option ChangeData) (verdict : Verdict) (body : List ℕ) → normal_if server change verdict ≡ Some body → CaseOf server change verdict body
+by_change server None verdict body e = none_some server None verdict body e
+by_change server (Some p) (answered changed) body e = let some : Some (normal_body server p) ≡ Some body = e in let is : normal_body server p ≡ body = cc in (p, refl, refl, sym is)
+by_change server (Some p) (answered (reply m)) body e = none_some server (Some p) (answered (reply m)) body e
+by_change server (Some p) (answered dropped) body e = none_some server (Some p) (answered dropped) body e
+by_change server (Some p) (answered ignored) body e = none_some server (Some p) (answered ignored) body e
+by_change server (Some p) (answered already_ended) body e = none_some server (Some p) (answered already_ended) body e
+by_change server (Some p) (answered (refused why)) body e = none_some server (Some p) (answered (refused why)) body e
+by_change server (Some p) (answered (exits status)) body e = none_some server (Some p) (answered (exits status)) body e
+by_change server (Some p) recorded body e = none_some server (Some p) recorded body e
+by_change server (Some p) bad body e = none_some server (Some p) bad body e
+
+no_change : (m : IncomingData) (p : ChangeData) → None ≡ Some p → m ≡ did_change (Some p)
+no_change m p e = absurd (cc)
+
+asks_change : (m : IncomingData) (p : ChangeData) → change_in m ≡ Some p → m ≡ did_change (Some p)
+asks_change (did_change params) p e = ap did_change e
+asks_change not_json p e = no_change not_json p e
+asks_change (not_a_message id) p e = no_change (not_a_message id) p e
+asks_change (response id outcome) p e = no_change (response id outcome) p e
+asks_change (initialize id offers) p e = no_change (initialize id offers) p e
+asks_change (shutdown id) p e = no_change (shutdown id) p e
+asks_change (other_request id method params) p e = no_change (other_request id method params) p e
+asks_change exit p e = no_change exit p e
+asks_change (did_open params) p e = no_change (did_open params) p e
+asks_change (did_close params) p e = no_change (did_close params) p e
+asks_change (other_notification method params) p e = no_change (other_notification method params) p e
+
+case_of : (server : State) (m : IncomingData) (verdict : Verdict) (body : List ℕ) → normal_if server (change_in m) verdict ≡ Some body → IsNormalCase server m verdict body
+case_of server m verdict body e =
+    let found = by_change server (change_in m) verdict body e in
+    record { change = found.0; asks = asks_change m found.0 found.1; told = found.2; is = found.3 }
+
+-- ---- the canonical body is judged as the change was
+
+expects_same : (version : Version) (params : Option ChangeData) (expected : Option IdData) → expected_of version (did_change params) expected ≡ expected
+expects_same One params expected = refl
+expects_same Two params expected = refl
+
+handled_same : (s : Session) (params others : Option ChangeData) (server : State) (answer : AnswerData Sent) → handled s (did_change params) server answer ≡ handled s (did_change others) server answer
+handled_same s params others server answer =
+    ap (λ (e : Option IdData). judged (answered answer) (record s {
+      server = server;
+      expected = (if is_new s.server.phase then e else s.expected);
+      messages = one_more s.messages;
+      refusals = count_if (is_refused answer) s.refusals;
+    })) (expects_same s.version params s.expected ∙ sym (expects_same s.version others s.expected))
+
+again_incoming : (s : Session) (p again : ChangeData) → step_on s.server (did_change (Some again)) ≡ step_on s.server (did_change (Some p))
+    → judge_incoming s (did_change (Some again)) ≡ judge_incoming s (did_change (Some p))
+again_incoming s p again same =
+    ap (λ (step : Step). if is_ended s.server.phase then judged bad s else if is_early s (did_change (Some again)) then judged bad s else handled s (did_change (Some again)) step.state (as_sent step.answer)) same
+    ∙ ap (λ (j : Judged). if is_ended s.server.phase then judged bad s else if is_early s (did_change (Some again)) then judged bad s else j)
+    (handled_same s (Some again) (Some p) (step_on s.server (did_change (Some p))).state (as_sent (step_on s.server (did_change (Some p))).answer))
+
+-- a body is judged as another, and it is its own canonical body
+abbrev IsJudgedAgain : Session → Side → List ℕ → List ℕ → Type 0
+IsJudgedAgain s side body again =
+    (judge_from s side again ≡ judge_from s side body) × (normal_if s.server (change_in (asked (reading again))) (judge_from s side body).verdict ≡ Some again)
+
+module _ (limits : Bounds) (ranges : AreInRange limits) where
+  again_client : (s : Session) (body again : List ℕ) → IsHeldState limits s.server → normal_if s.server (change_in (asked (reading body))) (judge_from s Client body).verdict ≡ Some again
+      → length again ≤ limits.max_body → IsJudgedAgain s Client body again
+  again_client s body again held normal fits =
+      let m = asked (reading body) in
+      let c = case_of s.server m (judge_incoming s m).verdict again normal in
+      let p = c.change in
+      let proper : IsProperIncoming (did_change (Some p)) = subst IsProperIncoming c.asks (asked_proper body) in
+      let told : (judge_incoming s (did_change (Some p))).verdict ≡ answered changed = ap (λ (x : IncomingData). (judge_incoming s x).verdict) (sym c.asks) ∙ c.told in
+      let here : AreInRange s.server.config.limits = subst AreInRange (sym held.limit) ranges in
+      let own : IsHeldState s.server.config.limits s.server = subst (λ (l : Bounds). IsHeldState l s.server) (sym held.limit) held in
+      let short : length (normal_body s.server p) ≤ s.server.config.limits.max_body = omega (arith, fits, ap length c.is, ap (λ (l : Bounds). l.max_body) held.limit) in
+      let set : IsSettledChange s.server p = settled_change s.server p here own proper (accepted s p told) short in
+      let asks : asked (reading again) ≡ did_change (Some set.again) = ap (λ b. asked (reading b)) c.is ∙ set.asks in (
+        ap (judge_incoming s) asks ∙ again_incoming s p set.again set.same_step ∙ ap (judge_incoming s) (sym c.asks),
+        ap (λ (x : IncomingData). normal_if s.server (change_in x) (judge_incoming s m).verdict) asks ∙ ap (normal_if s.server (Some set.again)) c.told ∙ ap Some (set.same_body ∙ sym c.is),
+      )
+
+  again_from : (s : Session) (side : Side) (body again : List ℕ) → IsHeldState limits s.server → normal_if s.server (change_in (asked (reading body))) (judge_from s side body).verdict ≡ Some again
+      → length again ≤ limits.max_body → IsJudgedAgain s side body again
+  again_from s Client body again held normal fits = again_client s body again held normal fits
+  again_from s Server body again held normal fits =
+      let none : None ≡ Some again = sym (heard_has_none s.server (change_in (asked (reading body))) s s.expected body) ∙ normal in absurd (cc)
+
+  again_at : (s : Session) (line_due : Bool) (side : Side) (body again : List ℕ) → IsHeldState limits s.server
+      → normal_if s.server (change_in (asked (reading body))) (judge_from (versioned s line_due) side body).verdict ≡ Some again → length again ≤ limits.max_body
+      → (judge_from (versioned s line_due) side again ≡ judge_from (versioned s line_due) side body)
+      × (normal_if s.server (change_in (asked (reading again))) (judge_from (versioned s line_due) side body).verdict ≡ Some again)
+  again_at s true side body again held normal fits = again_from (record s { version = Two }) side body again held normal fits
+  again_at s false side body again held normal fits = again_from s side body again held normal fits
+
+  pub judged_again : (s : Session) (head : Head) (body again : List ℕ) → IsHeldState limits s.server → normal_of s body (judge_at s head body).verdict ≡ Some again → length again ≤ limits.max_body
+      → (judge_at s head again ≡ judge_at s head body) × (normal_of s again (judge_at s head body).verdict ≡ Some again)
+  judged_again s head body again held normal fits =
+      let same = again_at s head.line_due head.side body again held normal fits in
+      (ap (λ (j : Judged). record j { session = record j.session { records = one_more j.session.records } }) same.0, same.1)

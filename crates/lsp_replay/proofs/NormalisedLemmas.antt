@@ -1,0 +1,286 @@
+-- What `normalise` writes of a log: a log of which the same is told, and of which the same is written.
+use Rattle.std.proofs.Common.{◌≡◌, ◌≢◌, ℕ, ◌+◌, ◌<◌, ◌≤◌, ◌^◌, Bool, true, false, List, [], ◌∷◌, ◌++◌, length, Option, Some, None, refl, sym, ap, ◌∙◌, subst, arith, append_assoc, append-nil, nat_lt, ⊎_elim, codes}
+use Rattle.std.specs.Prelude.{⊤, if◌then◌else◌, Result, Ok, Err}
+use Rattle.std.specs.List.{AllByRecursion}
+use Rattle.std.proofs.lemmas.Bool.{cases_Bool, ltb-false}
+use Rattle.lsp_frame.specs.Faults.{place_behind}
+use Rattle.lsp_frame.specs.Frame.{frame, Spells}
+use Rattle.lsp_frame.specs.Header.{IsNameByte, Line, header_of, lines_bytes, line_bytes}
+use Rattle.lsp_frame.specs.Limits.{Bounds, AreInRange}
+use Rattle.lsp_frame.proofs.WrittenLemmas.{written_spells}
+use Rattle.lsp_replay.specs.declared.engines.Settings.{Settings}
+use Rattle.lsp_replay.specs.declared.outcome.Outcome.{Outcome}
+use Rattle.lsp_replay.specs.declared.outcome.EngineFault.{EngineFault}
+use Rattle.lsp_replay.specs.declared.outcome.EngineFault.TheVariants.{BadLog, BodyTooLong}
+use Rattle.lsp_replay.specs.declared.record.Version.{Version}
+use Rattle.lsp_replay.specs.declared.record.Version.TheVariants.{One, Two}
+use Rattle.lsp_replay.specs.declared.record.Side.{Side}
+use Rattle.lsp_replay.specs.declared.record.Side.TheVariants.{Client, Server}
+use Rattle.lsp_replay.specs.declared.record.Head.{Head}
+use Rattle.lsp_replay.specs.Log.{Reading, Record, Log, IsRecord, AreRecords, IsReadAs, IsVersion, together, record_bytes, mark_of, line_of, version_line, is_line_due}
+use Rattle.lsp_replay.specs.Course.{Course, written_first, stopped}
+use Rattle.lsp_replay.specs.Session.{Session, Verdict, answered, recorded, bad, Judged, judge, judge_at, opened, outcome_of}
+use Rattle.lsp_replay.specs.Engine.{last_of}
+use Rattle.lsp_replay.specs.Engines.{View, Gives, gives, ends, go_on, unless_bad, course_in, normalising, replaying, normal_gives, normal_of, written, front_of, line_if, as_log, log_config, normal, report}
+use Rattle.lsp_replay.specs.Laws.{NormalLaw, IsNormal, TellsAlike, all_of}
+use Rattle.lsp_replay.proofs.StateLemmas.{IsHeldState}
+use Rattle.lsp_replay.proofs.LineLemmas.{is_version_one}
+use Rattle.lsp_replay.proofs.JudgeLemmas.{IsVersionAt, judged_version, judged_held, judged_again}
+
+-- ---- a course, a record at a time
+
+abbrev pub course_by : View → Session → Record → List Record → Judged → Gives → Course
+course_by view s r rs j g = go_on g.out g.end (course_in view j.session rs)
+
+-- what is known of a record's judgement and of what it gives tells the course
+pub course_of : (view : View) (s : Session) (r : Record) (rs : List Record) (j : Judged) (out : List ℕ) → judge s r ≡ j → view.record_gives s r j ≡ gives out
+    → course_in view s (r ∷ rs) ≡ written_first out (course_in view j.session rs)
+course_of view s r rs j out is gives_it =
+    ap (λ (k : Judged). course_by view s r rs k (view.record_gives s r k)) is ∙ ap (course_by view s r rs j) gives_it
+
+pub went_on : (out : List ℕ) (end : Option (Result Outcome EngineFault)) (c : Course) → (go_on out end c).stop ≡ None → (end ≡ None) × (c.stop ≡ None)
+went_on out None c e = (refl, e)
+went_on out (Some answer) c e = absurd (let bad_one : Some answer ≡ None = e in cc)
+
+-- a verdict that isn't bad
+abbrev pub Passes : Verdict → Type 0
+Passes verdict = (r : Record) (g : Gives) → unless_bad r verdict g ≡ g
+
+pub passes : (verdict : Verdict) (r : Record) (g : Gives) → (unless_bad r verdict g).end ≡ None → Passes verdict
+passes (answered answer) r g e = λ q h. refl
+passes recorded r g e = λ q h. refl
+passes bad r g e = absurd (let bad_one : Some (Err (BadLog r.head.place)) ≡ None = e in cc)
+
+-- ---- one record
+
+-- a head at a place
+abbrev pub placed : ℕ → Head → Head
+placed at head = record head { place = place_behind 0 at }
+
+-- the record that is written of a record, with its canonical body, if it has one
+abbrev normal_record : ℕ → Record → Option (List ℕ) → Record
+normal_record at r None = record { head = placed at r.head; spelling = r.spelling; body = r.body }
+normal_record at r (Some body) = record { head = placed at r.head; spelling = frame body; body = body }
+
+-- It is judged as the record, and the same is written of both.
+pub record IsWrittenAs (limits : Bounds) (at : ℕ) (s : Session) (r q : Record) : Type 0 where
+  pub spells : Spells limits.max_body q.spelling q.body
+  pub place : q.head.place ≡ place_behind 0 at
+  pub version : q.head.version ≡ r.head.version
+  pub side : q.head.side ≡ r.head.side
+  pub due : q.head.line_due ≡ r.head.line_due
+  pub same : judge s q ≡ judge s r
+  pub first : normalising.record_gives s r (judge s r) ≡ gives (front_of (judge s r).session r ++ q.spelling)
+  pub again : normalising.record_gives s q (judge s r) ≡ gives (front_of (judge s r).session r ++ q.spelling)
+  pub told : replaying.record_gives s r (judge s r) ≡ gives []
+  pub told_again : replaying.record_gives s q (judge s r) ≡ gives []
+
+module _ (limits : Bounds) (ranges : AreInRange limits) where
+  module _ (at : ℕ) (s : Session) (r : Record) (held : IsHeldState limits s.server) (spells : Spells limits.max_body r.spelling r.body)
+      (passing : Passes (judge s r).verdict) where
+    kept : normal_of s r.body (judge s r).verdict ≡ None → IsWrittenAs limits at s r (normal_record at r None)
+    kept none = record {
+      spells = spells;
+      place = refl;
+      version = refl;
+      side = refl;
+      due = refl;
+      same = refl;
+      first = passing r _ ∙ ap (written s.server.config.limits.max_body r (front_of (judge s r).session r)) none;
+      again = passing (normal_record at r None) _ ∙ ap (written s.server.config.limits.max_body (normal_record at r None) (front_of (judge s r).session r)) none;
+      told = passing r _;
+      told_again = passing (normal_record at r None) _;
+    }
+
+    fits : (body : List ℕ) → (written s.server.config.limits.max_body r (front_of (judge s r).session r) (Some body)).end ≡ None → nat_lt s.server.config.limits.max_body (length body) ≡ false
+    fits body e = by (nat_lt s.server.config.limits.max_body (length body)) e
+      where
+        by : (over : Bool) → (if over then ends [] (Err (BodyTooLong r.head.place)) else gives (front_of (judge s r).session r ++ frame body)).end ≡ None → over ≡ false
+        by true f = absurd (let bad_one : Some (Err (BodyTooLong r.head.place)) ≡ None = f in cc)
+        by false f = refl
+
+    framed : (q : Record) (body : List ℕ) → nat_lt s.server.config.limits.max_body (length body) ≡ false
+        → written s.server.config.limits.max_body q (front_of (judge s r).session r) (Some body) ≡ gives (front_of (judge s r).session r ++ frame body)
+    framed q body short = rw short refl
+
+    changed : (body : List ℕ) → normal_of s r.body (judge s r).verdict ≡ Some body → (normal_gives s r (judge s r)).end ≡ None → IsWrittenAs limits at s r (normal_record at r (Some body))
+    changed body some e =
+        let short : nat_lt s.server.config.limits.max_body (length body) ≡ false =
+        fits body (ap (λ n. (written s.server.config.limits.max_body r (front_of (judge s r).session r) n).end) (sym some) ∙ e) in
+        let small : length body ≤ limits.max_body = subst (λ (l : Bounds). length body ≤ l.max_body) held.limit (ltb-false s.server.config.limits.max_body (length body) short) in
+        let twice = judged_again limits ranges s r.head r.body body held some small in
+        record {
+          spells = written_spells limits.max_body body small (omega (arith, small, ranges.greatest_body));
+          place = refl;
+          version = refl;
+          side = refl;
+          due = refl;
+          same = twice.0;
+          first = passing r _ ∙ ap (written s.server.config.limits.max_body r (front_of (judge s r).session r)) some ∙ framed r body short;
+          again =
+              passing (normal_record at r (Some body)) _ ∙ ap (written s.server.config.limits.max_body (normal_record at r (Some body)) (front_of (judge s r).session r)) twice.1
+              ∙ framed (normal_record at r (Some body)) body short;
+          told = passing r _;
+          told_again = passing (normal_record at r (Some body)) _;
+        }
+
+    pub written_as : (normalised : Option (List ℕ)) → normal_of s r.body (judge s r).verdict ≡ normalised → (normal_gives s r (judge s r)).end ≡ None → IsWrittenAs limits at s r (normal_record at r normalised)
+    written_as None none e = kept none
+    written_as (Some body) some e = changed body some e
+
+  -- ---- all records
+
+  -- what stands in front of the first record
+  abbrev front_if : Bool → List Record → List ℕ
+  front_if due [] = []
+  front_if due (r ∷ rs) = line_if due
+
+  front_none : (rs : List Record) → front_if false rs ≡ []
+  front_none [] = refl
+  front_none (r ∷ rs) = refl
+
+  four : (a b c d : List ℕ) → ((a ++ b) ++ c) ++ d ≡ a ++ ((b ++ c) ++ d)
+  four a b c d = ap (λ z. z ++ d) (append_assoc a b c) ∙ append_assoc a (b ++ c) d
+
+  -- The records that are written of some, the first at a place: they are a log's, the same is told of them, and the same is written.
+  record AreWritten (at : ℕ) (version : Version) (due : Bool) (s : Session) (rs qs : List Record) : Type 0 where
+    are : AreRecords limits.max_body version at due qs
+    out : (course_in normalising s rs).out ≡ front_if due rs ++ together version qs []
+    last : (line_due : Bool) → (course_in normalising s rs).last line_due ≡ line_if line_due
+    again : course_in normalising s qs ≡ course_in normalising s rs
+    same : course_in replaying s qs ≡ course_in replaying s rs
+    to_end : (course_in replaying s rs).stop ≡ None
+    outcome : (course_in normalising s rs).outcome ≡ (course_in replaying s rs).outcome
+
+  module _ (at before : ℕ) (version : Version) (due : Bool) (s : Session) (r q : Record) (rs qs : List Record) (is : IsRecord limits.max_body version before due r) (told : IsVersionAt version due s)
+      (one : IsWrittenAs limits at s r q) (more : AreWritten (at + length (record_bytes version q)) version false (judge s r).session rs qs) where
+    fresh : IsVersionAt version r.head.line_due s
+    fresh = subst (λ (b : Bool). IsVersionAt version b s) (sym is.due) told
+
+    front_is : front_of (judge s r).session r ≡ line_if due ++ mark_of version q.head.side
+    front_is =
+        ap (λ b. line_if b ++ mark_of (judge s r).session.version r.head.side) is.due
+        ∙ ap (λ v. line_if due ++ mark_of v r.head.side) (judged_version version s r.head r.body fresh)
+        ∙ ap (λ side. line_if due ++ mark_of version side) (sym one.side)
+
+    first : course_in normalising s (r ∷ rs) ≡ written_first (front_of (judge s r).session r ++ q.spelling) (course_in normalising (judge s r).session rs)
+    first = course_of normalising s r rs (judge s r) (front_of (judge s r).session r ++ q.spelling) refl one.first
+
+    told_first : course_in replaying s (r ∷ rs) ≡ written_first [] (course_in replaying (judge s r).session rs)
+    told_first = course_of replaying s r rs (judge s r) [] refl one.told
+
+    one_more : AreWritten at version due s (r ∷ rs) (q ∷ qs)
+    one_more = record {
+      are =
+          (record {
+            spells = one.spells;
+            version_is = one.version ∙ is.version_is;
+            side = λ e. one.side ∙ is.side e;
+            placed = one.place;
+            due = one.due ∙ is.due;
+          }, more.are);
+      out =
+          ap (λ (c : Course). c.out) first ∙ ap (λ z. (front_of (judge s r).session r ++ q.spelling) ++ z) (more.out ∙ ap (λ z. z ++ together version qs []) (front_none rs))
+          ∙ ap (λ z. (z ++ q.spelling) ++ together version qs []) front_is ∙ four (line_if due) (mark_of version q.head.side) q.spelling (together version qs []);
+      last = λ line_due. ap (λ (c : Course). c.last line_due) first ∙ more.last line_due;
+      again =
+          course_of normalising s q qs (judge s r) (front_of (judge s r).session r ++ q.spelling) one.same one.again
+          ∙ ap (written_first (front_of (judge s r).session r ++ q.spelling)) more.again ∙ sym first;
+      same = course_of replaying s q qs (judge s r) [] one.same one.told_again ∙ ap (written_first []) more.same ∙ sym told_first;
+      to_end = ap (λ (c : Course). c.stop) told_first ∙ more.to_end;
+      outcome = ap (λ (c : Course). c.outcome) first ∙ more.outcome ∙ sym (ap (λ (c : Course). c.outcome) told_first);
+    }
+
+  abbrev normal_from : ℕ → Version → Session → List Record → List Record
+  normal_from at version s [] = []
+  normal_from at version s (r ∷ rs) =
+      normal_record at r (normal_of s r.body (judge s r).verdict)
+      ∷ normal_from (at + length (record_bytes version (normal_record at r (normal_of s r.body (judge s r).verdict)))) version (judge s r).session rs
+
+  later : (version : Version) (s : Session) (head : Head) (body : List ℕ) → IsVersionAt version head.line_due s → IsVersionAt version false (judge_at s head body).session
+  later version s head body told = record { told = λ e. absurd (let bad_one : false ≡ true = e in cc); kept = λ _. judged_version version s head body told }
+
+  written_log : (at before : ℕ) (version : Version) (due : Bool) (s : Session) (rs : List Record) → IsHeldState limits s.server → IsVersionAt version due s
+      → AreRecords limits.max_body version before due rs → (course_in normalising s rs).stop ≡ None → AreWritten at version due s rs (normal_from at version s rs)
+  written_log at before version due s [] held told each goes =
+      record { are = tt; out = refl; last = λ line_due. refl; again = refl; same = refl; to_end = refl; outcome = refl }
+  written_log at before version due s (r ∷ rs) held told each goes =
+      let g = normal_gives s r (judge s r) in
+      let on = went_on (unless_bad r (judge s r).verdict g).out (unless_bad r (judge s r).verdict g).end (course_in normalising (judge s r).session rs) goes in
+      let passing : Passes (judge s r).verdict = passes (judge s r).verdict r g on.0 in
+      let inner : g.end ≡ None = ap (λ (h : Gives). h.end) (sym (passing r g)) ∙ on.0 in
+      let one = written_as at s r held each.0.spells passing (normal_of s r.body (judge s r).verdict) refl inner in
+      let q = normal_record at r (normal_of s r.body (judge s r).verdict) in
+      let fresh_here : IsVersionAt version r.head.line_due s = subst (λ (b : Bool). IsVersionAt version b s) (sym each.0.due) told in
+      one_more at before version due s r q rs (normal_from (at + length (record_bytes version q)) version (judge s r).session rs) each.0 told one
+      (written_log (at + length (record_bytes version q)) (before + length (record_bytes version r)) version false (judge s r).session rs (judged_held limits s r held)
+      (later version s r.head r.body fresh_here) each.1 on.1)
+
+
+-- ---- the bytes
+
+due_same : (limits : Bounds) (ranges : AreInRange limits) (at : ℕ) (version : Version) (s : Session) (rs : List Record) → is_line_due version (normal_from limits ranges at version s rs) ≡ is_line_due version rs
+due_same limits ranges at One s [] = refl
+due_same limits ranges at One s (r ∷ rs) = refl
+due_same limits ranges at Two s [] = refl
+due_same limits ranges at Two s (r ∷ rs) = refl
+
+all_is : (limits : Bounds) (ranges : AreInRange limits) (version : Version) (rs : List Record) (bytes : List ℕ) → ((rs ≡ []) → bytes ≡ [])
+    → (front_if limits ranges (is_line_due version []) rs ++ bytes) ++ line_if (is_line_due version rs) ≡ line_of version ++ bytes
+all_is limits ranges One [] bytes none = append-nil bytes
+all_is limits ranges One (r ∷ rs) bytes none = append-nil bytes
+all_is limits ranges Two [] bytes none = ap (λ z. z ++ version_line) (none refl) ∙ sym (append-nil version_line) ∙ ap (λ z. version_line ++ z) (sym (none refl))
+all_is limits ranges Two (r ∷ rs) bytes none = append-nil (version_line ++ bytes)
+
+version_is : (max_body : ℕ) (version : Version) (rs : List Record) (bytes : List ℕ) → AreRecords max_body version (length (line_of version)) (is_line_due version []) rs
+    → bytes ≡ line_of version ++ together version rs [] → IsVersion true version bytes
+version_is max_body One rs bytes are is = λ wanted more e. is_version_one max_body 0 false rs are wanted more (sym is ∙ e)
+version_is max_body Two rs bytes are is = (refl, (together Two rs [], is))
+
+start_at : (settings : Settings) (version : Version) → IsVersionAt version (is_line_due version []) (opened (log_config settings))
+start_at settings One = record { told = λ e. absurd (let bad_one : false ≡ true = e in cc); kept = λ e. refl }
+start_at settings Two = record { told = λ e. refl; kept = λ e. absurd (let bad_one : true ≡ false = e in cc) }
+
+none_together : (limits : Bounds) (ranges : AreInRange limits) (at : ℕ) (version : Version) (s : Session) (rs : List Record) → rs ≡ [] → together version (normal_from limits ranges at version s rs) [] ≡ []
+none_together limits ranges at version s [] e = refl
+none_together limits ranges at version s (r ∷ rs) e = absurd (let lengths = ap length e in cc)
+
+-- What `normalise` writes of a log is a log, of which the same is told and the same is written.
+pub normal_law : NormalLaw
+normal_law settings ranges input log reads whole goes = record {
+  outcome = w.outcome;
+  tells = record {
+    log = next;
+    reads = record { version = version_is settings.limits.max_body log.version qs bytes w.are is; accepted = λ e. absurd (let bad_one : false ≡ true = e in cc); is = is; each = w.are };
+    whole = refl;
+    to_end = ap (λ (c : Course). c.stop) w.same ∙ w.to_end;
+    alike = w.same;
+  };
+  goes_on = ap (λ (c : Course). c.stop) w.again ∙ goes;
+  again = ap (λ (c : Course). c.out ++ c.last (is_line_due log.version qs)) w.again
+      ∙ ap (λ due. (normal settings log.records).out ++ (normal settings log.records).last due) (due_same settings.limits ranges start log.version s log.records);
+}
+  where
+    start : ℕ
+    start = length (line_of log.version)
+
+    s : Session
+    s = opened (log_config settings)
+
+    qs : List Record
+    qs = normal_from settings.limits ranges start log.version s log.records
+
+    w : AreWritten settings.limits ranges start log.version (is_line_due log.version []) s log.records qs
+    w = written_log settings.limits ranges start start log.version (is_line_due log.version []) s log.records (record { limit = refl; table = tt }) (start_at settings log.version) reads.each goes
+
+    next : Log
+    next = record { version = log.version; records = qs; rest = [] }
+
+    bytes : List ℕ
+    bytes = all_of (normal settings) log
+
+    is : bytes ≡ line_of log.version ++ together log.version qs []
+    is =
+        ap (λ z. z ++ (normal settings log.records).last (is_line_due log.version log.records)) w.out
+        ∙ ap (λ z. (front_if settings.limits ranges (is_line_due log.version []) log.records ++ together log.version qs []) ++ z) (w.last (is_line_due log.version log.records))
+        ∙ all_is settings.limits ranges log.version log.records (together log.version qs []) (none_together settings.limits ranges start log.version s log.records)

@@ -1,0 +1,154 @@
+-- What a server holds: texts in UTF-8, and within its limit.
+use Rattle.std.proofs.Common.{◌≡◌, ◌≢◌, ℕ, ℤ, ◌≤◌, Bool, true, false, List, [], ◌∷◌, ◌++◌, map, length, Option, Some, None, IsUtf8, Result, Ok, Err, bytes_eq, refl, sym, ap, ◌∙◌, subst, arith, ⊎_elim}
+use Rattle.std.specs.Prelude.{⊤, if◌then◌else◌, nat_lt, nat_le, is_some}
+use Rattle.std.specs.Str.{all_scalars, chars}
+use Rattle.std.proofs.lemmas.Bool.{cases_Bool, ltb-false}
+use Rattle.std.proofs.lemmas.Str.{scalars-chars}
+use Rattle.lsp_frame.specs.Limits.{Bounds}
+use Rattle.lsp_text.specs.Units.{units_in}
+use Rattle.lsp_edit.specs.Items.{Item, text_of}
+use Rattle.lsp_edit.specs.Batch.{Edit, meaning}
+use Rattle.lsp_message.specs.Message.{IdData}
+use Rattle.lsp_message.specs.Params.{OpenData, ChangeData}
+use Rattle.lsp_store.specs.Table as table
+use Rattle.lsp_store.specs.Table.{Entry, Refusal, already_open, too_many_documents, text_too_long, not_open, entry_at, open_refusal, change_refusal, refusal_on, entry_refusal, changed, meant_text, after_open, after_change, after_close, close_refusal, unless_refused, bytes_after}
+use Rattle.lsp_store.specs.Message.{AreTexts}
+use Rattle.lsp_store.proofs.MessageLemmas.{Accepts, accepted_parts}
+use Rattle.lsp_store.proofs.ScalarLemmas.{scalar-meaning, scalar-text}
+use Rattle.lsp_server.specs.declared.phase.Phase.{Phase}
+use Rattle.lsp_server.specs.declared.phase.Phase.TheVariants.{New, Running, Down, Ended}
+use Rattle.lsp_server.specs.Incoming.{IncomingData, not_json, not_a_message, response, initialize, shutdown, other_request, exit, did_open, did_change, did_close, other_notification}
+use Rattle.lsp_server.specs.Step.{State, Step, step_in, step_on, obeyed, edit_of, encoding_of}
+use Rattle.lsp_replay.proofs.ReadLemmas.{OnSome}
+use Rattle.lsp_replay.proofs.AskedLemmas.{IsProperAsked, IsTextOpened, IsProperIncoming}
+
+pub record IsHeldEntry (limits : Bounds) (entry : Entry) : Type 0 where
+  pub utf8 : IsUtf8 entry.text
+  pub short : length entry.text ≤ limits.max_text
+
+abbrev pub IsHeldTable : Bounds → List Entry → Type 0
+IsHeldTable limits [] = ⊤
+IsHeldTable limits (entry ∷ table) = IsHeldEntry limits entry × IsHeldTable limits table
+
+pub held_at : (limits : Bounds) (table : List Entry) (uri : List ℕ) (entry : Entry) → IsHeldTable limits table → entry_at table uri ≡ Some entry → IsHeldEntry limits entry
+held_at limits [] uri entry held found = absurd (let bad : None ≡ Some entry = found in cc)
+held_at limits (first ∷ table) uri entry held found =
+    ⊎_elim
+    (λ (is : bytes_eq uri first.uri ≡ true). let at : Some first ≡ Some entry = rw is at found in let same : first ≡ entry = cc in subst (IsHeldEntry limits) same held.0)
+    (λ (not : bytes_eq uri first.uri ≡ false). held_at limits table uri entry held.1 (rw not at found))
+    (cases_Bool (bytes_eq uri first.uri))
+
+-- ---- commands
+
+held_end : (limits : Bounds) (table : List Entry) (entry : Entry) → IsHeldTable limits table → IsHeldEntry limits entry → IsHeldTable limits (after_open table entry)
+held_end limits [] entry held is = (is, tt)
+held_end limits (first ∷ table) entry held is = (held.0, held_end limits table entry held.1 is)
+
+opened_short : (limits : Bounds) (table : List Entry) (entry : Entry) → open_refusal limits table entry ≡ None → length entry.text ≤ limits.max_text
+opened_short limits table entry e = by (is_some (entry_at table entry.uri)) (nat_le limits.max_docs (length table)) (nat_lt limits.max_text (length entry.text)) e (ltb-false limits.max_text (length entry.text))
+  where
+    by : (a b c : Bool) → (if a then Some already_open else if b then Some too_many_documents else if c then Some text_too_long else None) ≡ None
+        → (c ≡ false → length entry.text ≤ limits.max_text) → length entry.text ≤ limits.max_text
+    by true b c f is = absurd (let bad : Some already_open ≡ None = f in cc)
+    by false true c f is = absurd (let bad : Some too_many_documents ≡ None = f in cc)
+    by false false true f is = absurd (let bad : Some text_too_long ≡ None = f in cc)
+    by false false false f is = is refl
+
+held_changed : (limits : Bounds) (units : ℕ → ℕ) (entry : Entry) (version : ℤ) (batch : List Edit) → AreTexts batch → IsHeldEntry limits entry
+    → entry_refusal limits units entry version batch ≡ None → IsHeldEntry limits (changed units entry version batch)
+held_changed limits units entry version batch texts held e =
+    let a = accepted_parts limits units entry version batch e in
+    let made : meant_text entry.text (meaning units (chars entry.text) batch) ≡ bytes_after entry.text a.items = ap (meant_text entry.text) a.means in
+    let all : all_scalars (text_of (chars entry.text) a.items) ≡ true =
+    scalar-text (chars entry.text) a.items (scalars-chars entry.text held.utf8) (scalar-meaning units (chars entry.text) batch a.items texts a.means) in
+    record {
+      utf8 = subst IsUtf8 (sym made) (text_of (chars entry.text) a.items, (all, refl));
+      short = subst (λ (text : List ℕ). length text ≤ limits.max_text) (sym made) a.short;
+    }
+
+held_change : (limits : Bounds) (units : ℕ → ℕ) (table : List Entry) (uri : List ℕ) (version : ℤ) (batch : List Edit) → AreTexts batch → IsHeldTable limits table
+    → change_refusal limits units table uri version batch ≡ None → IsHeldTable limits (after_change units table uri version batch)
+held_change limits units [] uri version batch texts held e = tt
+held_change limits units (first ∷ table) uri version batch texts held e =
+    ⊎_elim
+    (λ (is : bytes_eq uri first.uri ≡ true).
+    let here : entry_refusal limits units first version batch ≡ None = rw is at e in
+    rw is (held_changed limits units first version batch texts held.0 here, held.1))
+    (λ (not : bytes_eq uri first.uri ≡ false).
+    let later : change_refusal limits units table uri version batch ≡ None = rw not at e in
+    rw not (held.0, held_change limits units table uri version batch texts held.1 later))
+    (cases_Bool (bytes_eq uri first.uri))
+
+held_close : (limits : Bounds) (table : List Entry) (uri : List ℕ) → IsHeldTable limits table → IsHeldTable limits (after_close table uri)
+held_close limits [] uri held = tt
+held_close limits (first ∷ table) uri held =
+    ⊎_elim (λ (is : bytes_eq uri first.uri ≡ true). rw is held.1) (λ (not : bytes_eq uri first.uri ≡ false). rw not (held.0, held_close limits table uri held.1)) (cases_Bool (bytes_eq uri first.uri))
+
+-- ---- a server
+
+-- the limits that a server keeps, and what it holds within them
+pub record IsHeldState (limits : Bounds) (s : State) : Type 0 where
+  pub limit : s.config.limits ≡ limits
+  pub table : IsHeldTable limits s.table
+
+obeyed_held : (limits : Bounds) (s : State) (refusal : Option Refusal) (next : List Entry) → IsHeldState limits s → (refusal ≡ None → IsHeldTable limits next) → IsHeldState limits (obeyed s (unless_refused refusal next)).state
+obeyed_held limits s None next held made = record { limit = held.limit; table = made refl }
+obeyed_held limits s (Some refusal) next held made = held
+
+open_step : (limits : Bounds) (s : State) (params : Option OpenData) → OnSome IsTextOpened params → IsHeldState limits s → IsHeldState limits (step_in Running s (did_open params)).state
+open_step limits s None proper held = held
+open_step limits s (Some p) proper held =
+    obeyed_held limits s (open_refusal s.config.limits s.table (record { uri = p.uri; language = p.language; version = p.version; text = p.text })) _ held
+    (λ e.
+    let none : open_refusal limits s.table (record { uri = p.uri; language = p.language; version = p.version; text = p.text }) ≡ None = rw held.limit at e in
+    held_end limits s.table _ held.table (record { utf8 = proper; short = opened_short limits s.table (record { uri = p.uri; language = p.language; version = p.version; text = p.text }) none }))
+
+change_step : (limits : Bounds) (s : State) (params : Option ChangeData) → OnSome IsProperAsked params → IsHeldState limits s → IsHeldState limits (step_in Running s (did_change params)).state
+change_step limits s None proper held = held
+change_step limits s (Some p) proper held =
+    obeyed_held limits s (change_refusal s.config.limits (units_in (encoding_of s)) s.table p.uri p.version (map edit_of p.changes)) _ held
+    (λ e.
+    let none : change_refusal limits (units_in (encoding_of s)) s.table p.uri p.version (map edit_of p.changes) ≡ None = rw held.limit at e in
+    held_change limits (units_in (encoding_of s)) s.table p.uri p.version (map edit_of p.changes) proper.texts held.table none)
+
+-- A step keeps it.
+step_held : (limits : Bounds) (phase : Phase) (s : State) (m : IncomingData) → IsProperIncoming m → IsHeldState limits s → IsHeldState limits (step_in phase s m).state
+step_held limits Ended s m proper held = held
+step_held limits New s not_json proper held = held
+step_held limits New s (not_a_message id) proper held = held
+step_held limits New s (response id outcome) proper held = held
+step_held limits New s exit proper held = record { limit = held.limit; table = held.table }
+step_held limits New s (initialize id None) proper held = held
+step_held limits New s (initialize id (Some offers)) proper held = record { limit = held.limit; table = held.table }
+step_held limits New s (shutdown id) proper held = held
+step_held limits New s (other_request id method params) proper held = held
+step_held limits New s (did_open params) proper held = held
+step_held limits New s (did_change params) proper held = held
+step_held limits New s (did_close params) proper held = held
+step_held limits New s (other_notification method params) proper held = held
+step_held limits Running s not_json proper held = held
+step_held limits Running s (not_a_message id) proper held = held
+step_held limits Running s (response id outcome) proper held = held
+step_held limits Running s exit proper held = record { limit = held.limit; table = held.table }
+step_held limits Running s (initialize id offers) proper held = held
+step_held limits Running s (shutdown id) proper held = record { limit = held.limit; table = held.table }
+step_held limits Running s (other_request id method params) proper held = held
+step_held limits Running s (did_open params) proper held = open_step limits s params proper held
+step_held limits Running s (did_change params) proper held = change_step limits s params proper held
+step_held limits Running s (did_close None) proper held = held
+step_held limits Running s (did_close (Some p)) proper held = obeyed_held limits s (close_refusal s.table p.uri) _ held (λ e. held_close limits s.table p.uri held.table)
+step_held limits Running s (other_notification method params) proper held = held
+step_held limits Down s not_json proper held = held
+step_held limits Down s (not_a_message id) proper held = held
+step_held limits Down s (response id outcome) proper held = held
+step_held limits Down s exit proper held = record { limit = held.limit; table = held.table }
+step_held limits Down s (initialize id offers) proper held = held
+step_held limits Down s (shutdown id) proper held = held
+step_held limits Down s (other_request id method params) proper held = held
+step_held limits Down s (did_open params) proper held = held
+step_held limits Down s (did_change params) proper held = held
+step_held limits Down s (did_close params) proper held = held
+step_held limits Down s (other_notification method params) proper held = held
+
+pub step_on_held : (limits : Bounds) (s : State) (m : IncomingData) → IsProperIncoming m → IsHeldState limits s → IsHeldState limits (step_on s m).state
+step_on_held limits s m proper held = step_held limits s.phase s m proper held

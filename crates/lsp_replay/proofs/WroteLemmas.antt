@@ -1,0 +1,81 @@
+-- What an engine wrote where it came to the end of a log.
+use Rattle.std.proofs.Common.{◌≡◌, ◌≢◌, ℕ, Bool, true, false, List, [], ◌∷◌, ◌++◌, length, Option, Some, None, refl, sym, ap, ◌∙◌, ⊎_elim, ◌⊎◌, inl, inr, nat_lt}
+use Rattle.std.specs.Prelude.{⊤, if◌then◌else◌, Result, Ok, Err, IfOk}
+use Rattle.std.specs.Io.KnownBytes.{Consumes}
+use Rattle.lsp_frame.specs.Frame.{frame}
+use Rattle.lsp_frame.specs.Limits.{AreInRange}
+use Rattle.lsp_replay.specs.declared.engines.Settings.{Settings}
+use Rattle.lsp_replay.specs.declared.outcome.Outcome.{Outcome}
+use Rattle.lsp_replay.specs.declared.outcome.EngineFault.{EngineFault}
+use Rattle.lsp_replay.specs.declared.outcome.EngineFault.TheVariants.{BadLog, BodyTooLong}
+use Rattle.lsp_replay.specs.Log.{Record, Log}
+use Rattle.lsp_replay.specs.Course.{Course}
+use Rattle.lsp_replay.specs.Session.{Session, Verdict, answered, recorded, bad, judge, opened}
+use Rattle.lsp_replay.specs.Engine.{Ran, AtEnd, Stopped}
+use Rattle.lsp_replay.specs.Engines.{View, Gives, gives, ends, go_on, unless_bad, course_in, normalising, written, normal_of, front_of, normal_gives, as_log, log_config, normal, report}
+use Rattle.lsp_replay.specs.Laws.{IsNormal, Wrote, all_of}
+use Rattle.lsp_replay.proofs.NormalisedLemmas.{normal_law}
+
+-- ---- no record ends the run of `normalise` or `convert` well
+
+abbrev pub IsNotOk : Option (Result Outcome EngineFault) → Type 0
+IsNotOk None = ⊤
+IsNotOk (Some (Ok outcome)) = ⊥
+IsNotOk (Some (Err fault)) = ⊤
+
+pub not_ok_on : (out : List ℕ) (end : Option (Result Outcome EngineFault)) (c : Course) → IsNotOk end → IsNotOk c.stop → IsNotOk (go_on out end c).stop
+not_ok_on out None c here later = later
+not_ok_on out (Some answer) c here later = here
+
+pub unless_not_ok : (r : Record) (verdict : Verdict) (g : Gives) → IsNotOk g.end → IsNotOk (unless_bad r verdict g).end
+unless_not_ok r (answered answer) g not_ok = not_ok
+unless_not_ok r recorded g not_ok = not_ok
+unless_not_ok r bad g not_ok = tt
+
+written_not_ok : (max_body : ℕ) (r : Record) (front : List ℕ) (normalised : Option (List ℕ)) → IsNotOk (written max_body r front normalised).end
+written_not_ok max_body r front None = tt
+written_not_ok max_body r front (Some body) = by (nat_lt max_body (length body))
+  where
+    by : (over : Bool) → IsNotOk (if over then ends [] (Err (BodyTooLong r.head.place)) else gives (front ++ frame body)).end
+    by true = tt
+    by false = tt
+
+normal_not_ok : (s : Session) (rs : List Record) → IsNotOk (course_in normalising s rs).stop
+normal_not_ok s [] = tt
+normal_not_ok s (r ∷ rs) =
+    not_ok_on (unless_bad r (judge s r).verdict (normal_gives s r (judge s r))).out (unless_bad r (judge s r).verdict (normal_gives s r (judge s r))).end (course_in normalising (judge s r).session rs)
+    (unless_not_ok r (judge s r).verdict (normal_gives s r (judge s r))
+    (written_not_ok s.server.config.limits.max_body r (front_of (judge s r).session r) (normal_of s r.body (judge s r).verdict)))
+    (normal_not_ok (judge s r).session rs)
+
+pub stops_not_ok : (stop : Option (Result Outcome EngineFault)) (outcome : Outcome) → IsNotOk stop → stop ≢ Some (Ok outcome)
+stops_not_ok None outcome not_ok e = absurd (cc)
+stops_not_ok (Some (Ok other)) outcome not_ok e = not_ok
+stops_not_ok (Some (Err fault)) outcome not_ok e = absurd (cc)
+
+module _ (settings : Settings) (ranges : AreInRange settings.limits) (left_old left_new held_old held_new : Option (List ℕ)) where
+  normal_at_end : (input : List ℕ) (outcome : Outcome) → AtEnd (as_log settings) (normal settings) input held_old held_new outcome → Consumes left_old left_new input
+      → Wrote settings (IsNormal settings) left_old left_new held_old held_new outcome
+  normal_at_end input outcome end read =
+      let holds : IsNormal settings end.log.records (all_of (normal settings) end.log) = normal_law settings ranges input end.log end.reads end.whole end.goes_on in
+      record {
+        input = input;
+        read = read;
+        log = end.log;
+        reads = end.reads;
+        whole = end.whole;
+        tells = end.tells ∙ holds.outcome;
+        bytes = all_of (normal settings) end.log;
+        wrote = end.wrote;
+        holds = holds;
+      }
+
+  pub wrote_normal : (ended : Bool) (result : Result Outcome EngineFault) → Ran (as_log settings) (normal settings) ended left_old left_new held_old held_new result
+      → IfOk result (Wrote settings (IsNormal settings) left_old left_new held_old held_new)
+  wrote_normal ended (Err fault) ran = tt
+  wrote_normal ended (Ok outcome) ran =
+      ⊎_elim
+      (λ (stopped : Stopped (as_log settings) (normal settings) ran.input held_old held_new (Ok outcome)).
+      absurd (stops_not_ok (normal settings stopped.log.records).stop outcome (normal_not_ok (opened (log_config settings)) stopped.log.records) stopped.stops))
+      (λ (end : (ended ≡ true) × AtEnd (as_log settings) (normal settings) ran.input held_old held_new outcome). normal_at_end ran.input outcome end.1 ran.read)
+      ran.came

@@ -1,0 +1,10 @@
+use Rattle.lsp_replay.specs.Engines.{normal}
+use Rattle.lsp_replay.proofs.WroteLemmas.{wrote_normal}
+use Rattle.lsp_replay.proofs.engines.normalise.Goals as goal
+
+pub returns-clause-normal : goal.returns-clause-normal
+returns-clause-normal g c =
+    let course = rw c.config.ensures at c.new-normalise.ensures.session in
+    let ran = rw (c.rules-rules.ensures, course) at c.run_engine.ensures.ran in
+    wrote_normal c.args.settings c.known.ensures (g.R.Source.left c.args.reader.now) (g.R.Source.left c.run_engine.new.reader) (g.W.Sink.held c.args.writer.now) (g.W.Sink.held c.run_engine.new.writer)
+    (g.R.Source.has_ended c.run_engine.new.reader) c.run_engine.result ran

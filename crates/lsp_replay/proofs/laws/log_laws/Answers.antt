@@ -1,0 +1,5 @@
+use Rattle.lsp_replay.proofs.NormalisedLemmas.{normal_law}
+use Rattle.lsp_replay.proofs.laws.log_laws.Goals as goal
+
+pub returns : goal.returns
+returns c = record { normal = normal_law }

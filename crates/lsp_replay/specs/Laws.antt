@@ -1,0 +1,48 @@
+-- What holds of every log, and of the logs that are written of it.
+use Rattle.std.specs.Prelude.{ℕ, ◌≡◌, List, [], ◌++◌, Option, None}
+use Rattle.std.specs.Io.KnownBytes.{Consumes, Appends}
+use Rattle.lsp_frame.specs.Limits.{AreInRange}
+use Rattle.lsp_replay.specs.declared.engines.Settings.{Settings}
+use Rattle.lsp_replay.specs.declared.outcome.Outcome.{Outcome}
+use Rattle.lsp_replay.specs.Log.{Record, Log, IsReadAs}
+use Rattle.lsp_replay.specs.Course.{Course}
+use Rattle.lsp_replay.specs.Engine.{last_of}
+use Rattle.lsp_replay.specs.Engines.{report, normal, as_log}
+
+-- all that a course gives for a log that is records and nothing else
+abbrev pub all_of : (List Record → Course) → Log → List ℕ
+all_of course log = (course log.records).out ++ last_of course log
+
+-- The bytes are a log, records and nothing else, of which `replay` tells what it tells of these records: the same documents, with the same
+-- status and counts.
+pub record TellsAlike (settings : Settings) (records : List Record) (bytes : List ℕ) : Type 0 where
+  pub log : Log
+  pub reads : IsReadAs (as_log settings) bytes log
+  pub whole : log.rest ≡ []
+  pub to_end : (report settings log.records).stop ≡ None
+  pub alike : report settings log.records ≡ report settings records
+
+-- The same, and `normalise` writes of it the same bytes. Its own status and counts are those of `replay`.
+pub record IsNormal (settings : Settings) (records : List Record) (bytes : List ℕ) : Type 0 where
+  pub outcome : (normal settings records).outcome ≡ (report settings records).outcome
+  pub tells : TellsAlike settings records bytes
+  pub goes_on : (normal settings tells.log.records).stop ≡ None
+  pub again : all_of (normal settings) tells.log ≡ bytes
+
+-- What `normalise` writes of a log, where no record ends the run.
+abbrev pub NormalLaw : Type 0
+NormalLaw =
+    (settings : Settings) → AreInRange settings.limits → (input : List ℕ) (log : Log) → IsReadAs (as_log settings) input log → log.rest ≡ []
+    → (normal settings log.records).stop ≡ None → IsNormal settings log.records (all_of (normal settings) log)
+
+-- An engine came to the end of a log: it wrote bytes of which this holds, and answered the status and the counts of `replay`.
+pub record Wrote (settings : Settings) (Holds : List Record → List ℕ → Type 0) (left_old left_new held_old held_new : Option (List ℕ)) (outcome : Outcome) : Type 0 where
+  pub input : List ℕ
+  pub read : Consumes left_old left_new input
+  pub log : Log
+  pub reads : IsReadAs (as_log settings) input log
+  pub whole : log.rest ≡ []
+  pub tells : outcome ≡ (report settings log.records).outcome
+  pub bytes : List ℕ
+  pub wrote : Appends held_old held_new bytes
+  pub holds : Holds log.records bytes
