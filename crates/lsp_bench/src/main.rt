@@ -1,18 +1,20 @@
 //! Times the layers on made input. `lsp_bench MB` frames streams of that many megabytes, 1 where no number is
 //! given: the times go to standard error, and what was read to standard output. Words as `text=64` give the
 //! other sizes: megabytes of `text`, `lookups` in each text, `lines` of the text that is edited, `edits` at each place.
-//! `lsp_bench edits` changes texts.
+//! `lsp_bench edits` changes texts. `lsp_bench parse` frames and parses what standard input has, and tells how much that was.
 #![tactic(auto)]
 
 mod edits;
 mod frames;
 mod lines;
 mod messages;
+mod parsing;
 
 use anyhow::{Context, Result};
 use frames::{copied, made_stream, read_stream};
 use lines::Sizes;
 use messages::time_messages;
+use parsing::parse_all;
 use std::alloc::Global;
 use std::env;
 use std::rt::Runtime;
@@ -23,10 +25,12 @@ const BODIES: [usize; 3] = [50, 500, 1_048_576];
 const PIECES: [usize; 4] = [1, 64, 4_096, 65_536];
 
 fn main(rt: HostRuntime) -> Result<()> {
-    if let Some(word) = env::args(&rt)?.nth(1)
-        && word.as_str() == "edits"
-    {
-        return edits::run(&rt);
+    if let Some(word) = env::args(&rt)?.nth(1) {
+        match word.as_str() {
+            "edits" => return edits::run(&rt),
+            "parse" => return parse(&rt),
+            _ => {}
+        }
     }
     let megabytes = megabytes(&rt)?;
     time_frames(&rt, megabytes)?;
@@ -40,6 +44,16 @@ fn main(rt: HostRuntime) -> Result<()> {
         },
     )?;
     time_messages(&rt, megabytes)
+}
+
+/// Frames and parses what standard input has.
+fn parse(rt: &HostRuntime) -> Result<()> {
+    let parsed = parse_all(rt.alloc(), &mut rt.stdin())?;
+    println!(rt;
+        "{} frames, {} bytes, {} objects",
+        parsed.frames, parsed.bytes, parsed.objects
+    )?;
+    Ok(())
 }
 
 /// Frames streams, beside a plain copy of each.
