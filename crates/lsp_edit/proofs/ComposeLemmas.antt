@@ -15,7 +15,7 @@ use Rattle.lsp_edit.proofs.KeepsLemmas.{meaning_keeps}
 use Rattle.lsp_edit.proofs.RebuiltLemmas.{canonical_makes}
 
 -- an item of a mapped list, also past its end
-at_mapped : {X Y : Type 0} (f : X → Y) (xs : List X) (k : ℕ) (default : X) → get_or (map f xs) k (f default) ≡ f (get_or xs k default)
+pub at_mapped : {X Y : Type 0} (f : X → Y) (xs : List X) (k : ℕ) (default : X) → get_or (map f xs) k (f default) ≡ f (get_or xs k default)
 at_mapped f [] k default = refl
 at_mapped f (x ∷ xs) zero default = refl
 at_mapped f (x ∷ xs) (suc k) default = at_mapped f xs k default

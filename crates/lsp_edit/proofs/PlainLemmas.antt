@@ -13,15 +13,18 @@ use Rattle.lsp_text.specs.TextLines.{numbers_from, splits_crlf}
 use Rattle.lsp_text.proofs.PlaceLemmas.{place_boundary}
 use Rattle.lsp_edit.specs.declared.change.Change.{Change}
 use Rattle.lsp_edit.specs.declared.plain.Item.{Item as PlainItem}
+use Rattle.lsp_edit.specs.declared.plain.Item.TheVariants.{New as PlainNew}
 use Rattle.lsp_edit.specs.Items.{Item, Old, New, plain, character_of, text_of}
 use Rattle.lsp_edit.specs.Batch.{Edit, after_change, after_changes, changed_in, meaning}
+use Rattle.lsp_edit.specs.Compose.{told_through, then_items}
 use Rattle.lsp_edit.specs.Canonical.{Gap, gaps, is_changed, change_of}
-use Rattle.lsp_edit.specs.Edited.{Edited, edit_of, edited_bytes, edited_text}
+use Rattle.lsp_edit.specs.Edited.{Edited, both_counts, edit_of, edited_bytes, edited_text}
 use Rattle.lsp_edit.specs.Faults.{places_at, ends_of}
 use Rattle.lsp_edit.specs.Keeps.{Keeps}
 use Rattle.lsp_edit.specs.Laws.{HasExactEnds, AllHaveExactEnds}
 use Rattle.lsp_edit.specs.Plain.{ArePlain, item_of, items_in_order, gap_at, change_at}
 use Rattle.lsp_edit.proofs.AppliedLemmas.{AreEnds, ends_told}
+use Rattle.lsp_edit.proofs.ComposeLemmas.{at_mapped, text_of-then, then_keeps}
 use Rattle.lsp_edit.proofs.CutLemmas.{chars_front}
 use Rattle.lsp_edit.proofs.GapLemmas.{gaps_from, gaps_are, ends_exact}
 use Rattle.lsp_edit.proofs.EditedLemmas.{plain_text, edited_chars, first_bytes}
@@ -239,3 +242,34 @@ pub range_put : (units : ℕ → ℕ) (old : List ℕ) (items own made : List It
 range_put units old items own made characters range start stop low high ends own_is low_is high_is made_is =
     range_made units old items characters range start stop ends
     ∙ ap (λ (i : List Item). Ok i) (sym (made_is ∙ (λ i. take (low_is i) (own_is i) ++ (map New characters ++ drop (high_is i) (own_is i)))))
+
+-- An item told through others, as the program has them.
+pub item_through : (first : List PlainItem) (index : ℕ) → item_of (get_or first index (PlainNew 0)) ≡ told_through (items_in_order first) (Old index)
+item_through first index = sym (at_mapped item_of first index (PlainNew 0))
+
+-- The fields of what two runs of changes make together.
+pub then_plain : (before old mid over : List ℕ) (items others : List Item) (made : List Item) → ArePlain before old items → ArePlain mid over others → chars mid ≡ text_of (chars before) items → made ≡ then_items items others → ArePlain before old made
+then_plain before old mid over items others made are were same is =
+    let text : text_of (chars before) made ≡ text_of (chars mid) others
+    = ap (text_of (chars before)) is ∙ (text_of-then (chars before) items others ∙ ap (λ (t : List ℕ). text_of t others) (sym same)) in
+    record {
+      utf8 = are.utf8;
+      old_is = are.old_is;
+      size = are.size;
+      keeps = subst (Keeps (chars before) 0) (sym is) (then_keeps (λ c. 1) (λ c. omega arith) (chars before) items others are.keeps (subst (λ (t : List ℕ). Keeps t 0 others) same were.keeps));
+      room = omega (arith, were.room, ap (λ (t : List ℕ). length (encode_utf8_all t)) text);
+    }
+
+pub over_plain : (before mid : List ℕ) (items others : List Item) (changes more : ℕ) (first second : Edited) → record { before = chars before; items = items; changes = changes } ≡ first → record { before = chars mid; items = others; changes = more } ≡ second → second.before ≡ edited_text first
+    → chars mid ≡ text_of (chars before) items
+over_plain before mid items others changes more first second view other over = ap (λ (e : Edited). e.before) other ∙ (over ∙ sym (ap edited_text view))
+
+pub then_told : (before mid : List ℕ) (items others made : List Item) (changes more count : ℕ) (first second : Edited) → record { before = chars before; items = items; changes = changes } ≡ first → record { before = chars mid; items = others; changes = more } ≡ second
+    → made ≡ then_items items others → count ≡ both_counts changes more
+    → ◌≡◌ {A = Edited} (record { before = chars before; items = made; changes = count }) (record { before = first.before; items = then_items first.items second.items; changes = both_counts first.changes second.changes })
+then_told before mid items others made changes more count first second view other is counted =
+    let a : ◌≡◌ {A = Edited} (record { before = chars before; items = made; changes = count }) (record { before = chars before; items = then_items items others; changes = both_counts changes more })
+    = λ i. record { before = chars before; items = is i; changes = counted i } in
+    let b : ◌≡◌ {A = Edited} (record { before = chars before; items = then_items items others; changes = both_counts changes more }) (record { before = first.before; items = then_items first.items second.items; changes = both_counts first.changes second.changes })
+    = λ i. record { before = (view i).before; items = then_items (view i).items (other i).items; changes = both_counts (view i).changes (other i).changes } in
+    a ∙ b

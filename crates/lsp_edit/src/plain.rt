@@ -9,7 +9,8 @@ ghost use Rattle.lsp_text.specs.Units.{units_in};
 ghost use Rattle.lsp_edit.specs.Items.{Old as OldItem, New as NewItem, character_of as spec_character_of, plain as plain_items, text_of as spec_text_of};
 ghost use Rattle.lsp_edit.specs.Batch.{Edit, after_change, after_changes, changed_in, meaning};
 ghost use Rattle.lsp_edit.specs.Canonical.{canonical as spec_canonical, is_changed};
-ghost use Rattle.lsp_edit.specs.Edited.{Applied, Means, edit_of, edited_bytes};
+ghost use Rattle.lsp_edit.specs.Compose.{then_items as spec_then_items, told_through as spec_told_through};
+ghost use Rattle.lsp_edit.specs.Edited.{Applied, Means, both_counts, edit_of, edited_bytes, edited_text};
 ghost use Rattle.lsp_edit.specs.Faults.{TellsBatchFault, TellsFault};
 ghost use Rattle.lsp_edit.specs.Keeps.{Keeps};
 ghost use Rattle.lsp_edit.specs.Laws.{HasExactEnds, IsCanonical, KeepsPairs, RangesStay};
@@ -110,6 +111,26 @@ impl<'a> Plain<'a> {
         Ok(())
     }
 
+    /// What two runs of changes make together, the second over the text that the first left.
+    pub fn then(&self, second: &Plain) -> Result<Self, AllocError>
+        requires { second.now.before ≡ edited_text self.now }
+        ensures { IfOk result (λ plain. plain ≡ record {
+          before = self.now.before;
+          items = spec_then_items self.now.items second.now.items;
+          changes = both_counts self.now.changes second.now.changes;
+        }) }
+    {
+        let items = then_items(self.alloc, &self.items, &second.items)?;
+        let characters = Vec::from_slice(self.alloc, &self.characters)?;
+        Ok(Plain {
+            alloc: self.alloc,
+            before: self.before,
+            characters,
+            items,
+            changes: self.changes.saturating_add(second.changes),
+        })
+    }
+
     /// The text as it is now.
     pub fn text(&self) -> Result<String, AllocError>
         ensures { IfOk result (λ text. string_bytes text ≡ edited_bytes self.now) }
@@ -143,6 +164,33 @@ impl<'a> Plain<'a> {
             &self.items,
         )
     }
+}
+
+/// An item over a text, told over what the items of that text are over.
+fn told_through(first: &[Item], item: Item) -> Item
+    ensures { item_of result ≡ spec_told_through (items_in_order first.now) (item_of item) }
+{
+    match item {
+        Item::Old(index) => {
+            if index < first.len() {
+                first[index]
+            } else {
+                Item::New('\0')
+            }
+        }
+        Item::New(character) => Item::New(character),
+    }
+}
+
+/// Items over the text of the first, told over what the first are over.
+fn then_items(alloc: Global, first: &[Item], second: &[Item]) -> Result<Vec<Item>, AllocError>
+    ensures { IfOk result (λ made. items_in_order made.items ≡ spec_then_items (items_in_order first.now) (items_in_order second.now)) }
+{
+    let mut made = Vec::new(alloc);
+    for item in second {
+        made.push(told_through(first, *item))?;
+    }
+    Ok(made)
 }
 
 /// What a batch makes of a text: its changes are applied one after another.

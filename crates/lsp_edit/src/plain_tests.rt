@@ -83,6 +83,41 @@ fn two_batches_are_one_plainly(rt: HostRuntime) -> Result<(), Fail> {
     Ok(())
 }
 
+/// What two batches, one after the other, leave of a text by what they mean together, and the canonical batch of both.
+fn left_by_both_plainly(
+    alloc: Global,
+    before: &str,
+    first: &[Change],
+    second: &[Change],
+) -> Result<(String, Vec<Change>), EditFault> {
+    if before.len() > MAX_OLD_TEXT || !fits(first) || !fits(second) {
+        return Err(EditFault::NoMemory);
+    }
+    let one = plain::compose(alloc, before, Encoding::Utf16, first)?;
+    let middle = one.text()?;
+    if middle.len() > MAX_OLD_TEXT {
+        return Err(EditFault::NoMemory);
+    }
+    let two = plain::compose(alloc, &middle, Encoding::Utf16, second)?;
+    let both = one.then(&two)?;
+    let text = both.text()?;
+    let canonical = both.canonical(Encoding::Utf16)?;
+    Ok((text, canonical))
+}
+
+#[test]
+fn two_meanings_are_one_plainly(rt: HostRuntime) -> Result<(), Fail> {
+    for (before, first, second, text, canonical) in PAIRS {
+        let one = batch(rt.alloc(), first)?;
+        let two = batch(rt.alloc(), second)?;
+        let (after, written) = left_by_both_plainly(rt.alloc(), before, &one, &two)?;
+        assert_eq!(rt; after.as_str(), text, "{before:?}");
+        let wanted = batch(rt.alloc(), canonical)?;
+        assert_eq!(rt; written.as_slice(), wanted.as_slice(), "{before:?}");
+    }
+    Ok(())
+}
+
 #[test]
 fn many_changes_are_the_same_plainly(rt: HostRuntime) -> Result<(), Fail> {
     let mut before = String::new(rt.alloc());

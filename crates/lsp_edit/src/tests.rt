@@ -253,6 +253,46 @@ fn two_batches_are_one(rt: HostRuntime) -> Result<(), Fail> {
     Ok(())
 }
 
+/// What two batches, one after the other, leave of a text by what they mean together: the text, its canonical batch, how many spans it
+/// has.
+fn left_by_both(
+    alloc: Global,
+    before: &str,
+    first: &[Change],
+    second: &[Change],
+) -> Result<(String, Vec<Change>, usize), EditFault> {
+    if before.len() > MAX_OLD_TEXT || !fits(first) || !fits(second) {
+        return Err(EditFault::NoMemory);
+    }
+    let one = compose(alloc, before, Encoding::Utf16, first)?;
+    let middle = one.text()?;
+    if middle.len() > MAX_OLD_TEXT {
+        return Err(EditFault::NoMemory);
+    }
+    let two = compose(alloc, &middle, Encoding::Utf16, second)?;
+    let both = Pieces::then(alloc, &one, &two)?;
+    let text = both.text()?;
+    let canonical = both.canonical(Encoding::Utf16)?;
+    Ok((text, canonical, both.spans().len()))
+}
+
+/// How many spans each pair of batches leaves: what was put in and taken out again leaves none, and what touches is one.
+const SPANS: [usize; 6] = [3, 1, 2, 2, 4, 1];
+
+#[test]
+fn two_meanings_are_one(rt: HostRuntime) -> Result<(), Fail> {
+    for ((before, first, second, text, canonical), spans) in PAIRS.into_iter().zip(SPANS) {
+        let one = batch(rt.alloc(), first)?;
+        let two = batch(rt.alloc(), second)?;
+        let (after, written, count) = left_by_both(rt.alloc(), before, &one, &two)?;
+        assert_eq!(rt; after.as_str(), text, "{before:?}");
+        let wanted = batch(rt.alloc(), canonical)?;
+        assert_eq!(rt; written.as_slice(), wanted.as_slice(), "{before:?}");
+        assert_eq!(rt; count, spans, "{before:?}");
+    }
+    Ok(())
+}
+
 /// The lines of the text that is handed over are those of that text, whether it was changed in place or made at the end.
 #[test]
 fn a_text_is_handed_over_with_its_lines(rt: HostRuntime) -> Result<(), Fail> {

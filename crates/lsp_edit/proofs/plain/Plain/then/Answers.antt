@@ -1,0 +1,18 @@
+use Rattle.std.proofs.Common.{ℕ, ap, ap₂, sym, subst, ◌∙◌, List}
+use Rattle.lsp_edit.specs.Items.{Item}
+use Rattle.lsp_edit.specs.Compose.{then_items}
+use Rattle.lsp_edit.specs.Plain.{ArePlain, items_in_order}
+use Rattle.lsp_edit.proofs.PlainLemmas.{over_plain, then_plain, then_told}
+use Rattle.lsp_edit.proofs.plain.Plain.then.Goals as goal
+
+pub invariant_of-result : goal.invariant_of-result
+invariant_of-result c =
+    subst (λ (characters : List ℕ). ArePlain c.self.inside.before.now characters (items_in_order c.in_ok-items.items.items)) (sym (c.in_ok-characters.ensures.items ∙ c.deref-3.ensures.value))
+    (then_plain _ _ _ _ _ _ _ c.self.invariant c.second.invariant (over_plain _ _ _ _ _ _ c.args.self.now c.args.second.now c.self.view_is c.second.view_is c.requires)
+    (c.in_ok-items.ensures ∙ ap₂ (λ (x y : List Item). then_items x y) (ap items_in_order c.deref.ensures.value) (ap items_in_order c.deref-2.ensures.value)))
+
+pub returns : goal.returns
+returns c =
+    then_told _ _ _ _ _ _ _ _ c.args.self.now c.args.second.now c.self.view_is c.second.view_is
+    (c.in_ok-items.ensures ∙ ap₂ (λ (x y : List Item). then_items x y) (ap items_in_order c.deref.ensures.value) (ap items_in_order c.deref-2.ensures.value))
+    c.saturating_add.ensures
