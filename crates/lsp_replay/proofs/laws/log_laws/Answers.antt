@@ -1,4 +1,5 @@
 use Rattle.lsp_replay.proofs.NormalisedLemmas.{normal_law}
+use Rattle.lsp_replay.proofs.ConvertedLogLemmas.{five}
 use Rattle.lsp_replay.proofs.laws.log_laws.Goals as goal
 
 pub returns : goal.returns
