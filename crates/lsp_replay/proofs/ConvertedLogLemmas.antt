@@ -27,7 +27,7 @@ use Rattle.lsp_replay.specs.Session.{Session, Verdict, answered, recorded, bad, 
 use Rattle.lsp_replay.specs.Engines.{Gives, gives, ends, go_on, unless_bad, course_in, replaying, converting, line_if, line_before, reply_record, report_from, log_config, converted, report, as_log, as_converted}
 use Rattle.lsp_replay.specs.Laws.{IsReplyWithin, AreRepliesWithin, IsConverted, ConvertedLaw, TellsAlike, all_of}
 use Rattle.lsp_replay.proofs.AskedLemmas.{asked_proper}
-use Rattle.lsp_replay.proofs.NormalisedLemmas.{course_of, went_on}
+use Rattle.lsp_replay.proofs.NormalisedLemmas.{course_of, went_on, Passes, passes}
 use Rattle.lsp_replay.proofs.ConvertedLemmas.{twin, versioned_twin, IsGood, Follows, next_of, behind, waits, FollowsStep, follows_step, judged_one, judged_two}
 
 -- what stands in front of the first record
@@ -68,7 +68,7 @@ client_at at due r = record { head = record { version = Two; side = Client; plac
 server_at : ℕ → OutgoingData → Record
 server_at at m = record { head = record { version = Two; side = Server; place = place_behind 0 at; line_due = false }; spelling = frame (body_of m); body = body_of m }
 
-pub five : (a b c d e : List ℕ) → (((a ++ b) ++ c) ++ d) ++ e ≡ a ++ ((b ++ c) ++ (d ++ e))
+five : (a b c d e : List ℕ) → (((a ++ b) ++ c) ++ d) ++ e ≡ a ++ ((b ++ c) ++ (d ++ e))
 five a b c d e = append_assoc ((a ++ b) ++ c) d e ∙ ap (λ z. z ++ (d ++ e)) (append_assoc a b c) ∙ append_assoc a (b ++ c) (d ++ e)
 
 good_gives : (r : Record) (verdict : Verdict) (g : Gives) → (unless_bad r verdict g).end ≡ None → IsGood verdict
@@ -167,3 +167,83 @@ module _ (limits : Bounds) (ranges : AreInRange limits) where
     extend server already_ended e short one two follows more = plain server already_ended e refl one two follows more
     extend server (refused why) e short one two follows more = plain server (refused why) e refl one two follows more
     extend server (exits status) e short one two follows more = plain server (exits status) e refl one two follows more
+
+  converted_log : (at before : ℕ) (due : Bool) (s : Session) (version : Version) (n : ℕ) (rs : List Record) → s.version ≡ One → s.expected ≡ None → (due ≡ false → version ≡ Two) → Counts due s.records
+      → AreRecords limits.max_body One before false rs → (course_in converting s rs).stop ≡ None → AreRepliesWithin limits.max_body s rs → AreConverted at due s (twin s version n) rs
+  unfolding client_at
+  converted_log at before due s version n [] one none told counts each goes short = record { qs = []; are = tt; out = refl; same = refl }
+  converted_log at before due s version n (r ∷ rs) one none told counts each goes short =
+      let m = asked (reading r.body) in
+      let step = step_on s.server m in
+      let g = gives (line_before s ++ codes ">" ++ r.spelling ++ reply_record (judge s r).verdict) in
+      let on = went_on (unless_bad r (judge s r).verdict g).out (unless_bad r (judge s r).verdict g).end (course_in converting (judge s r).session rs) goes in
+      let client = judged_client s r each.0.due (each.0.side refl) in
+      let good : IsGood (judge_incoming s m).verdict = subst IsGood (ap (λ (j : Judged). j.verdict) client) (good_gives r (judge s r).verdict g on.0) in
+      let here : judge s r ≡ judged (answered (as_sent step.answer)) (next_of s step.state (as_sent step.answer)) = client ∙ ap counted (judged_one s n m one none good) in
+      let there : judge (twin s version n) (client_at at due r) ≡ judged (answered (as_sent step.answer)) (behind s n step.state (as_sent step.answer) (waits s.server.phase m)) =
+      ap (λ (u : Session). counted (judge_incoming u m)) (versioned_twin s version n due told) ∙ ap counted (judged_two s n m one none good) in
+      let next : (judge s r).session ≡ next_of s step.state (as_sent step.answer) = ap (λ (j : Judged). j.session) here in
+      extend at before due s (twin s version n) n r rs each.0 counts step.state step.answer (waits s.server.phase m)
+      (subst (IsReplyWithin limits.max_body) (ap (λ (j : Judged). j.verdict) here) short.0) here there (follows_step s n s.server.phase s.server m (asked_proper r.body))
+      (λ later k. converted_log later (before + length (record_bytes One r)) false (next_of s step.state (as_sent step.answer)) Two k rs one refl (λ e. refl) (some_records s.records) each.1
+      (subst (λ (u : Session). (course_in converting u rs).stop ≡ None) next on.1) (subst (λ (u : Session). AreRepliesWithin limits.max_body u rs) next short.1))
+
+-- ---- the end
+
+record IsTold (due : Bool) (s : Session) (rs : List Record) : Type 0 where
+  to_end : (course_in replaying s rs).stop ≡ None
+  outcome : (course_in converting s rs).outcome ≡ (course_in replaying s rs).outcome
+  last : (b : Bool) → (course_in converting s rs).last b ≡ last_if due rs
+
+told_log : (due : Bool) (s : Session) (rs : List Record) → Counts due s.records → (course_in converting s rs).stop ≡ None → IsTold due s rs
+told_log due s [] counts goes = record { to_end = refl; outcome = refl; last = λ b. line_is due s.records counts }
+told_log due s (r ∷ rs) counts goes =
+    let out = line_before s ++ codes ">" ++ r.spelling ++ reply_record (judge s r).verdict in
+    let on = went_on (unless_bad r (judge s r).verdict (gives out)).out (unless_bad r (judge s r).verdict (gives out)).end (course_in converting (judge s r).session rs) goes in
+    let passing : Passes (judge s r).verdict = passes (judge s r).verdict r (gives out) on.0 in
+    let first : course_in converting s (r ∷ rs) ≡ written_first out (course_in converting (judge s r).session rs) = course_of converting s r rs (judge s r) out refl (passing r (gives out)) in
+    let told : course_in replaying s (r ∷ rs) ≡ written_first [] (course_in replaying (judge s r).session rs) = course_of replaying s r rs (judge s r) [] refl (passing r (gives [])) in
+    let more : IsTold false (judge s r).session rs = told_log false (judge s r).session rs (some_records _) on.1 in
+    record {
+      to_end = ap (λ (c : Course). c.stop) told ∙ more.to_end;
+      outcome = ap (λ (c : Course). c.outcome) first ∙ more.outcome ∙ sym (ap (λ (c : Course). c.outcome) told);
+      last = λ b. ap (λ (c : Course). c.last b) first ∙ more.last b ∙ last_none rs;
+    }
+
+all_two : (rs : List Record) (out last bytes : List ℕ) → out ≡ front_if true rs ++ bytes → last ≡ last_if true rs → (rs ≡ [] → bytes ≡ []) → out ++ last ≡ version_line ++ bytes
+all_two [] out last bytes e f none = ap (λ z. z ++ last) (e ∙ none refl) ∙ f ∙ sym (append-nil version_line) ∙ ap (λ z. version_line ++ z) (sym (none refl))
+all_two (r ∷ rs) out last bytes e f none = ap (λ z. out ++ z) f ∙ append-nil out ∙ e
+
+none_out : (limits : Bounds) (ranges : AreInRange limits) (at : ℕ) (due : Bool) (s t : Session) (rs : List Record) (w : AreConverted limits ranges at due s t rs) → rs ≡ [] → together Two w.qs [] ≡ []
+none_out limits ranges at due s t [] w e = sym w.out
+none_out limits ranges at due s t (r ∷ rs) w e = absurd (let lengths = ap length e in cc)
+
+-- What `convert` writes of a log is a log of which the same is told.
+pub converted_law : ConvertedLaw
+converted_law settings ranges input log reads whole goes = record {
+  outcome = facts.outcome;
+  tells = λ short.
+      let w = made short in
+      let is : all_of (converted settings) log ≡ version_line ++ together Two w.qs [] =
+      all_two log.records (converted settings log.records).out ((converted settings log.records).last (is_line_due log.version log.records)) (together Two w.qs []) w.out (facts.last (is_line_due log.version log.records))
+      (none_out settings.limits ranges (length version_line) true s s log.records w) in
+      record {
+        log = record { version = Two; records = w.qs; rest = [] };
+        reads = record { version = (refl, (together Two w.qs [], is)); accepted = λ e. absurd (let wrong : false ≡ true = e in cc); is = is; each = w.are };
+        whole = refl;
+        to_end = ap (λ (c : Course). c.stop) w.same ∙ facts.to_end;
+        alike = w.same;
+      };
+}
+  where
+    s : Session
+    s = opened (log_config settings)
+
+    facts : IsTold true s log.records
+    facts = told_log true s log.records refl goes
+
+    each : AreRecords settings.limits.max_body One 0 false log.records
+    each = subst (λ (v : Version). AreRecords settings.limits.max_body v (length (line_of v)) (is_line_due v []) log.records) (reads.accepted refl) reads.each
+
+    made : AreRepliesWithin settings.limits.max_body s log.records → AreConverted settings.limits ranges (length version_line) true s s log.records
+    made short = converted_log settings.limits ranges (length version_line) 0 true s One 0 log.records refl refl (λ e. absurd (let wrong : true ≡ false = e in cc)) refl each goes short
