@@ -15,3 +15,5 @@ pub mod JudgeLemmas
 pub mod LineLemmas
 pub mod NormalisedLemmas
 pub mod WroteLemmas
+pub mod ConvertedLemmas
+pub mod ConvertedLogLemmas

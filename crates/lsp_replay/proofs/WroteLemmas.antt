@@ -1,5 +1,5 @@
 -- What an engine wrote where it came to the end of a log.
-use Rattle.std.proofs.Common.{◌≡◌, ◌≢◌, ℕ, Bool, true, false, List, [], ◌∷◌, ◌++◌, length, Option, Some, None, refl, sym, ap, ◌∙◌, ⊎_elim, ◌⊎◌, inl, inr, nat_lt}
+use Rattle.std.proofs.Common.{◌≡◌, ◌≢◌, ℕ, Bool, true, false, List, [], ◌∷◌, ◌++◌, length, Option, Some, None, refl, sym, ap, ◌∙◌, ⊎_elim, ◌⊎◌, inl, inr, nat_lt, codes}
 use Rattle.std.specs.Prelude.{⊤, if◌then◌else◌, Result, Ok, Err, IfOk}
 use Rattle.std.specs.Io.KnownBytes.{Consumes}
 use Rattle.lsp_frame.specs.Frame.{frame}
@@ -8,13 +8,14 @@ use Rattle.lsp_replay.specs.declared.engines.Settings.{Settings}
 use Rattle.lsp_replay.specs.declared.outcome.Outcome.{Outcome}
 use Rattle.lsp_replay.specs.declared.outcome.EngineFault.{EngineFault}
 use Rattle.lsp_replay.specs.declared.outcome.EngineFault.TheVariants.{BadLog, BodyTooLong}
-use Rattle.lsp_replay.specs.Log.{Record, Log}
+use Rattle.lsp_replay.specs.Log.{Record, Log, IsReadAs}
 use Rattle.lsp_replay.specs.Course.{Course}
 use Rattle.lsp_replay.specs.Session.{Session, Verdict, answered, recorded, bad, judge, opened}
 use Rattle.lsp_replay.specs.Engine.{Ran, AtEnd, Stopped}
-use Rattle.lsp_replay.specs.Engines.{View, Gives, gives, ends, go_on, unless_bad, course_in, normalising, written, normal_of, front_of, normal_gives, as_log, log_config, normal, report}
-use Rattle.lsp_replay.specs.Laws.{IsNormal, Wrote, all_of}
+use Rattle.lsp_replay.specs.Engines.{View, Gives, gives, ends, go_on, unless_bad, course_in, normalising, written, normal_of, front_of, normal_gives, converting, line_before, reply_record, as_log, as_converted, log_config, normal, converted, report}
+use Rattle.lsp_replay.specs.Laws.{IsNormal, IsConverted, Wrote, all_of}
 use Rattle.lsp_replay.proofs.NormalisedLemmas.{normal_law}
+use Rattle.lsp_replay.proofs.ConvertedLogLemmas.{converted_law}
 
 -- ---- no record ends the run of `normalise` or `convert` well
 
@@ -48,6 +49,13 @@ normal_not_ok s (r ∷ rs) =
     (written_not_ok s.server.config.limits.max_body r (front_of (judge s r).session r) (normal_of s r.body (judge s r).verdict)))
     (normal_not_ok (judge s r).session rs)
 
+converted_not_ok : (s : Session) (rs : List Record) → IsNotOk (course_in converting s rs).stop
+converted_not_ok s [] = tt
+converted_not_ok s (r ∷ rs) =
+    let g = gives (line_before s ++ codes ">" ++ r.spelling ++ reply_record (judge s r).verdict) in
+    not_ok_on (unless_bad r (judge s r).verdict g).out (unless_bad r (judge s r).verdict g).end (course_in converting (judge s r).session rs)
+    (unless_not_ok r (judge s r).verdict g tt) (converted_not_ok (judge s r).session rs)
+
 pub stops_not_ok : (stop : Option (Result Outcome EngineFault)) (outcome : Outcome) → IsNotOk stop → stop ≢ Some (Ok outcome)
 stops_not_ok None outcome not_ok e = absurd (cc)
 stops_not_ok (Some (Ok other)) outcome not_ok e = not_ok
@@ -78,4 +86,30 @@ module _ (settings : Settings) (ranges : AreInRange settings.limits) (left_old l
       (λ (stopped : Stopped (as_log settings) (normal settings) ran.input held_old held_new (Ok outcome)).
       absurd (stops_not_ok (normal settings stopped.log.records).stop outcome (normal_not_ok (opened (log_config settings)) stopped.log.records) stopped.stops))
       (λ (end : (ended ≡ true) × AtEnd (as_log settings) (normal settings) ran.input held_old held_new outcome). normal_at_end ran.input outcome end.1 ran.read)
+      ran.came
+
+  converted_at_end : (input : List ℕ) (outcome : Outcome) → AtEnd (as_converted settings) (converted settings) input held_old held_new outcome → Consumes left_old left_new input
+      → Wrote settings (IsConverted settings) left_old left_new held_old held_new outcome
+  converted_at_end input outcome end read =
+      let holds : IsConverted settings end.log.records (all_of (converted settings) end.log) = converted_law settings ranges input end.log end.reads end.whole end.goes_on in
+      record {
+        input = input;
+        read = read;
+        log = end.log;
+        reads = record { version = end.reads.version; accepted = λ e. absurd (let wrong : false ≡ true = e in cc); is = end.reads.is; each = end.reads.each };
+        whole = end.whole;
+        tells = end.tells ∙ holds.outcome;
+        bytes = all_of (converted settings) end.log;
+        wrote = end.wrote;
+        holds = holds;
+      }
+
+  pub wrote_converted : (ended : Bool) (result : Result Outcome EngineFault) → Ran (as_converted settings) (converted settings) ended left_old left_new held_old held_new result
+      → IfOk result (Wrote settings (IsConverted settings) left_old left_new held_old held_new)
+  wrote_converted ended (Err fault) ran = tt
+  wrote_converted ended (Ok outcome) ran =
+      ⊎_elim
+      (λ (stopped : Stopped (as_converted settings) (converted settings) ran.input held_old held_new (Ok outcome)).
+      absurd (stops_not_ok (converted settings stopped.log.records).stop outcome (converted_not_ok (opened (log_config settings)) stopped.log.records) stopped.stops))
+      (λ (end : (ended ≡ true) × AtEnd (as_converted settings) (converted settings) ran.input held_old held_new outcome). converted_at_end ran.input outcome end.1 ran.read)
       ran.came

@@ -1,13 +1,16 @@
 -- What holds of every log, and of the logs that are written of it.
-use Rattle.std.specs.Prelude.{ℕ, ◌≡◌, List, [], ◌++◌, Option, None}
+use Rattle.std.specs.Prelude.{ℕ, ◌≡◌, ◌≤◌, List, [], ◌∷◌, ◌++◌, length, Option, None}
 use Rattle.std.specs.Io.KnownBytes.{Consumes, Appends}
+use Rattle.lsp_frame.specs.Frame.{frame}
 use Rattle.lsp_frame.specs.Limits.{AreInRange}
+use Rattle.lsp_server.specs.Answer.{reply}
 use Rattle.lsp_replay.specs.declared.engines.Settings.{Settings}
 use Rattle.lsp_replay.specs.declared.outcome.Outcome.{Outcome}
 use Rattle.lsp_replay.specs.Log.{Record, Log, IsReadAs}
 use Rattle.lsp_replay.specs.Course.{Course}
 use Rattle.lsp_replay.specs.Engine.{last_of}
-use Rattle.lsp_replay.specs.Engines.{report, normal, as_log}
+use Rattle.lsp_replay.specs.Engines.{report, normal, converted, as_log, as_converted, log_config}
+use Rattle.lsp_replay.specs.Session.{Session, Verdict, answered, judge, opened}
 
 -- all that a course gives for a log that is records and nothing else
 abbrev pub all_of : (List Record → Course) → Log → List ℕ
@@ -46,3 +49,26 @@ pub record Wrote (settings : Settings) (Holds : List Record → List ℕ → Typ
   pub bytes : List ℕ
   pub wrote : Appends held_old held_new bytes
   pub holds : Holds log.records bytes
+
+-- ---- `convert`
+
+-- A reply's body is within the limit.
+abbrev pub IsReplyWithin : ℕ → Verdict → Type 0
+IsReplyWithin max_body (answered (reply m)) = (body : List ℕ) → m.frame ≡ frame body → length body ≤ max_body
+IsReplyWithin max_body verdict = Unit {0}
+
+-- So is that of each reply to these records.
+abbrev pub AreRepliesWithin : ℕ → Session → List Record → Type 0
+AreRepliesWithin max_body s [] = Unit {0}
+AreRepliesWithin max_body s (r ∷ rs) = IsReplyWithin max_body (judge s r).verdict × AreRepliesWithin max_body (judge s r).session rs
+
+-- What `convert` writes of a log is a log of which `replay` tells the same, if the limit on bodies lets the replies in it pass. Its own
+-- status and counts are those of `replay`.
+pub record IsConverted (settings : Settings) (records : List Record) (bytes : List ℕ) : Type 0 where
+  pub outcome : (converted settings records).outcome ≡ (report settings records).outcome
+  pub tells : AreRepliesWithin settings.limits.max_body (opened (log_config settings)) records → TellsAlike settings records bytes
+
+abbrev pub ConvertedLaw : Type 0
+ConvertedLaw =
+    (settings : Settings) → AreInRange settings.limits → (input : List ℕ) (log : Log) → IsReadAs (as_converted settings) input log → log.rest ≡ []
+    → (converted settings log.records).stop ≡ None → IsConverted settings log.records (all_of (converted settings) log)

@@ -4,7 +4,7 @@ ghost use Rattle.std.specs.Prelude.{◌≡◌, true, false, IfOk};
 ghost use Rattle.lsp_replay.specs.Engine.{Ran, Called};
 ghost use Rattle.lsp_replay.specs.Engines.{log_config, normal, as_stream, as_log, as_converted, replies, report, verdicts, converted};
 ghost use Rattle.lsp_frame.specs.Limits.{AreInRange};
-ghost use Rattle.lsp_replay.specs.Laws.{IsNormal, Wrote};
+ghost use Rattle.lsp_replay.specs.Laws.{IsConverted, IsNormal, Wrote};
 
 use crate::checking::Check;
 use crate::converting::Convert;
@@ -141,9 +141,12 @@ pub fn convert<R: Source, W: Sink>(
 ) -> Result<Outcome, EngineFault>
     ensures ran { Ran (as_converted settings) (converted settings) (R.has_ended reader.new)
         (R.left reader.old) (R.left reader.new) (W.held writer.old) (W.held writer.new) result }
+    // What was written is a log of which `replay` tells the same, where no reply in it is over the limit.
+    ensures converted { IfOk result (Wrote settings (IsConverted settings) (R.left reader.old) (R.left reader.new) (W.held writer.old) (W.held writer.new)) }
     ensures called { Called (R.count reader.old) (R.count reader.new) (W.count writer.old) (W.count writer.new) max_turns
         (R.has_failed reader.new) (W.has_failed writer.new) (R.has_ended reader.new) (R.left reader.new) result }
 {
+    settings.known();
     let rules = settings.rules(true);
     let mut convert = Convert::new(alloc, settings.config());
     run_engine(alloc, reader, writer, &mut convert, rules, max_turns)
@@ -163,6 +166,7 @@ pub fn normalise<R: Source, W: Sink>(
 ) -> Result<Outcome, EngineFault>
     ensures ran { Ran (as_log settings) (normal settings) (R.has_ended reader.new)
         (R.left reader.old) (R.left reader.new) (W.held writer.old) (W.held writer.new) result }
+    // What was written is a log of which `replay` tells the same, and its own normal form.
     ensures normal { IfOk result (Wrote settings (IsNormal settings) (R.left reader.old) (R.left reader.new) (W.held writer.old) (W.held writer.new)) }
     ensures called { Called (R.count reader.old) (R.count reader.new) (W.count writer.old) (W.count writer.new) max_turns
         (R.has_failed reader.new) (W.has_failed writer.new) (R.has_ended reader.new) (R.left reader.new) result }

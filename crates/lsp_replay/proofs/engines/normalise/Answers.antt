@@ -1,4 +1,3 @@
-use Rattle.lsp_replay.specs.Engines.{normal}
 use Rattle.lsp_replay.proofs.WroteLemmas.{wrote_normal}
 use Rattle.lsp_replay.proofs.engines.normalise.Goals as goal
 

@@ -1,5 +1,6 @@
 use Rattle.lsp_replay.proofs.NormalisedLemmas.{normal_law}
+use Rattle.lsp_replay.proofs.ConvertedLogLemmas.{converted_law}
 use Rattle.lsp_replay.proofs.laws.log_laws.Goals as goal
 
 pub returns : goal.returns
-returns c = record { normal = normal_law }
+returns c = record { normal = normal_law; converted = converted_law }

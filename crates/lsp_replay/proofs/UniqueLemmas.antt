@@ -1,0 +1,74 @@
+-- An input is taken apart in one way.
+use Rattle.std.proofs.Common.{◌≡◌, ◌≢◌, ℕ, ◌+◌, Bool, true, false, List, [], ◌∷◌, ◌++◌, length, refl, sym, ap, ◌∙◌, subst, append_assoc, append_cancel_left}
+use Rattle.std.specs.Prelude.{⊤}
+use Rattle.lsp_frame.specs.Faults.{place_behind}
+use Rattle.lsp_frame.specs.Frame.{Spells}
+use Rattle.lsp_frame.proofs.StreamLemmas.{SameFrame, same_frame}
+use Rattle.lsp_replay.specs.declared.record.Version.{Version}
+use Rattle.lsp_replay.specs.declared.record.Version.TheVariants.{One, Two}
+use Rattle.lsp_replay.specs.declared.record.Side.{Side}
+use Rattle.lsp_replay.specs.declared.record.Side.TheVariants.{Client, Server}
+use Rattle.lsp_replay.specs.declared.record.Head.{Head}
+use Rattle.lsp_replay.specs.Log.{Reading, Record, Log, IsRecord, AreRecords, IsReadAs, IsVersion, HasNoRecord, together, record_bytes, mark_of, line_of, version_line, is_line_due}
+use Rattle.lsp_replay.specs.Laws.{UniqueLaw}
+
+same_version : (versions : Bool) (version other : Version) (input : List ℕ) → IsVersion versions version input → IsVersion versions other input → version ≡ other
+same_version versions One One input is also = refl
+same_version versions Two Two input is also = refl
+same_version versions One Two input is also = absurd (is also.0 also.1.0 also.1.1)
+same_version versions Two One input is also = absurd (also is.0 is.1.0 is.1.1)
+
+-- Two marks are one where the same stands behind them.
+same_mark : (version : Version) (side other : Side) (a b : List ℕ) → (version ≡ One → side ≡ Client) → (version ≡ One → other ≡ Client) → mark_of version side ++ a ≡ mark_of version other ++ b
+    → (side ≡ other) × (a ≡ b)
+same_mark One side other a b one also e = (one refl ∙ sym (also refl), e)
+same_mark Two Client Client a b one also e = (refl, append_cancel_left (62 ∷ []) a b e)
+same_mark Two Server Server a b one also e = (refl, append_cancel_left (60 ∷ []) a b e)
+same_mark Two Client Server a b one also e = absurd (cc)
+same_mark Two Server Client a b one also e = absurd (cc)
+
+same_head : (version : Version) (place : ℕ) (due : Bool) (head other : Head) → head.version ≡ version → other.version ≡ version → head.side ≡ other.side → head.place ≡ place_behind 0 place → other.place ≡ place_behind 0 place
+    → head.line_due ≡ due → other.line_due ≡ due → head ≡ other
+same_head version place due head other a b side c d e f = λ i. record { version = (a ∙ sym b) i; side = side i; place = (c ∙ sym d) i; line_due = (e ∙ sym f) i }
+
+record IsSame (r q : Record) (rest other : List ℕ) : Type 0 where
+  record_is : r ≡ q
+  rest_is : rest ≡ other
+
+same_record : (max_body : ℕ) (version : Version) (place : ℕ) (due : Bool) (r q : Record) (rest other : List ℕ) → IsRecord max_body version place due r → IsRecord max_body version place due q
+    → record_bytes version r ++ rest ≡ record_bytes version q ++ other → IsSame r q rest other
+same_record max_body version place due r q rest other is also e =
+    let apart : mark_of version r.head.side ++ (r.spelling ++ rest) ≡ mark_of version q.head.side ++ (q.spelling ++ other) =
+    sym (append_assoc (mark_of version r.head.side) r.spelling rest) ∙ e ∙ append_assoc (mark_of version q.head.side) q.spelling other in
+    let marks = same_mark version r.head.side q.head.side (r.spelling ++ rest) (q.spelling ++ other) is.side also.side apart in
+    let frames : SameFrame r.spelling q.spelling r.body q.body rest other = same_frame max_body r.spelling q.spelling r.body q.body rest other is.spells also.spells marks.1 in
+    let heads : r.head ≡ q.head = same_head version place due r.head q.head is.version_is also.version_is marks.0 is.placed also.placed is.due also.due in
+    record { record_is = λ i. record { head = heads i; spelling = frames.spelling_is i; body = frames.body_is i }; rest_is = frames.rest_is }
+
+-- No record begins a rest.
+abbrev pub IsEnd : ℕ → Version → List ℕ → Type 0
+IsEnd max_body version rest = (side : Side) (spelling body more : List ℕ) → Spells max_body spelling body → rest ≢ mark_of version side ++ (spelling ++ more)
+
+-- The records of an input are the first of all its records.
+pub record AreFirst (version : Version) (rs all : List Record) (rest end : List ℕ) : Type 0 where
+  pub more : List Record
+  pub all_are : all ≡ rs ++ more
+  pub rest_is : rest ≡ together version more end
+
+pub first_records : (max_body : ℕ) (version : Version) (place : ℕ) (due : Bool) (rs all : List Record) (rest end : List ℕ) → AreRecords max_body version place due rs → AreRecords max_body version place due all
+    → together version rs rest ≡ together version all end → IsEnd max_body version end → AreFirst version rs all rest end
+first_records max_body version place due [] all rest end each also e ends = record { more = all; all_are = refl; rest_is = e }
+first_records max_body version place due (r ∷ rs) [] rest end each also e ends =
+    absurd (ends r.head.side r.spelling r.body (together version rs rest) each.0.spells (sym e ∙ append_assoc (mark_of version r.head.side) r.spelling (together version rs rest)))
+first_records max_body version place due (r ∷ rs) (q ∷ all) rest end each also e ends =
+    let same = same_record max_body version place due r q (together version rs rest) (together version all end) each.0 also.0 e in
+    let later : AreRecords max_body version (place + length (record_bytes version r)) false all =
+    subst (λ (x : Record). AreRecords max_body version (place + length (record_bytes version x)) false all) (sym same.record_is) also.1 in
+    let more = first_records max_body version (place + length (record_bytes version r)) false rs all rest end each.1 later same.rest_is ends in
+    record { more = more.more; all_are = ap (λ x. x ∷ all) (sym same.record_is) ∙ ap (λ l. r ∷ l) more.all_are; rest_is = more.rest_is }
+
+-- With no record behind them they are all.
+pub none_more : (max_body : ℕ) (version : Version) (place : ℕ) (more : List Record) (rest end : List ℕ) → AreRecords max_body version place false more → rest ≡ together version more end → IsEnd max_body version rest → more ≡ []
+none_more max_body version place [] rest end each is ends = refl
+none_more max_body version place (r ∷ more) rest end each is ends =
+    absurd (ends r.head.side r.spelling r.body (together version more end) each.0.spells (is ∙ append_assoc (mark_of version r.head.side) r.spelling (together version more end)))

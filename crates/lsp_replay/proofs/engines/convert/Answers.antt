@@ -1,0 +1,9 @@
+use Rattle.lsp_replay.proofs.WroteLemmas.{wrote_converted}
+use Rattle.lsp_replay.proofs.engines.convert.Goals as goal
+
+pub returns-clause-converted : goal.returns-clause-converted
+returns-clause-converted g c =
+    let course = rw c.config.ensures at c.new-convert.ensures.session in
+    let ran = rw (c.rules-rules.ensures, course) at c.run_engine.ensures.ran in
+    wrote_converted c.args.settings c.known.ensures (g.R.Source.left c.args.reader.now) (g.R.Source.left c.run_engine.new.reader) (g.W.Sink.held c.args.writer.now) (g.W.Sink.held c.run_engine.new.writer)
+    (g.R.Source.has_ended c.run_engine.new.reader) c.run_engine.result ran
