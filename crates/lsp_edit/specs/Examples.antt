@@ -42,8 +42,10 @@ through old middle (Err fault) second = Err fault
 
 pub record HoldsOnExamples : Type 0 where
   -- a change and an insertion at its place are one change, whichever comes first
-  pub a_deletion_and_an_insertion : leaves (codes "abc") (change 0 1 0 2 [] ∷ change 0 1 0 1 (codes "X") ∷ []) ≡ left (codes "aXc") (change 0 1 0 2 (codes "X") ∷ [])
-  pub an_insertion_and_a_deletion : leaves (codes "abc") (change 0 2 0 2 (codes "X") ∷ change 0 1 0 2 [] ∷ []) ≡ left (codes "aXc") (change 0 1 0 2 (codes "X") ∷ [])
+  pub a_deletion_and_an_insertion : leaves (codes "abc") (change 0 1 0 2 [] ∷ change 0 1 0 1 (codes "X") ∷ [])
+      ≡ left (codes "aXc") (change 0 1 0 2 (codes "X") ∷ [])
+  pub an_insertion_and_a_deletion : leaves (codes "abc") (change 0 2 0 2 (codes "X") ∷ change 0 1 0 2 [] ∷ [])
+      ≡ left (codes "aXc") (change 0 1 0 2 (codes "X") ∷ [])
   -- deleting the first of two equal characters isn't deleting the second
   pub the_first_of_two : leaves (codes "aa") (change 0 0 0 1 [] ∷ []) ≡ left (codes "a") (change 0 0 0 1 [] ∷ [])
   pub the_second_of_two : leaves (codes "aa") (change 0 1 0 2 [] ∷ []) ≡ left (codes "a") (change 0 1 0 2 [] ∷ [])
@@ -53,12 +55,15 @@ pub record HoldsOnExamples : Type 0 where
   pub no_text : leaves (codes "abc") (whole [] ∷ []) ≡ left [] (change 0 0 0 3 [] ∷ [])
   pub no_text_from_none : leaves [] (whole [] ∷ []) ≡ left [] []
   -- changes that touch are one change
-  pub touching_changes : leaves (codes "abcde") (change 0 1 0 2 (codes "X") ∷ change 0 3 0 4 (codes "Y") ∷ change 0 2 0 3 [] ∷ []) ≡ left (codes "aXYe") (change 0 1 0 4 (codes "XY") ∷ [])
+  pub touching_changes : leaves (codes "abcde") (change 0 1 0 2 (codes "X") ∷ change 0 3 0 4 (codes "Y") ∷ change 0 2 0 3 [] ∷ [])
+      ≡ left (codes "aXYe") (change 0 1 0 4 (codes "XY") ∷ [])
   -- a line end that arises from two, and an insertion behind it
-  pub a_new_line_end : leaves (97 ∷ 13 ∷ 88 ∷ 10 ∷ 98 ∷ []) (change 1 0 1 1 [] ∷ change 1 0 1 0 (codes "Q") ∷ []) ≡ left (97 ∷ 13 ∷ 10 ∷ 81 ∷ 98 ∷ []) (change 2 0 2 0 (codes "Q") ∷ change 1 0 1 1 [] ∷ [])
+  pub a_new_line_end : leaves (97 ∷ 13 ∷ 88 ∷ 10 ∷ 98 ∷ []) (change 1 0 1 1 [] ∷ change 1 0 1 0 (codes "Q") ∷ [])
+      ≡ left (97 ∷ 13 ∷ 10 ∷ 81 ∷ 98 ∷ []) (change 2 0 2 0 (codes "Q") ∷ change 1 0 1 1 [] ∷ [])
   -- a line end is kept whole or not at all
   pub a_line_end_replaced : leaves (97 ∷ 13 ∷ 10 ∷ 98 ∷ []) (change 0 1 1 0 (13 ∷ []) ∷ []) ≡ left (97 ∷ 13 ∷ 98 ∷ []) (change 0 1 1 0 (13 ∷ []) ∷ [])
-  pub a_line_end_by_itself : leaves (97 ∷ 13 ∷ 10 ∷ 98 ∷ []) (change 0 1 1 0 (13 ∷ 10 ∷ []) ∷ []) ≡ left (97 ∷ 13 ∷ 10 ∷ 98 ∷ []) (change 0 1 1 0 (13 ∷ 10 ∷ []) ∷ [])
+  pub a_line_end_by_itself : leaves (97 ∷ 13 ∷ 10 ∷ 98 ∷ []) (change 0 1 1 0 (13 ∷ 10 ∷ []) ∷ [])
+      ≡ left (97 ∷ 13 ∷ 10 ∷ 98 ∷ []) (change 0 1 1 0 (13 ∷ 10 ∷ []) ∷ [])
   pub past_the_line : denoted (units_in Utf16) (97 ∷ 13 ∷ 10 ∷ 98 ∷ []) (record { line = 0; character = 9 }) ≡ Some 1
   pub behind_the_line_end : denoted (units_in Utf16) (97 ∷ 13 ∷ 10 ∷ 98 ∷ []) (record { line = 1; character = 0 }) ≡ Some 3
   pub past_the_last_line : denoted (units_in Utf16) (97 ∷ 10 ∷ []) (record { line = 7; character = 3 }) ≡ Some 2
@@ -70,7 +75,9 @@ pub record HoldsOnExamples : Type 0 where
   -- a range is reversed by what it denotes, not by its numbers
   pub past_the_end_twice : leaves (codes "abc") (change 0 9 0 3 [] ∷ []) ≡ left (codes "abc") []
   -- ranges count in the text that they meet, those of the canonical batch also in the old text
-  pub a_deletion_and_an_end : leaves (codes "abcdefgh") (change 0 0 0 3 [] ∷ change 0 5 0 5 (codes "xyz") ∷ []) ≡ left (codes "defghxyz") (change 0 8 0 8 (codes "xyz") ∷ change 0 0 0 3 [] ∷ [])
+  pub a_deletion_and_an_end : leaves (codes "abcdefgh") (change 0 0 0 3 [] ∷ change 0 5 0 5 (codes "xyz") ∷ [])
+      ≡ left (codes "defghxyz") (change 0 8 0 8 (codes "xyz") ∷ change 0 0 0 3 [] ∷ [])
   -- an insertion behind the last line end, one behind it, and both together
   pub behind_the_last_line_end : leaves (97 ∷ 10 ∷ []) (change 7 3 7 3 (codes "b") ∷ []) ≡ left (97 ∷ 10 ∷ 98 ∷ []) (change 1 0 1 0 (codes "b") ∷ [])
-  pub two_batches : through (97 ∷ 10 ∷ []) (97 ∷ 10 ∷ 98 ∷ []) (meaning (units_in Utf16) (97 ∷ 10 ∷ []) (change 7 3 7 3 (codes "b") ∷ [])) (meaning (units_in Utf16) (97 ∷ 10 ∷ 98 ∷ []) (change 1 1 1 1 (codes "c") ∷ [])) ≡ left (97 ∷ 10 ∷ 98 ∷ 99 ∷ []) (change 1 0 1 0 (codes "bc") ∷ [])
+  pub two_batches : through (97 ∷ 10 ∷ []) (97 ∷ 10 ∷ 98 ∷ []) (meaning (units_in Utf16) (97 ∷ 10 ∷ []) (change 7 3 7 3 (codes "b") ∷ [])) (meaning (units_in Utf16) (97 ∷ 10 ∷ 98 ∷ []) (change 1 1 1 1 (codes "c") ∷ []))
+      ≡ left (97 ∷ 10 ∷ 98 ∷ 99 ∷ []) (change 1 0 1 0 (codes "bc") ∷ [])

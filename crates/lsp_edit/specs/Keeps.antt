@@ -8,4 +8,5 @@ abbrev pub Keeps : List ℕ → ℕ → List Item → Type 0
 Keeps old low [] = (low ≤ length old) × (splits_crlf old low ≡ false)
 Keeps old low (New character ∷ items) = (splits_crlf old low ≡ false) × Keeps old low items
 Keeps old low (Old index ∷ items) =
-    (low ≤ index) × (index < length old) × ((low ≡ index) ⊎ ((splits_crlf old low ≡ false) × (splits_crlf old index ≡ false))) × Keeps old (suc index) items
+    (low ≤ index) × (index < length old)
+    × ((low ≡ index) ⊎ ((splits_crlf old low ≡ false) × (splits_crlf old index ≡ false))) × Keeps old (suc index) items

@@ -11,8 +11,10 @@ use Rattle.lsp_edit.specs.Compose.{then_items}
 -- Of an old CRLF, both characters are kept or neither, and nothing is put between: behind the CR stands its LF, and before the LF
 -- its CR.
 pub record KeepsPairs (old : List ℕ) (items : List Item) : Type 0 where
-  pub behind_return : (front rest : List Item) (index : ℕ) → splits_crlf old (suc index) ≡ true → items ≡ front ++ Old index ∷ rest → (more : List Item) × (rest ≡ Old (suc index) ∷ more)
-  pub before_feed : (front rest : List Item) (index : ℕ) → splits_crlf old (suc index) ≡ true → items ≡ front ++ Old (suc index) ∷ rest → (more : List Item) × (front ≡ more ++ Old index ∷ [])
+  pub behind_return : (front rest : List Item) (index : ℕ) → splits_crlf old (suc index) ≡ true → items ≡ front ++ Old index ∷ rest
+      → (more : List Item) × (rest ≡ Old (suc index) ∷ more)
+  pub before_feed : (front rest : List Item) (index : ℕ) → splits_crlf old (suc index) ≡ true → items ≡ front ++ Old (suc index) ∷ rest
+      → (more : List Item) × (front ≡ more ++ Old index ∷ [])
 
 -- A gap's ends are indexes of the old text, in order, that split no CRLF: so they have exact positions.
 pub record HasExactEnds (old : List ℕ) (gap : Gap) : Type 0 where
@@ -49,13 +51,14 @@ pub record IsCanonical (units : ℕ → ℕ) (old : List ℕ) (batch : List Edit
   pub ranges : RangesStay units old (plain old) (canonical units old items)
   pub few : length (canonical units old items) ≤ length batch
   pub short : (weight : ℕ → ℕ) → sum_by (λ change. sum_by weight change.text) (canonical units old items) ≤ sum_by weight (text_of old items)
-  pub exactly : (other : List Edit) (others : List Item) → meaning units old other ≡ Ok others → (canonical units old items ≡ canonical units old others) ↔ DoTheSame items others
+  pub exactly : (other : List Edit) (others : List Item) → meaning units old other ≡ Ok others
+      → (canonical units old items ≡ canonical units old others) ↔ DoTheSame items others
   pub again : (more : List Item) → meaning units old (canonical units old items) ≡ Ok more → canonical units old more ≡ canonical units old items
 
 abbrev pub CanonicalLaw : Type 0
 CanonicalLaw =
-    (units : ℕ → ℕ) → ((c : ℕ) → 1 ≤ units c) → (old : List ℕ) (batch : List Edit) (items : List Item) → meaning units old batch ≡ Ok items
-    → IsCanonical units old batch items
+    (units : ℕ → ℕ) → ((c : ℕ) → 1 ≤ units c) → (old : List ℕ) (batch : List Edit) (items : List Item)
+    → meaning units old batch ≡ Ok items → IsCanonical units old batch items
 
 -- Two batches, one after the other, mean what their meanings mean together.
 abbrev pub ThenLaw : Type 0

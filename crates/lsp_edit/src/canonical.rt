@@ -30,7 +30,8 @@ fn put_gap(
     requires low { IsCharBoundary before.now low }
     requires high { IsCharBoundary before.now high }
     requires ends { (low < high) ⊎ (0 < length (string_bytes text)) → IsPlace (chars before.now) low × IsPlace (chars before.now) high }
-    ensures { OnOk result (map edit_of changes.new.items ≡ map edit_of changes.old.items ++ gap_change (units_in encoding) before.now low high (string_bytes text)) }
+    ensures { OnOk result (map edit_of changes.new.items ≡ map edit_of changes.old.items
+        ++ gap_change (units_in encoding) before.now low high (string_bytes text)) }
 {
     if low < high || !text.is_empty() {
         let start = lines.position(before, encoding, low);
@@ -53,7 +54,8 @@ pub fn canonical_of<'a>(
     requires indexed { Indexes lines.now before.now }
     requires parts { AreParts before.now (parts_of spans.now) }
     requires ends { AllHaveExactEnds (chars before.now) (gaps (chars before.now) (items_of (chars before.now) (parts_of spans.now))) }
-    ensures { IfOk result (λ changes. map edit_of changes.items ≡ canonical (units_in encoding) (chars before.now) (items_of (chars before.now) (parts_of spans.now))) }
+    ensures { IfOk result (λ changes. map edit_of changes.items
+        ≡ canonical (units_in encoding) (chars before.now) (items_of (chars before.now) (parts_of spans.now))) }
 {
     let mut changes = Vec::new(alloc);
     let mut low = 0;

@@ -26,7 +26,8 @@ fn apply_all<'a>(
     requires fresh { pieces.changes ≡ 0 }
     requires room { length (edited_bytes pieces) + sum_by (λ change. string_len change.text) changes.now ≤ MAX_TEXT }
     ensures { MatchResult result
-        (λ made. Means pieces.entry.before (after_changes (units_in encoding) pieces.entry.before 0 pieces.entry.items (map edit_of changes.now)) (length changes.now) made)
+        (λ made. Means pieces.entry.before
+        (after_changes (units_in encoding) pieces.entry.before 0 pieces.entry.items (map edit_of changes.now)) (length changes.now) made)
         (λ fault. TellsBatchFault (after_changes (units_in encoding) pieces.entry.before 0 pieces.entry.items (map edit_of changes.now)) fault) }
 {
     let mut pieces = pieces;

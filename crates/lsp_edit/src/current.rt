@@ -5,6 +5,7 @@ ghost use Rattle.std.specs.List.{replace_range};
 ghost use Rattle.lsp_text.specs.LineStarts.{Indexes};
 ghost use Rattle.lsp_edit.specs.Parts.{AreParts, bytes_of, parts_of};
 
+use crate::in_place::put_in_place;
 use crate::span::Span;
 use lsp_text::Lines;
 use std::alloc::{AllocError, Global};
@@ -53,8 +54,8 @@ impl Current {
         Ok(Current { text, lines })
     }
 
-    /// Puts a new text in place of the bytes between two places, and moves the lines that follow. Costs one move of what follows. Where
-    /// a growth is refused the copy is given up.
+    /// Puts a new text in place of the bytes between two places, and moves the lines that follow. Costs what [`put_in_place`] does.
+    /// Where a growth is refused the copy is given up.
     pub fn replaced(self, start: usize, stop: usize, new: &str) -> Result<Self, AllocError>
         requires order { start ≤ stop }
         requires start { IsCharBoundary (string_bytes self.text) start }
@@ -66,8 +67,7 @@ impl Current {
             mut text,
             mut lines,
         } = self;
-        text.replace_range(start..stop, new)?;
-        lines.splice(&text, start, stop, new.len())?;
+        put_in_place(&mut text, &mut lines, start, stop, new)?;
         Ok(Current { text, lines })
     }
 }

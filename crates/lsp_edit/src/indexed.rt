@@ -105,9 +105,11 @@ impl IndexedText {
         requires size { length self.now ≤ MAX_OLD_TEXT }
         requires fits { sum_by (λ change. string_len change.text) changes.now ≤ MAX_NEW_TEXT }
         ensures utf8 { OnOk result (IsUtf8 self.now) }
-        ensures means { IfOk result (λ pieces. Means (chars self.now) (meaning (units_in encoding) (chars self.now) (map edit_of changes.now)) (length changes.now) pieces) }
+        ensures means { IfOk result (λ pieces.
+            Means (chars self.now) (meaning (units_in encoding) (chars self.now) (map edit_of changes.now)) (length changes.now) pieces) }
         ensures within { IfOk result (λ pieces. length (edited_bytes pieces) ≤ max_len) }
-        ensures told { IfErr result (λ fault. (fault ≡ NoMemory) ⊎ (text_within max_len self.now (meaning (units_in encoding) (chars self.now) (map edit_of changes.now)) ≡ Err fault)) }
+        ensures told { IfErr result (λ fault. (fault ≡ NoMemory)
+            ⊎ (text_within max_len self.now (meaning (units_in encoding) (chars self.now) (map edit_of changes.now)) ≡ Err fault)) }
     {
         let alloc = *self.text.allocator();
         let pieces = compose_over(alloc, &self.text, &self.lines, encoding, changes)?;
@@ -129,7 +131,8 @@ impl IndexedText {
         requires fits { length new.now ≤ MAX_NEW_TEXT }
         ensures changed { OnOk result (text_within max_len self.old (meaning (units_in encoding) (chars self.old) (alone range new.now)) ≡ Ok self.new) }
         ensures same { OnErr result (self.new ≡ self.old) }
-        ensures told { IfErr result (λ fault. (fault ≡ NoMemory) ⊎ (text_within max_len self.old (meaning (units_in encoding) (chars self.old) (alone range new.now)) ≡ Err fault)) }
+        ensures told { IfErr result (λ fault. (fault ≡ NoMemory)
+            ⊎ (text_within max_len self.old (meaning (units_in encoding) (chars self.old) (alone range new.now)) ≡ Err fault)) }
     {
         let (start, stop) = ends(&self.lines, &self.text, encoding, range, 0)?;
         if self.text.len() - (stop - start) + new.len() > max_len {
@@ -153,7 +156,8 @@ impl IndexedText {
         requires fits { sum_by (λ change. string_len change.text) changes.now ≤ MAX_NEW_TEXT }
         ensures changed { OnOk result (text_within max_len self.old (meaning (units_in encoding) (chars self.old) (map edit_of changes.now)) ≡ Ok self.new) }
         ensures same { OnErr result (self.new ≡ self.old) }
-        ensures told { IfErr result (λ fault. (fault ≡ NoMemory) ⊎ (text_within max_len self.old (meaning (units_in encoding) (chars self.old) (map edit_of changes.now)) ≡ Err fault)) }
+        ensures told { IfErr result (λ fault. (fault ≡ NoMemory)
+            ⊎ (text_within max_len self.old (meaning (units_in encoding) (chars self.old) (map edit_of changes.now)) ≡ Err fault)) }
     {
         if let [
             Change {
@@ -183,7 +187,8 @@ impl IndexedText {
         requires size { length self.now ≤ MAX_OLD_TEXT }
         requires fits { sum_by (λ change. string_len change.text) changes.now ≤ MAX_NEW_TEXT }
         ensures batch { IfOk result (λ made. IsCanonicalBatch (units_in encoding) max_len self.now (map edit_of changes.now) (map edit_of made.items)) }
-        ensures told { IfErr result (λ fault. (fault ≡ NoMemory) ⊎ (text_within max_len self.now (meaning (units_in encoding) (chars self.now) (map edit_of changes.now)) ≡ Err fault)) }
+        ensures told { IfErr result (λ fault. (fault ≡ NoMemory)
+            ⊎ (text_within max_len self.now (meaning (units_in encoding) (chars self.now) (map edit_of changes.now)) ≡ Err fault)) }
     {
         let pieces = self.composed(encoding, changes, max_len)?;
         Ok(pieces.canonical(encoding)?)

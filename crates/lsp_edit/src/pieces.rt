@@ -105,10 +105,16 @@ impl<'a> Pieces<'a> {
     where
         'b: 'c,
         requires { second.now.before ≡ edited_text first.now }
-        ensures composed { IfOk result (λ pieces. pieces ≡ record { before = first.now.before; items = then_items first.now.items second.now.items; changes = both_counts first.now.changes second.now.changes }) }
-        ensures means { (units : ℕ → ℕ) (batch next : List Edit) → meaning units first.now.before batch ≡ Ok first.now.items → meaning units second.now.before next ≡ Ok second.now.items
+        ensures composed { IfOk result (λ pieces. pieces ≡ record {
+          before = first.now.before;
+          items = then_items first.now.items second.now.items;
+          changes = both_counts first.now.changes second.now.changes;
+        }) }
+        ensures means { (units : ℕ → ℕ) (batch next : List Edit) → meaning units first.now.before batch ≡ Ok first.now.items
+            → meaning units second.now.before next ≡ Ok second.now.items
             → meaning units first.now.before (batch ++ next) ≡ Ok (then_items first.now.items second.now.items) }
-        ensures associative { (third : List Item) → then_items (then_items first.now.items second.now.items) third ≡ then_items first.now.items (then_items second.now.items third) }
+        ensures associative { (third : List Item) → then_items (then_items first.now.items second.now.items) third
+            ≡ then_items first.now.items (then_items second.now.items third) }
     {
         let spans = spans_through(alloc, first.spans.as_slice(), second.spans.as_slice())?;
         Ok(Pieces {
@@ -177,7 +183,8 @@ impl<'a> Pieces<'a> {
         requires { length (edited_bytes self.old) + length text.now ≤ MAX_TEXT }
         ensures applied { OnOk result (Applied (units_in encoding) self.old (record { range = Some range; text = chars text.now }) self.new) }
         ensures same { OnErr result (self.new ≡ self.old) }
-        ensures told { IfErr result (λ fault. TellsFault self.old.changes (after_change (units_in encoding) self.old.before self.old.items (record { range = Some range; text = chars text.now })) fault) }
+        ensures told { IfErr result (λ fault. TellsFault self.old.changes
+            (after_change (units_in encoding) self.old.before self.old.items (record { range = Some range; text = chars text.now })) fault) }
     {
         let (start, stop) = self.places(encoding, range)?;
         let current = match self.current.take() {
@@ -198,7 +205,8 @@ impl<'a> Pieces<'a> {
         requires { length (edited_bytes self.old) + string_len change.now.text ≤ MAX_TEXT }
         ensures applied { OnOk result (Applied (units_in encoding) self.old (edit_of change.now) self.new) }
         ensures same { OnErr result (self.new ≡ self.old) }
-        ensures told { IfErr result (λ fault. TellsFault self.old.changes (after_change (units_in encoding) self.old.before self.old.items (edit_of change.now)) fault) }
+        ensures told { IfErr result (λ fault. TellsFault self.old.changes
+            (after_change (units_in encoding) self.old.before self.old.items (edit_of change.now)) fault) }
     {
         match change.range {
             None => self.apply_to_all(&change.text),
@@ -215,7 +223,8 @@ impl<'a> Pieces<'a> {
         ensures means { meaning (units_in encoding) self.now.before (canonical (units_in encoding) self.now.before self.now.items) ≡ Ok self.now.items }
         ensures ranges { RangesStay (units_in encoding) self.now.before (plain self.now.before) (canonical (units_in encoding) self.now.before self.now.items) }
         ensures pairs { KeepsPairs self.now.before self.now.items }
-        ensures law { (batch : List Edit) → meaning (units_in encoding) self.now.before batch ≡ Ok self.now.items → IsCanonical (units_in encoding) self.now.before batch self.now.items }
+        ensures law { (batch : List Edit) → meaning (units_in encoding) self.now.before batch ≡ Ok self.now.items
+            → IsCanonical (units_in encoding) self.now.before batch self.now.items }
     {
         canonical_of(
             self.alloc,

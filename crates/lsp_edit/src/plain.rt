@@ -99,7 +99,8 @@ impl<'a> Plain<'a> {
         requires { length (edited_bytes self.old) + string_len change.now.text ≤ MAX_TEXT }
         ensures applied { OnOk result (Applied (units_in encoding) self.old (edit_of change.now) self.new) }
         ensures same { OnErr result (self.new ≡ self.old) }
-        ensures told { IfErr result (λ fault. TellsFault self.old.changes (after_change (units_in encoding) self.old.before self.old.items (edit_of change.now)) fault) }
+        ensures told { IfErr result (λ fault. TellsFault self.old.changes
+            (after_change (units_in encoding) self.old.before self.old.items (edit_of change.now)) fault) }
     {
         let text = characters(self.alloc, &change.text)?;
         let items = match change.range {
@@ -150,9 +151,11 @@ impl<'a> Plain<'a> {
     pub fn canonical(&self, encoding: Encoding) -> Result<Vec<Change>, AllocError>
         ensures batch { IfOk result (λ changes. map edit_of changes.items ≡ spec_canonical (units_in encoding) self.now.before self.now.items) }
         ensures means { meaning (units_in encoding) self.now.before (spec_canonical (units_in encoding) self.now.before self.now.items) ≡ Ok self.now.items }
-        ensures ranges { RangesStay (units_in encoding) self.now.before (plain_items self.now.before) (spec_canonical (units_in encoding) self.now.before self.now.items) }
+        ensures ranges { RangesStay (units_in encoding) self.now.before (plain_items self.now.before)
+            (spec_canonical (units_in encoding) self.now.before self.now.items) }
         ensures pairs { KeepsPairs self.now.before self.now.items }
-        ensures law { (batch : List Edit) → meaning (units_in encoding) self.now.before batch ≡ Ok self.now.items → IsCanonical (units_in encoding) self.now.before batch self.now.items }
+        ensures law { (batch : List Edit) → meaning (units_in encoding) self.now.before batch ≡ Ok self.now.items
+            → IsCanonical (units_in encoding) self.now.before batch self.now.items }
     {
         let lines = Lines::new(self.alloc, self.before)?;
         gaps_written(
@@ -292,7 +295,8 @@ fn put_between(
 ) -> Result<Vec<Item>, AllocError>
     requires order { start ≤ stop }
     requires within { stop ≤ length items.now }
-    ensures { IfOk result (λ made. items_in_order made.items ≡ take start (items_in_order items.now) ++ (map NewItem text.now ++ drop stop (items_in_order items.now))) }
+    ensures { IfOk result (λ made. items_in_order made.items
+        ≡ take start (items_in_order items.now) ++ (map NewItem text.now ++ drop stop (items_in_order items.now))) }
 {
     let mut made = Vec::from_slice(alloc, &items[..start])?;
     push_new(&mut made, text)?;
@@ -332,7 +336,8 @@ fn put_gap(
     requires indexed { Indexes lines.now before.now }
     requires old { old.now ≡ chars before.now }
     requires ends { is_changed (gap_at low high text.now) ≡ true → HasExactEnds (chars before.now) (gap_at low high text.now) }
-    ensures { OnOk result (map edit_of changes.new.items ≡ map edit_of changes.old.items ++ change_at (units_in encoding) (chars before.now) (gap_at low high text.now)) }
+    ensures { OnOk result (map edit_of changes.new.items ≡ map edit_of changes.old.items
+        ++ change_at (units_in encoding) (chars before.now) (gap_at low high text.now)) }
 {
     if low < high || !text.is_empty() {
         let alloc = *changes.allocator();

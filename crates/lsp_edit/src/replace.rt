@@ -93,7 +93,8 @@ fn ended_by(spans: &[Span], index: usize, passed: usize, place: usize) -> (usize
     requires cut { AreCut (parts_of spans.now) place }
     ensures marked { IsMark spans.now result.0 result.1 }
     ensures passed { ArePassed (parts_of spans.now) (parts_of (drop result.0 spans.now)) result.1 place }
-    ensures front { front_parts (parts_of spans.now) place ≡ parts_of (take result.0 spans.now) ++ first_front (parts_of (drop result.0 spans.now)) (place - result.1) }
+    ensures front { front_parts (parts_of spans.now) place ≡ parts_of (take result.0 spans.now)
+        ++ first_front (parts_of (drop result.0 spans.now)) (place - result.1) }
     ensures first { place - result.1 ≡ 0 → result.0 ≡ 0 }
     ensures cut { IsFirstCut (parts_of (drop result.0 spans.now)) (place - result.1) }
 {
@@ -116,7 +117,8 @@ fn between<'a>(
 ) -> Result<Vec<Span<'a>>, AllocError>
     requires start { IsFirstCut (parts_of spans.now) start }
     requires stop { IsFirstCut (parts_of (drop last spans.now)) stop }
-    ensures { IfOk result (λ made. parts_of made.items ≡ put_first_back (first_front (parts_of spans.now) start ++ new_parts text.now) (parts_of (drop last spans.now)) stop) }
+    ensures { IfOk result (λ made. parts_of made.items
+        ≡ put_first_back (first_front (parts_of spans.now) start ++ new_parts text.now) (parts_of (drop last spans.now)) stop) }
 {
     let mut made = Vec::with_capacity(alloc, 3)?;
     if start > 0 && !spans.is_empty() {

@@ -56,7 +56,8 @@ impl<'a> Span<'a> {
 
     /// One span for this and the next, where both are of the old text and touch there.
     pub(crate) fn joined(self, next: Self) -> Option<Self>
-        ensures { MatchOption result (joined (part_of self.entry) (part_of next.entry) ≡ part_of self.entry ∷ part_of next.entry ∷ []) (λ one. joined (part_of self.entry) (part_of next.entry) ≡ part_of one ∷ []) }
+        ensures { MatchOption result (joined (part_of self.entry) (part_of next.entry) ≡ part_of self.entry ∷ part_of next.entry ∷ [])
+            (λ one. joined (part_of self.entry) (part_of next.entry) ≡ part_of one ∷ []) }
     {
         match (self, next) {
             (

@@ -1,12 +1,13 @@
-use Rattle.std.proofs.Common.{string_bytes, ◌∙◌}
+use Rattle.std.proofs.Common.{string_bytes, arith}
 use Rattle.std.proofs.lemmas.Str.{IsUtf8-string_bytes}
-use Rattle.lsp_edit.proofs.CurrentLemmas.{replaced_bytes}
+use Rattle.lsp_edit.proofs.InPlaceLemmas.{replaced_len}
 use Rattle.lsp_edit.proofs.current.Current.replaced.Goals as goal
 
-pub splice-requires-clause-spliced : goal.splice-requires-clause-spliced
-splice-requires-clause-spliced c = record {
-  old = string_bytes c.args.self.text;
-  utf8 = IsUtf8-string_bytes c.args.self.text;
-  indexed = c.args.self.indexed;
-  replaced = replaced_bytes (string_bytes c.args.self.text) c.deref.result.now c.args.new.now c.args.start c.args.stop c.requires.order c.requires.stop.0 (c.deref.ensures ∙ c.in_ok-replace_range.ensures.bytes);
-}
+pub put_in_place-requires-clause-room : goal.put_in_place-requires-clause-room
+put_in_place-requires-clause-room c =
+    omega (
+      arith,
+      c.requires.room,
+      replaced_len (string_bytes c.args.self.text) (IsUtf8-string_bytes c.args.self.text) c.args.start c.args.stop c.args.new.now c.utf8.new c.requires.order c.requires.start c.requires.stop,
+      c.args.self.text.bytes.ok.0,
+    )
