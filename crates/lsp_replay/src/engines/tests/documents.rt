@@ -1,6 +1,7 @@
 //! What `replay` reports and what `normalise` keeps.
 
 use super::*;
+use std::process::Abort;
 
 #[test]
 fn documents_are_reported_in_order_of_opening(rt: HostRuntime) -> Result<(), Fail> {
@@ -83,6 +84,21 @@ fn letters(alloc: Global, count: usize, version: i32) -> Result<String, AllocErr
 /// What a log that ends with such a change is written as: its answer, and how many of its first bytes are kept and how many come behind.
 type Written = (Result<Outcome, EngineFault>, usize, usize);
 
+fn is_written(
+    rt: &impl Abort,
+    alloc: Global,
+    input: &[u8],
+    settings: Settings,
+    written: Written,
+) -> Result<(), Fail> {
+    let (answer, kept, more) = written;
+    let run = run_with(alloc, Command::Normalise, input, settings, SMOOTH)?;
+    assert_eq!(rt; run.answer, answer);
+    assert_eq!(rt; run.output.get(..kept), input.get(..kept));
+    assert_eq!(rt; run.output.len(), kept + more);
+    Ok(())
+}
+
 #[test]
 fn a_canonical_body_reaches_the_limit(rt: HostRuntime) -> Result<(), Fail> {
     let alloc = rt.alloc();
@@ -90,7 +106,6 @@ fn a_canonical_body_reaches_the_limit(rt: HostRuntime) -> Result<(), Fail> {
         limits: Limits::new(4_096, 4_096, 1, 1)?,
         ..settings()?
     };
-    let too_long = |place| Err(EngineFault::BodyTooLong { place });
     // A canonical frame at the limit has 24 bytes of header; a stale change of 3,883 letters keeps its frame, of a body of 4,023.
     let cases: [(usize, i32, [Written; 2]); 3] = [
         (
@@ -98,7 +113,14 @@ fn a_canonical_body_reaches_the_limit(rt: HostRuntime) -> Result<(), Fail> {
             2,
             [(ended(0, 3, 0), 340, 4_120), (ended(0, 3, 0), 514, 4_120)],
         ),
-        (3_883, 2, [(too_long(340), 340, 0), (too_long(513), 513, 0)]),
+        (
+            3_883,
+            2,
+            [
+                (Err(EngineFault::BodyTooLong { place: 340 }), 340, 0),
+                (Err(EngineFault::BodyTooLong { place: 513 }), 513, 0),
+            ],
+        ),
         (
             3_883,
             1,
@@ -107,18 +129,14 @@ fn a_canonical_body_reaches_the_limit(rt: HostRuntime) -> Result<(), Fail> {
     ];
     for (count, version, written) in cases {
         let body = letters(alloc, count, version)?;
-        let begun = [(">", INITIALIZE), ("<", REPLY), (">", OPEN)];
-        let [first, second, third] = begun;
-        let logs = [
-            log(alloc, &[INITIALIZE, OPEN, &body])?,
-            marked(alloc, &[first, second, third, (">", &body)])?,
-        ];
-        for (input, (answer, kept, more)) in logs.iter().zip(written) {
-            let run = run_with(alloc, Command::Normalise, input, settings, SMOOTH)?;
-            assert_eq!(rt; run.answer, answer);
-            assert_eq!(rt; run.output.get(..kept), input.get(..kept));
-            assert_eq!(rt; run.output.len(), kept + more);
-        }
+        let [of_1, of_2] = written;
+        let first = log(alloc, &[INITIALIZE, OPEN, &body])?;
+        is_written(&rt, alloc, &first, settings, of_1)?;
+        let second = marked(
+            alloc,
+            &[(">", INITIALIZE), ("<", REPLY), (">", OPEN), (">", &body)],
+        )?;
+        is_written(&rt, alloc, &second, settings, of_2)?;
     }
     Ok(())
 }

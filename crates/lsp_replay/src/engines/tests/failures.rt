@@ -18,23 +18,34 @@ impl Logs {
     fn new(alloc: Global) -> Result<Logs, AllocError> {
         let canonical = change(alloc, 2, &edit(alloc, 0, 3, "aXc")?)?;
         let edited = change(alloc, 2, &edit(alloc, 1, 2, "X")?)?;
-        let session = [
-            INITIALIZE,
-            INITIALIZED,
-            OPEN,
-            &edited,
-            CLOSE,
-            SHUTDOWN,
-            EXIT,
-        ];
-        let begun = [(">", INITIALIZE), ("<", REPLY), (">", OPEN)];
-        let [first, second, third] = begun;
         Ok(Logs {
             worked: log(alloc, WORKED)?,
             normal: log(alloc, &[INITIALIZE, OPEN, &canonical])?,
-            converted: marked(alloc, &[first, second, third, (">", WHOLE)])?,
-            normal_converted: marked(alloc, &[first, second, third, (">", &canonical)])?,
-            session: log(alloc, &session)?,
+            converted: marked(
+                alloc,
+                &[(">", INITIALIZE), ("<", REPLY), (">", OPEN), (">", WHOLE)],
+            )?,
+            normal_converted: marked(
+                alloc,
+                &[
+                    (">", INITIALIZE),
+                    ("<", REPLY),
+                    (">", OPEN),
+                    (">", &canonical),
+                ],
+            )?,
+            session: log(
+                alloc,
+                &[
+                    INITIALIZE,
+                    INITIALIZED,
+                    OPEN,
+                    &edited,
+                    CLOSE,
+                    SHUTDOWN,
+                    EXIT,
+                ],
+            )?,
             replies: log(alloc, &[REPLY, SHUT_DOWN])?,
         })
     }

@@ -41,8 +41,8 @@ fn input(alloc: Global, bodies: &[&str]) -> Result<(Vec<u8>, u32), AllocError> {
     }
 }
 
-/// Runs an engine, and again where memory ran out: what stands written then is what the records before gave. Prints how often it ran
-/// out.
+/// Runs an engine, and again where memory ran out: what stands written then is what the records before gave. Answers how often it
+/// ran out.
 fn runs_again(
     rt: &impl Abort,
     alloc: Global,
@@ -52,18 +52,17 @@ fn runs_again(
 ) -> Result<u32, Fail> {
     let (input, mut refused) = input(alloc, bodies)?;
     let settings = settings()?;
-    let first = run_with(alloc, command, &input, settings, SMOOTH);
-    if let Ok(run) = &first {
-        if run.answer != wanted.answer {
+    let run = match run_with(alloc, command, &input, settings, SMOOTH) {
+        Ok(run) if run.answer == wanted.answer => run,
+        Ok(run) => {
             // The writer takes memory too, and fails where it gets none.
             let fault = run.answer.err();
             assert!(rt; fault == Some(EngineFault::NoMemory) || fault == Some(EngineFault::Write));
             assert!(rt; wanted.begins_with(&run.output));
+            refused += 1;
+            run_with(alloc, command, &input, settings, SMOOTH)?
         }
-    }
-    let run = match first {
-        Ok(run) if run.answer == wanted.answer => run,
-        _ => {
+        Err(_) => {
             refused += 1;
             run_with(alloc, command, &input, settings, SMOOTH)?
         }

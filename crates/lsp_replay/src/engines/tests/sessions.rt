@@ -2,6 +2,7 @@
 
 use super::*;
 use lsp_frame::FrameFault;
+use std::process::Abort;
 
 #[test]
 fn a_log_is_checked_replayed_and_normalised(rt: HostRuntime) -> Result<(), Fail> {
@@ -65,29 +66,34 @@ fn an_editors_session_is_served(rt: HostRuntime) -> Result<(), Fail> {
     Ok(())
 }
 
+const HOVER: &str = r#"{"id":"q","jsonrpc":"2.0","method":"textDocument/hover"}"#;
+
+const EARLY: &str =
+    r#"{"error":{"code":-32002,"message":"server not initialized"},"id":"q","jsonrpc":"2.0"}"#;
+
+const LATE: &str =
+    r#"{"error":{"code":-32600,"message":"invalid request"},"id":"q","jsonrpc":"2.0"}"#;
+
+/// Bodies that the client sends, the status and the counts of messages and refusals, and the replies.
+const SESSIONS: &[(&[&str], (u8, u64, u64), &[&str])] = &[
+    (&[], (1, 0, 0), &[]),
+    (BRIEF, (1, 2, 1), &[REPLY]),
+    (&[HOVER, OPEN, EXIT, EXIT], (1, 3, 2), &[EARLY]),
+    (&[INITIALIZE, OPEN], (1, 2, 0), &[REPLY]),
+    (
+        &[INITIALIZE, SHUTDOWN, HOVER, WHOLE, EXIT],
+        (0, 5, 1),
+        &[REPLY, SHUT_DOWN, LATE],
+    ),
+];
+
 #[test]
 fn a_session_ends_with_its_exit_or_its_input(rt: HostRuntime) -> Result<(), Fail> {
     let alloc = rt.alloc();
-    let hover = r#"{"id":"q","jsonrpc":"2.0","method":"textDocument/hover"}"#;
-    let early =
-        r#"{"error":{"code":-32002,"message":"server not initialized"},"id":"q","jsonrpc":"2.0"}"#;
-    let late = r#"{"error":{"code":-32600,"message":"invalid request"},"id":"q","jsonrpc":"2.0"}"#;
-    assert_eq!(rt; (early.len(), log(alloc, &[REPLY])?.len()), (85, 152));
-    // The bodies, the answer, and the replies.
-    let sessions: &[(&[&str], Result<Outcome, EngineFault>, &[&str])] = &[
-        (&[], ended(1, 0, 0), &[]),
-        (BRIEF, ended(1, 2, 1), &[REPLY]),
-        (&[hover, OPEN, EXIT, EXIT], ended(1, 3, 2), &[early]),
-        (&[INITIALIZE, OPEN], ended(1, 2, 0), &[REPLY]),
-        (
-            &[INITIALIZE, SHUTDOWN, hover, WHOLE, EXIT],
-            ended(0, 5, 1),
-            &[REPLY, SHUT_DOWN, late],
-        ),
-    ];
-    for (bodies, answer, replies) in sessions {
+    assert_eq!(rt; (EARLY.len(), log(alloc, &[REPLY])?.len()), (85, 152));
+    for (bodies, (status, messages, refused), replies) in SESSIONS {
         let served = run(alloc, Command::Serve, &log(alloc, bodies)?)?;
-        assert_eq!(rt; served.answer, *answer);
+        assert_eq!(rt; served.answer, ended(*status, *messages, *refused));
         assert_eq!(rt; served.output, log(alloc, replies)?);
         assert_eq!(rt; served.flushes, replies.len());
     }
@@ -115,33 +121,34 @@ const FAULTS: &[(&[u8], EngineFault)] = &[
     ),
 ];
 
+/// Checks and replays an input that ends in a fault, behind these lines.
+fn faults(
+    rt: &impl Abort,
+    alloc: Global,
+    input: &[u8],
+    fault: EngineFault,
+    lines: &str,
+) -> Result<(), Fail> {
+    let checked = run(alloc, Command::Check, input)?;
+    assert_eq!(rt; checked.answer, Err(fault));
+    assert_eq!(rt; checked.output.as_slice(), lines.as_bytes());
+    let replayed = run(alloc, Command::Replay, input)?;
+    assert_eq!(rt; replayed.answer, Err(fault));
+    assert_eq!(rt; replayed.output.len(), 0);
+    Ok(())
+}
+
 #[test]
 fn faults_have_their_places(rt: HostRuntime) -> Result<(), Fail> {
     let alloc = rt.alloc();
-    let worked = log(alloc, WORKED)?;
-    let cut = worked.get(..505).unwrap_or(&[]);
-    let after_exit = log(alloc, &[INITIALIZE, EXIT, EXIT])?;
-    // With the lines of the records before.
-    let begun: [(&[u8], EngineFault, &str); 2] = [
-        (
-            cut,
-            EngineFault::Truncated { place: 505 },
-            "1 reply\n2 changed\n",
-        ),
-        (
-            &after_exit,
-            EngineFault::BadLog { place: 227 },
-            "1 reply\n2 exit 1\n",
-        ),
-    ];
-    let at_once = FAULTS.iter().map(|(input, fault)| (*input, *fault, ""));
-    for (input, fault, lines) in begun.into_iter().chain(at_once) {
-        let checked = run(alloc, Command::Check, input)?;
-        assert_eq!(rt; checked.answer, Err(fault));
-        assert_eq!(rt; checked.output.as_slice(), lines.as_bytes());
-        let replayed = run(alloc, Command::Replay, input)?;
-        assert_eq!(rt; replayed.answer, Err(fault));
-        assert_eq!(rt; replayed.output.len(), 0);
+    for (input, fault) in FAULTS {
+        faults(&rt, alloc, input, *fault, "")?;
     }
-    Ok(())
+    let mut cut = log(alloc, WORKED)?;
+    cut.truncate(505);
+    let fault = EngineFault::Truncated { place: 505 };
+    faults(&rt, alloc, &cut, fault, "1 reply\n2 changed\n")?;
+    let after_exit = log(alloc, &[INITIALIZE, EXIT, EXIT])?;
+    let fault = EngineFault::BadLog { place: 227 };
+    faults(&rt, alloc, &after_exit, fault, "1 reply\n2 exit 1\n")
 }

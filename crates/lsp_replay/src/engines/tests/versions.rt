@@ -110,8 +110,8 @@ const EDIT_WIDE: &str =
 /// A change that nobody could read.
 const EDIT_BAD: &str = r#"{"jsonrpc":"2.0","method":"textDocument/didChange","params":[]}"#;
 
-/// Records of a log of version 2, the lines of `check`, and how many records stand before the one that belongs in no log.
-const LOGS: &[(&[(&str, &str)], &str, Option<usize>)] = &[
+/// Records of a log of version 2, the lines of `check`, and the place of the record that belongs in no log.
+const LOGS: &[(&[(&str, &str)], &str, Option<u64>)] = &[
     (
         &[
             (">", INITIALIZE),
@@ -172,19 +172,23 @@ const LOGS: &[(&[(&str, &str)], &str, Option<usize>)] = &[
     (
         &[(">", INITIALIZE), (">", OPEN), (">", WHOLE)],
         "1 reply\n2 changed\n",
-        Some(2),
+        Some(360),
     ),
     (
         &[(">", INITIALIZE), ("<", FAILED), (">", EDIT_BAD)],
         "1 reply\n2 server\n",
-        Some(2),
+        Some(249),
     ),
-    (&[(">", INITIALIZE), ("<", UTF_7)], "1 reply\n", Some(1)),
-    (&[(">", INITIALIZE), ("<", NO_RESULT)], "1 reply\n", Some(1)),
+    (&[(">", INITIALIZE), ("<", UTF_7)], "1 reply\n", Some(191)),
+    (
+        &[(">", INITIALIZE), ("<", NO_RESULT)],
+        "1 reply\n",
+        Some(191),
+    ),
     (
         &[(">", INITIALIZE), (">", EXIT), ("<", NO_RESULT)],
         "1 reply\n2 exit 1\n",
-        Some(2),
+        Some(247),
     ),
     (
         &[
@@ -195,31 +199,29 @@ const LOGS: &[(&[(&str, &str)], &str, Option<usize>)] = &[
             (">", "["),
         ],
         "1 reply\n2 exit 1\n3 server\n4 server\n",
-        Some(4),
+        Some(372),
     ),
 ];
 
 #[test]
 fn the_result_of_initialize_tells_the_encoding(rt: HostRuntime) -> Result<(), Fail> {
     let alloc = rt.alloc();
-    for (records, lines, good) in LOGS {
+    for (records, lines, bad) in LOGS {
         let input = marked(alloc, records)?;
         let checked = run(alloc, Command::Check, &input)?;
         assert_eq!(rt; checked.output.as_slice(), lines.as_bytes(), "{lines}");
         let normalised = run(alloc, Command::Normalise, &input)?;
-        match good {
-            None => assert!(rt; checked.answer.is_ok() && normalised.answer == checked.answer),
-            Some(good) => {
-                let before = marked(alloc, records.get(..*good).unwrap_or(&[]))?;
-                let place = before.len() as u64;
-                assert_eq!(rt; checked.answer, Err(EngineFault::BadLog { place }));
-                assert_eq!(rt; normalised.answer, checked.answer);
-                assert_eq!(rt; normalised.output, before);
+        assert_eq!(rt; normalised.answer, checked.answer);
+        match bad {
+            None => assert!(rt; checked.answer.is_ok() && normalised.output == input),
+            Some(place) => {
+                let fault = EngineFault::BadLog { place: *place };
+                assert_eq!(rt; checked.answer, Err(fault));
+                let before = input.get(..*place as usize);
+                assert_eq!(rt; Some(normalised.output.as_slice()), before);
             }
         }
     }
-    let early = marked(alloc, &[(">", INITIALIZE), (">", OPEN)])?;
-    assert_eq!(rt; early.len(), 360);
     Ok(())
 }
 
