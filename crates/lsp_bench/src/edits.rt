@@ -11,9 +11,9 @@ use std::rt::Runtime;
 use std::time::{Duration, Instant};
 
 /// A line of 40 bytes.
-const LINE: &str = "    let answer = question.map(|x| x+1);\n";
+pub const LINE: &str = "    let answer = question.map(|x| x+1);\n";
 
-const SIZES: [usize; 4] = [10_000, 100_000, 1_000_000, 10_000_000];
+pub const SIZES: [usize; 4] = [10_000, 100_000, 1_000_000, 10_000_000];
 
 const BATCHES: [(usize, u32); 4] = [
     (100_000, 1_000),
@@ -22,24 +22,24 @@ const BATCHES: [(usize, u32); 4] = [
     (4_000_000, 10_000),
 ];
 
-const ROUNDS: u32 = 5;
+pub const ROUNDS: u32 = 5;
 
 /// What a row measured: the least time of its rounds in nanoseconds, and how many bytes, lines, changes or spans it made.
 #[derive(Clone, Copy)]
-struct Measured {
-    time: u64,
-    made: usize,
+pub struct Measured {
+    pub time: u64,
+    pub made: usize,
 }
 
 impl Measured {
-    fn new() -> Self {
+    pub fn new() -> Self {
         Measured {
             time: u64::MAX,
             made: 0,
         }
     }
 
-    fn took(&mut self, time: Duration) {
+    pub fn took(&mut self, time: Duration) {
         let time = u64::try_from(time.as_nanos()).unwrap_or(u64::MAX);
         self.time = self.time.min(time);
     }
@@ -98,7 +98,7 @@ pub fn run<R: Runtime + AllocGlobal>(rt: &R) -> Result<()> {
     Ok(())
 }
 
-fn made_text(alloc: Global, size: usize) -> Result<String, AllocError> {
+pub fn made_text(alloc: Global, size: usize) -> Result<String, AllocError> {
     let mut text = String::new(alloc);
     for _ in 0..size / LINE.len() {
         text.push_str(LINE)?;
@@ -194,11 +194,11 @@ fn text_of_one<'a, R: Runtime + AllocGlobal>(
 }
 
 /// The line of the k-th change of a batch that goes all over a text of so many lines.
-fn scattered_line(k: u32, lines: usize) -> usize {
+pub fn scattered_line(k: u32, lines: usize) -> usize {
     (k as usize).wrapping_mul(7_919) % lines.max(1)
 }
 
-fn scattered(alloc: Global, count: u32, lines: usize) -> Result<Vec<Change>, AllocError> {
+pub fn scattered(alloc: Global, count: u32, lines: usize) -> Result<Vec<Change>, AllocError> {
     let mut changes = Vec::new(alloc);
     for k in 0..count {
         changes.push(typed(alloc, scattered_line(k, lines))?)?;
@@ -248,7 +248,7 @@ fn text_of_batch<'a, R: Runtime + AllocGlobal>(
 }
 
 /// Replaces in place, in a text whose line starts are kept, at one place after another. The copy of the text isn't counted.
-fn replaced<R: Runtime + AllocGlobal>(rt: &R, text: &str, lines: &[usize]) -> Result<Measured> {
+pub fn replaced<R: Runtime + AllocGlobal>(rt: &R, text: &str, lines: &[usize]) -> Result<Measured> {
     let mut measured = Measured::new();
     for _ in 0..ROUNDS {
         let mut kept = Kept::new(rt.alloc(), text)?;
@@ -262,7 +262,7 @@ fn replaced<R: Runtime + AllocGlobal>(rt: &R, text: &str, lines: &[usize]) -> Re
     Ok(measured)
 }
 
-fn report<R: Runtime>(
+pub fn report<R: Runtime>(
     rt: &R,
     what: &str,
     size: usize,

@@ -162,22 +162,11 @@ fn look_up(
                 .context("resolving")?,
         )?;
     }
-    let mut sum: u64 = 0;
     let start = Instant::now(rt)?;
-    for turn in 0..lookups {
-        if let Ok(place) = lines.resolve(text, encoding, position_at(case, turn)) {
-            sum = sum.saturating_add(place as u64);
-        }
-    }
+    let resolved = resolve_all(&lines, text, encoding, case, lookups);
     let resolving = start.elapsed(rt)?;
     let start = Instant::now(rt)?;
-    for turn in 0..lookups {
-        let place = *places.get(turn as usize % 1_000).unwrap_or(&0);
-        if lines.is_place(text, place) {
-            let position = lines.position(text, encoding, place);
-            sum = sum.saturating_add(u64::from(position.character));
-        }
-    }
+    let sum = resolved.wrapping_add(position_all(&lines, text, encoding, &places, lookups));
     let positioning = start.elapsed(rt)?;
     let (name, column, encoding) = (case.name, case.column, encoding.name());
     println!(rt; "{name}, column {column}, {encoding}: {sum}")?;
@@ -187,6 +176,40 @@ fn look_up(
         each(positioning, lookups)
     )?;
     Ok(())
+}
+
+/// The sum of the places that so many positions denote.
+fn resolve_all(lines: &Lines, text: &str, encoding: Encoding, case: Case, lookups: u32) -> u64
+    requires { Indexes lines.now text.now }
+{
+    let mut sum: u64 = 0;
+    for turn in 0..lookups {
+        if let Ok(place) = lines.resolve(text, encoding, position_at(case, turn)) {
+            sum = sum.wrapping_add(place as u64);
+        }
+    }
+    sum
+}
+
+/// The sum of the characters of the positions of so many places.
+fn position_all(
+    lines: &Lines,
+    text: &str,
+    encoding: Encoding,
+    places: &[usize],
+    lookups: u32,
+) -> u64
+    requires { Indexes lines.now text.now }
+{
+    let mut sum: u64 = 0;
+    for turn in 0..lookups {
+        let place = *places.get(turn as usize % 1_000).unwrap_or(&0);
+        if lines.is_place(text, place) {
+            let position = lines.position(text, encoding, place);
+            sum = sum.wrapping_add(u64::from(position.character));
+        }
+    }
+    sum
 }
 
 /// Splices the lines of `before`, which `after` is with `len` bytes put in at `from`, to those of `after` and back.

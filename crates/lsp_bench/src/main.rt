@@ -1,9 +1,10 @@
 //! Times the layers on made input. `lsp_bench MB` frames streams of that many megabytes, 1 where no number is
 //! given: the times go to standard error, and what was read to standard output. Words as `text=64` give the
 //! other sizes: megabytes of `text`, `lookups` in each text, `lines` of the text that is edited, `edits` at each place.
-//! `lsp_bench edits` changes texts.
+//! `lsp_bench edits` changes texts, and `lsp_bench documents` open documents, of which the first form makes a few changes.
 #![tactic(auto)]
 
+mod documents;
 mod edits;
 mod frames;
 mod lines;
@@ -23,10 +24,12 @@ const BODIES: [usize; 3] = [50, 500, 1_048_576];
 const PIECES: [usize; 4] = [1, 64, 4_096, 65_536];
 
 fn main(rt: HostRuntime) -> Result<()> {
-    if let Some(word) = env::args(&rt)?.nth(1)
-        && word.as_str() == "edits"
-    {
-        return edits::run(&rt);
+    if let Some(word) = env::args(&rt)?.nth(1) {
+        match word.as_str() {
+            "edits" => return edits::run(&rt),
+            "documents" => return documents::run(&rt, 1_000),
+            _number => {}
+        }
     }
     let megabytes = megabytes(&rt)?;
     time_frames(&rt, megabytes)?;
@@ -39,7 +42,8 @@ fn main(rt: HostRuntime) -> Result<()> {
             edits: size(&rt, "edits=", 10)?,
         },
     )?;
-    time_messages(&rt, megabytes)
+    time_messages(&rt, megabytes)?;
+    documents::run(&rt, 10)
 }
 
 /// Frames streams, beside a plain copy of each.
