@@ -24,8 +24,8 @@ use lsp_text::Encoding;
 use std::alloc::{AllocError, Global};
 use std::marker::Model;
 
-/// The server's end of one session. Clauses see how it was set up, where the session stands, the encoding that was chosen, and the open
-/// documents.
+/// The server's end of one session (LSP 3.17, Server lifecycle, Text Document Synchronization). Clauses see how it was set up, where the
+/// session stands, the encoding that was chosen, and the open documents.
 #[derive(Drop)]
 pub struct Server {
     alloc: Global,
@@ -87,7 +87,7 @@ impl Server {
         &self.store
     }
 
-    /// The encoding of positions; none before an `initialize` is accepted. In phase Running there is one.
+    /// The encoding of positions (LSP 3.17, PositionEncodingKind); none before an `initialize` is accepted. In phase Running there is one.
     pub fn encoding(&self) -> Option<Encoding>
         ensures value { result ≡ self.now.encoding }
         ensures running { self.now.phase ≡ Running → IsSome result }
@@ -118,7 +118,7 @@ impl Server {
     /// Nothing changes but what the table names. A reply is made before anything changes, so after [`ServerFault::NoMemory`] the server is
     /// as it was, and the same body can be handed in again. [`ServerFault::AlreadyEnded`] comes in phase Ended, and only there.
     ///
-    /// One parse of the body, whose texts move into the store; then what the command costs there.
+    /// One parse of the body, whose texts move into the store; then what the command costs there, or the reply's bytes.
     pub fn handle(&mut self, body: &[u8]) -> Result<Answer, ServerFault>
         ensures answer { IfOk result (λ a. answer_view a ≡ as_sent (step self.old (reading body.now)).answer) }
         ensures state { OnOk result (self.new ≡ (step self.old (reading body.now)).state) }
@@ -133,7 +133,8 @@ impl Server {
     }
 
     /// Handles what a body asks, for one who has read it by [`Incoming::read`] to look at it first. Answers what
-    /// [`handle`](Server::handle) answers to that body.
+    /// [`handle`](Server::handle) answers to that body, with the same faults. What was read is used up, so after
+    /// [`ServerFault::NoMemory`] it has to be read again. Nothing is parsed: costs a reply's bytes, or what the command costs in the store.
     pub fn handle_incoming(&mut self, incoming: Incoming) -> Result<Answer, ServerFault>
         ensures answer { IfOk result (λ a. answer_view a ≡ as_sent (step_on self.old (incoming_view incoming)).answer) }
         ensures state { OnOk result (self.new ≡ (step_on self.old (incoming_view incoming)).state) }
@@ -349,8 +350,8 @@ impl Server {
         }
     }
 
-    /// From now on changes are counted in this encoding, whatever was chosen: for a capture that tells what another server chose. Before
-    /// an `initialize` is accepted it does nothing. Takes no memory.
+    /// From now on changes are counted in this encoding (LSP 3.17, PositionEncodingKind), whatever was chosen: for a capture that tells what
+    /// another server chose. Before an `initialize` is accepted it does nothing. Takes no memory.
     pub fn settle(&mut self, encoding: Encoding)
         ensures { self.new ≡ settled self.old encoding }
     {

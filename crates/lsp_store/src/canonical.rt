@@ -9,7 +9,8 @@ ghost use Rattle.lsp_message.specs.Outgoing.{OutgoingData, body_of};
 ghost use Rattle.lsp_message.specs.Sent.{IsProper, IsReadAsSent, IsReadBack};
 ghost use Rattle.lsp_store.specs.Faults.{IsRefusal};
 ghost use Rattle.lsp_store.specs.Table.{change_refusal};
-ghost use Rattle.lsp_store.specs.Message.{AreTexts, DoAlike, IsCanonicalOn, IsReadAs, IsSettled, body_refusal, canonical_batch, canonical_frame, change_body, message_refusal};
+ghost use Rattle.lsp_store.specs.Message.{AreTexts, DoAlike, IsCanonicalOn, IsReadAs, IsSettled};
+ghost use Rattle.lsp_store.specs.Message.{body_refusal, canonical_batch, canonical_frame, change_body, message_refusal};
 
 use crate::fault::StoreFault;
 use crate::store::Store;
@@ -45,9 +46,11 @@ fn framed_change(
 }
 
 impl Store {
-    /// The frame of the one message in which a batch on an open document is written: a `textDocument/didChange` with the canonical
-    /// batch, which keeps the same old characters and inserts the same texts between them. Refuses as [`Store::change`] does, then
-    /// [`StoreFault::BodyTooLong`]; changes nothing. Costs a hash look-up, what the batch costs to apply, and the message's bytes.
+    /// The frame of the one message in which a batch on an open document is written: a `textDocument/didChange` (LSP 3.17,
+    /// DidChangeTextDocument) with the canonical batch, which keeps the same old characters and inserts the same texts between them. Its
+    /// characters are counted in the units of `encoding`. Refuses as [`Store::change`] does, then [`StoreFault::BodyTooLong`] where the body
+    /// has more than `max_body` bytes; and [`StoreFault::NoMemory`]. Changes nothing. Costs a hash look-up, what the batch costs to apply
+    /// (for one change its two positions, whatever the text's length), and the message's bytes.
     pub fn canonical_message(
         &self,
         uri: &str,

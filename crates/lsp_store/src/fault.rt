@@ -17,7 +17,7 @@ pub enum StoreFault {
     /// S2: `max_docs` documents are open.
     #[error("too many documents are open")]
     TooManyDocuments,
-    /// S3: the text would have more than `max_text` bytes.
+    /// S3: the text has, or would have after the batch, more than `max_text` bytes.
     #[error("the text is too long")]
     TextTooLong,
     /// S4: no document with this URI is open.
@@ -35,7 +35,7 @@ pub enum StoreFault {
     /// S8: the message's body has this many bytes, more than `max_body`.
     #[error("the body has {len} bytes, more than the limit")]
     BodyTooLong { len: usize },
-    /// S9: no memory was left.
+    /// S9: no memory was left. The same call can be made again.
     #[error("out of memory")]
     NoMemory,
 }

@@ -36,7 +36,8 @@ impl Held {
         text: String,
     ) -> Result<Self, AllocError>
         requires { string_len text ≤ 1073741824 }
-        ensures { IfOk result (λ held. (uri : List ℕ) → entry_under uri held ≡ record { uri = uri; language = string_bytes language; version = version; text = string_bytes text }) }
+        ensures { IfOk result (λ held. (uri : List ℕ) →
+            entry_under uri held ≡ record { uri = uri; language = string_bytes language; version = version; text = string_bytes text }) }
     {
         let text = IndexedText::new(alloc, text)?;
         Ok(Held {
@@ -55,7 +56,8 @@ impl Held {
     ) -> Result<(), StoreFault>
         ensures may { OnOk result ((units : ℕ → ℕ) (uri : List ℕ) → entry_refusal limits.now units (entry_under uri self.now) version (map edit_of changes.now)
             ≡ meaning_refusal limits.now self.now.text (meaning units (chars self.now.text) (map edit_of changes.now))) }
-        ensures told { IfErr result (λ fault. (units : ℕ → ℕ) (uri : List ℕ) → option_map fault_of (entry_refusal limits.now units (entry_under uri self.now) version (map edit_of changes.now)) ≡ Some fault) }
+        ensures told { IfErr result (λ fault. (units : ℕ → ℕ) (uri : List ℕ) →
+            option_map fault_of (entry_refusal limits.now units (entry_under uri self.now) version (map edit_of changes.now)) ≡ Some fault) }
         ensures fits { OnOk result (sum_by (λ change. string_len change.text) changes.now ≤ 1073741824) }
     {
         if version <= self.version {
@@ -75,10 +77,13 @@ impl Held {
         encoding: Encoding,
         changes: &[Change],
     ) -> Result<(), StoreFault>
-        ensures accepted { OnOk result ((uri : List ℕ) → entry_refusal limits.now (units_in encoding) (entry_under uri self.old) version (map edit_of changes.now) ≡ None) }
-        ensures changed { OnOk result ((uri : List ℕ) → entry_under uri self.new ≡ changed (units_in encoding) (entry_under uri self.old) version (map edit_of changes.now)) }
+        ensures accepted { OnOk result ((uri : List ℕ) →
+            entry_refusal limits.now (units_in encoding) (entry_under uri self.old) version (map edit_of changes.now) ≡ None) }
+        ensures changed { OnOk result ((uri : List ℕ) →
+            entry_under uri self.new ≡ changed (units_in encoding) (entry_under uri self.old) version (map edit_of changes.now)) }
         ensures same { OnErr result (self.new ≡ self.old) }
-        ensures told { IfErr result (λ fault. (uri : List ℕ) → IsRefusal (entry_refusal limits.now (units_in encoding) (entry_under uri self.old) version (map edit_of changes.now)) fault) }
+        ensures told { IfErr result (λ fault. (uri : List ℕ) →
+            IsRefusal (entry_refusal limits.now (units_in encoding) (entry_under uri self.old) version (map edit_of changes.now)) fault) }
     {
         self.may_change(limits, version, changes)?;
         self.text.change(encoding, changes, limits.max_text())?;
@@ -94,10 +99,13 @@ impl Held {
         encoding: Encoding,
         changes: &[Change],
     ) -> Result<Vec<Change>, StoreFault>
-        ensures accepted { OnOk result ((uri : List ℕ) → entry_refusal limits.now (units_in encoding) (entry_under uri self.now) version (map edit_of changes.now) ≡ None) }
-        ensures batch { IfOk result (λ made. IsCanonicalBatch (units_in encoding) limits.now.max_text self.now.text (map edit_of changes.now) (map edit_of made.items)) }
+        ensures accepted { OnOk result ((uri : List ℕ) →
+            entry_refusal limits.now (units_in encoding) (entry_under uri self.now) version (map edit_of changes.now) ≡ None) }
+        ensures batch { IfOk result (λ made.
+            IsCanonicalBatch (units_in encoding) limits.now.max_text self.now.text (map edit_of changes.now) (map edit_of made.items)) }
         ensures short { (length self.now.text ≤ 1073741824) × (limits.now.max_text ≤ 1073741824) }
-        ensures told { IfErr result (λ fault. (uri : List ℕ) → IsRefusal (entry_refusal limits.now (units_in encoding) (entry_under uri self.now) version (map edit_of changes.now)) fault) }
+        ensures told { IfErr result (λ fault. (uri : List ℕ) →
+            IsRefusal (entry_refusal limits.now (units_in encoding) (entry_under uri self.now) version (map edit_of changes.now)) fault) }
     {
         let max_text = limits.max_text();
         self.may_change(limits, version, changes)?;

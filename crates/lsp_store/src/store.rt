@@ -1,6 +1,6 @@
 //! The open documents, in order of opening.
 
-ghost use Rattle.std.specs.Prelude.{◌≡◌, ◌≤◌, ℕ, ℤ, List, [], Some, None, option_map, IfErr, IfOk, OnErr, OnOk, map, length, slice_get, string_bytes, string_len};
+ghost use Rattle.std.specs.Prelude.{◌≡◌, ◌≤◌, ℕ, ℤ, List, [], Some, None, option_map, IfErr, OnErr, OnOk, map, length, slice_get, string_bytes};
 ghost use Rattle.lsp_edit.specs.Edited.{edit_of};
 ghost use Rattle.lsp_store.specs.declared.fault.StoreFault.TheVariants.{NotOpen};
 ghost use Rattle.lsp_store.specs.Table.{Entry, entry_at, open_refusal, opens, changes as changing, closes};
@@ -17,7 +17,8 @@ use lsp_text::Encoding;
 use std::alloc::Global;
 use std::marker::Model;
 
-/// The open documents, in order of opening, within limits. Clauses see the limits and the table of documents.
+/// The open documents (LSP 3.17, Text Document Synchronization), in order of opening, within limits. Clauses see the limits and the table
+/// of documents.
 #[derive(Drop)]
 pub struct Store {
     pub(crate) limits: Limits,
@@ -51,14 +52,14 @@ impl Store {
         self.limits
     }
 
-    /// How many documents are open.
+    /// How many documents are open; at most `max_docs`. Costs one step.
     pub fn len(&self) -> usize
         ensures { result ≡ length self.now.table }
     {
         self.documents.len()
     }
 
-    /// The open document of a URI, which is compared byte for byte. Costs a hash look-up.
+    /// The open document of a URI, which is compared byte for byte; none where it isn't open. Costs a hash look-up, however many are open.
     pub fn get(&self, uri: &str) -> Option<Document<'_>>
         ensures { result ≡ entry_at self.now.table uri.now }
     {
@@ -66,7 +67,7 @@ impl Store {
         Some(Document::new(uri, held))
     }
 
-    /// The document at an index, in order of opening from 0.
+    /// The document at an index, in order of opening from 0; none from [`Store::len`] on. Costs one step.
     pub fn at(&self, index: usize) -> Option<Document<'_>>
         ensures { result ≡ slice_get self.now.table index }
     {
@@ -76,8 +77,11 @@ impl Store {
 
     /// Whether a document may be opened.
     fn may_open(&self, uri: &str, text: &str) -> Result<(), StoreFault>
-        ensures may { OnOk result ((language : List ℕ) (version : ℤ) → open_refusal self.now.limits self.now.table (record { uri = uri.now; language = language; version = version; text = text.now }) ≡ None) }
-        ensures told { IfErr result (λ fault. (language : List ℕ) (version : ℤ) → option_map fault_of (open_refusal self.now.limits self.now.table (record { uri = uri.now; language = language; version = version; text = text.now })) ≡ Some fault) }
+        ensures may { OnOk result ((language : List ℕ) (version : ℤ) →
+            open_refusal self.now.limits self.now.table (record { uri = uri.now; language = language; version = version; text = text.now }) ≡ None) }
+        ensures told { IfErr result (λ fault. (language : List ℕ) (version : ℤ) →
+            option_map fault_of (open_refusal self.now.limits self.now.table
+            (record { uri = uri.now; language = language; version = version; text = text.now })) ≡ Some fault) }
         ensures short { OnOk result (length text.now ≤ 1073741824) }
     {
         if self.documents.contains_key(uri) {
@@ -92,9 +96,10 @@ impl Store {
         Ok(())
     }
 
-    /// Opens a document (LSP 3.17, DidOpenTextDocument): it goes last. Refuses, in this order, [`StoreFault::AlreadyOpen`],
-    /// [`StoreFault::TooManyDocuments`] and [`StoreFault::TextTooLong`]; and [`StoreFault::NoMemory`]. The texts are moved in, not
-    /// copied. Costs a hash look-up and a search through the text for its lines.
+    /// Opens a document (LSP 3.17, DidOpenTextDocument): it goes last, also where it was open before. Refuses, in this order,
+    /// [`StoreFault::AlreadyOpen`], [`StoreFault::TooManyDocuments`] and, where the text has more than `max_text` bytes,
+    /// [`StoreFault::TextTooLong`]; and [`StoreFault::NoMemory`]. Any version is taken. The texts are moved in, not copied. Costs two hash
+    /// look-ups and a search through the text for its lines.
     pub fn open(
         &mut self,
         uri: String,
@@ -102,9 +107,11 @@ impl Store {
         version: i32,
         text: String,
     ) -> Result<(), StoreFault>
-        ensures taken { OnOk result (Takes self.old (opens (record { uri = string_bytes uri; language = string_bytes language; version = version; text = string_bytes text })) self.new) }
+        ensures taken { OnOk result (Takes self.old
+            (opens (record { uri = string_bytes uri; language = string_bytes language; version = version; text = string_bytes text })) self.new) }
         ensures same { OnErr result (self.new ≡ self.old) }
-        ensures told { IfErr result (IsRefused self.old (opens (record { uri = string_bytes uri; language = string_bytes language; version = version; text = string_bytes text }))) }
+        ensures told { IfErr result (IsRefused self.old
+            (opens (record { uri = string_bytes uri; language = string_bytes language; version = version; text = string_bytes text }))) }
     {
         self.may_open(&uri, &text)?;
         let held = Held::new(*self.documents.allocator(), language, version, text)?;
@@ -112,10 +119,12 @@ impl Store {
         Ok(())
     }
 
-    /// Changes an open document (LSP 3.17, DidChangeTextDocument): it gets the text that the batch means, and the version. Refuses, in
-    /// this order, [`StoreFault::NotOpen`], [`StoreFault::StaleVersion`], [`StoreFault::TooManyChanges`], [`StoreFault::Edit`], and
-    /// [`StoreFault::TextTooLong`] where the text that the batch leaves is too long, whatever stood between; and
-    /// [`StoreFault::NoMemory`]. Costs a hash look-up, and what the batch costs to apply.
+    /// Changes an open document (LSP 3.17, DidChangeTextDocument): it gets the text that the batch means, and the version. Characters of
+    /// positions are counted in the units of `encoding`. Refuses, in this order, [`StoreFault::NotOpen`], [`StoreFault::StaleVersion`],
+    /// [`StoreFault::TooManyChanges`], [`StoreFault::Edit`], and [`StoreFault::TextTooLong`] where the text that the batch leaves has more
+    /// than `max_text` bytes, whatever stood between; and [`StoreFault::NoMemory`]. Costs a hash look-up, and what the batch costs to apply
+    /// ([`lsp_edit::IndexedText::change`]): for one change of a range its two positions, one move of the text behind it, and one pass over
+    /// the line starts that follow.
     pub fn change(
         &mut self,
         uri: &str,
