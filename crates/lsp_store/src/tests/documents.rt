@@ -113,6 +113,18 @@ fn the_final_text_alone_is_limited(rt: HostRuntime) -> Result<(), Fail> {
 }
 
 #[test]
+fn line_ends_that_come_together(rt: HostRuntime) -> Result<(), Fail> {
+    let mut store = store_of(rt.alloc(), narrow(1, 1)?, 1, "a\rX\nb")?;
+    let changes = batch(rt.alloc(), &[(1, 0, 1, 1, "")])?;
+    assert_eq!(rt; store.change(URI, 2, Encoding::Utf16, &changes), Ok(()));
+    assert_eq!(rt; held(&store), Some((2, "a\r\nb")));
+    let changes = batch(rt.alloc(), &[(1, 0, 1, 0, "Q")])?;
+    assert_eq!(rt; store.change(URI, 3, Encoding::Utf16, &changes), Ok(()));
+    assert_eq!(rt; held(&store), Some((3, "a\r\nQb")));
+    Ok(())
+}
+
+#[test]
 fn versions_at_their_ends(rt: HostRuntime) -> Result<(), Fail> {
     let mut store = store_of(rt.alloc(), narrow(1, 1)?, -2147483648, "")?;
     let least = StoreFault::StaleVersion { held: -2147483648 };
@@ -149,8 +161,9 @@ fn documents_are_opened_and_closed(rt: HostRuntime) -> Result<(), Fail> {
         Err(StoreFault::TooManyDocuments)
     );
     assert_eq!(rt; store.close("b"), Err(StoreFault::NotOpen));
+    let faulty = batch(rt.alloc(), &[(0, 2, 0, 1, long), (0, 2, 0, 1, long)])?;
     assert_eq!(rt;
-        store.change("b", 9, Encoding::Utf8, &[]),
+        store.change("b", -2147483648, Encoding::Utf8, &faulty),
         Err(StoreFault::NotOpen)
     );
     assert_eq!(rt; store.close(URI), Ok(()));
@@ -160,6 +173,75 @@ fn documents_are_opened_and_closed(rt: HostRuntime) -> Result<(), Fail> {
     assert_eq!(rt; (store.len(), held(&store)), (1, Some((0, "a"))));
     assert!(rt; store.get("").is_none());
     assert_eq!(rt; store.limits().max_docs(), 2);
+    Ok(())
+}
+
+#[test]
+fn one_document_and_one_change(rt: HostRuntime) -> Result<(), Fail> {
+    let mut store = store_of(rt.alloc(), narrow(1, 1)?, 5, "abc")?;
+    assert_eq!(rt;
+        open(&mut store, rt.alloc(), "b", 1, ""),
+        Err(StoreFault::TooManyDocuments)
+    );
+    assert_eq!(rt;
+        open(&mut store, rt.alloc(), URI, 1, ""),
+        Err(StoreFault::AlreadyOpen)
+    );
+    let two = batch(rt.alloc(), &[(0, 0, 0, 0, ""), (0, 0, 0, 0, "")])?;
+    assert_eq!(rt;
+        store.change(URI, 6, Encoding::Utf16, &two),
+        Err(StoreFault::TooManyChanges)
+    );
+    assert_eq!(rt; store.close(URI), Ok(()));
+    assert_eq!(rt; open(&mut store, rt.alloc(), URI, 1, "a"), Ok(()));
+    assert_eq!(rt;
+        open(&mut store, rt.alloc(), URI, 2, ""),
+        Err(StoreFault::AlreadyOpen)
+    );
+    assert_eq!(rt; held(&store), Some((1, "a")));
+    assert_eq!(rt; store.close(URI), Ok(()));
+    assert_eq!(rt; store.close(URI), Err(StoreFault::NotOpen));
+    assert_eq!(rt; store.len(), 0);
+    Ok(())
+}
+
+#[test]
+fn the_least_limits(rt: HostRuntime) -> Result<(), Fail> {
+    let mut store = store_of(rt.alloc(), Limits::new(4_096, 0, 1, 1)?, 1, "")?;
+    let letter = batch(rt.alloc(), &[(0, 0, 0, 0, "x")])?;
+    assert_eq!(rt;
+        store.change(URI, 2, Encoding::Utf16, &letter),
+        Err(StoreFault::TextTooLong)
+    );
+    let nothing = batch(rt.alloc(), &[(9, 9, 9, 9, "")])?;
+    assert_eq!(rt; store.change(URI, 2, Encoding::Utf16, &nothing), Ok(()));
+    assert_eq!(rt; store.close(URI), Ok(()));
+    assert_eq!(rt;
+        open(&mut store, rt.alloc(), URI, 1, "x"),
+        Err(StoreFault::TextTooLong)
+    );
+    Ok(())
+}
+
+#[test]
+fn the_greatest_limits(rt: HostRuntime) -> Result<(), Fail> {
+    let greatest = Limits::new(1_073_741_824, 1_073_741_824, 65_536, 1_048_576)?;
+    let mut store = store_of(rt.alloc(), greatest, 1, "abc")?;
+    let mut changes = Vec::new(rt.alloc());
+    // The first one is faulty, so that the others need not be put in.
+    for _ in 0..1_048_576 {
+        changes.push(super::change(rt.alloc(), (0, 2, 0, 1, ""))?)?;
+    }
+    assert_eq!(rt;
+        store.change(URI, 2, Encoding::Utf16, &changes),
+        Err(StoreFault::Edit(EditFault::ReversedRange { change: 0 }))
+    );
+    changes.push(super::change(rt.alloc(), (0, 2, 0, 1, ""))?)?;
+    assert_eq!(rt;
+        store.change(URI, 2, Encoding::Utf16, &changes),
+        Err(StoreFault::TooManyChanges)
+    );
+    assert_eq!(rt; held(&store), Some((1, "abc")));
     Ok(())
 }
 
@@ -223,5 +305,10 @@ fn a_uri_of_a_million_bytes(rt: HostRuntime) -> Result<(), Fail> {
         )
     );
     assert_eq!(rt; store.close(&uri), Ok(()));
+    let wide = Limits::new(1_000_120, 0, 1, 1)?;
+    let mut store = Store::new(rt.alloc(), wide);
+    open(&mut store, rt.alloc(), &uri, 1, "")?;
+    let bytes = store.canonical_message(&uri, 2, Encoding::Utf8, &[])?;
+    assert_eq!(rt; bytes.len(), 1_000_147);
     Ok(())
 }
