@@ -12,7 +12,7 @@ abbrev NoColon : List ℕ → Type 0
 NoColon [] = ⊤
 NoColon (b ∷ bs) = (b ≢ 58) × NoColon bs
 
-first_byte : (x y : ℕ) (xs ys : List ℕ) → x ∷ xs ≡ y ∷ ys → x ≡ y
+pub first_byte : (x y : ℕ) (xs ys : List ℕ) → x ∷ xs ≡ y ∷ ys → x ≡ y
 first_byte x y xs ys e = cc
 
 later_bytes : (x y : ℕ) (xs ys : List ℕ) → x ∷ xs ≡ y ∷ ys → xs ≡ ys
