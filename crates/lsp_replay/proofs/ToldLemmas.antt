@@ -1,10 +1,8 @@
 -- What an engine wrote and answered is told by all the records that are whole in the bytes that it read.
-use Rattle.std.proofs.Common.{◌≡◌, ◌≢◌, ◌⊎◌, inl, inr, ℕ, ◌+◌, ◌≤◌, Bool, true, false, List, [], ◌∷◌, ◌++◌, length, drop, Option, Some, None, refl, sym, ap, ◌∙◌, subst, arith, append_assoc, append-nil, ⊎_elim}
-use Rattle.std.specs.Prelude.{⊤, Result, Ok, Err, MatchResult}
+use Rattle.std.proofs.Common.{◌≡◌, ◌≢◌, ◌⊎◌, inl, inr, ℕ, Bool, true, List, [], ◌∷◌, ◌++◌, length, drop, Option, Some, None, refl, sym, ap, ◌∙◌, subst, arith, append_assoc, append-nil}
+use Rattle.std.specs.Prelude.{Result, Ok, Err, MatchResult}
 use Rattle.std.specs.Io.KnownBytes.{Appends}
 use Rattle.std.proofs.lemmas.List.{length-append}
-use Rattle.lsp_frame.specs.Faults.{place_behind}
-use Rattle.lsp_frame.specs.Frame.{Spells}
 use Rattle.lsp_frame.specs.declared.fault.FrameFault.{FrameFault}
 use Rattle.lsp_replay.specs.declared.outcome.Outcome.{Outcome}
 use Rattle.lsp_replay.specs.declared.outcome.EngineFault.{EngineFault}
@@ -17,10 +15,9 @@ use Rattle.lsp_replay.specs.Turns.{AppendsFront}
 use Rattle.lsp_replay.specs.Log.{Reading, Record, Log, IsReadAs, HasNoRecord, IsCut, IsMalformed, IsBadMark, mark_of}
 use Rattle.lsp_replay.specs.Course.{Course}
 use Rattle.lsp_replay.specs.Session.{Session, judge}
-use Rattle.lsp_replay.specs.Engine.{Ran, Stopped, Reached, Broken, AtEnd, BrokenAtEnd, BreaksAtEnd, IsRunFault, IsRefused, last_of}
+use Rattle.lsp_replay.specs.Engine.{Ran, Stopped, Reached, Broken, AtEnd, BreaksAtEnd, IsRunFault, IsRefused}
 use Rattle.lsp_replay.specs.Engines.{View, go_on, course_in}
-use Rattle.lsp_replay.specs.Laws.{all_of}
-use Rattle.lsp_replay.specs.Told.{EndedBy, Passed, PassedEnd, CutAtEnd, IsFirstPart, IsFaultTold, IsTold, RanOver}
+use Rattle.lsp_replay.specs.Told.{EndedBy, Passed, PassedEnd, CutAtEnd, IsFaultTold, IsTold, RanOver}
 use Rattle.lsp_replay.proofs.LineLemmas.{first_byte}
 use Rattle.lsp_replay.proofs.SplitLemmas.{frame_len}
 use Rattle.lsp_replay.proofs.UniqueLemmas.{IsFirstOf, first_of, same_version}
@@ -81,7 +78,6 @@ bad_rest max_body input place log is side spelling body more spells e = bad_mark
 -- ---- from some records to all
 
 module _ (reading : Reading) (view : View) (s : Session) (ended : Bool) (input : List ℕ) (held_old held_new : Option (List ℕ)) (all : Log) (reads : IsReadAs reading input all) (ends : HasNoRecord reading.max_body all) where
-
   ended_by : (answer : Result Outcome EngineFault) → Stopped reading (course_in view s) input held_old held_new answer → EndedBy (course_in view s) held_old held_new answer all
   ended_by answer stopped =
       let f : IsFirstOf reading stopped.log all = first_of reading input stopped.log all stopped.reads reads ends in

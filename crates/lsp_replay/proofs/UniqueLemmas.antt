@@ -1,7 +1,6 @@
 -- An input is taken apart in one way.
-use Rattle.std.proofs.Common.{◌≡◌, ◌≢◌, ℕ, ◌+◌, Bool, true, false, List, [], ◌∷◌, ◌++◌, length, refl, sym, ap, ◌∙◌, subst, arith, append_assoc, append-nil}
+use Rattle.std.proofs.Common.{◌≡◌, ◌≢◌, ℕ, ◌+◌, Bool, false, List, [], ◌∷◌, ◌++◌, length, refl, sym, ap, ◌∙◌, subst, arith, append_assoc, append-nil}
 use Rattle.std.proofs.lemmas.List.{append_cancel_left}
-use Rattle.std.specs.Prelude.{⊤}
 use Rattle.lsp_frame.specs.Faults.{place_behind}
 use Rattle.lsp_frame.specs.Frame.{Spells}
 use Rattle.lsp_frame.proofs.StreamLemmas.{SameFrame, same_frame}
@@ -10,7 +9,7 @@ use Rattle.lsp_replay.specs.declared.record.Version.TheVariants.{One, Two}
 use Rattle.lsp_replay.specs.declared.record.Side.{Side}
 use Rattle.lsp_replay.specs.declared.record.Side.TheVariants.{Client, Server}
 use Rattle.lsp_replay.specs.declared.record.Head.{Head}
-use Rattle.lsp_replay.specs.Log.{Reading, Record, Log, IsRecord, AreRecords, IsReadAs, IsVersion, HasNoRecord, together, record_bytes, mark_of, line_of, version_line, is_line_due}
+use Rattle.lsp_replay.specs.Log.{Reading, Record, Log, IsRecord, AreRecords, IsReadAs, IsVersion, HasNoRecord, together, record_bytes, mark_of, line_of, is_line_due}
 use Rattle.lsp_replay.specs.Laws.{UniqueLaw}
 use Rattle.lsp_replay.proofs.LineLemmas.{first_byte}
 

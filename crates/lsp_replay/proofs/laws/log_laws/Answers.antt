@@ -1,5 +1,4 @@
 use Rattle.lsp_replay.proofs.UniqueLemmas.{unique_law}
-use Rattle.lsp_replay.proofs.ToldLemmas.{ran_over}
 use Rattle.lsp_replay.proofs.NormalisedLemmas.{normal_law}
 use Rattle.lsp_replay.proofs.ConvertedLogLemmas.{converted_law}
 use Rattle.lsp_replay.proofs.laws.log_laws.Goals as goal
