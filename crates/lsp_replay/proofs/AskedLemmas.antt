@@ -1,29 +1,27 @@
 -- What a body asks is as the types hold it: its texts are UTF-8, and its numbers fit.
-use Rattle.std.proofs.Common.{◌≡◌, ℕ, ℤ, pos, negsuc, ◌<◌, ◌^◌, Bool, true, false, ◌||◌, List, [], ◌∷◌, map, length, Option, Some, None, option_map, option_and_then, IfSome, FitsSigned, IsUtf8, bytes_eq, codes, refl, arith}
+use Rattle.std.proofs.Common.{◌≡◌, ℕ, ℤ, pos, negsuc, ◌<◌, ◌^◌, Bool, true, false, ◌||◌, List, [], ◌∷◌, map, Option, Some, None, option_map, FitsSigned, IsUtf8, bytes_eq, codes, refl, arith}
 use Rattle.std.specs.Prelude.{⊤, if◌then◌else◌, nat_lt, int_lt}
-use Rattle.std.specs.Int.{w32, w64}
+use Rattle.std.specs.Int.{w32}
 use Rattle.std.specs.Option.{option_map_or}
 use Rattle.std.specs.Ordering.{nat_cmp, match_ordering}
 use Rattle.std.specs.Cmp.Lexicographic.{slice_cmp}
-use Rattle.std.specs.Str.{is_utf8, chars}
+use Rattle.std.specs.Str.{is_utf8}
 use Rattle.std.proofs.Common.{Ordering, Less, Equal, Greater}
 use Rattle.std.proofs.lemmas.Bool.{cond_both, ltb-true}
 use Rattle.std.proofs.lemmas.Bool.Decides.{nat_tests}
 use Rattle.std.proofs.lemmas.Str.{IsUtf8-from_is_utf8, scalars-chars}
 use Rattle.serde_json.specs.Data.{Num, unsigned, negative, float, Data, null, boolean, number, string, array, object, Items, no_items, item, Members, no_members, member}
-use Rattle.serde_json.specs.Find.{get_member, get, as_object, as_str, as_array, as_number, as_i64}
+use Rattle.serde_json.specs.Find.{get_member, get, as_object, as_str, as_array, as_i64}
 use Rattle.serde_json.specs.Read.{read}
-use Rattle.lsp_text.specs.declared.position.Range.{Range}
-use Rattle.lsp_edit.specs.Batch.{Edit}
-use Rattle.lsp_message.specs.Values.{member_at, text_in, members_in, items_in, is_null, whole_in}
+use Rattle.lsp_message.specs.Values.{member_at, text_in, items_in, is_null, whole_in}
 use Rattle.lsp_message.specs.Message as msg
 use Rattle.lsp_message.specs.Message.{IdData, whole, text, Reading, MessageData, id_in, value_of, message_of, call_of, answer_of, outcome_of, message_with, message_by, is_version_two, reading}
 use Rattle.lsp_message.specs.Params.{OpenData, EditData, ChangeData, open_of, open_by, change_of, change_by, document_in, document_and_changes, edit_by, edit_in, edits_in, range_of, version_in, within_version}
 use Rattle.lsp_message.specs.Sent.{IsProperId}
-use Rattle.lsp_server.specs.Incoming.{IncomingData, not_json, not_a_message, response, initialize, shutdown, other_request, exit, did_open, did_change, did_close, other_notification, request_of, notification_of, asked_by, asked}
+use Rattle.lsp_server.specs.Incoming.{IncomingData, not_json, not_a_message, response, initialize, shutdown, other_request, exit, did_open, did_change, did_close, other_notification, asked_by, asked}
 use Rattle.lsp_server.specs.Step.{edit_of}
 use Rattle.lsp_store.specs.Message.{AreTexts}
-use Rattle.lsp_replay.proofs.ReadLemmas.{OnSome, on_map, on_then, NumFits, IsHeld, ItemsAreHeld, MembersAreHeld, read_held}
+use Rattle.lsp_replay.proofs.ReadLemmas.{OnSome, on_then, NumFits, IsHeld, ItemsAreHeld, MembersAreHeld, read_held}
 
 -- ---- members of a value
 

@@ -1,37 +1,26 @@
 -- What `convert` writes of a log: a log of which the same is told.
-use Rattle.std.proofs.Common.{◌≡◌, ◌≢◌, ℕ, ◌+◌, ◌<◌, ◌≤◌, ◌^◌, Bool, true, false, List, [], ◌∷◌, ◌++◌, length, Option, Some, None, refl, sym, ap, ap₂, ◌∙◌, subst, arith, append_assoc, append-nil, bytes_eq, codes, ◌==◌}
-use Rattle.std.specs.Prelude.{⊤, if◌then◌else◌, Result, Ok, Err, is_some, ◌&&◌}
-use Rattle.std.specs.Ordering.{int_eq}
+use Rattle.std.proofs.Common.{◌≡◌, ℕ, Bool, true, false, Option, Some, None, refl, ap, ◌∙◌}
+use Rattle.std.specs.Prelude.{⊤, if◌then◌else◌}
 use Rattle.std.proofs.lemmas.Bool.Decides.{Decides-int_eq}
 use Rattle.std.proofs.lemmas.Slice.Eq.{bytes_eq-Decides}
-use Rattle.lsp_frame.specs.Faults.{place_behind}
-use Rattle.lsp_frame.specs.Frame.{frame, Spells}
-use Rattle.lsp_frame.specs.Limits.{Bounds, AreInRange}
-use Rattle.lsp_frame.proofs.WrittenLemmas.{written_spells}
 use Rattle.lsp_message.specs.declared.agreement.Offers.{Offers}
 use Rattle.lsp_message.specs.declared.agreement.SyncKind.{SyncKind}
-use Rattle.lsp_message.specs.Message as msg
-use Rattle.lsp_message.specs.Message.{IdData, whole, text, reading}
-use Rattle.lsp_message.specs.Agreement.{announced_of}
+use Rattle.lsp_message.specs.Message.{IdData, whole, text}
 use Rattle.lsp_message.specs.Outgoing.{OutgoingData, initialize_result, initialize_value, body_of}
-use Rattle.lsp_message.specs.Sent.{IsProper, IsProperId}
+use Rattle.lsp_message.specs.Sent.{IsProperId}
 use Rattle.lsp_message.proofs.ReadBack.{reading-body_of, is_read_back}
 use Rattle.lsp_text.specs.declared.encoding.Encoding.{Encoding}
 use Rattle.lsp_server.specs.declared.phase.Phase.{Phase}
 use Rattle.lsp_server.specs.declared.phase.Phase.TheVariants.{New, Running, Down, Ended}
-use Rattle.lsp_server.specs.Answer.{AnswerData, Sent, reply, changed, dropped, ignored, already_ended, refused, exits, as_sent, sent}
+use Rattle.lsp_server.specs.Answer.{AnswerData, Sent, reply, changed, dropped, ignored, already_ended, refused, exits, as_sent}
 use Rattle.lsp_server.specs.Choice.{chosen, kind_of}
-use Rattle.lsp_server.specs.Incoming.{IncomingData, not_json, not_a_message, response, initialize, shutdown, other_request, exit, did_open, did_change, did_close, other_notification, asked}
-use Rattle.lsp_server.specs.Step.{State, Step, step_in, step_on, begins, settled}
+use Rattle.lsp_server.specs.Incoming.{IncomingData, not_json, not_a_message, response, initialize, shutdown, other_request, exit, did_open, did_change, did_close, other_notification}
+use Rattle.lsp_server.specs.Step.{State, step_in, step_on, begins, settled}
 use Rattle.lsp_replay.specs.declared.record.Version.{Version}
 use Rattle.lsp_replay.specs.declared.record.Version.TheVariants.{One, Two}
-use Rattle.lsp_replay.specs.declared.record.Side.{Side}
-use Rattle.lsp_replay.specs.declared.record.Side.TheVariants.{Client, Server}
-use Rattle.lsp_replay.specs.declared.record.Head.{Head}
 use Rattle.lsp_replay.specs.Ports.{one_more}
-use Rattle.lsp_replay.specs.Log.{Record}
-use Rattle.lsp_replay.specs.Session.{Session, Verdict, answered, recorded, bad, Judged, judged, judge_incoming, judge_from, handled, hear_for, heard, settle_by, result_for, result_in, same_id, is_ended, is_early, is_new, expected_of, expected_after, count_if, is_refused, versioned}
-use Rattle.lsp_replay.proofs.AskedLemmas.{IsProperIncoming, asked_proper}
+use Rattle.lsp_replay.specs.Session.{Session, Verdict, answered, recorded, bad, Judged, judged, judge_incoming, handled, hear_for, heard, settle_by, result_for, same_id, is_ended, is_early, is_new, expected_of, count_if, is_refused, versioned}
+use Rattle.lsp_replay.proofs.AskedLemmas.{IsProperIncoming}
 
 -- ---- a log of version 1 and one of version 2, side by side
 

@@ -1,34 +1,29 @@
 -- What `convert` writes of a log: a log of which the same is told.
-use Rattle.std.proofs.Common.{◌≡◌, ◌≢◌, ℕ, ◌+◌, ◌<◌, ◌≤◌, ◌^◌, Bool, true, false, List, [], ◌∷◌, ◌++◌, length, Option, Some, None, refl, sym, ap, ◌∙◌, subst, arith, append_assoc, append-nil, codes, ◌==◌}
-use Rattle.std.specs.Prelude.{⊤, if◌then◌else◌, Result, Ok, Err}
+use Rattle.std.proofs.Common.{◌≡◌, ℕ, ◌+◌, ◌<◌, ◌≤◌, Bool, true, false, List, [], ◌∷◌, ◌++◌, length, Option, Some, None, refl, sym, ap, ◌∙◌, subst, arith, append_assoc, append-nil, codes, ◌==◌}
+use Rattle.std.specs.Prelude.{if◌then◌else◌, Err}
 use Rattle.std.proofs.lemmas.Bool.{ne_eqb}
 use Rattle.lsp_frame.specs.Faults.{place_behind}
-use Rattle.lsp_frame.specs.Frame.{frame, Spells}
+use Rattle.lsp_frame.specs.Frame.{frame}
 use Rattle.lsp_frame.specs.Limits.{Bounds, AreInRange}
 use Rattle.lsp_frame.proofs.WrittenLemmas.{written_spells}
 use Rattle.lsp_message.specs.Message.{IdData, reading}
 use Rattle.lsp_message.specs.Outgoing.{OutgoingData, body_of}
 use Rattle.lsp_server.specs.Answer.{AnswerData, Sent, reply, changed, dropped, ignored, already_ended, refused, exits, as_sent, sent}
-use Rattle.lsp_server.specs.Incoming.{IncomingData, asked}
+use Rattle.lsp_server.specs.Incoming.{asked}
 use Rattle.lsp_server.specs.Step.{State, step_on}
-use Rattle.lsp_replay.specs.declared.engines.Settings.{Settings}
-use Rattle.lsp_replay.specs.declared.outcome.Outcome.{Outcome}
-use Rattle.lsp_replay.specs.declared.outcome.EngineFault.{EngineFault}
 use Rattle.lsp_replay.specs.declared.outcome.EngineFault.TheVariants.{BadLog}
 use Rattle.lsp_replay.specs.declared.record.Version.{Version}
 use Rattle.lsp_replay.specs.declared.record.Version.TheVariants.{One, Two}
-use Rattle.lsp_replay.specs.declared.record.Side.{Side}
 use Rattle.lsp_replay.specs.declared.record.Side.TheVariants.{Client, Server}
-use Rattle.lsp_replay.specs.declared.record.Head.{Head}
 use Rattle.lsp_replay.specs.Ports.{one_more}
-use Rattle.lsp_replay.specs.Log.{Reading, Record, Log, IsRecord, AreRecords, IsReadAs, IsVersion, together, record_bytes, mark_of, line_of, version_line, is_line_due}
+use Rattle.lsp_replay.specs.Log.{Record, IsRecord, AreRecords, together, record_bytes, line_of, version_line, is_line_due}
 use Rattle.lsp_replay.specs.Course.{Course, written_first}
-use Rattle.lsp_replay.specs.Session.{Session, Verdict, answered, recorded, bad, Judged, judged, judge, judge_at, judge_from, judge_incoming, counted, versioned, hear_for, opened, outcome_of}
-use Rattle.lsp_replay.specs.Engines.{Gives, gives, ends, go_on, unless_bad, course_in, replaying, converting, line_if, line_before, reply_record, report_from, log_config, converted, report, as_log, as_converted}
-use Rattle.lsp_replay.specs.Laws.{IsReplyWithin, AreRepliesWithin, IsConverted, ConvertedLaw, TellsAlike, all_of}
+use Rattle.lsp_replay.specs.Session.{Session, Verdict, answered, recorded, bad, Judged, judged, judge, judge_from, judge_incoming, counted, versioned, opened}
+use Rattle.lsp_replay.specs.Engines.{Gives, gives, unless_bad, course_in, replaying, converting, line_if, line_before, reply_record, log_config, converted}
+use Rattle.lsp_replay.specs.Laws.{IsReplyWithin, AreRepliesWithin, ConvertedLaw, all_of}
 use Rattle.lsp_replay.proofs.AskedLemmas.{asked_proper}
 use Rattle.lsp_replay.proofs.NormalisedLemmas.{course_of, went_on, Passes, passes}
-use Rattle.lsp_replay.proofs.ConvertedLemmas.{twin, versioned_twin, IsGood, Follows, next_of, behind, waits, FollowsStep, follows_step, judged_one, judged_two}
+use Rattle.lsp_replay.proofs.ConvertedLemmas.{twin, versioned_twin, IsGood, Follows, next_of, behind, waits, follows_step, judged_one, judged_two}
 
 -- what stands in front of the first record
 abbrev front_if : Bool → List Record → List ℕ
@@ -134,14 +129,19 @@ module _ (limits : Bounds) (ranges : AreInRange limits) where
         let heard : judge (behind s n server answer e) p ≡ judged recorded (twin (next_of s server answer) Two (one_more (one_more n))) = ap counted follows in
         record {
           qs = q ∷ p ∷ m.qs;
-          are =
-              (first_is, (record {
+          are = (
+            first_is,
+            (
+              record {
                 spells = written_spells limits.max_body (body_of o) fits (omega (arith, fits, ranges.greatest_body));
                 version_is = refl;
                 side = λ x. refl_or_not x;
                 placed = refl;
                 due = refl;
-              }, m.are));
+              },
+              m.are,
+            ),
+          );
           out =
               ap (λ (c : Course). c.out) wrote
               ∙ ap (λ z. (line_before s ++ codes ">" ++ r.spelling ++ (codes "<" ++ frame (body_of o))) ++ z) (m.out ∙ ap (λ z. z ++ together Two m.qs []) (front_none rs))

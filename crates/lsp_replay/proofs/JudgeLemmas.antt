@@ -1,7 +1,7 @@
 -- What becomes of a record is told by its body, its side and whether the line is due; the canonical body of an accepted change is judged as
 -- the change was.
-use Rattle.std.proofs.Common.{◌≡◌, ◌≢◌, ℕ, ◌≤◌, Bool, true, false, List, [], ◌∷◌, length, Option, Some, None, refl, sym, ap, ◌∙◌, subst, arith}
-use Rattle.std.specs.Prelude.{⊤, if◌then◌else◌, option_map}
+use Rattle.std.proofs.Common.{◌≡◌, ℕ, ◌≤◌, Bool, true, false, List, length, Option, Some, None, refl, sym, ap, ◌∙◌, subst, arith}
+use Rattle.std.specs.Prelude.{if◌then◌else◌}
 use Rattle.serde_json.specs.Data.{Data}
 use Rattle.lsp_frame.specs.Limits.{Bounds, AreInRange}
 use Rattle.lsp_text.specs.declared.encoding.Encoding.{Encoding}
@@ -22,7 +22,7 @@ use Rattle.lsp_replay.specs.Session.{Session, Verdict, answered, recorded, bad, 
 use Rattle.lsp_replay.specs.Ports.{one_more}
 use Rattle.lsp_replay.specs.Engines.{change_in, normal_if, normal_of, normal_body}
 use Rattle.lsp_replay.proofs.NormalLemmas.{accepted, heard_has_none}
-use Rattle.lsp_replay.proofs.AskedLemmas.{IsProperAsked, IsProperIncoming, asked_proper}
+use Rattle.lsp_replay.proofs.AskedLemmas.{IsProperIncoming, asked_proper}
 use Rattle.lsp_replay.proofs.StateLemmas.{IsHeldState, step_on_held}
 use Rattle.lsp_replay.proofs.SettledLemmas.{IsSettledChange, settled_change}
 

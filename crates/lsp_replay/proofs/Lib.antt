@@ -17,3 +17,5 @@ pub mod NormalisedLemmas
 pub mod WroteLemmas
 pub mod ConvertedLemmas
 pub mod ConvertedLogLemmas
+pub mod UniqueLemmas
+pub mod ToldLemmas

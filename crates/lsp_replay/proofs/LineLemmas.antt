@@ -1,18 +1,17 @@
 -- No frame begins with the line of version 2: a name goes on to its colon, and the line has a space before one.
-use Rattle.std.proofs.Common.{◌≡◌, ◌≢◌, ℕ, ◌≤◌, Bool, true, false, List, [], ◌∷◌, ◌++◌, length, refl, sym, ap, ◌∙◌, arith, append_assoc, codes}
-use Rattle.std.specs.Prelude.{⊤, Err}
+use Rattle.std.proofs.Common.{◌≡◌, ◌≢◌, ℕ, Bool, true, List, [], ◌∷◌, ◌++◌, length, sym, ap, ◌∙◌, arith, append_assoc, codes}
+use Rattle.std.specs.Prelude.{⊤}
 use Rattle.std.specs.List.{AllByRecursion}
 use Rattle.lsp_frame.specs.Frame.{Spells}
-use Rattle.lsp_frame.specs.Header.{IsNameByte, IsLine, Line, AreLines, header_of, lines_bytes, line_bytes}
-use Rattle.lsp_replay.specs.declared.record.Version.{Version}
-use Rattle.lsp_replay.specs.declared.record.Version.TheVariants.{One, Two}
-use Rattle.lsp_replay.specs.Log.{Record, IsVersion, AreRecords, together, record_bytes, mark_of, line_of, version_line}
+use Rattle.lsp_frame.specs.Header.{IsNameByte, Line, AreLines, header_of, lines_bytes}
+use Rattle.lsp_replay.specs.declared.record.Version.TheVariants.{One}
+use Rattle.lsp_replay.specs.Log.{Record, IsVersion, AreRecords, together, version_line}
 
 abbrev NoColon : List ℕ → Type 0
 NoColon [] = ⊤
 NoColon (b ∷ bs) = (b ≢ 58) × NoColon bs
 
-first_byte : (x y : ℕ) (xs ys : List ℕ) → x ∷ xs ≡ y ∷ ys → x ≡ y
+pub first_byte : (x y : ℕ) (xs ys : List ℕ) → x ∷ xs ≡ y ∷ ys → x ≡ y
 first_byte x y xs ys e = cc
 
 later_bytes : (x y : ℕ) (xs ys : List ℕ) → x ∷ xs ≡ y ∷ ys → xs ≡ ys

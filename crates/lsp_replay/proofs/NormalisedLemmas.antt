@@ -1,11 +1,9 @@
 -- What `normalise` writes of a log: a log of which the same is told, and of which the same is written.
-use Rattle.std.proofs.Common.{◌≡◌, ◌≢◌, ℕ, ◌+◌, ◌<◌, ◌≤◌, ◌^◌, Bool, true, false, List, [], ◌∷◌, ◌++◌, length, Option, Some, None, refl, sym, ap, ◌∙◌, subst, arith, append_assoc, append-nil, nat_lt, ⊎_elim, codes}
-use Rattle.std.specs.Prelude.{⊤, if◌then◌else◌, Result, Ok, Err}
-use Rattle.std.specs.List.{AllByRecursion}
-use Rattle.std.proofs.lemmas.Bool.{cases_Bool, ltb-false}
+use Rattle.std.proofs.Common.{◌≡◌, ℕ, ◌+◌, ◌≤◌, Bool, true, false, List, [], ◌∷◌, ◌++◌, length, Option, Some, None, refl, sym, ap, ◌∙◌, subst, arith, append_assoc, append-nil, nat_lt}
+use Rattle.std.specs.Prelude.{if◌then◌else◌, Result, Err}
+use Rattle.std.proofs.lemmas.Bool.{ltb-false}
 use Rattle.lsp_frame.specs.Faults.{place_behind}
 use Rattle.lsp_frame.specs.Frame.{frame, Spells}
-use Rattle.lsp_frame.specs.Header.{IsNameByte, Line, header_of, lines_bytes, line_bytes}
 use Rattle.lsp_frame.specs.Limits.{Bounds, AreInRange}
 use Rattle.lsp_frame.proofs.WrittenLemmas.{written_spells}
 use Rattle.lsp_replay.specs.declared.engines.Settings.{Settings}
@@ -14,15 +12,12 @@ use Rattle.lsp_replay.specs.declared.outcome.EngineFault.{EngineFault}
 use Rattle.lsp_replay.specs.declared.outcome.EngineFault.TheVariants.{BadLog, BodyTooLong}
 use Rattle.lsp_replay.specs.declared.record.Version.{Version}
 use Rattle.lsp_replay.specs.declared.record.Version.TheVariants.{One, Two}
-use Rattle.lsp_replay.specs.declared.record.Side.{Side}
-use Rattle.lsp_replay.specs.declared.record.Side.TheVariants.{Client, Server}
 use Rattle.lsp_replay.specs.declared.record.Head.{Head}
-use Rattle.lsp_replay.specs.Log.{Reading, Record, Log, IsRecord, AreRecords, IsReadAs, IsVersion, together, record_bytes, mark_of, line_of, version_line, is_line_due}
-use Rattle.lsp_replay.specs.Course.{Course, written_first, stopped}
-use Rattle.lsp_replay.specs.Session.{Session, Verdict, answered, recorded, bad, Judged, judge, judge_at, opened, outcome_of}
-use Rattle.lsp_replay.specs.Engine.{last_of}
-use Rattle.lsp_replay.specs.Engines.{View, Gives, gives, ends, go_on, unless_bad, course_in, normalising, replaying, normal_gives, normal_of, written, front_of, line_if, as_log, log_config, normal, report}
-use Rattle.lsp_replay.specs.Laws.{NormalLaw, IsNormal, TellsAlike, all_of}
+use Rattle.lsp_replay.specs.Log.{Record, Log, IsRecord, AreRecords, IsVersion, together, record_bytes, mark_of, line_of, version_line, is_line_due}
+use Rattle.lsp_replay.specs.Course.{Course, written_first}
+use Rattle.lsp_replay.specs.Session.{Session, Verdict, answered, recorded, bad, Judged, judge, judge_at, opened}
+use Rattle.lsp_replay.specs.Engines.{View, Gives, gives, ends, go_on, unless_bad, course_in, normalising, replaying, normal_gives, normal_of, written, front_of, line_if, log_config, normal}
+use Rattle.lsp_replay.specs.Laws.{NormalLaw, all_of}
 use Rattle.lsp_replay.proofs.StateLemmas.{IsHeldState}
 use Rattle.lsp_replay.proofs.LineLemmas.{is_version_one}
 use Rattle.lsp_replay.proofs.JudgeLemmas.{IsVersionAt, judged_version, judged_held, judged_again}
@@ -171,14 +166,16 @@ module _ (limits : Bounds) (ranges : AreInRange limits) where
 
     one_more : AreWritten at version due s (r ∷ rs) (q ∷ qs)
     one_more = record {
-      are =
-          (record {
-            spells = one.spells;
-            version_is = one.version ∙ is.version_is;
-            side = λ e. one.side ∙ is.side e;
-            placed = one.place;
-            due = one.due ∙ is.due;
-          }, more.are);
+      are = (
+        record {
+          spells = one.spells;
+          version_is = one.version ∙ is.version_is;
+          side = λ e. one.side ∙ is.side e;
+          placed = one.place;
+          due = one.due ∙ is.due;
+        },
+        more.are,
+      );
       out =
           ap (λ (c : Course). c.out) first ∙ ap (λ z. (front_of (judge s r).session r ++ q.spelling) ++ z) (more.out ∙ ap (λ z. z ++ together version qs []) (front_none rs))
           ∙ ap (λ z. (z ++ q.spelling) ++ together version qs []) front_is ∙ four (line_if due) (mark_of version q.head.side) q.spelling (together version qs []);
@@ -215,7 +212,6 @@ module _ (limits : Bounds) (ranges : AreInRange limits) where
       one_more at before version due s r q rs (normal_from (at + length (record_bytes version q)) version (judge s r).session rs) each.0 told one
       (written_log (at + length (record_bytes version q)) (before + length (record_bytes version r)) version false (judge s r).session rs (judged_held limits s r held)
       (later version s r.head r.body fresh_here) each.1 on.1)
-
 
 -- ---- the bytes
 

@@ -1,9 +1,8 @@
 -- The canonical message of a change that is accepted asks for its canonical batch, which does the same.
-use Rattle.std.proofs.Common.{◌≡◌, ◌≢◌, ℕ, ℤ, ◌+◌, ◌<◌, ◌≤◌, ◌^◌, Bool, true, false, List, [], ◌∷◌, map, length, Option, Some, None, refl, sym, ap, ◌∙◌, subst, arith}
-use Rattle.std.specs.Prelude.{⊤, Ok, encode_utf8_all}
+use Rattle.std.proofs.Common.{◌≡◌, ℕ, ℤ, ◌≤◌, List, [], ◌∷◌, map, length, Option, Some, None, refl, sym, ap, ◌∙◌, subst, arith}
+use Rattle.std.specs.Prelude.{Ok, encode_utf8_all}
 use Rattle.std.specs.Str.{chars}
 use Rattle.std.proofs.lemmas.Str.{chars-encodes, scalars-chars}
-use Rattle.lsp_frame.specs.Frame.{frame}
 use Rattle.lsp_frame.specs.Limits.{Bounds, AreInRange}
 use Rattle.lsp_frame.proofs.LawLemmas.{injective_law}
 use Rattle.lsp_text.specs.Units.{units_in}
@@ -17,13 +16,13 @@ use Rattle.lsp_message.specs.Message.{reading}
 use Rattle.lsp_message.specs.Params.{ChangeData}
 use Rattle.lsp_message.proofs.ReadBack.{reading-body_of, is_read_back, body_of-unique}
 use Rattle.lsp_store.specs.Table.{Entry, Refusal, not_open, entry_at, refusal_on, entry_refusal, change_refusal, after_change, unless_refused}
-use Rattle.lsp_store.specs.Message.{AreTexts, IsSettled, IsReadAs, written_edit, change_message, change_body, canonical_batch, canonical_body, body_refusal, else_refused, message_refusal}
-use Rattle.lsp_store.proofs.MessageLemmas.{Accepts, accepted_parts, body_within, canonical_on, is_settled, is_read}
+use Rattle.lsp_store.specs.Message.{AreTexts, IsSettled, IsReadAs, written_edit, change_body, canonical_batch, canonical_body, body_refusal, else_refused}
+use Rattle.lsp_store.proofs.MessageLemmas.{Accepts, accepted_parts, body_within, is_settled, is_read}
 use Rattle.lsp_store.proofs.ScalarLemmas.{canonical_texts}
 use Rattle.lsp_server.specs.declared.phase.Phase.{Phase}
 use Rattle.lsp_server.specs.declared.phase.Phase.TheVariants.{New, Running, Down, Ended}
 use Rattle.lsp_server.specs.Incoming.{did_change, asked}
-use Rattle.lsp_server.specs.Step.{State, Step, step_in, step_on, obeyed, edit_of, encoding_of}
+use Rattle.lsp_server.specs.Step.{State, step_in, step_on, obeyed, edit_of, encoding_of}
 use Rattle.lsp_replay.specs.Engines.{normal_body}
 use Rattle.lsp_replay.proofs.NormalLemmas.{within}
 use Rattle.lsp_replay.proofs.AskedLemmas.{IsProperAsked}

@@ -1,24 +1,22 @@
 -- What a server holds: texts in UTF-8, and within its limit.
-use Rattle.std.proofs.Common.{◌≡◌, ◌≢◌, ℕ, ℤ, ◌≤◌, Bool, true, false, List, [], ◌∷◌, ◌++◌, map, length, Option, Some, None, IsUtf8, Result, Ok, Err, bytes_eq, refl, sym, ap, ◌∙◌, subst, arith, ⊎_elim}
+use Rattle.std.proofs.Common.{◌≡◌, ℕ, ℤ, ◌≤◌, Bool, true, false, List, [], ◌∷◌, map, length, Option, Some, None, IsUtf8, bytes_eq, refl, sym, ap, subst, ⊎_elim}
 use Rattle.std.specs.Prelude.{⊤, if◌then◌else◌, nat_lt, nat_le, is_some}
 use Rattle.std.specs.Str.{all_scalars, chars}
 use Rattle.std.proofs.lemmas.Bool.{cases_Bool, ltb-false}
 use Rattle.std.proofs.lemmas.Str.{scalars-chars}
 use Rattle.lsp_frame.specs.Limits.{Bounds}
 use Rattle.lsp_text.specs.Units.{units_in}
-use Rattle.lsp_edit.specs.Items.{Item, text_of}
+use Rattle.lsp_edit.specs.Items.{text_of}
 use Rattle.lsp_edit.specs.Batch.{Edit, meaning}
-use Rattle.lsp_message.specs.Message.{IdData}
 use Rattle.lsp_message.specs.Params.{OpenData, ChangeData}
-use Rattle.lsp_store.specs.Table as table
-use Rattle.lsp_store.specs.Table.{Entry, Refusal, already_open, too_many_documents, text_too_long, not_open, entry_at, open_refusal, change_refusal, refusal_on, entry_refusal, changed, meant_text, after_open, after_change, after_close, close_refusal, unless_refused, bytes_after}
+use Rattle.lsp_store.specs.Table.{Entry, Refusal, already_open, too_many_documents, text_too_long, entry_at, open_refusal, change_refusal, entry_refusal, changed, meant_text, after_open, after_change, after_close, close_refusal, unless_refused, bytes_after}
 use Rattle.lsp_store.specs.Message.{AreTexts}
-use Rattle.lsp_store.proofs.MessageLemmas.{Accepts, accepted_parts}
+use Rattle.lsp_store.proofs.MessageLemmas.{accepted_parts}
 use Rattle.lsp_store.proofs.ScalarLemmas.{scalar-meaning, scalar-text}
 use Rattle.lsp_server.specs.declared.phase.Phase.{Phase}
 use Rattle.lsp_server.specs.declared.phase.Phase.TheVariants.{New, Running, Down, Ended}
 use Rattle.lsp_server.specs.Incoming.{IncomingData, not_json, not_a_message, response, initialize, shutdown, other_request, exit, did_open, did_change, did_close, other_notification}
-use Rattle.lsp_server.specs.Step.{State, Step, step_in, step_on, obeyed, edit_of, encoding_of}
+use Rattle.lsp_server.specs.Step.{State, step_in, step_on, obeyed, edit_of, encoding_of}
 use Rattle.lsp_replay.proofs.ReadLemmas.{OnSome}
 use Rattle.lsp_replay.proofs.AskedLemmas.{IsProperAsked, IsTextOpened, IsProperIncoming}
 

@@ -1,5 +1,5 @@
 -- What an engine wrote where it came to the end of a log.
-use Rattle.std.proofs.Common.{◌≡◌, ◌≢◌, ℕ, Bool, true, false, List, [], ◌∷◌, ◌++◌, length, Option, Some, None, refl, sym, ap, ◌∙◌, ⊎_elim, ◌⊎◌, inl, inr, nat_lt, codes}
+use Rattle.std.proofs.Common.{◌≡◌, ◌≢◌, ℕ, Bool, true, false, List, [], ◌∷◌, ◌++◌, length, Option, Some, None, ◌∙◌, ⊎_elim, nat_lt, codes}
 use Rattle.std.specs.Prelude.{⊤, if◌then◌else◌, Result, Ok, Err, IfOk}
 use Rattle.std.specs.Io.KnownBytes.{Consumes}
 use Rattle.lsp_frame.specs.Frame.{frame}
@@ -7,12 +7,12 @@ use Rattle.lsp_frame.specs.Limits.{AreInRange}
 use Rattle.lsp_replay.specs.declared.engines.Settings.{Settings}
 use Rattle.lsp_replay.specs.declared.outcome.Outcome.{Outcome}
 use Rattle.lsp_replay.specs.declared.outcome.EngineFault.{EngineFault}
-use Rattle.lsp_replay.specs.declared.outcome.EngineFault.TheVariants.{BadLog, BodyTooLong}
-use Rattle.lsp_replay.specs.Log.{Record, Log, IsReadAs}
+use Rattle.lsp_replay.specs.declared.outcome.EngineFault.TheVariants.{BodyTooLong}
+use Rattle.lsp_replay.specs.Log.{Record}
 use Rattle.lsp_replay.specs.Course.{Course}
 use Rattle.lsp_replay.specs.Session.{Session, Verdict, answered, recorded, bad, judge, opened}
 use Rattle.lsp_replay.specs.Engine.{Ran, AtEnd, Stopped}
-use Rattle.lsp_replay.specs.Engines.{View, Gives, gives, ends, go_on, unless_bad, course_in, normalising, written, normal_of, front_of, normal_gives, converting, line_before, reply_record, as_log, as_converted, log_config, normal, converted, report}
+use Rattle.lsp_replay.specs.Engines.{Gives, gives, ends, go_on, unless_bad, course_in, normalising, written, normal_of, front_of, normal_gives, converting, line_before, reply_record, as_log, as_converted, log_config, normal, converted}
 use Rattle.lsp_replay.specs.Laws.{IsNormal, IsConverted, Wrote, all_of}
 use Rattle.lsp_replay.proofs.NormalisedLemmas.{normal_law}
 use Rattle.lsp_replay.proofs.ConvertedLogLemmas.{converted_law}

@@ -6,7 +6,7 @@ use Rattle.lsp_frame.specs.Limits.{AreInRange}
 use Rattle.lsp_server.specs.Answer.{reply}
 use Rattle.lsp_replay.specs.declared.engines.Settings.{Settings}
 use Rattle.lsp_replay.specs.declared.outcome.Outcome.{Outcome}
-use Rattle.lsp_replay.specs.Log.{Record, Log, IsReadAs}
+use Rattle.lsp_replay.specs.Log.{Reading, Record, Log, IsReadAs, HasNoRecord}
 use Rattle.lsp_replay.specs.Course.{Course}
 use Rattle.lsp_replay.specs.Engine.{last_of}
 use Rattle.lsp_replay.specs.Engines.{report, normal, converted, as_log, as_converted, log_config}
@@ -72,3 +72,11 @@ abbrev pub ConvertedLaw : Type 0
 ConvertedLaw =
     (settings : Settings) → AreInRange settings.limits → (input : List ℕ) (log : Log) → IsReadAs (as_converted settings) input log → log.rest ≡ []
     → (converted settings log.records).stop ≡ None → IsConverted settings log.records (all_of (converted settings) log)
+
+-- ---- reading
+
+-- The records that are whole in an input are one list, and what is left behind them is one.
+abbrev pub UniqueLaw : Type 0
+UniqueLaw =
+    (reading : Reading) (input : List ℕ) (log other : Log) → IsReadAs reading input log → HasNoRecord reading.max_body log
+    → IsReadAs reading input other → HasNoRecord reading.max_body other → log ≡ other

@@ -12,3 +12,4 @@ pub mod Session
 pub mod Verdicts
 pub mod Engines
 pub mod Laws
+pub mod Told

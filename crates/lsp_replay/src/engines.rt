@@ -5,6 +5,7 @@ ghost use Rattle.lsp_replay.specs.Engine.{Ran, Called};
 ghost use Rattle.lsp_replay.specs.Engines.{log_config, normal, as_stream, as_log, as_converted, replies, report, verdicts, converted};
 ghost use Rattle.lsp_frame.specs.Limits.{AreInRange};
 ghost use Rattle.lsp_replay.specs.Laws.{IsConverted, IsNormal, Wrote};
+ghost use Rattle.lsp_replay.specs.Told.{RanOver};
 
 use crate::checking::Check;
 use crate::converting::Convert;
@@ -74,6 +75,8 @@ pub fn serve<R: Source, W: Sink>(
 ) -> Result<Outcome, EngineFault>
     ensures ran { Ran (as_stream config) (replies config) (R.has_ended reader.new)
         (R.left reader.old) (R.left reader.new) (W.held writer.old) (W.held writer.new) result }
+    ensures told { RanOver (as_stream config) (replies config) (R.has_ended reader.new)
+        (R.left reader.old) (R.left reader.new) (W.held writer.old) (W.held writer.new) result }
     ensures called { Called (R.count reader.old) (R.count reader.new) (W.count writer.old) (W.count writer.new) max_turns
         (R.has_failed reader.new) (W.has_failed writer.new) (R.has_ended reader.new) (R.left reader.new) result }
 {
@@ -99,6 +102,8 @@ pub fn check<R: Source, W: Sink>(
 ) -> Result<Outcome, EngineFault>
     ensures ran { Ran (as_log settings) (verdicts settings) (R.has_ended reader.new)
         (R.left reader.old) (R.left reader.new) (W.held writer.old) (W.held writer.new) result }
+    ensures told { RanOver (as_log settings) (verdicts settings) (R.has_ended reader.new)
+        (R.left reader.old) (R.left reader.new) (W.held writer.old) (W.held writer.new) result }
     ensures called { Called (R.count reader.old) (R.count reader.new) (W.count writer.old) (W.count writer.new) max_turns
         (R.has_failed reader.new) (W.has_failed writer.new) (R.has_ended reader.new) (R.left reader.new) result }
 {
@@ -120,6 +125,8 @@ pub fn replay<R: Source, W: Sink>(
 ) -> Result<Outcome, EngineFault>
     ensures ran { Ran (as_log settings) (report settings) (R.has_ended reader.new)
         (R.left reader.old) (R.left reader.new) (W.held writer.old) (W.held writer.new) result }
+    ensures told { RanOver (as_log settings) (report settings) (R.has_ended reader.new)
+        (R.left reader.old) (R.left reader.new) (W.held writer.old) (W.held writer.new) result }
     ensures called { Called (R.count reader.old) (R.count reader.new) (W.count writer.old) (W.count writer.new) max_turns
         (R.has_failed reader.new) (W.has_failed writer.new) (R.has_ended reader.new) (R.left reader.new) result }
 {
@@ -140,6 +147,8 @@ pub fn convert<R: Source, W: Sink>(
     max_turns: u64,
 ) -> Result<Outcome, EngineFault>
     ensures ran { Ran (as_converted settings) (converted settings) (R.has_ended reader.new)
+        (R.left reader.old) (R.left reader.new) (W.held writer.old) (W.held writer.new) result }
+    ensures told { RanOver (as_converted settings) (converted settings) (R.has_ended reader.new)
         (R.left reader.old) (R.left reader.new) (W.held writer.old) (W.held writer.new) result }
     // What was written is a log of which `replay` tells the same, where no reply in it is over the limit.
     ensures converted { IfOk result (Wrote settings (IsConverted settings) (R.left reader.old) (R.left reader.new) (W.held writer.old) (W.held writer.new)) }
@@ -165,6 +174,8 @@ pub fn normalise<R: Source, W: Sink>(
     max_turns: u64,
 ) -> Result<Outcome, EngineFault>
     ensures ran { Ran (as_log settings) (normal settings) (R.has_ended reader.new)
+        (R.left reader.old) (R.left reader.new) (W.held writer.old) (W.held writer.new) result }
+    ensures told { RanOver (as_log settings) (normal settings) (R.has_ended reader.new)
         (R.left reader.old) (R.left reader.new) (W.held writer.old) (W.held writer.new) result }
     // What was written is a log of which `replay` tells the same, and its own normal form.
     ensures normal { IfOk result (Wrote settings (IsNormal settings) (R.left reader.old) (R.left reader.new) (W.held writer.old) (W.held writer.new)) }

@@ -1,11 +1,13 @@
 //! Laws over the definitions alone, that no call of this crate makes by itself.
 
-ghost use Rattle.lsp_replay.specs.Laws.{NormalLaw, ConvertedLaw};
+ghost use Rattle.lsp_replay.specs.Laws.{NormalLaw, ConvertedLaw, UniqueLaw};
 
-/// What holds of every log, whatever its version and whoever wrote it. It does nothing: its contract says that what `normalise` writes of a
-/// log is a log of which `replay` tells the same, and `normalise` writes the same bytes again; and that what `convert` writes of a log of
-/// version 1 is a log of which `replay` tells the same, if the limit on bodies lets the replies in it pass.
+/// What holds of every log, whatever its version and whoever wrote it. It does nothing: its contract says that an input has one list of
+/// whole records, and one rest behind them; that what `normalise` writes of a log is a log of which `replay` tells the same, and
+/// `normalise` writes the same bytes again; and that what `convert` writes of a log of version 1 is a log of which `replay` tells the same,
+/// if the limit on bodies lets the replies in it pass.
 pub fn log_laws()
+    ensures unique { UniqueLaw }
     ensures normal { NormalLaw }
     ensures converted { ConvertedLaw }
 {}

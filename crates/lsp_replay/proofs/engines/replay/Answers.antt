@@ -1,6 +1,8 @@
 use Rattle.std.proofs.Common.{subst}
 use Rattle.lsp_replay.specs.Engine.{Ran}
-use Rattle.lsp_replay.specs.Engines.{as_log}
+use Rattle.lsp_replay.specs.Engines.{as_log, log_config, replaying}
+use Rattle.lsp_replay.specs.Session.{opened}
+use Rattle.lsp_replay.proofs.ToldLemmas.{ran_over}
 use Rattle.lsp_replay.proofs.engines.replay.Goals as goal
 
 pub returns-clause-ran : goal.returns-clause-ran
@@ -9,3 +11,8 @@ returns-clause-ran g c =
     let ran = rw c.rules-rules.ensures at c.run_engine.ensures.ran in
     subst (λ course. Ran (as_log c.args.settings) course (g.R.Source.has_ended c.run_engine.new.reader) (g.R.Source.left c.args.reader.now) (g.R.Source.left c.run_engine.new.reader)
     (g.W.Sink.held c.args.writer.now) (g.W.Sink.held c.run_engine.new.writer) c.run_engine.result) course ran
+
+pub returns-clause-told : goal.returns-clause-told
+returns-clause-told g c =
+    ran_over (as_log c.args.settings) replaying (opened (log_config c.args.settings)) (g.R.Source.has_ended c.run_engine.new.reader) (g.R.Source.left c.args.reader.now) (g.R.Source.left c.run_engine.new.reader)
+    (g.W.Sink.held c.args.writer.now) (g.W.Sink.held c.run_engine.new.writer) c.run_engine.result (returns-clause-ran g c)

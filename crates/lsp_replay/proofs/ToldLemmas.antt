@@ -1,0 +1,160 @@
+-- What an engine wrote and answered is told by all the records that are whole in the bytes that it read.
+use Rattle.std.proofs.Common.{◌≡◌, ◌≢◌, ◌⊎◌, inl, inr, ℕ, Bool, true, List, [], ◌∷◌, ◌++◌, length, drop, Option, Some, None, refl, sym, ap, ◌∙◌, subst, arith, append_assoc, append-nil}
+use Rattle.std.specs.Prelude.{Result, Ok, Err, MatchResult}
+use Rattle.std.specs.Io.KnownBytes.{Appends}
+use Rattle.std.proofs.lemmas.List.{length-append}
+use Rattle.lsp_frame.specs.declared.fault.FrameFault.{FrameFault}
+use Rattle.lsp_replay.specs.declared.outcome.Outcome.{Outcome}
+use Rattle.lsp_replay.specs.declared.outcome.EngineFault.{EngineFault}
+use Rattle.lsp_replay.specs.declared.outcome.EngineFault.TheVariants.{Read, Write, Frame, Truncated, BodyTooLong, NoMemory, TooManyTurns, BadLog}
+use Rattle.lsp_replay.specs.declared.record.Version.{Version}
+use Rattle.lsp_replay.specs.declared.record.Version.TheVariants.{One, Two}
+use Rattle.lsp_replay.specs.declared.record.Side.{Side}
+use Rattle.lsp_replay.specs.declared.record.Side.TheVariants.{Client, Server}
+use Rattle.lsp_replay.specs.Turns.{AppendsFront}
+use Rattle.lsp_replay.specs.Log.{Reading, Record, Log, IsReadAs, HasNoRecord, IsCut, IsMalformed, IsBadMark, mark_of}
+use Rattle.lsp_replay.specs.Course.{Course}
+use Rattle.lsp_replay.specs.Session.{Session, judge}
+use Rattle.lsp_replay.specs.Engine.{Ran, Stopped, Reached, Broken, AtEnd, BreaksAtEnd, IsRunFault, IsRefused}
+use Rattle.lsp_replay.specs.Engines.{View, go_on, course_in}
+use Rattle.lsp_replay.specs.Told.{EndedBy, Passed, PassedEnd, CutAtEnd, IsFaultTold, IsTold, RanOver}
+use Rattle.lsp_replay.proofs.LineLemmas.{first_byte}
+use Rattle.lsp_replay.proofs.SplitLemmas.{frame_len}
+use Rattle.lsp_replay.proofs.UniqueLemmas.{IsFirstOf, first_of, same_version}
+
+-- ---- courses: a record that ended a run ends it whatever follows, and more records give more output
+
+abbrev IsSettled : View → Session → List Record → Type 0
+IsSettled view s rs = (more : List Record) (answer : Result Outcome EngineFault) → (course_in view s rs).stop ≡ Some answer → course_in view s (rs ++ more) ≡ course_in view s rs
+
+settled_on : (out : List ℕ) (end : Option (Result Outcome EngineFault)) (c longer : Course) (answer : Result Outcome EngineFault) → (go_on out end c).stop ≡ Some answer → (c.stop ≡ Some answer → longer ≡ c) → go_on out end longer ≡ go_on out end c
+settled_on out None c longer answer e same = ap (go_on out None) (same e)
+settled_on out (Some other) c longer answer e same = refl
+
+settled : (view : View) (s : Session) (rs : List Record) → IsSettled view s rs
+settled view s [] more answer e = absurd (let wrong : None ≡ Some answer = e in cc)
+settled view s (r ∷ rs) more answer e =
+    settled_on (view.record_gives s r (judge s r)).out (view.record_gives s r (judge s r)).end (course_in view (judge s r).session rs) (course_in view (judge s r).session (rs ++ more)) answer e
+    (settled view (judge s r).session rs more answer)
+
+Grows : Course → Course → Type 0
+Grows c longer = (rest : List ℕ) × (longer.out ≡ c.out ++ rest)
+
+grows_on : (out : List ℕ) (end : Option (Result Outcome EngineFault)) (c longer : Course) → Grows c longer → Grows (go_on out end c) (go_on out end longer)
+unfolding Grows
+grows_on out None c longer more = (more.0, ap (λ z. out ++ z) more.1 ∙ sym (append_assoc out c.out more.0))
+grows_on out (Some answer) c longer more = ([], sym (append-nil out))
+
+grows : (view : View) (s : Session) (rs more : List Record) → Grows (course_in view s rs) (course_in view s (rs ++ more))
+unfolding Grows
+grows view s [] more = ((course_in view s more).out, refl)
+grows view s (r ∷ rs) more = grows_on (view.record_gives s r (judge s r)).out (view.record_gives s r (judge s r)).end _ _ (grows view (judge s r).session rs more)
+
+-- ---- rests that no record begins
+
+empty_rest : (max_body : ℕ) (log : Log) → log.rest ≡ [] → HasNoRecord max_body log
+empty_rest max_body log nothing side spelling body more spells e =
+    absurd (omega (arith, ap length nothing, ap length e, length-append (mark_of log.version side) (spelling ++ more), length-append spelling more, frame_len max_body spelling body spells))
+
+behind_marks : (version : Version) (side other : Side) (a b : List ℕ) → mark_of version side ++ a ≡ mark_of version other ++ b → a ≡ b
+behind_marks One side other a b e = e
+behind_marks Two Client Client a b e = ap (drop 1) e
+behind_marks Two Server Server a b e = ap (drop 1) e
+behind_marks Two Client Server a b e = ap (drop 1) e
+behind_marks Two Server Client a b e = ap (drop 1) e
+
+malformed_rest : (max_body : ℕ) (input : List ℕ) (fault : FrameFault) (log : Log) → IsMalformed max_body input fault log → HasNoRecord max_body log
+malformed_rest max_body input fault log is side spelling body more spells e =
+    is.hopeless [] spelling body more spells (append-nil is.part ∙ behind_marks log.version is.side side is.part (spelling ++ more) (sym is.is ∙ e))
+
+bad_marks : (version : Version) (side : Side) (byte : ℕ) (a b : List ℕ) → version ≡ Two → byte ≢ 62 → byte ≢ 60 → byte ∷ a ≡ mark_of version side ++ b → ⊥
+bad_marks One side byte a b two client server e = absurd (cc)
+bad_marks Two Client byte a b two client server e = client (first_byte byte 62 a b e)
+bad_marks Two Server byte a b two client server e = server (first_byte byte 60 a b e)
+
+bad_rest : (max_body : ℕ) (input : List ℕ) (place : ℕ) (log : Log) → IsBadMark input place log → HasNoRecord max_body log
+bad_rest max_body input place log is side spelling body more spells e = bad_marks log.version side is.byte is.more (spelling ++ more) is.version is.not_client is.not_server (sym is.is ∙ e)
+
+-- ---- from some records to all
+
+module _ (reading : Reading) (view : View) (s : Session) (ended : Bool) (input : List ℕ) (held_old held_new : Option (List ℕ)) (all : Log) (reads : IsReadAs reading input all) (ends : HasNoRecord reading.max_body all) where
+  ended_by : (answer : Result Outcome EngineFault) → Stopped reading (course_in view s) input held_old held_new answer → EndedBy (course_in view s) held_old held_new answer all
+  ended_by answer stopped =
+      let f : IsFirstOf reading stopped.log all = first_of reading input stopped.log all stopped.reads reads ends in
+      let same : course_in view s all.records ≡ course_in view s stopped.log.records = ap (course_in view s) f.all_are ∙ settled view s stopped.log.records f.more answer stopped.stops in
+      record { stops = ap (λ (c : Course). c.stop) same ∙ stopped.stops; wrote = subst (λ (c : Course). Appends held_old held_new c.out) (sym same) stopped.wrote }
+
+  reached : (P : Log → Type 0) → ((log : Log) → P log → HasNoRecord reading.max_body log) → Reached reading (course_in view s) input held_old held_new P → P all × Passed (course_in view s) held_old held_new all
+  reached P none r =
+      let f : IsFirstOf reading r.log all = first_of reading input r.log all r.reads reads ends in
+      let here : P r.log × Passed (course_in view s) held_old held_new r.log = (r.rest, record { goes_on = r.goes_on; wrote = r.wrote }) in
+      subst (λ (l : Log). P l × Passed (course_in view s) held_old held_new l) (f.same (none r.log r.rest)) here
+
+  front_of_all : (log : Log) → IsReadAs reading input log → AppendsFront held_old held_new (course_in view s log.records).out → AppendsFront held_old held_new (course_in view s all.records).out
+  unfolding Grows
+  front_of_all log also front =
+      let f : IsFirstOf reading log all = first_of reading input log all also reads ends in
+      let more = grows view s log.records f.more in
+      (front.0, front.1 ++ more.0, ap (λ rs. (course_in view s rs).out) f.all_are ∙ more.1 ∙ ap (λ z. z ++ more.0) front.2 ∙ append_assoc front.0 front.1 more.0, front.3)
+
+  broken : Broken reading (course_in view s) input held_old held_new → AppendsFront held_old held_new (course_in view s all.records).out
+  broken b = front_of_all b.log b.reads b.wrote
+
+  stopped_short : Reached reading (course_in view s) input held_old held_new (λ _. Unit {0}) → AppendsFront held_old held_new (course_in view s all.records).out
+  stopped_short r = front_of_all r.log r.reads ((course_in view s r.log.records).out, [], sym (append-nil (course_in view s r.log.records).out), r.wrote)
+
+  cut : BreaksAtEnd reading (course_in view s) ended input held_old held_new → (ended ≡ true) × CutAtEnd (course_in view s) held_old held_new all
+  cut b =
+      let at = b.1 in
+      let f : IsFirstOf reading at.log all = first_of reading input at.log all at.reads reads ends in
+      let out = (course_in view s at.log.records).out in
+      let here : CutAtEnd (course_in view s) held_old held_new at.log = record {
+        whole = at.whole;
+        goes_on = at.goes_on;
+        wrote = (out ++ at.first, at.others, ap (λ z. out ++ z) at.is ∙ sym (append_assoc out at.first at.others), at.wrote);
+      } in
+      (b.0, subst (λ (l : Log). CutAtEnd (course_in view s) held_old held_new l) (f.same (empty_rest reading.max_body at.log at.whole)) here)
+
+  at_end : (outcome : Outcome) → AtEnd reading (course_in view s) input held_old held_new outcome → PassedEnd (course_in view s) held_old held_new outcome all
+  at_end outcome at =
+      let f : IsFirstOf reading at.log all = first_of reading input at.log all at.reads reads ends in
+      let here : PassedEnd (course_in view s) held_old held_new outcome at.log = record { whole = at.whole; goes_on = at.goes_on; tells = at.tells; wrote = at.wrote } in
+      subst (λ (l : Log). PassedEnd (course_in view s) held_old held_new outcome l) (f.same (empty_rest reading.max_body at.log at.whole)) here
+
+  refused : (place : ℕ) → IsRefused reading input held_old held_new place → ⊥
+  refused place is = let one : Two ≡ One = same_version reading.versions Two all.version input is.version reads.version ∙ reads.accepted is.only_one in absurd (cc)
+
+  fault_told : (fault : EngineFault) → IsRunFault reading (course_in view s) ended input held_old held_new fault → IsFaultTold reading (course_in view s) ended input held_old held_new all fault
+  fault_told Read r = (reached (HasNoRecord reading.max_body) (λ log none. none) r).1
+  fault_told Write (inl b) = inl (broken b)
+  fault_told Write (inr b) = inr (cut b)
+  fault_told (Frame fault) r = reached (IsMalformed reading.max_body input fault) (λ log is. malformed_rest reading.max_body input fault log is) r
+  fault_told (Truncated place) r = let told = reached (IsCut reading.max_body) (λ log is. is.none) r.2 in (r.0, r.1, told.0, told.1)
+  fault_told (BodyTooLong place) stopped = ended_by (Err (BodyTooLong place)) stopped
+  fault_told NoMemory (inl r) = inl (stopped_short r)
+  fault_told NoMemory (inr b) = inr (cut b)
+  fault_told TooManyTurns (inl b) = inl (broken b)
+  fault_told TooManyTurns (inr b) = inr (cut b)
+  fault_told (BadLog place) (inl stopped) = inl (ended_by (Err (BadLog place)) stopped)
+  fault_told (BadLog place) (inr (inl r)) = inr (reached (IsBadMark input place) (λ log is. bad_rest reading.max_body input place log is) r)
+  fault_told (BadLog place) (inr (inr is)) = absurd (refused place is)
+
+  ok_told : (outcome : Outcome) → (Stopped reading (course_in view s) input held_old held_new (Ok outcome) ⊎ ((ended ≡ true) × AtEnd reading (course_in view s) input held_old held_new outcome))
+      → IsTold reading (course_in view s) ended input held_old held_new all (Ok outcome)
+  ok_told outcome (inl stopped) = inl (ended_by (Ok outcome) stopped)
+  ok_told outcome (inr at) = inr (at.0, at_end outcome at.1)
+
+  is_told : (result : Result Outcome EngineFault)
+      → MatchResult result (λ outcome. Stopped reading (course_in view s) input held_old held_new (Ok outcome) ⊎ ((ended ≡ true) × AtEnd reading (course_in view s) input held_old held_new outcome))
+      (IsRunFault reading (course_in view s) ended input held_old held_new) → IsTold reading (course_in view s) ended input held_old held_new all result
+  is_told (Ok outcome) came = ok_told outcome came
+  is_told (Err fault) came = fault_told fault came
+
+-- What is told by some records of the input is told by all.
+pub ran_over : (reading : Reading) (view : View) (s : Session) (ended : Bool) (left_old left_new held_old held_new : Option (List ℕ)) (result : Result Outcome EngineFault)
+    → Ran reading (course_in view s) ended left_old left_new held_old held_new result → RanOver reading (course_in view s) ended left_old left_new held_old held_new result
+ran_over reading view s ended left_old left_new held_old held_new result ran = record {
+  input = ran.input;
+  read = ran.read;
+  told = λ all reads ends. is_told reading view s ended ran.input held_old held_new all reads ends result ran.came;
+}

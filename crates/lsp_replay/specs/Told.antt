@@ -1,0 +1,65 @@
+-- What was written and answered, told by all the records that are whole in the bytes that were read.
+use Rattle.std.specs.Prelude.{ℕ, ◌≡◌, ◌⊎◌, Bool, true, List, [], length, Option, Some, None, Result, Ok, Err}
+use Rattle.std.specs.Io.KnownBytes.{Consumes, Appends}
+use Rattle.lsp_frame.specs.Faults.{place_behind}
+use Rattle.lsp_replay.specs.declared.outcome.Outcome.{Outcome}
+use Rattle.lsp_replay.specs.declared.outcome.EngineFault.{EngineFault}
+use Rattle.lsp_replay.specs.declared.outcome.EngineFault.TheVariants.{Read, Write, Frame, Truncated, BodyTooLong, NoMemory, TooManyTurns, BadLog}
+use Rattle.lsp_replay.specs.Turns.{AppendsFront}
+use Rattle.lsp_replay.specs.Log.{Reading, Record, Log, IsReadAs, HasNoRecord, IsCut, IsMalformed, IsBadMark}
+use Rattle.lsp_replay.specs.Course.{Course}
+use Rattle.lsp_replay.specs.Laws.{all_of}
+
+-- A record ended the run: what was written is the output up to it.
+pub record EndedBy (course : List Record → Course) (held_old held_new : Option (List ℕ)) (answer : Result Outcome EngineFault) (all : Log) : Type 0 where
+  pub stops : (course all.records).stop ≡ Some answer
+  pub wrote : Appends held_old held_new (course all.records).out
+
+-- None did: what was written is the output of all.
+pub record Passed (course : List Record → Course) (held_old held_new : Option (List ℕ)) (all : Log) : Type 0 where
+  pub goes_on : (course all.records).stop ≡ None
+  pub wrote : Appends held_old held_new (course all.records).out
+
+-- The input was records and nothing else: what the end of the input gives was written too.
+pub record PassedEnd (course : List Record → Course) (held_old held_new : Option (List ℕ)) (outcome : Outcome) (all : Log) : Type 0 where
+  pub whole : all.rest ≡ []
+  pub goes_on : (course all.records).stop ≡ None
+  pub tells : outcome ≡ (course all.records).outcome
+  pub wrote : Appends held_old held_new (all_of course all)
+
+-- The same, up to a first part of all that.
+pub record CutAtEnd (course : List Record → Course) (held_old held_new : Option (List ℕ)) (all : Log) : Type 0 where
+  pub whole : all.rest ≡ []
+  pub goes_on : (course all.records).stop ≡ None
+  pub wrote : AppendsFront held_old held_new (all_of course all)
+
+-- What was written is a first part of the output; and where the reader told the end perhaps a first part of what that gives, too.
+abbrev pub IsFirstPart : (List Record → Course) → Bool → Option (List ℕ) → Option (List ℕ) → Log → Type 0
+IsFirstPart course ended held_old held_new all =
+    AppendsFront held_old held_new (course all.records).out ⊎ ((ended ≡ true) × CutAtEnd course held_old held_new all)
+
+-- what each fault tells
+abbrev pub IsFaultTold : Reading → (List Record → Course) → Bool → List ℕ → Option (List ℕ) → Option (List ℕ) → Log → EngineFault → Type 0
+IsFaultTold reading course ended input held_old held_new all Read = Passed course held_old held_new all
+IsFaultTold reading course ended input held_old held_new all Write = IsFirstPart course ended held_old held_new all
+IsFaultTold reading course ended input held_old held_new all (Frame fault) =
+    IsMalformed reading.max_body input fault all × Passed course held_old held_new all
+IsFaultTold reading course ended input held_old held_new all (Truncated place) =
+    (ended ≡ true) × (place ≡ place_behind 0 (length input)) × IsCut reading.max_body all × Passed course held_old held_new all
+IsFaultTold reading course ended input held_old held_new all (BodyTooLong place) = EndedBy course held_old held_new (Err (BodyTooLong place)) all
+IsFaultTold reading course ended input held_old held_new all NoMemory = IsFirstPart course ended held_old held_new all
+IsFaultTold reading course ended input held_old held_new all TooManyTurns = IsFirstPart course ended held_old held_new all
+IsFaultTold reading course ended input held_old held_new all (BadLog place) =
+    EndedBy course held_old held_new (Err (BadLog place)) all ⊎ (IsBadMark input place all × Passed course held_old held_new all)
+
+-- what each answer tells
+abbrev pub IsTold : Reading → (List Record → Course) → Bool → List ℕ → Option (List ℕ) → Option (List ℕ) → Log → Result Outcome EngineFault → Type 0
+IsTold reading course ended input held_old held_new all (Ok outcome) =
+    EndedBy course held_old held_new (Ok outcome) all ⊎ ((ended ≡ true) × PassedEnd course held_old held_new outcome all)
+IsTold reading course ended input held_old held_new all (Err fault) = IsFaultTold reading course ended input held_old held_new all fault
+
+-- An engine ran: whatever records are all that are whole in the bytes that it read, they tell what it wrote and answered.
+pub record RanOver (reading : Reading) (course : List Record → Course) (ended : Bool) (left_old left_new held_old held_new : Option (List ℕ)) (result : Result Outcome EngineFault) : Type 0 where
+  pub input : List ℕ
+  pub read : Consumes left_old left_new input
+  pub told : (all : Log) → IsReadAs reading input all → HasNoRecord reading.max_body all → IsTold reading course ended input held_old held_new all result
