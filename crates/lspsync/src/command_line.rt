@@ -1,84 +1,131 @@
 //! The words that the program is called with.
 
+mod help;
+
+use crate::command_line::help::{Limit, Page};
 use clap::builder::ValueParser;
-use clap::{Arg, Command, Error};
+use clap::{Arg, ArgMatches, Command, Error};
 use lsp_frame::Limits;
+use lsp_replay::Settings;
+use lsp_server::{Config, EncodingChoice, Sync};
+use lsp_text::Encoding;
 use std::alloc::{AllocError, Global};
 
-/// The limits that the words ask for, each in its range, or the usage fault or the text of help that they are.
-pub fn limits_of<'a>(alloc: Global, words: &'a [&'a str]) -> Result<Option<Limits>, Error> {
-    let matches = program(alloc)?.try_get_matches_from(words)?;
-    let Some(options) = matches.subcommand_matches("normalise") else {
-        return Ok(None);
-    };
-    let (Some(max_body), Some(max_text), Some(max_docs), Some(max_changes)) = (
-        options.get_one::<usize>("max-body"),
-        options.get_one::<usize>("max-text"),
-        options.get_one::<usize>("max-docs"),
-        options.get_one::<usize>("max-changes"),
-    ) else {
-        return Ok(None);
-    };
-    Ok(Limits::new(max_body, max_text, max_docs, max_changes).ok())
+/// What the program was asked to do.
+#[derive(Clone, Copy, Debug, PartialEq, Eq)]
+pub enum Call {
+    /// Be the server's end of a session.
+    Serve(Config),
+    /// Tell what a server answers to each record of a log.
+    Check(Settings),
+    /// Tell the documents that are open at the end of a log.
+    Replay(Settings),
+    /// Write a log with each accepted change in its canonical form.
+    Normalise(Settings),
+    /// Write a log of version 1 in version 2.
+    Convert(Settings),
 }
+
+/// What the words ask for, or the usage fault or the text of help that they are. There is always a call, since `clap` has checked the
+/// subcommand and each value.
+pub fn parse<'a>(alloc: Global, words: &'a [&'a str]) -> Result<Option<Call>, Error> {
+    let matches = program(alloc)?.try_get_matches_from(words)?;
+    Ok(call_of(&matches))
+}
+
+fn call_of(matches: &ArgMatches<'_>) -> Option<Call> {
+    let (name, options) = matches.subcommand()?;
+    match name {
+        "serve" => config_of(options).map(Call::Serve),
+        "check" => settings_of(options).map(Call::Check),
+        "replay" => settings_of(options).map(Call::Replay),
+        "normalise" => settings_of(options).map(Call::Normalise),
+        "convert" => settings_of(options).map(Call::Convert),
+        _ => None,
+    }
+}
+
+fn config_of(options: &ArgMatches<'_>) -> Option<Config> {
+    let sync = match options.get_str("sync")? {
+        "full" => Sync::Full,
+        _ => Sync::Incremental,
+    };
+    Some(Config {
+        limits: limits_of(options)?,
+        choice: EncodingChoice::Negotiated {
+            prefer: encoding_of(options)?,
+        },
+        sync,
+    })
+}
+
+fn settings_of(options: &ArgMatches<'_>) -> Option<Settings> {
+    Some(Settings {
+        limits: limits_of(options)?,
+        encoding: encoding_of(options)?,
+    })
+}
+
+fn encoding_of(options: &ArgMatches<'_>) -> Option<Encoding> {
+    Encoding::of_name(options.get_str("encoding")?)
+}
+
+fn limits_of(options: &ArgMatches<'_>) -> Option<Limits> {
+    Limits::new(
+        options.get_one::<usize>("max-body")?,
+        options.get_one::<usize>("max-text")?,
+        options.get_one::<usize>("max-docs")?,
+        options.get_one::<usize>("max-changes")?,
+    )
+    .ok()
+}
+
+static ENCODINGS: [&str; 3] = ["utf-8", "utf-16", "utf-32"];
+
+static KINDS: [&str; 2] = ["full", "incremental"];
 
 fn program<'a>(alloc: Global) -> Result<Command<'a>, AllocError> {
-    Command::new(alloc, "lspsync")
-        .about("Reads what an editor sent to a language server")
-        .subcommand_required(true)
-        .subcommand(normalise(alloc)?)
+    let mut program = Command::new(alloc, "lspsync")
+        .about(help::about())
+        .after_help(help::notes())
+        .subcommand_required(true);
+    for page in help::pages() {
+        program = program.subcommand(subcommand(alloc, page)?)?;
+    }
+    Ok(program)
 }
 
-fn normalise<'a>(alloc: Global) -> Result<Command<'a>, AllocError> {
-    Command::new(alloc, "normalise")
-        .about("Writes the log on standard input with each accepted didChange in normal form")
-        .arg(limit(
-            alloc,
-            "max-body",
-            4_096,
-            1_073_741_824,
-            "16777216",
-            "Greatest length of a body, in bytes",
-        ))?
-        .arg(limit(
-            alloc,
-            "max-text",
-            0,
-            1_073_741_824,
-            "16777216",
-            "Greatest length of a text, in bytes",
-        ))?
-        .arg(limit(
-            alloc,
-            "max-docs",
-            1,
-            65_536,
-            "1024",
-            "Greatest number of open documents",
-        ))?
-        .arg(limit(
-            alloc,
-            "max-changes",
-            1,
-            1_048_576,
-            "65536",
-            "Greatest number of changes in one message",
-        ))
+fn subcommand<'a>(alloc: Global, page: Page) -> Result<Command<'a>, AllocError> {
+    let encoding = choice(alloc, "encoding", ENCODINGS.as_slice(), "utf-16");
+    let mut command = Command::new(alloc, page.name)
+        .about(page.about)
+        .after_help(page.example)
+        .arg(encoding.help(page.encoding))?;
+    if let Some(help) = page.sync {
+        let sync = choice(alloc, "sync", KINDS.as_slice(), "incremental");
+        command = command.arg(sync.help(help))?;
+    }
+    for limit in help::limits() {
+        command = command.arg(number(alloc, limit))?;
+    }
+    Ok(command)
 }
 
-/// An option with a number from `least` to `greatest`.
-fn limit<'a>(
-    alloc: Global,
-    name: &'a str,
-    least: u64,
-    greatest: u64,
-    default: &'a str,
-    help: &'a str,
-) -> Arg<'a> {
+/// An option with one of these names.
+fn choice<'a>(alloc: Global, name: &'a str, names: &'a [&'a str], default: &'a str) -> Arg<'a> {
     Arg::new(alloc, name)
         .long(name)
-        .value_name("N")
-        .value_parser(ValueParser::unsigned(least, greatest))
+        .value_name("NAME")
+        .value_parser(names)
         .default_value(default)
-        .help(help)
+}
+
+/// An option with a number in a range.
+fn number<'a>(alloc: Global, limit: Limit) -> Arg<'a> {
+    Arg::new(alloc, limit.name)
+        .long(limit.name)
+        .value_name("N")
+        .value_parser(ValueParser::unsigned(limit.least, limit.greatest))
+        .default_value(limit.default)
+        .help(limit.help)
 }

@@ -1,28 +1,16 @@
-//! `lspsync`: reads what an editor sent to a language server, and writes it in normal form.
+//! `lspsync`: a language server's end of a session on standard input and output, and four commands on recorded sessions.
 //!
-//! - `record`: the frames of a log.
-//! - `body`: what a frame's body asks.
-//! - `documents`: the open documents.
-//! - `session`: what becomes of a body.
-//! - `turns`: reads to the end and writes whole.
-//! - `engine`: a log from a reader to a writer, and the theorem of that path.
 //! - `command_line`: the words that the program is called with.
-//! - `run`: the program over any reader and writers.
+//! - `run`: the program over any reader and writers; the engines are those of `lsp_replay`.
 #![tactic(auto)]
 
-mod body;
 mod command_line;
-mod documents;
-mod engine;
-mod outcome;
-mod record;
 mod run;
-mod session;
 #[cfg(test)]
 mod tests;
-mod turns;
 
 use crate::run::{refuse, run};
+use lsp_replay::Told;
 use std::process::ExitCode;
 use std::{env, io};
 
@@ -42,8 +30,8 @@ fn answer(rt: &HostRuntime) -> io::Result<u8> {
     Ok(run(
         alloc,
         &words,
-        &mut rt.stdin(),
-        &mut rt.stdout(),
+        &mut Told::new(rt.stdin()),
+        &mut Told::new(rt.stdout()),
         &mut rt.stderr(),
     ))
 }

@@ -1,13 +1,12 @@
 //! The program over any reader and writers.
 
-use crate::command_line::limits_of;
-use crate::engine::normalise;
-use crate::outcome::EngineFault;
+use crate::command_line::{Call, parse};
 use clap::error as clap_error;
+use lsp_replay::{EngineFault, Outcome, Sink, Source, check, convert, normalise, replay, serve};
 use std::alloc::Global;
-use std::io::{ErrorKind, Read, Write};
+use std::io::{ErrorKind, Write};
 
-/// How many reads and writes one run may make.
+/// How many reads, writes and flushes one run may make.
 const MAX_TURNS: u64 = 1_099_511_627_776;
 
 /// What was asked could not be done, or was not what the user meant.
@@ -19,31 +18,55 @@ const OUT_OF_MEMORY: u8 = 4;
 
 const BAD_LOG: u8 = 5;
 
-/// Runs the program: `words` is its command line, the program's name first. Answers the exit status.
-pub fn run<R: Read, W: Write, E: Write>(
+/// Runs the program: `words` is its command line, the program's name first. Answers the exit status; a fault's line goes to `errors`.
+pub fn run<R: Source, W: Sink, E: Write>(
     alloc: Global,
     words: &[&str],
     input: &mut R,
     output: &mut W,
     errors: &mut E,
 ) -> u8 {
-    let limits = match limits_of(alloc, words) {
-        Ok(Some(limits)) => limits,
+    let call = match parse(alloc, words) {
+        Ok(Some(call)) => call,
         Ok(None) => return USAGE,
-        Err(error) => return answer(&error, output, errors),
+        Err(error) => return explain(alloc, &error, output, errors),
     };
-    let outcome = match normalise(alloc, input, output, limits, MAX_TURNS) {
+    let outcome = match obey(alloc, call, input, output) {
         Ok(outcome) => outcome,
-        Err(fault) => return report(fault, errors),
+        Err(fault) => {
+            let _ = flush(output);
+            return report(fault, errors);
+        }
     };
-    match output.flush() {
+    match flush(output) {
         Ok(()) => outcome.status,
-        Err(_) => report(EngineFault::Write, errors),
+        Err(fault) => report(fault, errors),
     }
 }
 
-/// Prints what `clap` says of the words: help to the output, and a usage fault to the errors.
-fn answer<W: Write, E: Write>(error: &clap::Error, output: &mut W, errors: &mut E) -> u8 {
+/// Runs the engine that was asked for.
+fn obey<R: Source, W: Sink>(
+    alloc: Global,
+    call: Call,
+    input: &mut R,
+    output: &mut W,
+) -> Result<Outcome, EngineFault> {
+    match call {
+        Call::Serve(config) => serve(alloc, input, output, config, MAX_TURNS),
+        Call::Check(settings) => check(alloc, input, output, settings, MAX_TURNS),
+        Call::Replay(settings) => replay(alloc, input, output, settings, MAX_TURNS),
+        Call::Normalise(settings) => normalise(alloc, input, output, settings, MAX_TURNS),
+        Call::Convert(settings) => convert(alloc, input, output, settings, MAX_TURNS),
+    }
+}
+
+/// Prints what `clap` says of the words: help to the output, and a usage fault to the errors. Answers the status.
+fn explain<W: Sink, E: Write>(
+    alloc: Global,
+    error: &clap::Error,
+    output: &mut W,
+    errors: &mut E,
+) -> u8 {
     if error.kind() == clap_error::ErrorKind::OutOfMemory {
         return report(EngineFault::NoMemory, errors);
     }
@@ -51,10 +74,48 @@ fn answer<W: Write, E: Write>(error: &clap::Error, output: &mut W, errors: &mut 
         let _ = write!(errors, "{error}");
         return USAGE;
     }
-    match write!(output, "{error}").and_then(|_| output.flush()) {
+    match print_help(alloc, error, output) {
         Ok(()) => 0,
-        Err(_) => report(EngineFault::Write, errors),
+        Err(fault) => report(fault, errors),
     }
+}
+
+fn print_help<W: Sink>(
+    alloc: Global,
+    help: &clap::Error,
+    output: &mut W,
+) -> Result<(), EngineFault> {
+    let text = format!(in alloc; "{help}")?;
+    write_all(output, text.as_bytes())?;
+    flush(output)
+}
+
+/// Writes all of the bytes. An interrupted write is repeated, and one that takes nothing is a fault.
+fn write_all<W: Sink>(output: &mut W, mut bytes: &[u8]) -> Result<(), EngineFault> {
+    for _ in 0..MAX_TURNS {
+        if bytes.is_empty() {
+            return Ok(());
+        }
+        match output.write(bytes) {
+            Ok(0) => return Err(EngineFault::Write),
+            Ok(taken) => bytes = &bytes[taken..],
+            Err(error) if error.kind() == ErrorKind::Interrupted => {}
+            Err(_) => return Err(EngineFault::Write),
+        }
+    }
+    Err(EngineFault::TooManyTurns)
+}
+
+/// Passes on what was written. An interrupted flush is repeated.
+fn flush<W: Sink>(output: &mut W) -> Result<(), EngineFault> {
+    for _ in 0..MAX_TURNS {
+        match output.flush() {
+            Ok(()) => return Ok(()),
+            Err(error) if error.kind() == ErrorKind::Interrupted => {}
+            Err(_) => return Err(EngineFault::Write),
+        }
+    }
+    Err(EngineFault::TooManyTurns)
 }
 
 /// Prints why the words of a call could not be had: want of memory, or a word that is no text. Answers the status.
@@ -67,13 +128,14 @@ pub fn refuse<E: Write>(kind: ErrorKind, errors: &mut E) -> u8 {
 }
 
 /// Prints the line of a fault, and answers its status.
-fn report<E: Write>(fault: EngineFault, errors: &mut E) -> u8 {
+pub fn report<E: Write>(fault: EngineFault, errors: &mut E) -> u8 {
     let _ = writeln!(errors, "lspsync: {fault}");
     match fault {
         EngineFault::Read | EngineFault::Write | EngineFault::TooManyTurns => STREAM_FAULT,
         EngineFault::NoMemory => OUT_OF_MEMORY,
-        EngineFault::Truncated { .. }
+        EngineFault::Frame(_)
+        | EngineFault::Truncated { .. }
         | EngineFault::BodyTooLong { .. }
-        | EngineFault::Unsupported { .. } => BAD_LOG,
+        | EngineFault::BadLog { .. } => BAD_LOG,
     }
 }

@@ -1,6 +1,0 @@
-pub mod JsonLemmas
-pub mod TableLemmas
-pub mod WholeChange
-pub mod PortLemmas
-pub mod FrameLemmas
-pub mod EngineLemmas

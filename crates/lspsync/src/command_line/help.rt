@@ -1,0 +1,179 @@
+//! The texts of help. They stand in functions, so that proofs don't look into them.
+
+/// What help says of a command.
+#[derive(Clone, Copy, Debug)]
+pub struct Page {
+    pub name: &'static str,
+    pub about: &'static str,
+    /// More on the command, and an example to paste.
+    pub example: &'static str,
+    /// What `--encoding` is for.
+    pub encoding: &'static str,
+    /// What `--sync` is for, where the command takes it.
+    pub sync: Option<&'static str>,
+}
+
+/// An option that bounds what is taken.
+#[derive(Clone, Copy, Debug)]
+pub struct Limit {
+    pub name: &'static str,
+    pub least: u64,
+    pub greatest: u64,
+    pub default: &'static str,
+    pub help: &'static str,
+}
+
+pub fn about() -> &'static str {
+    PROGRAM
+}
+
+pub fn notes() -> &'static str {
+    NOTES
+}
+
+/// Of the commands, in the order in which help lists them.
+pub fn pages() -> [Page; 5] {
+    [
+        Page {
+            name: "serve",
+            about: SERVE,
+            example: SERVE_EXAMPLE,
+            encoding: PREFERRED_ENCODING,
+            sync: Some(SYNC),
+        },
+        log_page("check", CHECK, CHECK_EXAMPLE),
+        log_page("replay", REPLAY, REPLAY_EXAMPLE),
+        log_page("normalise", NORMALISE, NORMALISE_EXAMPLE),
+        log_page("convert", CONVERT, CONVERT_EXAMPLE),
+    ]
+}
+
+/// Of a command that reads a log.
+fn log_page(name: &'static str, about: &'static str, example: &'static str) -> Page {
+    Page {
+        name,
+        about,
+        example,
+        encoding: ENCODING,
+        sync: None,
+    }
+}
+
+/// The options that all commands take.
+pub fn limits() -> [Limit; 4] {
+    [
+        Limit {
+            name: "max-body",
+            least: 4_096,
+            greatest: 1_073_741_824,
+            default: "16777216",
+            help: MAX_BODY,
+        },
+        Limit {
+            name: "max-text",
+            least: 0,
+            greatest: 1_073_741_824,
+            default: "16777216",
+            help: MAX_TEXT,
+        },
+        Limit {
+            name: "max-docs",
+            least: 1,
+            greatest: 65_536,
+            default: "1024",
+            help: MAX_DOCS,
+        },
+        Limit {
+            name: "max-changes",
+            least: 1,
+            greatest: 1_048_576,
+            default: "65536",
+            help: MAX_CHANGES,
+        },
+    ]
+}
+
+static PROGRAM: &str =
+    "Keeps a copy of each open text equal to the editor's (Language Server Protocol 3.17), and reads recorded sessions";
+
+static NOTES: &str =
+    "Each command reads standard input and writes standard output. A log is what an editor sent to its language
+server, byte for byte. Where the editor starts `some-server`, let it start this, and it is recorded:
+  tee session.log | some-server
+
+Exit status: 0 all is well, 1 something in the session was refused, 2 the command line is wrong,
+3 reading or writing failed, 4 out of memory, 5 the log is faulty. From 3 on a line on standard
+error says what, and for 5 where: `lspsync: truncated at 505` is byte 505 of the input.
+
+`lspsync COMMAND --help` has the options of a command and an example to paste.";
+
+static SERVE: &str =
+    "Be a language server that keeps the editor's documents and offers no other feature";
+
+static SERVE_EXAMPLE: &str =
+    "It answers `initialize` and `shutdown`, takes the documents' messages, refuses every other request
+by `method not found`, and ends at `exit`. Put it where an editor wants a server's command. The
+status is 0 where the editor asked for `shutdown` before `exit`, else 1.
+
+Example, which answers a recorded session; it ends before `exit`, so the status is 1:
+  ./lspsync serve < examples/whole-text.log";
+
+static CHECK: &str = "Print what a server answers to each message of a log, a line for each";
+
+static CHECK_EXAMPLE: &str =
+    "A line has the record's number and a word: `reply` or `error CODE` for a request, `changed`,
+`dropped`, `ignored` or `refused CAUSE` for a notification, `exit 0` or `exit 1`, and `server` for
+what the server sent. The status is 1 where an error (other than -32601) or a refusal is among them.
+
+Example, a session with two changes that a server must refuse:
+  ./lspsync check < examples/stale-version.log";
+
+static REPLAY: &str =
+    "Print the documents that are open at the end of a log, a line of JSON for each";
+
+static REPLAY_EXAMPLE: &str =
+    "A line has the document's `languageId`, `text`, `uri` and `version`, in order of opening. The status
+is 1 where something was refused. Nothing is printed where the log is faulty.
+
+Example, with the text alone where `jq` is there:
+  ./lspsync replay < examples/typing.log
+  ./lspsync replay < examples/typing.log | jq -r .text";
+
+static NORMALISE: &str =
+    "Write a log with each accepted change as the one canonical message that means the same";
+
+static NORMALISE_EXAMPLE: &str =
+    "All other messages, and the refused ones, stay byte for byte. Two editors that kept the same
+characters and inserted the same texts give the same bytes, so such logs can be compared. The
+status is 1 where something was refused.
+
+Example, a change of the whole text, which becomes one with a range:
+  ./lspsync normalise < examples/whole-text.log";
+
+static CONVERT: &str =
+    "Write a log in the format of version 2, which holds the server's replies too";
+
+static CONVERT_EXAMPLE: &str =
+    "The output begins with the line `lsp-session-log 2`. Then come the messages, each behind a mark:
+`>` for the editor's, byte for byte, and `<` for the reply that a server gives to it. All log
+commands read both versions. The status is 1 where something was refused.
+
+Example, and what stands in its output:
+  ./lspsync convert < examples/whole-text.log
+  ./lspsync convert < examples/whole-text.log | ./lspsync check";
+
+static ENCODING: &str =
+    "What a position's character counts in this log; one of version 2 says it itself";
+
+static PREFERRED_ENCODING: &str =
+    "What a position's character is to count, if the editor offers it; else utf-16";
+
+static SYNC: &str = "How the editor is asked to send changes: as whole texts or as ranges";
+
+static MAX_BODY: &str = "Greatest length of a message, in bytes, from 4096 to 1073741824";
+
+static MAX_TEXT: &str = "Greatest length of a document, in bytes, up to 1073741824";
+
+static MAX_DOCS: &str = "Greatest number of open documents, from 1 to 65536";
+
+static MAX_CHANGES: &str = "Greatest number of changes in one message, from 1 to 1048576";

@@ -1,0 +1,64 @@
+#!/usr/bin/env bash
+# The session of with-neovim.sh with Emacs and eglot: `lspsync serve` as the language server behind a `tee`, some edits, and then what `lspsync replay`
+# makes of the record beside the file that Emacs saved.
+#
+#   examples/with-emacs.sh [FOLDER]      FOLDER keeps the record and the file; without it they are thrown away
+#
+# It needs Emacs with eglot (on Debian 12: apt-get install emacs-nox elpa-eglot). The status is 0 where both texts are equal.
+set -eu
+program="$(cd "$(dirname "$0")/.." && pwd)/lspsync"
+if [ $# -gt 0 ]; then
+    folder="$1"
+    mkdir -p "$folder"
+else
+    folder="$(mktemp -d)"
+    trap 'rm -rf "$folder"' EXIT
+fi
+"$program" --help >/dev/null # builds it where it isn't built yet
+cd "$folder"
+printf 'first line\nsecond line\nthird line\n' >notes.txt
+
+cat >session.el <<'ELISP'
+(require 'eglot)
+(require 'json)
+(setq eglot-sync-connect 5
+      make-backup-files nil)
+(defun edit (place text)
+  "Types TEXT behind PLACE, and lets eglot tell the server."
+  (goto-char (point-min))
+  (search-forward place)
+  (insert text)
+  (eglot--signal-textDocument/didChange))
+(find-file "notes.txt")
+(let ((command (format "tee session.log | '%s' serve" (getenv "LSPSYNC"))))
+  (eglot '(text-mode) (cons 'transient default-directory) 'eglot-lsp-server
+         (list "sh" "-c" command) "plaintext"))
+(edit "first" ", a heading")
+(edit "second" ", längere 😀")
+(edit "😀" "!")
+(goto-char (point-max))
+(insert "fourth line\n")
+(undo-boundary)
+(eglot--signal-textDocument/didChange)
+(goto-char (point-min))
+(while (search-forward "line" nil t) (replace-match "row" t t))
+(eglot--signal-textDocument/didChange)
+(save-buffer)
+(eglot-shutdown (eglot-current-server))
+ELISP
+LSPSYNC="$program" emacs --batch -q --eval "(package-initialize)" -l session.el 2>emacs.log || cat emacs.log
+
+echo "what a server answers to each message:"
+"$program" check <session.log
+"$program" replay <session.log >replayed.json
+echo "the documents at the end:"
+cat replayed.json
+emacs --batch -Q --eval '(progn (require (quote json))
+  (let ((coding-system-for-write (quote utf-8-unix)))
+    (write-region (alist-get (quote text) (json-read-file "replayed.json")) nil "replayed.txt" nil (quote silent))))'
+if cmp notes.txt replayed.txt; then
+    echo "the replayed text is the one that Emacs saved"
+else
+    echo "the replayed text is not the one that Emacs saved"
+    exit 1
+fi
