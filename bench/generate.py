@@ -178,10 +178,14 @@ def diagnostic(number):
     return {"range": place, "severity": 1, "code": "E0425", "source": "rustc", "message": said}
 
 
+def file_event(number):
+    return {"uri": "file:///home/user/project/target/debug/build/%d" % number, "type": 2}
+
+
 def some(item):
     """As many items as 10 KB hold."""
-    items = [item(number) for number in range(FOREIGN_BYTES // len(json.dumps(item(100), separators=(",", ":"))))]
-    return items
+    length = len(json.dumps(item(100), separators=(",", ":")))
+    return [item(number) for number in range(FOREIGN_BYTES // length)]
 
 
 def foreign_params(uri):
@@ -192,7 +196,6 @@ def foreign_params(uri):
     place = {"line": 10, "character": 8}
     item = {"label": "map", "kind": 2, "documentation": {"kind": "markdown", "value": prose}, "sortText": "7fffffff"}
     settings = {"section%d" % n: {"enable": n % 2 == 0, "limit": n * 10, "paths": ["src", "tests"]} for n in range(FOREIGN_BYTES // 66)}
-    file_event = lambda number: {"uri": "file:///home/user/project/target/debug/build/%d" % number, "type": 2}
     context = {"diagnostics": some(diagnostic)}
     report = {"kind": "report", "message": prose, "percentage": 50}
     hover = {"textDocument": document, "position": place, "context": {"seen": prose}}
