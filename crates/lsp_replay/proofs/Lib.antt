@@ -19,3 +19,4 @@ pub mod ConvertedLemmas
 pub mod ConvertedLogLemmas
 pub mod UniqueLemmas
 pub mod ToldLemmas
+pub mod QuietLemmas

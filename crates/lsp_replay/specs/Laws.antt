@@ -80,3 +80,7 @@ abbrev pub UniqueLaw : Type 0
 UniqueLaw =
     (reading : Reading) (input : List ℕ) (log other : Log) → IsReadAs reading input log → HasNoRecord reading.max_body log
     → IsReadAs reading input other → HasNoRecord reading.max_body other → log ≡ other
+
+-- `replay` gives nothing before the end of the input.
+abbrev pub ReportLaw : Type 0
+ReportLaw = (settings : Settings) (records : List Record) → (report settings records).out ≡ []

@@ -1,4 +1,5 @@
-//! The engines: from a reader to a writer, over a server.
+//! The engines: from a reader to a writer, over a server. Their contracts say twice what was written and answered: by some first records
+//! of the bytes that were read (`ran`), and by all that are whole in them (`told`).
 
 ghost use Rattle.std.specs.Prelude.{◌≡◌, true, false, IfOk};
 ghost use Rattle.lsp_replay.specs.Engine.{Ran, Called};

@@ -1,13 +1,14 @@
 //! Laws over the definitions alone, that no call of this crate makes by itself.
 
-ghost use Rattle.lsp_replay.specs.Laws.{NormalLaw, ConvertedLaw, UniqueLaw};
+ghost use Rattle.lsp_replay.specs.Laws.{UniqueLaw, ReportLaw, NormalLaw, ConvertedLaw};
 
 /// What holds of every log, whatever its version and whoever wrote it. It does nothing: its contract says that an input has one list of
-/// whole records, and one rest behind them; that what `normalise` writes of a log is a log of which `replay` tells the same, and
-/// `normalise` writes the same bytes again; and that what `convert` writes of a log of version 1 is a log of which `replay` tells the same,
-/// if the limit on bodies lets the replies in it pass.
+/// whole records, and one rest behind them; that `replay` writes nothing before the end of the input; that what `normalise` writes of a log
+/// is a log of which `replay` tells the same, and `normalise` writes the same bytes again; and that what `convert` writes of a log of
+/// version 1 is a log of which `replay` tells the same, if the limit on bodies lets the replies in it pass.
 pub fn log_laws()
     ensures unique { UniqueLaw }
+    ensures report { ReportLaw }
     ensures normal { NormalLaw }
     ensures converted { ConvertedLaw }
 {}
