@@ -1,11 +1,11 @@
 //! Each call that can answer want of memory, where one growth is refused: nothing changes, and the same call made again goes on. Each
 //! test prints how many growths were refused.
 
-ghost use Rattle.std.specs.Prelude.{◌≡◌, ◌≤◌, IfOk, length, string_len, sum_by};
-ghost use Rattle.std.specs.Str.{chars};
+ghost use Rattle.std.specs.Prelude.{IfOk};
 ghost use Rattle.lsp_text.specs.LineStarts.{Indexes};
 
-use crate::{Change, EditFault, MAX_NEW_TEXT, MAX_OLD_TEXT, Pieces, compose, fits};
+use crate::tests::left_by_both;
+use crate::{Change, EditFault, Pieces, compose, fits};
 use lsp_text::{Encoding, Lines, Position, Range};
 use std::alloc::{AllocError, Global};
 use std::test::Fail;
@@ -147,54 +147,22 @@ fn refused_canonical(rt: HostRuntime) -> Result<(), Fail> {
     Ok(())
 }
 
-/// What changes make of the text, made again where it was refused.
-fn composed<'a>(
-    alloc: Global,
-    before: &'a str,
-    changes: &'a [Change],
-    refused: &mut usize,
-) -> Result<Pieces<'a>, EditFault>
-    requires size { length before.now ≤ MAX_OLD_TEXT }
-    requires fits { sum_by (λ change. string_len change.text) changes.now ≤ MAX_NEW_TEXT }
-    ensures { IfOk result (λ pieces. pieces.before ≡ chars before.now) }
-{
-    match compose(alloc, before, Encoding::Utf16, changes) {
-        Ok(pieces) => Ok(pieces),
-        Err(_) => {
-            *refused = refused.saturating_add(1);
-            compose(alloc, before, Encoding::Utf16, changes)
-        }
-    }
-}
-
 #[test]
 fn refused_then(rt: HostRuntime) -> Result<(), Fail> {
     let mut refused: usize = 0;
     let first = [change(rt.alloc(), Some((1, 2)), "XY", &mut refused)?];
     let second = [change(rt.alloc(), Some((2, 4)), "", &mut refused)?];
-    assert!(rt; TEXT.len() <= MAX_OLD_TEXT && fits(&first) && fits(&second));
-    let one = composed(rt.alloc(), TEXT, &first, &mut refused)?;
-    let middle = match one.text() {
-        Ok(text) => text,
-        Err(_) => {
+    let (text, canonical, spans) = match left_by_both(rt.alloc(), TEXT, &first, &second) {
+        Ok(made) => made,
+        Err(fault) => {
+            assert_eq!(rt; fault, EditFault::NoMemory);
             refused = refused.saturating_add(1);
-            one.text()?
+            left_by_both(rt.alloc(), TEXT, &first, &second)?
         }
     };
-    assert!(rt; middle.len() <= MAX_OLD_TEXT);
-    let two = composed(rt.alloc(), &middle, &second, &mut refused)?;
-    let both = match Pieces::then(rt.alloc(), &one, &two) {
-        Ok(both) => both,
-        Err(_) => {
-            refused = refused.saturating_add(1);
-            assert_eq!(rt; one.spans().len(), 3);
-            assert_eq!(rt; two.spans().len(), 2);
-            Pieces::then(rt.alloc(), &one, &two)?
-        }
-    };
-    // From "abcdef" to "aXYcdef", and to "aXdef".
-    assert_eq!(rt; both.text_len(), 6);
-    assert_eq!(rt; both.spans().len(), 3);
+    assert_eq!(rt; text.as_str(), "aXdef\n");
+    assert_eq!(rt; canonical.len(), 1);
+    assert_eq!(rt; spans, 3);
     println!(rt; "refused {refused}")?;
     Ok(())
 }

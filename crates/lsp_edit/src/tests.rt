@@ -255,7 +255,7 @@ fn two_batches_are_one(rt: HostRuntime) -> Result<(), Fail> {
 
 /// What two batches, one after the other, leave of a text by what they mean together: the text, its canonical batch, how many spans it
 /// has.
-fn left_by_both(
+pub fn left_by_both(
     alloc: Global,
     before: &str,
     first: &[Change],
