@@ -1,27 +1,27 @@
 -- What a change makes of the fields of pieces.
-use Rattle.std.proofs.Common.{ℕ, suc, ◌≡◌, ◌+◌, ◌-◌, ◌*◌, ◌<◌, ◌≤◌, ◌⊎◌, Bool, true, false, List, [], ◌∷◌, ◌++◌, length, map, take, drop, min, nat_le, ◌==◌, eqb-true, refl, sym, ap, ap₂, ◌∙◌, subst, arith, append-nil, append_assoc, take-append-drop, encode_utf8_all, IsCharBoundary, ⊎_elim, inl, inr, leb-true, le-leb, Option, Some, None, Result, Ok, Err, string_bytes, string_len}
+use Rattle.std.proofs.Common.{ℕ, ◌≡◌, ◌+◌, ◌-◌, ◌<◌, ◌≤◌, true, false, List, [], ◌∷◌, ◌++◌, length, map, take, drop, nat_le, refl, sym, ap, ap₂, ◌∙◌, subst, arith, append_assoc, take-append-drop, encode_utf8_all, IsCharBoundary, ⊎_elim, inl, inr, leb-true, le-leb, Option, Some, None, Result, Ok, Err, string_bytes}
 use Rattle.std.specs.List.{replace_range}
-use Rattle.std.specs.Str.{chars, IsUtf8, is_utf8}
+use Rattle.std.specs.Str.{chars, IsUtf8}
 use Rattle.std.proofs.lemmas.Bool.{cases_Bool}
 use Rattle.std.proofs.lemmas.List.{length-map, length-append, map-append, take-map, drop-map}
 use Rattle.std.proofs.lemmas.Str.{encodes-append, encodes-chars, chars_from_encodes, IsUtf8-from_is_utf8, is_utf8-from_IsUtf8}
 use Rattle.lsp_text.specs.declared.position.Range.{Range}
 use Rattle.lsp_text.specs.Text.{place_of}
 use Rattle.lsp_text.specs.Positions.{denoted}
-use Rattle.lsp_text.proofs.PlaceLemmas.{place_rises, place_within, place_add, place_end, place_boundary, take_place, drop_place}
-use Rattle.lsp_text.proofs.PositionLemmas.{IsWhole, denoted_whole}
+use Rattle.lsp_text.proofs.PlaceLemmas.{place_rises, place_within, place_boundary, take_place, drop_place}
+use Rattle.lsp_text.proofs.PositionLemmas.{denoted_whole}
 use Rattle.lsp_edit.specs.declared.change.Change.{Change}
 use Rattle.lsp_edit.specs.declared.fault.EditFault.{EditFault}
 use Rattle.lsp_edit.specs.declared.fault.EditFault.TheVariants.{NoMemory}
-use Rattle.lsp_edit.specs.Items.{Item, Old, New, character_of, text_of}
-use Rattle.lsp_edit.specs.Batch.{Edit, Fault, InsideStart, InsideStop, Reversed, replaced, after_change}
+use Rattle.lsp_edit.specs.Items.{Item, New, character_of, text_of}
+use Rattle.lsp_edit.specs.Batch.{Edit, InsideStart, InsideStop, Reversed, replaced, after_change}
 use Rattle.lsp_edit.specs.Faults.{fault_at, TellsFault, IsPlaces, in_order, ends_of, places_at}
 use Rattle.lsp_edit.specs.Keeps.{Keeps}
 use Rattle.lsp_edit.specs.Parts.{Part, items_of, bytes_of, AreParts, AreCut, AreOrdered, NoneTouch, new_parts, replaced_parts}
 use Rattle.lsp_edit.specs.Edited.{ArePieces, Applied, Edited, edit_of, edited_text, edited_bytes, one_more}
 use Rattle.lsp_edit.proofs.KeepsLemmas.{after_change_keeps}
 use Rattle.lsp_edit.proofs.CutLemmas.{text_of-new, part_ordered}
-use Rattle.lsp_edit.proofs.CutPartsLemmas.{AreCutAt, cut_parts, parts_bytes}
+use Rattle.lsp_edit.proofs.CutPartsLemmas.{cut_parts, parts_bytes}
 use Rattle.lsp_edit.proofs.MergedLemmas.{new_apart, replaced_apart}
 use Rattle.lsp_edit.proofs.PutLemmas.{replaced_items, replaced_few, new_items, new_few}
 

@@ -1,5 +1,5 @@
 -- The text that changes meet, with some of its bytes replaced.
-use Rattle.std.proofs.Common.{ℕ, ◌≡◌, ◌+◌, ◌-◌, ◌≤◌, List, ◌++◌, length, take, drop, refl, sym, ap, ◌∙◌, subst, arith, append_assoc, take_at, drop_at, length-take-le, string_bytes, Option, Some}
+use Rattle.std.proofs.Common.{ℕ, ◌≡◌, ◌+◌, ◌≤◌, List, ◌++◌, length, take, drop, ap, ◌∙◌, subst, arith, append_assoc, take_at, drop_at, length-take-le, string_bytes, Option, Some}
 use Rattle.std.specs.List.{replace_range}
 use Rattle.std.proofs.lemmas.List.{length-append}
 use Rattle.lsp_text.specs.Splice.{IsReplaced}

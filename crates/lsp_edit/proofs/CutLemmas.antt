@@ -1,15 +1,13 @@
 -- Parts cut at the place of an index: their items are those before it and behind it.
-use Rattle.std.proofs.Common.{ℕ, zero, suc, ◌≡◌, ◌+◌, ◌-◌, ◌<◌, ◌≤◌, ◌⊎◌, Bool, true, false, List, [], ◌∷◌, ◌++◌, length, map, take, drop, flat_map, refl, sym, ap, ap₂, ◌∙◌, subst, arith, append_assoc, append-nil, take_at, drop_at, take-take, take-append-drop, take_all, length-take-le, lt-ltb, le-ltb, ne_eqb, encode_utf8_all, IsCharBoundary, ⊎_elim}
-use Rattle.std.specs.Str.{chars, IsUtf8, is_utf8}
-use Rattle.std.proofs.Math.Utf8.{scalars}
-use Rattle.std.proofs.lemmas.Bool.{cases_eq, cases_lt, cases_Bool}
-use Rattle.std.proofs.lemmas.List.{map-append, map-id, length-append, length-map, length-take, length-drop, take-append-le, drop-append-le, take-map, drop-map, nil_from_length}
-use Rattle.std.proofs.lemmas.Str.{encodes-append, encodes-chars, chars-encodes, scalars-chars, IsUtf8-take, IsUtf8-drop, IsUtf8-from_is_utf8, is_utf8-from_IsUtf8, chars_from_encodes}
+use Rattle.std.proofs.Common.{ℕ, ◌≡◌, ◌+◌, ◌-◌, ◌<◌, ◌≤◌, List, [], ◌∷◌, length, map, take, drop, refl, sym, ap, ap₂, ◌∙◌, arith, take_at, drop_at, take-take, length-take-le, encode_utf8_all, IsCharBoundary}
+use Rattle.std.specs.Str.{chars, IsUtf8}
+use Rattle.std.proofs.lemmas.List.{length-map, length-drop, take-map, drop-map}
+use Rattle.std.proofs.lemmas.Str.{encodes-chars, IsUtf8-take, IsUtf8-drop, IsUtf8-from_is_utf8, is_utf8-from_IsUtf8, chars_from_encodes}
 use Rattle.lsp_text.specs.Text.{place_of}
 use Rattle.lsp_text.specs.TextLines.{numbers_from}
 use Rattle.lsp_text.proofs.PlaceLemmas.{place_end, place_rises, place_add, take_place, drop_place, part_place, place_boundary, place_within, IsIndexAt, index_at}
 use Rattle.lsp_edit.specs.Items.{Item, Old, New, character_of, text_of}
-use Rattle.lsp_edit.specs.Parts.{Part, OldPart, NewPart, index_of, items_in, items_of, bytes_in, bytes_of, part_len, IsPart, AreParts, front_part, back_part, front_parts, back_parts, IsOrdered, IsCut, AreCut}
+use Rattle.lsp_edit.specs.Parts.{Part, OldPart, NewPart, index_of, items_in, bytes_in, part_len, IsPart, front_part, back_part, IsOrdered, IsCut}
 use Rattle.lsp_edit.proofs.RebuiltLemmas.{numbers-append, length-numbers, text_row}
 use Rattle.lsp_edit.proofs.IndexLemmas.{index_of-place, index_rises}
 

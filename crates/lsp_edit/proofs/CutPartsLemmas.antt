@@ -1,13 +1,13 @@
 -- Parts in a row, cut at the place of an index.
-use Rattle.std.proofs.Common.{ℕ, zero, suc, ◌≡◌, ◌+◌, ◌-◌, ◌<◌, ◌≤◌, ◌⊎◌, Bool, true, false, List, [], ◌∷◌, ◌++◌, length, map, take, drop, flat_map, refl, sym, ap, ap₂, ◌∙◌, subst, arith, append_assoc, append-nil, take_at, drop_at, take-take, take-append-drop, take_all, length-take-le, lt-ltb, le-ltb, ne_eqb, encode_utf8_all, ⊎_elim, drop-drop}
+use Rattle.std.proofs.Common.{ℕ, zero, suc, ◌≡◌, ◌+◌, ◌-◌, ◌<◌, ◌≤◌, List, [], ◌∷◌, ◌++◌, length, take, drop, refl, sym, ap, ap₂, ◌∙◌, subst, arith, append-nil, take_at, drop_at, lt-ltb, le-ltb, ne_eqb, encode_utf8_all, ⊎_elim}
 use Rattle.std.specs.Str.{chars, IsUtf8}
-use Rattle.std.proofs.lemmas.Bool.{cases_eq, cases_lt}
-use Rattle.std.proofs.lemmas.List.{map-append, length-append, length-map, take-append-le, drop-append-le}
+use Rattle.std.proofs.lemmas.Bool.{cases_lt}
+use Rattle.std.proofs.lemmas.List.{map-append, length-append, take-append-le, drop-append-le}
 use Rattle.std.proofs.lemmas.Str.{encodes-append}
 use Rattle.lsp_text.specs.Text.{place_of}
 use Rattle.lsp_text.proofs.PlaceLemmas.{place_add}
-use Rattle.lsp_edit.specs.Items.{Item, Old, New, character_of, text_of}
-use Rattle.lsp_edit.specs.Parts.{Part, items_in, items_of, bytes_in, bytes_of, part_len, IsPart, AreParts, front_part, back_part, front_parts, back_parts, AreCut}
+use Rattle.lsp_edit.specs.Items.{Item, character_of, text_of}
+use Rattle.lsp_edit.specs.Parts.{Part, items_in, items_of, bytes_of, part_len, IsPart, AreParts, front_part, back_part, front_parts, back_parts, AreCut}
 use Rattle.lsp_edit.proofs.CutLemmas.{part_bytes, part_length, front_items, back_items, place_above, place_below, text_long, front_is, back_is, part_cut, part_ordered}
 
 take_more : {X : Type 0} (xs ys : List X) (n : ℕ) → take (length xs + n) (xs ++ ys) ≡ xs ++ take n ys

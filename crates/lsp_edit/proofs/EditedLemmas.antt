@@ -1,6 +1,6 @@
 -- The fields of pieces: what they are at first, and what they tell.
-use Rattle.std.proofs.Common.{ℕ, suc, ◌≡◌, ◌+◌, ◌-◌, ◌*◌, ◌<◌, ◌≤◌, ◌⊎◌, Bool, true, false, List, [], ◌∷◌, ◌++◌, length, map, take, drop, min, ◌==◌, eqb-true, refl, sym, ap, ap₂, ◌∙◌, subst, arith, append-nil, take_all, encode_utf8_all, ⊎_elim, inr, Option, Some, None, Result, Ok, Err}
-use Rattle.std.specs.Str.{chars, IsUtf8, is_utf8}
+use Rattle.std.proofs.Common.{ℕ, ◌≡◌, ◌-◌, ◌≤◌, true, false, List, [], ◌∷◌, length, map, ◌==◌, eqb-true, refl, sym, ap, ap₂, ◌∙◌, subst, arith, append-nil, take_all, encode_utf8_all, ⊎_elim, inr, Result}
+use Rattle.std.specs.Str.{chars, IsUtf8}
 use Rattle.std.proofs.lemmas.Bool.{cases_Bool, eqb-false}
 use Rattle.std.proofs.lemmas.List.{nil_from_length}
 use Rattle.std.proofs.lemmas.Str.{encodes-chars, is_utf8-from_IsUtf8, IsUtf8-from_is_utf8, chars-nil, chars_from_encodes, IsCharBoundary-start, IsCharBoundary-end}
@@ -8,8 +8,8 @@ use Rattle.lsp_text.specs.Text.{place_of}
 use Rattle.lsp_text.specs.TextLines.{numbers_from}
 use Rattle.lsp_text.specs.LineStarts.{Indexes}
 use Rattle.lsp_text.proofs.PlaceLemmas.{place_end}
-use Rattle.lsp_edit.specs.Items.{Item, Old, New, plain, text_of}
-use Rattle.lsp_edit.specs.Parts.{Part, OldPart, NewPart, index_of, items_in, items_of, bytes_of, IsPart, AreParts, NoneTouch, whole_parts}
+use Rattle.lsp_edit.specs.Items.{Item, Old, plain, text_of}
+use Rattle.lsp_edit.specs.Parts.{Part, OldPart, index_of, items_in, items_of, bytes_of, AreParts, NoneTouch, whole_parts}
 use Rattle.lsp_edit.specs.Keeps.{Keeps}
 use Rattle.lsp_edit.specs.Edited.{ArePieces, Edited, edited_text, edited_bytes}
 use Rattle.lsp_edit.specs.Faults.{IsPlaces, places_at, ends_of}

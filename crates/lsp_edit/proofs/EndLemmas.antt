@@ -1,15 +1,13 @@
 -- The places of a range's ends, in order, are those of the indexes that the ends denote.
-use Rattle.std.proofs.Common.{ℕ, ◌≡◌, ◌+◌, ◌-◌, ◌<◌, ◌≤◌, Bool, true, false, List, length, nat_le, Option, Some, None, option_map, Result, Ok, Err, refl, sym, ap, ◌∙◌, arith, le-leb, leb-false, ⊎_elim}
+use Rattle.std.proofs.Common.{ℕ, ◌≡◌, ◌<◌, ◌≤◌, List, Option, Some, None, option_map, Ok, Err, refl, arith, le-leb, ⊎_elim}
 use Rattle.std.proofs.lemmas.Bool.{cases_lt, lt-leb}
-use Rattle.lsp_text.specs.declared.position.Position.{Position}
 use Rattle.lsp_text.specs.declared.position.Range.{Range}
 use Rattle.lsp_text.specs.Text.{place_of}
 use Rattle.lsp_text.specs.Positions.{denoted}
 use Rattle.lsp_text.proofs.PlaceLemmas.{place_order, place_rises}
 use Rattle.lsp_text.proofs.PositionLemmas.{IsWhole, denoted_whole}
-use Rattle.lsp_edit.specs.declared.fault.EditFault.{EditFault}
 use Rattle.lsp_edit.specs.declared.fault.EditFault.TheVariants.{ReversedRange}
-use Rattle.lsp_edit.specs.Faults.{ends_of, in_order, places_at, fault_at}
+use Rattle.lsp_edit.specs.Faults.{ends_of, places_at}
 
 -- the index of a denoted place
 record IsPlaceOf (text : List ℕ) (found : Option ℕ) (place : ℕ) : Type 0 where

@@ -1,5 +1,5 @@
 -- What a change of a range makes of the bytes of a text, and of its lines.
-use Rattle.std.proofs.Common.{ℕ, ◌≡◌, ◌+◌, ◌-◌, ◌<◌, ◌≤◌, ◌⊎◌, true, false, List, [], ◌∷◌, ◌++◌, length, map, take, drop, nat_le, refl, sym, ap, ap₂, ◌∙◌, subst, arith, encode_utf8_all, ⊎_elim, inl, inr, le-leb, Option, Some, None, Result, Ok, Err, OnOk, OnErr, is_err}
+use Rattle.std.proofs.Common.{ℕ, ◌≡◌, ◌+◌, ◌-◌, ◌<◌, ◌≤◌, ◌⊎◌, true, List, ◌++◌, length, map, take, drop, refl, sym, ap, ap₂, ◌∙◌, subst, arith, encode_utf8_all, ⊎_elim, inl, inr, le-leb, Some, Result, Ok, Err, OnOk, OnErr, is_err}
 use Rattle.std.proofs.lemmas.Bool.{lt-ltb, le-ltb}
 use Rattle.std.proofs.lemmas.List.{length-append, length-drop, length-take, length-take-le, map-append, take-map, drop-map, append_assoc, take_at, drop_at, drop-drop, take-append-drop}
 use Rattle.std.proofs.lemmas.Str.{encodes-append, encodes-chars, IsCharBoundary-at_seam, IsUtf8-append, IsUtf8-drop}
@@ -10,14 +10,14 @@ use Rattle.lsp_text.specs.declared.position.Range.{Range}
 use Rattle.lsp_text.specs.LineStarts.{Indexes}
 use Rattle.lsp_text.specs.Splice.{IsSpliced}
 use Rattle.lsp_text.specs.Text.{place_of}
-use Rattle.lsp_text.proofs.PlaceLemmas.{take_place, drop_place, place_boundary, place_rises, place_within}
+use Rattle.lsp_text.proofs.PlaceLemmas.{take_place, drop_place, place_boundary, place_rises}
 use Rattle.lsp_edit.specs.declared.fault.EditFault.{EditFault}
 use Rattle.lsp_edit.specs.declared.fault.EditFault.TheVariants as edit
 use Rattle.lsp_edit.specs.declared.indexed.TextFault.{TextFault}
 use Rattle.lsp_edit.specs.declared.indexed.TextFault.TheVariants.{Edit as EditOf, TooLong, NoMemory}
 use Rattle.lsp_edit.specs.Items.{Item, New, plain, character_of, text_of}
-use Rattle.lsp_edit.specs.Batch.{Edit, Fault, InsideStart, InsideStop, Reversed, after_change, meaning}
-use Rattle.lsp_edit.specs.Faults.{TellsFault, fault_at, ends_of, places_at}
+use Rattle.lsp_edit.specs.Batch.{Fault, InsideStart, InsideStop, Reversed, after_change, meaning}
+use Rattle.lsp_edit.specs.Faults.{fault_at, ends_of, places_at}
 use Rattle.lsp_edit.specs.Indexed.{alone, bytes_left, text_within, told_as}
 use Rattle.lsp_edit.proofs.AppliedLemmas.{AreEnds, ends_told, fault_told}
 use Rattle.lsp_edit.proofs.CutLemmas.{text_of-new}

@@ -1,14 +1,12 @@
 -- The laws of batches, put together.
-use Rattle.std.proofs.Common.{ℕ, ◌≡◌, ◌+◌, ◌-◌, ◌<◌, ◌≤◌, Bool, true, false, nat_lt, cond, List, [], ◌∷◌, length, Ok, arith, ⊎_elim, refl, length-append}
+use Rattle.std.proofs.Common.{ℕ, ◌≡◌, ◌≤◌, true, false, nat_lt, List, [], ◌∷◌, arith, ⊎_elim}
 use Rattle.std.proofs.lemmas.Bool.{cases_Bool}
 use Rattle.std.proofs.lemmas.Str.{len_utf8_bounds}
 use Rattle.lsp_text.specs.declared.encoding.Encoding.{Encoding}
 use Rattle.lsp_text.specs.declared.encoding.Encoding.TheVariants.{Utf8, Utf16, Utf32}
 use Rattle.lsp_text.specs.Units.{units_in}
-use Rattle.lsp_edit.specs.Items.{Item}
-use Rattle.lsp_edit.specs.Batch.{Edit, meaning}
-use Rattle.lsp_edit.specs.Laws.{IsCanonical, CanonicalLaw}
-use Rattle.lsp_edit.specs.Parts.{Part, OldPart, NewPart, part_len, IsPart, AreParts, NoneEmpty}
+use Rattle.lsp_edit.specs.Laws.{CanonicalLaw}
+use Rattle.lsp_edit.specs.Parts.{Part, OldPart, NewPart, AreParts, NoneEmpty}
 use Rattle.lsp_edit.proofs.KeepsLemmas.{meaning_keeps}
 use Rattle.lsp_edit.proofs.PairLemmas.{pairs_kept}
 use Rattle.lsp_edit.proofs.GapLemmas.{ends_exact}

@@ -1,10 +1,10 @@
 -- A place in a row of spans, from which a walk over them goes on.
-use Rattle.std.proofs.Common.{ℕ, zero, suc, ◌≡◌, ◌+◌, ◌-◌, ◌<◌, ◌≤◌, List, [], ◌∷◌, ◌++◌, length, take, drop, get_or, sum_by, refl, sym, ap, ◌∙◌, subst, arith}
+use Rattle.std.proofs.Common.{ℕ, zero, suc, ◌≡◌, ◌+◌, ◌-◌, ◌<◌, ◌≤◌, List, length, take, drop, get_or, sum_by, refl, sym, ap, ◌∙◌, subst, arith}
 use Rattle.std.proofs.lemmas.List.{take_more}
 use Rattle.std.proofs.lemmas.List.Sums.{sum_by_push}
 use Rattle.lsp_edit.specs.declared.span.Span.{Span}
 use Rattle.lsp_edit.specs.declared.span.Span.TheVariants.{Old as OldSpan}
-use Rattle.lsp_edit.specs.Parts.{AreOrdered, EndsBehind, IsMark, IsOrdered, part_len, part_of, parts_of, span_len}
+use Rattle.lsp_edit.specs.Parts.{AreOrdered, EndsBehind, IsMark, IsOrdered, part_of, parts_of, span_len}
 use Rattle.lsp_edit.proofs.PassedLemmas.{Passing, drop_ordered, ends_behind, first_ordered, passing_begins, span_passing}
 use Rattle.lsp_edit.proofs.WalkLemmas.{rest_is}
 

@@ -1,6 +1,6 @@
 -- Parts: putting one behind others, and cutting at a place.
-use Rattle.std.proofs.Common.{ℕ, zero, suc, ◌≡◌, ◌+◌, ◌-◌, ◌<◌, ◌≤◌, Bool, true, false, List, [], ◌∷◌, ◌++◌, length, map, take, drop, get_or, ◌==◌, nat_lt, refl, sym, ap, ◌∙◌, subst, arith, append_assoc, append-nil, lt-ltb, le-ltb, ne_eqb}
-use Rattle.std.proofs.lemmas.List.{map-append, drop_more}
+use Rattle.std.proofs.Common.{ℕ, ◌≡◌, ◌-◌, ◌<◌, ◌≤◌, List, [], ◌∷◌, ◌++◌, refl, sym, ap, ◌∙◌, append_assoc, append-nil, lt-ltb, le-ltb, ne_eqb}
+use Rattle.std.proofs.lemmas.List.{map-append}
 use Rattle.lsp_edit.specs.declared.span.Span.{Span}
 use Rattle.lsp_edit.specs.Parts.{Part, part_of, parts_of, part_len, joined, put_part, front_part, front_parts, back_part, back_parts, IsOrdered, IsCut, AreCut}
 

@@ -1,9 +1,9 @@
 -- A walk over parts, which never goes back to those that it passed.
-use Rattle.std.proofs.Common.{ℕ, zero, suc, ◌≡◌, ◌+◌, ◌-◌, ◌<◌, ◌≤◌, ◌⊎◌, List, [], ◌∷◌, ◌++◌, length, map, take, drop, get_or, max, nat_lt, refl, sym, ap, ap₂, ◌∙◌, subst, arith, append_assoc, append-nil, take_all, lt-ltb, le-ltb, ne_eqb, ⊎_elim}
+use Rattle.std.proofs.Common.{ℕ, zero, suc, ◌≡◌, ◌+◌, ◌-◌, ◌<◌, ◌≤◌, List, [], ◌∷◌, ◌++◌, length, take, drop, get_or, max, refl, sym, ap, ap₂, ◌∙◌, subst, arith, append_assoc, append-nil, take_all, lt-ltb, le-ltb, ne_eqb, ⊎_elim}
 use Rattle.std.proofs.lemmas.Bool.{cases_eq, cases_lt}
 use Rattle.std.proofs.lemmas.List.{length-drop, map-append, take_more}
 use Rattle.std.proofs.lemmas.Str.{IsCharBoundary-end}
-use Rattle.lsp_edit.specs.Parts.{AreBefore, AreOrdered, EndsBehind, IsFirstCut, first_front, new_parts, put_first_back, replaced_parts, Part, OldPart, NewPart, part_of, parts_of, part_len, front_part, back_part, front_parts, back_parts, IsOrdered, IsCut, AreCut, put_part, put_parts, between_parts, through_part, put_through, through_parts, IsThrough, AreThrough, Ascend, ArePassed}
+use Rattle.lsp_edit.specs.Parts.{AreBefore, AreOrdered, EndsBehind, IsFirstCut, first_front, new_parts, put_first_back, replaced_parts, Part, OldPart, NewPart, part_of, parts_of, part_len, front_part, back_part, front_parts, back_parts, IsOrdered, IsCut, AreCut, put_part, put_parts, between_parts, put_through, through_parts, AreThrough, Ascend, ArePassed}
 use Rattle.lsp_edit.specs.declared.span.Span.{Span}
 use Rattle.lsp_edit.proofs.WalkLemmas.{rest_is}
 use Rattle.lsp_edit.proofs.PutLemmas.{put_all_few, back_fewer, cut_adds}

@@ -1,5 +1,5 @@
 -- Parts with the bytes between two places replaced: what they stand for, and how many they are.
-use Rattle.std.proofs.Common.{ℕ, zero, suc, ◌≡◌, ◌+◌, ◌-◌, ◌<◌, ◌≤◌, ◌⊎◌, Bool, true, false, List, [], ◌∷◌, ◌++◌, length, map, take, drop, flat_map, ◌==◌, nat_lt, cond, refl, sym, ap, ap₂, ◌∙◌, subst, arith, append_assoc, append-nil, lt-ltb, le-ltb, ne_eqb, eq-eqb, eqb-true, ⊎_elim, IsCharBoundary}
+use Rattle.std.proofs.Common.{ℕ, suc, ◌≡◌, ◌+◌, ◌-◌, ◌<◌, ◌≤◌, true, false, List, [], ◌∷◌, ◌++◌, length, map, take, drop, ◌==◌, refl, sym, ap, ap₂, ◌∙◌, arith, append_assoc, append-nil, lt-ltb, le-ltb, ne_eqb, eq-eqb, eqb-true, ⊎_elim}
 use Rattle.std.specs.Str.{chars, IsUtf8, is_utf8}
 use Rattle.std.proofs.lemmas.Bool.{cases_eq, cases_lt, cases_Bool}
 use Rattle.std.proofs.lemmas.List.{map-append, length-append, nil_from_length}
@@ -8,7 +8,7 @@ use Rattle.std.proofs.lemmas.Str.{chars-nil}
 use Rattle.lsp_text.specs.Text.{place_of}
 use Rattle.lsp_text.specs.TextLines.{numbers_from}
 use Rattle.lsp_edit.specs.Items.{Item, Old, New, text_of}
-use Rattle.lsp_edit.specs.Parts.{Part, OldPart, NewPart, index_of, items_in, items_of, part_len, IsPart, AreParts, front_part, back_part, front_parts, back_parts, joined, put_part, put_parts, new_parts, replaced_parts}
+use Rattle.lsp_edit.specs.Parts.{Part, OldPart, NewPart, index_of, items_in, items_of, part_len, IsPart, AreParts, front_parts, back_parts, joined, put_part, put_parts, new_parts, replaced_parts}
 use Rattle.lsp_edit.proofs.RebuiltLemmas.{numbers-append}
 use Rattle.lsp_edit.proofs.IndexLemmas.{index_rises}
 use Rattle.lsp_edit.proofs.CutPartsLemmas.{AreCutAt, cut_parts}

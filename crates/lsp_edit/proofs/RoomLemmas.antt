@@ -1,6 +1,6 @@
 -- How long a text gets by a batch: each change adds its own text at most.
-use Rattle.std.proofs.Common.{ℕ, suc, ◌≡◌, ◌+◌, ◌-◌, ◌<◌, ◌≤◌, Bool, true, false, List, [], ◌∷◌, ◌++◌, length, map, take, drop, nat_le, refl, sym, ap, ap₂, ◌∙◌, subst, arith, take-append-drop, drop-drop, encode_utf8_all, ⊎_elim, inl, inr, leb-true, Option, Some, None, Result, Ok, Err, min, sum_by, string_len, string_bytes}
-use Rattle.std.specs.Str.{chars, IsUtf8}
+use Rattle.std.proofs.Common.{ℕ, suc, ◌≡◌, ◌+◌, ◌-◌, ◌<◌, ◌≤◌, true, false, List, ◌∷◌, ◌++◌, length, map, take, drop, nat_le, sym, ap, ap₂, ◌∙◌, subst, arith, drop-drop, encode_utf8_all, ⊎_elim, inl, inr, leb-true, Option, Some, None, Result, Ok, Err, sum_by, string_len, string_bytes}
+use Rattle.std.specs.Str.{chars}
 use Rattle.std.proofs.lemmas.Bool.{cases_Bool}
 use Rattle.std.proofs.lemmas.List.{length-append, map-append, take-map, drop-map}
 use Rattle.std.proofs.lemmas.List.Sums.{sum_by-cons}
@@ -9,10 +9,10 @@ use Rattle.lsp_text.specs.declared.position.Range.{Range}
 use Rattle.lsp_text.specs.Positions.{denoted}
 use Rattle.lsp_edit.specs.declared.change.Change.{Change}
 use Rattle.lsp_edit.specs.declared.fault.EditFault.{EditFault}
-use Rattle.lsp_edit.specs.Items.{Item, Old, New, character_of, text_of}
+use Rattle.lsp_edit.specs.Items.{Item, New, character_of, text_of}
 use Rattle.lsp_edit.specs.Batch.{Edit, Fault, Reversed, replaced, changed_in, after_change, after_changes, go_on}
 use Rattle.lsp_edit.specs.Faults.{TellsFault, TellsBatchFault, fault_at}
-use Rattle.lsp_edit.specs.Edited.{Applied, Edited, edit_of, edited_bytes, one_more}
+use Rattle.lsp_edit.specs.Edited.{Applied, Edited, edit_of, edited_bytes}
 use Rattle.lsp_edit.proofs.CutLemmas.{text_of-new}
 use Rattle.lsp_edit.proofs.AppliedLemmas.{bytes_split}
 

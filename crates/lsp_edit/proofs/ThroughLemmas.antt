@@ -1,15 +1,15 @@
 -- Parts over the text of other parts, told over what those are over.
-use Rattle.std.proofs.Common.{ℕ, zero, suc, ◌≡◌, ◌+◌, ◌-◌, ◌*◌, ◌<◌, ◌≤◌, ◌⊎◌, List, [], ◌∷◌, ◌++◌, length, map, take, drop, refl, sym, ap, ap₂, ◌∙◌, subst, arith, append_assoc, append-nil, encode_utf8_all, IsCharBoundary, ⊎_elim}
+use Rattle.std.proofs.Common.{ℕ, zero, suc, ◌≡◌, ◌+◌, ◌-◌, ◌<◌, ◌≤◌, List, [], ◌∷◌, ◌++◌, length, map, take, drop, sym, ap, ap₂, ◌∙◌, subst, arith, append_assoc, append-nil, IsCharBoundary, ⊎_elim}
 use Rattle.std.specs.Str.{chars, IsUtf8}
 use Rattle.std.proofs.lemmas.Bool.{cases_lt}
-use Rattle.std.proofs.lemmas.List.{map-append, length-append, length-map, length-drop, drop-map}
+use Rattle.std.proofs.lemmas.List.{map-append, length-drop, drop-map}
 use Rattle.lsp_text.specs.Text.{place_of}
 use Rattle.lsp_text.specs.TextLines.{numbers_from}
 use Rattle.lsp_text.proofs.PlaceLemmas.{place_add, IsIndexAt, index_at}
 use Rattle.lsp_edit.specs.Items.{Item, Old, New, character_of, text_of}
 use Rattle.lsp_edit.specs.Compose.{told_through, then_items}
 use Rattle.lsp_edit.specs.Keeps.{Keeps}
-use Rattle.lsp_edit.specs.Parts.{Part, OldPart, NewPart, index_of, items_in, items_of, IsPart, AreParts, AreCut, front_parts, back_parts, put_parts, between_parts, through_part, put_through, through_parts, IsThrough, AreThrough, Ascend}
+use Rattle.lsp_edit.specs.Parts.{Part, OldPart, NewPart, index_of, items_in, items_of, IsPart, AreParts, back_parts, put_parts, through_part, put_through, through_parts, IsThrough, AreThrough, Ascend}
 use Rattle.lsp_edit.proofs.ComposeLemmas.{told_row, told_new}
 use Rattle.lsp_edit.proofs.CutLemmas.{text_long}
 use Rattle.lsp_edit.proofs.CutPartsLemmas.{AreCutAt, cut_parts}

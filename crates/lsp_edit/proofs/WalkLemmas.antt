@@ -1,20 +1,20 @@
 -- The canonical batch of parts, written in one pass over them.
-use Rattle.std.proofs.Common.{ℕ, suc, ◌≡◌, ◌+◌, ◌-◌, ◌<◌, ◌≤◌, ◌⊎◌, Bool, true, false, ◌||◌, nat_lt, cond, List, [], ◌∷◌, ◌++◌, length, map, reverse, filter, drop, get_or, refl, sym, ap, ap₂, ◌∙◌, subst, arith, append_assoc, append-nil, encode_utf8_all, IsCharBoundary, ⊎_elim, inl, inr, lt-ltb, le-ltb, ltb-true, ltb-false, zero, Some, String, string_bytes, string_len, ◌==◌, eqb-true}
-use Rattle.std.specs.Str.{chars, IsUtf8, is_utf8}
-use Rattle.std.proofs.lemmas.Bool.{cases_Bool, or_cases, or_parts, or_left, or_right, or_from, cases_lt, eqb-false}
+use Rattle.std.proofs.Common.{ℕ, suc, ◌≡◌, ◌+◌, ◌-◌, ◌<◌, ◌≤◌, ◌⊎◌, true, false, nat_lt, cond, List, [], ◌∷◌, ◌++◌, length, map, reverse, filter, drop, get_or, refl, sym, ap, ap₂, ◌∙◌, subst, arith, append_assoc, append-nil, encode_utf8_all, IsCharBoundary, ⊎_elim, lt-ltb, le-ltb, zero, Some, String, string_bytes, string_len, ◌==◌, eqb-true}
+use Rattle.std.specs.Str.{chars, IsUtf8}
+use Rattle.std.proofs.lemmas.Bool.{cases_Bool, or_left, or_right, or_from, cases_lt, eqb-false}
 use Rattle.std.proofs.lemmas.List.{drop_more, drop_all, map-append, nil_from_length, reverse-append}
-use Rattle.std.proofs.lemmas.Str.{encodes-chars, chars-append, chars-nil, IsUtf8-from_is_utf8, IsUtf8-string_bytes, IsCharBoundary-start, IsCharBoundary-end}
+use Rattle.std.proofs.lemmas.Str.{encodes-chars, chars-append, chars-nil, IsUtf8-string_bytes, IsCharBoundary-start, IsCharBoundary-end}
 use Rattle.lsp_text.specs.Text.{place_of}
 use Rattle.lsp_text.specs.TextLines.{numbers_from, splits_crlf}
 use Rattle.lsp_text.specs.LineStarts.{IsPlace}
-use Rattle.lsp_text.proofs.PlaceLemmas.{place_rises, place_end, IsIndexAt, index_at}
+use Rattle.lsp_text.proofs.PlaceLemmas.{place_end, IsIndexAt, index_at}
 use Rattle.lsp_text.specs.declared.position.Position.{Position}
 use Rattle.lsp_text.specs.Positions.{exact_position}
 use Rattle.lsp_edit.specs.declared.change.Change.{Change}
 use Rattle.lsp_edit.specs.Edited.{edit_of}
 use Rattle.lsp_edit.specs.Items.{Item, Old, New}
 use Rattle.lsp_edit.specs.Batch.{Edit}
-use Rattle.lsp_edit.specs.Canonical.{Gap, gaps, is_changed, change_of, canonical}
+use Rattle.lsp_edit.specs.Canonical.{Gap, gaps, is_changed, change_of}
 use Rattle.lsp_edit.specs.Gaps.{gap_between, gap_change}
 use Rattle.lsp_edit.specs.Laws.{HasExactEnds, AllHaveExactEnds}
 use Rattle.lsp_edit.specs.Parts.{Part, OldPart, NewPart, index_of, part_of, parts_of, items_in, items_of, IsPart, AreParts}

@@ -1,12 +1,11 @@
 -- The canonical message of a batch that is accepted on an open document.
-use Rattle.std.proofs.Common.{ℕ, ℤ, ◌≡◌, ◌+◌, ◌<◌, ◌≤◌, ◌^◌, ◌↔◌, ◌⊎◌, Bool, true, false, ◌||◌, nat_lt, int_le, List, [], ◌∷◌, length, map, sum_by, All, IfSome, FitsSigned, IsUtf8, bytes_eq, string_bytes, encode_utf8_all, String, Option, Some, None, option_map, Result, Ok, Err, refl, sym, ap, ◌∙◌, subst, arith, ⊎_elim, inl, inr}
+use Rattle.std.proofs.Common.{ℕ, ℤ, ◌≡◌, ◌<◌, ◌≤◌, ◌^◌, ◌↔◌, true, false, ◌||◌, nat_lt, int_le, List, [], ◌∷◌, length, map, sum_by, FitsSigned, IsUtf8, bytes_eq, string_bytes, encode_utf8_all, Option, Some, None, Result, Ok, Err, refl, sym, ap, ◌∙◌, subst, arith, ⊎_elim, inl, inr}
 use Rattle.std.proofs.lemmas.Bool.{cases_Bool, lt-ltb, le-ltb, ltb-false, or_parts, or_from}
 use Rattle.std.proofs.lemmas.List.Sums.{sum_by-le-sum_by}
 use Rattle.std.proofs.lemmas.Str.{IsUtf8-string_bytes, encodes-chars, encodes_same, scalars-chars}
 use Rattle.std.specs.Char.{len_utf8}
 use Rattle.std.specs.Int.{w32}
-use Rattle.std.specs.Str.{all_scalars, chars}
-use Rattle.std.specs.declared.alloc.Global.{Global}
+use Rattle.std.specs.Str.{chars}
 use Rattle.lsp_frame.specs.Encode.{IsEncodeFault}
 use Rattle.lsp_frame.specs.Frame.{frame}
 use Rattle.lsp_frame.specs.Limits.{Bounds}
@@ -16,20 +15,19 @@ use Rattle.lsp_text.specs.UnitLaws.{utf8_bounds, utf16_bounds, utf32_bounds}
 use Rattle.lsp_text.specs.Units.{units_in}
 use Rattle.lsp_text.specs.declared.encoding.Encoding.{Encoding}
 use Rattle.lsp_text.specs.declared.encoding.Encoding.TheVariants.{Utf8, Utf16, Utf32}
-use Rattle.lsp_text.specs.declared.position.Range.{Range}
 use Rattle.lsp_edit.specs.declared.change.Change.{Change}
 use Rattle.lsp_edit.specs.Items.{Item, text_of}
 use Rattle.lsp_edit.specs.Batch.{Edit, Fault, meaning}
-use Rattle.lsp_edit.specs.Canonical.{DoTheSame, canonical}
+use Rattle.lsp_edit.specs.Canonical.{canonical}
 use Rattle.lsp_edit.specs.Edited.{edit_of}
 use Rattle.lsp_edit.specs.Laws.{IsCanonical}
 use Rattle.lsp_message.specs.Outgoing.{OutgoingData, initialize, initialized, did_open, did_change, did_close, shutdown, exit, initialize_result, shutdown_result, error_reply, body_of}
 use Rattle.lsp_message.specs.Params.{EditData}
 use Rattle.lsp_message.specs.Seen.{edit_view}
-use Rattle.lsp_message.specs.Sent.{IsProper, IsProperEdit, IsReadAsSent, IsReadBack}
+use Rattle.lsp_message.specs.Sent.{IsProper, IsReadAsSent, IsReadBack}
 use Rattle.lsp_store.specs.declared.fault.StoreFault.{StoreFault}
-use Rattle.lsp_store.specs.declared.fault.StoreFault.TheVariants.{BodyTooLong, NoMemory}
-use Rattle.lsp_store.specs.Faults.{fault_of, encode_told_as, IsRefusal}
+use Rattle.lsp_store.specs.declared.fault.StoreFault.TheVariants.{NoMemory}
+use Rattle.lsp_store.specs.Faults.{encode_told_as, IsRefusal}
 use Rattle.lsp_store.specs.Table.{Entry, Refusal, stale_version, too_many_changes, text_too_long, edit, batch_bytes, bytes_after, greatest_batch, entry_at, entry_refusal, change_refusal, after_change, changed, meaning_refusal}
 use Rattle.lsp_store.specs.Message.{AreTexts, DoAlike, IsCanonicalOn, IsReadAs, IsSettled, body_refusal, canonical_batch, canonical_body, canonical_frame, change_body, change_message, else_refused, message_refusal, written_edit}
 use Rattle.lsp_store.proofs.FrameLemmas.{frame_one}

@@ -1,5 +1,5 @@
 -- Which refusal of a batch stands first.
-use Rattle.std.proofs.Common.{◌≡◌, ◌≤◌, ◌+◌, ℕ, ℤ, Bool, true, false, ◌||◌, nat_lt, int_le, List, [], ◌∷◌, length, map, sum_by, string_bytes, string_len, encode_utf8_all, Option, Some, None, option_map, Result, Ok, Err, refl, sym, ap, ◌∙◌, arith, ◌<◌, ◌↔◌, IsTrue, ◌⊎◌, ⊎_elim, inl, inr}
+use Rattle.std.proofs.Common.{◌≡◌, ◌≤◌, ◌+◌, ℕ, ℤ, Bool, true, false, ◌||◌, nat_lt, int_le, List, [], ◌∷◌, length, map, sum_by, string_bytes, string_len, encode_utf8_all, Some, None, option_map, Result, Ok, Err, refl, sym, ap, ◌∙◌, arith, ◌<◌, ◌↔◌, IsTrue, ◌⊎◌, ⊎_elim, inl, inr}
 use Rattle.std.proofs.lemmas.Bool.{lt-ltb, le-ltb, or_left, or_right, or_from, cases_lt, cases_Bool, true≢false, ltb-false}
 use Rattle.std.proofs.lemmas.List.{length-map}
 use Rattle.std.proofs.lemmas.List.Sums.{sum_by-cons}
@@ -14,9 +14,9 @@ use Rattle.lsp_edit.specs.Faults.{fault_at}
 use Rattle.lsp_edit.specs.Indexed.{bytes_left, text_within}
 use Rattle.lsp_edit.specs.Batch.{Edit, Fault, meaning}
 use Rattle.lsp_edit.specs.Edited.{edit_of}
-use Rattle.lsp_store.specs.declared.fault.StoreFault.TheVariants.{TooManyChanges, NoMemory}
+use Rattle.lsp_store.specs.declared.fault.StoreFault.TheVariants.{TooManyChanges}
 use Rattle.lsp_store.specs.Faults.{fault_of, told_as, IsRefusal}
-use Rattle.lsp_store.specs.Table.{Entry, Refusal, stale_version, too_many_changes, batch_bytes, greatest_batch, entry_refusal, meaning_refusal, meant_text}
+use Rattle.lsp_store.specs.Table.{Entry, too_many_changes, batch_bytes, greatest_batch, entry_refusal, meaning_refusal, meant_text}
 
 -- the changes of a batch have together so many bytes
 pub batch_bytes-changes : (changes : List Change) → batch_bytes (map edit_of changes) ≡ sum_by (λ change. string_len change.text) changes

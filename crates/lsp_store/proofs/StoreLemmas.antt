@@ -1,5 +1,5 @@
 -- What the calls of a store make of it.
-use Rattle.std.proofs.Common.{◌≡◌, ◌≤◌, ◌<◌, ℕ, ℤ, Bool, true, false, nat_lt, nat_le, List, ◌∷◌, [], ◌++◌, length, map, Option, Some, None, option_map, is_some, slice_get, String, string_bytes, Ok, refl, sym, ap, ◌∙◌, subst, arith, ⊎_elim, inr}
+use Rattle.std.proofs.Common.{◌≡◌, ◌≤◌, ◌<◌, ℕ, ℤ, true, false, List, length, map, Option, Some, None, option_map, is_some, slice_get, String, string_bytes, refl, sym, ap, ◌∙◌, subst, ⊎_elim, inr}
 use Rattle.std.proofs.lemmas.Bool.{cases_Bool, lt-ltb, le-ltb, le-leb, lt-leb}
 use Rattle.std.proofs.lemmas.List.{length-map}
 use Rattle.std.proofs.lemmas.Option.{slice_get-map}
@@ -15,7 +15,7 @@ use Rattle.lsp_store.specs.declared.fault.StoreFault.{StoreFault}
 use Rattle.lsp_store.specs.declared.fault.StoreFault.TheVariants.{AlreadyOpen, TooManyDocuments, TextTooLong, NotOpen}
 use Rattle.lsp_store.specs.declared.held.Held.{Held}
 use Rattle.lsp_store.specs.Faults.{fault_of, IsRefusal}
-use Rattle.lsp_store.specs.Table.{Entry, Refusal, entry_at, open_refusal, entry_refusal, change_refusal, close_refusal, after_change, after_open, after_close, changed, already_open, too_many_documents, text_too_long, not_open, opens, changes, closes, unless_refused}
+use Rattle.lsp_store.specs.Table.{Entry, Refusal, entry_at, open_refusal, entry_refusal, change_refusal, changed, already_open, opens, changes, closes}
 use Rattle.lsp_store.specs.Opened.{StoreData, Takes, IsRefused, entry_under, entry_of}
 use Rattle.lsp_store.proofs.TableLemmas.{at_uri, entry_at-lookup, is_some-entry_at, entry_found, table-insert_entry, table-set_value, set_value-found, table-remove_entry}
 

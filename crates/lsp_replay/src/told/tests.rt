@@ -27,9 +27,9 @@ fn reads_answer_what_the_inner_ones_do(rt: HostRuntime) {
         (Ok(b""), false, true),
         (Ok(b""), false, true),
     ];
-    let mut calls = 0;
+    let mut calls = 0u64;
     for (wanted, failed, ended) in cases {
-        calls += 1;
+        calls = calls.saturating_add(1);
         let mut buf = [0u8; 4];
         let answer = Source::read(&mut reader, &mut buf).map_err(|error| error.kind());
         assert_eq!(rt; answer, wanted.map(|bytes| bytes.len()));
@@ -55,9 +55,9 @@ fn writes_answer_what_the_inner_ones_do(rt: HostRuntime) -> Result<(), Fail> {
         (Err(ErrorKind::Other), true),
         (Ok(3), false),
     ];
-    let mut calls = 0;
+    let mut calls = 0u64;
     for (wanted, failed) in cases {
-        calls += 1;
+        calls = calls.saturating_add(1);
         let answer = Sink::write(&mut writer, b"abc").map_err(|error| error.kind());
         assert_eq!(rt; answer, wanted);
         assert_eq!(rt;
@@ -81,9 +81,9 @@ fn flushes_answer_what_the_inner_ones_do(rt: HostRuntime) {
         (Err(ErrorKind::Other), true, 1),
         (Ok(()), false, 2),
     ];
-    let mut calls = 0;
+    let mut calls = 0u64;
     for (wanted, failed, flushes) in cases {
-        calls += 1;
+        calls = calls.saturating_add(1);
         let answer = Sink::flush(&mut writer).map_err(|error| error.kind());
         assert_eq!(rt; answer, wanted);
         assert_eq!(rt;

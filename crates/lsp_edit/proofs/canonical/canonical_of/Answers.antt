@@ -1,12 +1,8 @@
-use Rattle.std.proofs.Common.{◌≡◌, ◌+◌, ◌++◌, ℕ, List, length, map, reverse, drop, string_bytes, refl, sym, ap, ◌∙◌}
-use Rattle.std.specs.Str.{chars}
+use Rattle.std.proofs.Common.{reverse, ap, ◌∙◌}
 use Rattle.std.proofs.lemmas.Str.{IsUtf8-string_bytes}
 use Rattle.lsp_text.specs.Units.{units_in}
-use Rattle.lsp_edit.specs.Batch.{Edit}
-use Rattle.lsp_edit.specs.Canonical.{gaps}
-use Rattle.lsp_edit.specs.Edited.{edit_of}
-use Rattle.lsp_edit.specs.Parts.{OldPart, NewPart, items_of, part_of, parts_of}
-use Rattle.lsp_edit.proofs.WalkLemmas.{Walks, changes_of, walk_begins, walk_new, walk_old, walk_old_ends, walk_old_from, walk_end, walk_end_ends, walk_turned, rest_is, rest_none}
+use Rattle.lsp_edit.specs.Parts.{OldPart, NewPart, part_of, parts_of}
+use Rattle.lsp_edit.proofs.WalkLemmas.{walk_begins, walk_new, walk_old, walk_old_ends, walk_end, walk_end_ends, walk_turned, rest_is, rest_none}
 use Rattle.lsp_edit.proofs.canonical.canonical_of.Goals as goal
 use Rattle.lsp_edit.proofs.canonical.canonical_of.Goals.{in-Old+in_ok-put_gap-in-Old, in-New+in_ok-push_str-in-New}
 

@@ -1,4 +1,4 @@
-use Rattle.std.proofs.Common.{◌≡◌, ◌<◌, ◌⊎◌, ℕ, length, inl, inr, string_bytes, refl}
+use Rattle.std.proofs.Common.{◌<◌, ◌⊎◌, length, inl, inr, string_bytes, refl}
 use Rattle.lsp_text.specs.Units.{units_in}
 use Rattle.lsp_edit.proofs.WalkLemmas.{gap_put, gap_skipped, text_some, text_none}
 use Rattle.lsp_edit.proofs.canonical.put_gap.Goals as goal

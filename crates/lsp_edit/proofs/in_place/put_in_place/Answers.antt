@@ -1,4 +1,4 @@
-use Rattle.std.proofs.Common.{◌≡◌, ◌+◌, ◌≤◌, ℕ, List, length, IsUtf8, string_bytes, string_len, string_capacity, sym, ap, ◌∙◌, arith}
+use Rattle.std.proofs.Common.{◌≡◌, ◌+◌, ◌≤◌, ℕ, List, length, string_bytes, string_len, string_capacity, sym, ap, ◌∙◌, arith}
 use Rattle.std.proofs.lemmas.Str.{IsUtf8-string_bytes}
 use Rattle.std.specs.List.{replace_range, slice_range}
 use Rattle.lsp_edit.proofs.InPlaceLemmas.{start_again, undone, put_back, replaced_len, removed_len, at_err}

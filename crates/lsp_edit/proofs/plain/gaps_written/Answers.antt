@@ -1,4 +1,4 @@
-use Rattle.std.proofs.Common.{ℕ, List, ◌≡◌, ◌+◌, suc, ◌++◌, length, map, ap, ap₂, ◌∙◌, sym, refl, arith, reverse}
+use Rattle.std.proofs.Common.{ℕ, List, ◌+◌, ◌++◌, length, map, ap, ap₂, ◌∙◌, arith, reverse}
 use Rattle.std.specs.Str.{chars}
 use Rattle.lsp_text.specs.Units.{units_in}
 use Rattle.lsp_edit.specs.Items.{Old, New}

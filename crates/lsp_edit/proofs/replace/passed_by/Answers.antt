@@ -1,4 +1,4 @@
-use Rattle.std.proofs.Common.{◌≤◌, ◌+◌, ◌-◌, arith}
+use Rattle.std.proofs.Common.{◌-◌, arith}
 use Rattle.lsp_edit.proofs.PassedLemmas.{span_passing}
 use Rattle.lsp_edit.proofs.MarkLemmas.{behind_at, mark_next, mark_passing, span_ordered}
 use Rattle.lsp_edit.proofs.replace.passed_by.Goals as goal

@@ -1,4 +1,4 @@
-use Rattle.lsp_edit.proofs.PartLemmas.{front_all, front_none, front_part_left, front_more, front_cut, front_ordered}
+use Rattle.lsp_edit.proofs.PartLemmas.{front_none}
 use Rattle.lsp_edit.proofs.replace.push_front.Goals as goal
 
 pub returns-then-left-eq0 : goal.returns-then-left-eq0

@@ -1,5 +1,5 @@
-use Rattle.std.proofs.Common.{◌≡◌, ◌++◌, drop}
-use Rattle.lsp_edit.specs.Parts.{AreCut, parts_of, front_parts}
+use Rattle.std.proofs.Common.{drop}
+use Rattle.lsp_edit.specs.Parts.{parts_of}
 use Rattle.lsp_edit.proofs.PartLemmas.{Fronts}
 use Rattle.lsp_edit.proofs.replace.push_front.Given as goal
 

@@ -1,4 +1,4 @@
-use Rattle.std.proofs.Common.{ℕ, ◌≡◌, ◌++◌, ◌-◌, ◌+◌, length, take, drop, min, ap, ap₂, ◌∙◌, sym, arith}
+use Rattle.std.proofs.Common.{ℕ, ◌++◌, ◌-◌, ◌+◌, take, drop, ap, ◌∙◌, arith}
 use Rattle.lsp_edit.proofs.PassedLemmas.{rest_all, drop_ordered, first_cut}
 use Rattle.lsp_edit.proofs.SpansLemmas.{drained_is, mark_stays, replaced_spans}
 use Rattle.lsp_edit.proofs.replace.replace.Goals as goal

@@ -1,5 +1,4 @@
-use Rattle.std.proofs.Common.{◌≤◌, ◌+◌, ap, arith, refl}
-use Rattle.lsp_edit.specs.Parts.{part_of, part_len, parts_of}
+use Rattle.std.proofs.Common.{arith}
 use Rattle.lsp_edit.proofs.PassedLemmas.{span_passed}
 use Rattle.lsp_edit.proofs.through.push_between.Goals as goal
 

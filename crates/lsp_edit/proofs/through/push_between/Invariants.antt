@@ -1,5 +1,5 @@
 use Rattle.std.proofs.Common.{◌≡◌, drop}
-use Rattle.lsp_edit.specs.Parts.{AreCut, ArePassed, parts_of}
+use Rattle.lsp_edit.specs.Parts.{ArePassed, parts_of}
 use Rattle.lsp_edit.proofs.through.push_between.Given as goal
 
 abbrev pub invariant-loop-index : goal.invariant-loop-index

@@ -1,4 +1,4 @@
-use Rattle.std.proofs.Common.{ℕ, ◌≡◌, ◌≤◌, ◌+◌, ◌-◌, List, length, take, drop, ap, arith, drop-drop, take_all}
+use Rattle.std.proofs.Common.{◌≡◌, ◌-◌, length, take, drop, ap, arith, drop-drop}
 use Rattle.std.proofs.lemmas.List.{length-drop}
 use Rattle.lsp_edit.specs.Parts.{OldPart, NewPart, parts_of, part_of}
 use Rattle.lsp_edit.proofs.PassedLemmas.{rest_all, walk_new, walk_old}

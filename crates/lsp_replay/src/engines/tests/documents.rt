@@ -56,7 +56,7 @@ fn accepted_changes_alone_are_written_anew(rt: HostRuntime) -> Result<(), Fail> 
         match length {
             Some(length) => {
                 assert_eq!(rt; normalised.answer, ended(0, 3, 0));
-                assert_eq!(rt; normalised.output.len(), 340 + 23 + *length);
+                assert_eq!(rt; normalised.output.len(), length.saturating_add(340 + 23));
                 assert_eq!(rt; normalised.output.get(..340), input.get(..340));
             }
             None => {
@@ -95,7 +95,7 @@ fn is_written(
     let run = run_with(alloc, Command::Normalise, input, settings, SMOOTH)?;
     assert_eq!(rt; run.answer, answer);
     assert_eq!(rt; run.output.get(..kept), input.get(..kept));
-    assert_eq!(rt; run.output.len(), kept + more);
+    assert_eq!(rt; run.output.len(), kept.saturating_add(more));
     Ok(())
 }
 

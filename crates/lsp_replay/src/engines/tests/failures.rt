@@ -195,6 +195,13 @@ fn interrupted(alloc: Global, calls: usize) -> Result<Vec<Call>, AllocError> {
     Ok(script)
 }
 
+/// From now on the call of this number ends like this.
+fn set(script: &mut [Call], number: usize, ending: Call) {
+    if let Some(call) = script.get_mut(number) {
+        *call = ending;
+    }
+}
+
 /// A script in which each call moves one byte.
 fn script(alloc: Global, calls: usize) -> Result<Vec<Call>, AllocError> {
     let mut script = Vec::new(alloc);
@@ -217,17 +224,17 @@ fn fail_reads(rt: &impl Abort, alloc: Global, case: &Case) -> Result<(), Fail> {
         ..SINGLE
     };
     let run = case.meets(rt, alloc, calls, case.answer, whole)?;
-    assert_eq!(rt; run.reads, 2 * reads as u64);
+    assert_eq!(rt; run.reads, (reads as u64).saturating_mul(2));
     let mut script = script(alloc, reads)?;
     for n in 0..reads {
-        script[n] = Call::Fail;
+        set(&mut script, n, Call::Fail);
         let calls = Calls {
             reads: &script,
             ..SMOOTH
         };
         let run = case.meets(rt, alloc, calls, Err(EngineFault::Read), case.written_at(n))?;
         assert_eq!(rt; run.reads, n as u64 + 1);
-        script[n] = Call::Take(1);
+        set(&mut script, n, Call::Take(1));
     }
     Ok(())
 }
@@ -242,9 +249,9 @@ fn fail_writes(rt: &impl Abort, alloc: Global, case: &Case) -> Result<(), Fail> 
         ..SMOOTH
     };
     let run = case.meets(rt, alloc, calls, case.answer, whole)?;
-    assert_eq!(rt; run.writes, 2 * writes as u64);
+    assert_eq!(rt; run.writes, (writes as u64).saturating_mul(2));
     let mut script = script(alloc, writes)?;
-    let mut flushed = 0;
+    let mut flushed = 0usize;
     for n in 0..writes {
         let flushes = case.flushes.contains(&n);
         for call in [Call::Take(0), Call::Fail] {
@@ -252,16 +259,22 @@ fn fail_writes(rt: &impl Abort, alloc: Global, case: &Case) -> Result<(), Fail> 
             if flushes && call == Call::Take(0) {
                 continue;
             }
-            script[n] = call;
+            set(&mut script, n, call);
             let calls = Calls {
                 writes: &script,
                 ..SMOOTH
             };
-            let run = case.meets(rt, alloc, calls, Err(EngineFault::Write), n - flushed)?;
+            let run = case.meets(
+                rt,
+                alloc,
+                calls,
+                Err(EngineFault::Write),
+                n.saturating_sub(flushed),
+            )?;
             assert_eq!(rt; run.writes, n as u64 + 1);
         }
-        script[n] = Call::Take(1);
-        flushed += if flushes { 1 } else { 0 };
+        set(&mut script, n, Call::Take(1));
+        flushed = flushed.saturating_add(usize::from(flushes));
     }
     Ok(())
 }
@@ -325,12 +338,12 @@ fn count_turns(rt: &impl Abort, alloc: Global, case: &Case) -> Result<(), Fail> 
         let fault = Err(EngineFault::TooManyTurns);
         let run = case.meets(rt, alloc, calls, fault, case.written_by(writes))?;
         assert_eq!(rt; run.reads, reads as u64);
-        assert_eq!(rt; run.writes, (writes + flushes) as u64);
+        assert_eq!(rt; run.writes, writes.saturating_add(flushes) as u64);
         assert_eq!(rt; run.flushes, flushes);
         match call {
-            b'R' => reads += 1,
-            b'W' => writes += 1,
-            _ => flushes += 1,
+            b'R' => reads = reads.saturating_add(1),
+            b'W' => writes = writes.saturating_add(1),
+            _ => flushes = flushes.saturating_add(1),
         }
     }
     let calls = Calls {

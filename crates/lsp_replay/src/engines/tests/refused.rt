@@ -59,11 +59,11 @@ fn runs_again(
             let fault = run.answer.err();
             assert!(rt; fault == Some(EngineFault::NoMemory) || fault == Some(EngineFault::Write));
             assert!(rt; wanted.begins_with(&run.output));
-            refused += 1;
+            refused = refused.saturating_add(1);
             run_with(alloc, command, &input, settings, SMOOTH)?
         }
         Err(_) => {
-            refused += 1;
+            refused = refused.saturating_add(1);
             run_with(alloc, command, &input, settings, SMOOTH)?
         }
     };

@@ -1,4 +1,4 @@
-use Rattle.std.proofs.Common.{◌≡◌, length, arith, inr, subst, IsUtf8}
+use Rattle.std.proofs.Common.{arith, inr, subst, IsUtf8}
 use Rattle.std.proofs.lemmas.Str.{IsUtf8-string_bytes}
 use Rattle.lsp_edit.proofs.IndexedLemmas.{too_long}
 use Rattle.lsp_edit.proofs.indexed.IndexedText.composed.Goals as goal

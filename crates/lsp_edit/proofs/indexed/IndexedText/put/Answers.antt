@@ -1,4 +1,4 @@
-use Rattle.std.proofs.Common.{◌≡◌, ◌≤◌, ℕ, length, IsUtf8, string_bytes, sym, ap, ◌∙◌, inr, subst, arith, Ok, Err, Result}
+use Rattle.std.proofs.Common.{◌≡◌, length, IsUtf8, string_bytes, sym, ap, ◌∙◌, inr, subst, arith, Ok}
 use Rattle.std.proofs.lemmas.Result.{err_from_is_err_and}
 use Rattle.std.proofs.lemmas.Str.{IsUtf8-string_bytes}
 use Rattle.std.specs.Str.{chars}

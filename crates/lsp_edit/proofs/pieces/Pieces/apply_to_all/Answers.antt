@@ -1,4 +1,4 @@
-use Rattle.std.proofs.Common.{ℕ, length, arith, None}
+use Rattle.std.proofs.Common.{length, arith, None}
 use Rattle.std.specs.Str.{chars}
 use Rattle.lsp_edit.specs.Parts.{parts_of, new_parts}
 use Rattle.lsp_edit.specs.Spans.{spans_in}

@@ -1,16 +1,15 @@
-use Rattle.std.proofs.Common.{◌≡◌, ◌+◌, ◌-◌, ◌≤◌, ◌<◌, ℕ, List, length, arith, string_bytes, Some, sym, ap, ◌∙◌, refl}
+use Rattle.std.proofs.Common.{◌≡◌, ◌<◌, ℕ, List, length, arith, string_bytes, sym, ap, ◌∙◌}
 use Rattle.std.specs.Str.{chars}
 use Rattle.std.specs.List.{replace_range}
 use Rattle.std.proofs.lemmas.List.{length-map}
 use Rattle.std.proofs.lemmas.Str.{IsUtf8-string_bytes}
 use Rattle.std.proofs.lemmas.Result.{err_from_is_err_and}
 use Rattle.lsp_text.specs.Units.{units_in}
-use Rattle.lsp_edit.specs.Items.{text_of}
 use Rattle.lsp_edit.specs.Parts.{Part, part_of, parts_of, bytes_of, replaced_parts}
 use Rattle.lsp_edit.specs.Spans.{spans_in}
 use Rattle.lsp_edit.specs.Edited.{IsCurrent, lines_of}
 use Rattle.lsp_edit.proofs.CurrentLemmas.{current_is}
-use Rattle.lsp_edit.proofs.AppliedLemmas.{fault_told, IsNext, IsRanged, ranged, next_told, next_holds}
+use Rattle.lsp_edit.proofs.AppliedLemmas.{fault_told, IsRanged, ranged, next_told, next_holds}
 use Rattle.lsp_edit.proofs.pieces.Pieces.apply_to_range.Goals as goal
 use Rattle.lsp_edit.proofs.pieces.Pieces.apply_to_range.Goals.{in-None, in-Some+in_ok-replaced-in-Some}
 

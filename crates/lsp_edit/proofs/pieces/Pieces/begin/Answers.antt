@@ -1,8 +1,6 @@
 use Rattle.std.proofs.Common.{refl}
-use Rattle.std.specs.Str.{chars}
-use Rattle.lsp_edit.specs.Items.{plain}
-use Rattle.lsp_edit.specs.Edited.{Edited, ArePieces, lines_of}
-use Rattle.lsp_edit.proofs.EditedLemmas.{IsWhole, whole_is, begun}
+use Rattle.lsp_edit.specs.Edited.{lines_of}
+use Rattle.lsp_edit.proofs.EditedLemmas.{whole_is, begun}
 use Rattle.lsp_edit.proofs.pieces.Pieces.begin.Goals as goal
 
 pub invariant_of-result : goal.invariant_of-result

@@ -1,4 +1,4 @@
-use Rattle.std.proofs.Common.{◌≡◌, ◌+◌, length, arith, sym, ap, ◌∙◌, leb-true, le-leb, encode_utf8_all}
+use Rattle.std.proofs.Common.{◌≡◌, length, arith, sym, ap, ◌∙◌, leb-true, le-leb, encode_utf8_all}
 use Rattle.std.specs.Str.{chars}
 use Rattle.lsp_edit.specs.Items.{text_of}
 use Rattle.lsp_edit.specs.Parts.{parts_of, items_of}

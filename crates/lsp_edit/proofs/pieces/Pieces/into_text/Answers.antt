@@ -1,4 +1,4 @@
-use Rattle.std.proofs.Common.{◌≡◌, List, refl, sym, ap, ◌∙◌}
+use Rattle.std.proofs.Common.{List, sym, ap, ◌∙◌}
 use Rattle.lsp_edit.specs.Parts.{bytes_of, parts_of}
 use Rattle.lsp_edit.specs.declared.span.Span.{Span}
 use Rattle.lsp_edit.specs.Edited.{edited_bytes}

@@ -1,7 +1,6 @@
-use Rattle.std.proofs.Common.{List, ℕ, ap, sym, ◌∙◌, subst, encode_utf8_all}
-use Rattle.std.specs.Str.{chars}
+use Rattle.std.proofs.Common.{List, ℕ, ap, sym, ◌∙◌, subst}
 use Rattle.std.proofs.lemmas.Str.{IsUtf8-from_is_utf8, encodes-chars}
-use Rattle.lsp_edit.specs.Edited.{Edited, before_bytes}
+use Rattle.lsp_edit.specs.Edited.{before_bytes}
 use Rattle.lsp_edit.specs.Parts.{AreParts, parts_of}
 use Rattle.lsp_edit.specs.Spans.{spans_in}
 use Rattle.lsp_edit.proofs.LawLemmas.{none_empty}

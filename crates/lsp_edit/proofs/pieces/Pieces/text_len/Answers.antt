@@ -1,4 +1,4 @@
-use Rattle.std.proofs.Common.{◌≡◌, length, sym, ap, ◌∙◌}
+use Rattle.std.proofs.Common.{length, sym, ap, ◌∙◌}
 use Rattle.lsp_edit.specs.Edited.{Edited, edited_bytes}
 use Rattle.lsp_edit.proofs.EditedLemmas.{now_bytes}
 use Rattle.lsp_edit.proofs.pieces.Pieces.text_len.Goals as goal

@@ -1,4 +1,4 @@
-use Rattle.std.proofs.Common.{ℕ, List, ◌≡◌, length, map, Some, Ok, ap, ◌∙◌, sym, string_bytes, string_len, encode_utf8_all}
+use Rattle.std.proofs.Common.{ℕ, List, ◌≡◌, length, map, Some, Ok, ap, ◌∙◌, sym, string_bytes, string_len}
 use Rattle.std.specs.Str.{chars}
 use Rattle.std.proofs.lemmas.Str.{encodes-chars, IsUtf8-string_bytes}
 use Rattle.lsp_text.specs.Units.{units_in}

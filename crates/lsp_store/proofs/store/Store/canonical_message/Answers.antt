@@ -1,13 +1,11 @@
-use Rattle.std.proofs.Common.{◌≡◌, ◌<◌, ◌≤◌, ◌^◌, ap, ◌∙◌, sym, refl, subst, length, map, None, Some, rules, arith, w32, to_z, of_z, string_bytes}
+use Rattle.std.proofs.Common.{◌≡◌, ◌<◌, ◌^◌, ap, length, map, None, Some, rules, arith, w32, to_z, of_z}
 use Rattle.std.proofs.lemmas.Int.{to_z-of_z}
 use Rattle.std.proofs.lemmas.Result.{err_from_is_err_and}
-use Rattle.lsp_frame.specs.Frame.{frame}
-use Rattle.lsp_frame.specs.Limits.{Bounds}
 use Rattle.lsp_text.specs.Units.{units_in}
 use Rattle.lsp_edit.specs.Edited.{edit_of}
 use Rattle.lsp_store.specs.Opened.{entry_under}
 use Rattle.lsp_store.specs.Table.{entry_at, entry_refusal}
-use Rattle.lsp_store.specs.Message.{body_refusal, canonical_batch, canonical_body, canonical_frame, change_body}
+use Rattle.lsp_store.specs.Message.{body_refusal, canonical_batch, canonical_body, canonical_frame}
 use Rattle.lsp_store.proofs.StoreLemmas.{change_absent, change_refused, held_at, limits_are}
 use Rattle.lsp_store.proofs.MessageLemmas.{first_told, message_accepted, message_refused, canonical_is, canonical_on, is_settled, exactly_alike, is_read, texts_held}
 use Rattle.lsp_store.proofs.store.Store.canonical_message.Goals as goal

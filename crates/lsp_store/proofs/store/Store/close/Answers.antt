@@ -1,4 +1,4 @@
-use Rattle.std.proofs.Common.{◌≡◌, refl}
+use Rattle.std.proofs.Common.{refl}
 use Rattle.lsp_store.proofs.StoreLemmas.{close_absent, closed}
 use Rattle.lsp_store.proofs.store.Store.close.Goals as goal
 

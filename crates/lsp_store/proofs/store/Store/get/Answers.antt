@@ -1,4 +1,3 @@
-use Rattle.std.proofs.Common.{◌≡◌, ap, ◌∙◌, sym}
 use Rattle.lsp_store.proofs.StoreLemmas.{get_found, get_none}
 use Rattle.lsp_store.proofs.store.Store.get.Goals as goal
 

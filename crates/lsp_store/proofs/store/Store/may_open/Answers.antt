@@ -1,4 +1,4 @@
-use Rattle.std.proofs.Common.{◌≡◌, ap, ◌∙◌, sym, arith}
+use Rattle.std.proofs.Common.{◌∙◌, sym, arith}
 use Rattle.lsp_store.specs.Table.{Entry}
 use Rattle.lsp_store.proofs.StoreLemmas.{known_refused, many_refused, long_refused, open_accepted}
 use Rattle.lsp_store.proofs.store.Store.may_open.Goals as goal

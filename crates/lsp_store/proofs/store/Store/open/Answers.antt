@@ -1,7 +1,6 @@
-use Rattle.std.proofs.Common.{◌≡◌, ap, ◌∙◌, sym, inr, rules, w32, to_z, of_z, string_bytes}
+use Rattle.std.proofs.Common.{◌≡◌, inr, rules, w32, to_z, of_z, string_bytes}
 use Rattle.std.proofs.lemmas.Int.{to_z-of_z}
 use Rattle.std.proofs.lemmas.Result.{err_from_is_err_and}
-use Rattle.lsp_store.specs.Table.{Entry}
 use Rattle.lsp_store.proofs.StoreLemmas.{opened}
 use Rattle.lsp_store.proofs.store.Store.open.Goals as goal
 
