@@ -74,7 +74,7 @@ fn every_answer_has_its_word(rt: HostRuntime) -> Result<(), Fail> {
     let mut lines = Vec::new(alloc);
     let mut number = 0usize;
     for (body, word) in BEGINNING.iter().chain(middle.iter()).chain(END.iter()) {
-        number += 1;
+        number = number.saturating_add(1);
         input.extend_from_slice(&frame(alloc, body.as_bytes())?)?;
         let line = format!(in alloc; "{number} {word}\n")?;
         lines.extend_from_slice(line.as_bytes())?;
