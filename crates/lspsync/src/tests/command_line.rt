@@ -65,7 +65,7 @@ fn both_ends_of_each_range_are_taken(rt: HostRuntime) -> Result<(), Fail> {
 }
 
 #[test]
-fn help_has_a_sentence_for_all_and_an_example(rt: HostRuntime) -> Result<(), Fail> {
+fn help_names_each_command(rt: HostRuntime) -> Result<(), Fail> {
     let alloc = rt.alloc();
     let commands = ["serve", "check", "replay", "normalise", "convert"];
     let all: [&[&str]; 3] = [
@@ -82,6 +82,12 @@ fn help_has_a_sentence_for_all_and_an_example(rt: HostRuntime) -> Result<(), Fai
             assert!(rt; text.contains(command), "{command} in {text}");
         }
     }
+    Ok(())
+}
+
+#[test]
+fn help_of_each_command_has_its_options_and_an_example(rt: HostRuntime) -> Result<(), Fail> {
+    let alloc = rt.alloc();
     let options = [
         "--encoding",
         "--max-body",
@@ -89,7 +95,7 @@ fn help_has_a_sentence_for_all_and_an_example(rt: HostRuntime) -> Result<(), Fai
         "--max-docs",
         "--max-changes",
     ];
-    for command in commands {
+    for command in ["serve", "check", "replay", "normalise", "convert"] {
         let example = format!(in alloc; "  ./lspsync {command} < examples/")?;
         let ways: [&[&str]; 3] = [
             &["lspsync", command, "--help"],
