@@ -136,7 +136,7 @@ fn changed(alloc: Global, text: &str, edits: &[Edit]) -> Result<Store, Fail> {
 fn messages_have_their_bytes(rt: HostRuntime) -> Result<(), Fail> {
     for (text, edits, length, canonical, after) in MESSAGES {
         let frame = frame_of(rt.alloc(), length, canonical)?;
-        assert!(rt; frame.len() == length + 23, "{text}");
+        assert!(rt; frame.len() == length.saturating_add(23), "{text}");
         for edits in [edits, canonical] {
             let bytes = message_of(rt.alloc(), text, edits)?;
             assert_eq!(rt; bytes.as_slice(), frame.as_bytes(), "{text}");
