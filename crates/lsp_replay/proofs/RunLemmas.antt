@@ -1,6 +1,6 @@
 -- A run between two reads, and its end.
 use Rattle.std.proofs.Common.{◌≡◌, ℕ, ◌+◌, ◌-◌, ◌<◌, ◌≤◌, ◌^◌, Bool, true, false, List, [], ◌∷◌, ◌++◌, length, take, drop, Option, Result, Ok, Err, refl, sym, ◌∙◌, ap, subst, arith, append_assoc, append-nil, inl, inr, ◌⊎◌, ◌||◌}
-use Rattle.std.specs.Prelude.{min, nat_eq, IfOk, IfErr}
+use Rattle.std.specs.Prelude.{◌≢◌, min, nat_eq, IfOk, IfErr}
 use Rattle.std.proofs.lemmas.List.{length-append, length-take, drop-take, take-append-drop}
 use Rattle.std.specs.Io.KnownBytes.{Consumes, Appends, Keeps, IsAtEnd}
 use Rattle.std.proofs.KnownBytes.{Appends-nil, Consumes-trans, Consumes-kept}
@@ -18,10 +18,10 @@ use Rattle.lsp_replay.specs.Log.{Reading, Record, IsVersion, HasNoRecord, line_o
 use Rattle.lsp_replay.specs.Opening.{IsLineFront, IsBelowLine}
 use Rattle.lsp_replay.specs.Splitting.{IsReady, IsOpen, Stands, held_of}
 use Rattle.lsp_replay.specs.Course.{Course}
-use Rattle.lsp_replay.specs.Engine.{Stopped, Reached, AtEnd, Ran, Called, IsPieceFault, IsRunFault}
+use Rattle.lsp_replay.specs.Engine.{Stopped, Reached, AtEnd, Ran, Called, NonePassedOver, IsPieceFault, IsRunFault}
 use Rattle.lsp_replay.specs.Progress.{Went, Runs, IsEndFault, BothSpend}
 use Rattle.lsp_replay.specs.Ports.{Rose}
-use Rattle.lsp_replay.specs.Turns.{Spends}
+use Rattle.lsp_replay.specs.Turns.{Spends, StaysWell}
 use Rattle.lsp_replay.proofs.EngineLemmas.{IsQuiet, went_read}
 
 together_more : (version : Version) (rs : List Record) (rest more : List ℕ) → together version rs (rest ++ more) ≡ together version rs rest ++ more
@@ -308,3 +308,11 @@ n_is_zero n is = ap (λ k. nat_eq k 0) is
 
 pub zero_is : (n : ℕ) → nat_eq n 0 ≡ true → n ≡ 0
 zero_is n is = eqb-true n 0 is
+
+-- No failure was passed over when a fault came.
+pub told_fault : (read_failed_old read_failed_new write_failed_old write_failed_new : Bool) (fault : EngineFault) → (fault ≢ Read → StaysWell read_failed_old read_failed_new)
+    → (fault ≢ Write → StaysWell write_failed_old write_failed_new) → NonePassedOver read_failed_old read_failed_new write_failed_old write_failed_new (Err fault)
+told_fault read_failed_old read_failed_new write_failed_old write_failed_new fault reads writes = record {
+  reads = λ other. reads (λ is. other (ap Err is));
+  writes = λ other. writes (λ is. other (ap Err is));
+}

@@ -7,7 +7,7 @@ use Rattle.lsp_replay.specs.declared.outcome.EngineFault.{EngineFault}
 use Rattle.lsp_replay.specs.declared.outcome.EngineFault.TheVariants.{Read, Write, Frame, Truncated, BodyTooLong, NoMemory, TooManyTurns, BadLog}
 use Rattle.lsp_replay.specs.declared.record.Version.TheVariants.{Two}
 use Rattle.lsp_replay.specs.Ports.{Rose}
-use Rattle.lsp_replay.specs.Turns.{AppendsFront}
+use Rattle.lsp_replay.specs.Turns.{AppendsFront, StaysWell}
 use Rattle.lsp_replay.specs.Log.{Reading, Record, Log, IsVersion, IsReadAs, HasNoRecord, IsCut, IsMalformed, IsBadMark, is_line_due}
 use Rattle.lsp_replay.specs.Course.{Course}
 
@@ -111,3 +111,9 @@ pub record Called (reads_old reads_new writes_old writes_new allowed : ℕ) (rea
   pub read_fault : result ≡ Err Read → (read_failed ≡ true) × Rose reads_old reads_new
   pub write_fault : result ≡ Err Write → (write_failed ≡ true) × Rose writes_old writes_new
   pub at_end : result ≢ Err TooManyTurns → ended ≡ true → IsAtEnd left × Rose reads_old reads_new
+
+-- No failure was passed over: where the last read failed, the fault of reading is told, and where the last write or flush failed, that of
+-- writing, unless one that came before the run had failed already.
+pub record NonePassedOver (read_failed_old read_failed_new write_failed_old write_failed_new : Bool) (result : Result Outcome EngineFault) : Type 0 where
+  pub reads : result ≢ Err Read → StaysWell read_failed_old read_failed_new
+  pub writes : result ≢ Err Write → StaysWell write_failed_old write_failed_new

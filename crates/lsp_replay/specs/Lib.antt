@@ -13,3 +13,4 @@ pub mod Verdicts
 pub mod Engines
 pub mod Laws
 pub mod Told
+pub mod Scripts

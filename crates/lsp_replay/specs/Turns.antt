@@ -1,5 +1,5 @@
 -- How many calls were made, and what stands written.
-use Rattle.std.specs.Prelude.{◌≡◌, ℕ, ◌+◌, ◌<◌, ◌≤◌, ◌^◌, List, ◌++◌, Option}
+use Rattle.std.specs.Prelude.{◌≡◌, Bool, false, ℕ, ◌+◌, ◌<◌, ◌≤◌, ◌^◌, List, ◌++◌, Option}
 use Rattle.std.specs.Io.KnownBytes.{Appends}
 
 -- Each call took one of the turns that were left. Counts that stay at their greatest value can't tell all.
@@ -12,3 +12,7 @@ pub record Spends (count_old count_new left_old left_new : ℕ) : Type 0 where
 -- some first bytes were written
 abbrev pub AppendsFront : Option (List ℕ) → Option (List ℕ) → List ℕ → Type 0
 AppendsFront old new bytes = (front rest : List ℕ) × (bytes ≡ front ++ rest) × Appends old new front
+
+-- No failure stands: where the last call before these had not failed, the last one now did not either.
+abbrev pub StaysWell : Bool → Bool → Type 0
+StaysWell failed_old failed_new = failed_old ≡ false → failed_new ≡ false

@@ -4,11 +4,11 @@ ghost use Rattle.std.specs.Prelude.{◌≡◌, ◌≢◌, ◌++◌, ◌∷◌, [
 ghost use Rattle.std.specs.Io.KnownBytes.{Appends};
 ghost use Rattle.lsp_frame.specs.Frame.{Spells};
 ghost use Rattle.lsp_replay.specs.Ports.{Rose};
-ghost use Rattle.lsp_replay.specs.Turns.{Spends, AppendsFront};
+ghost use Rattle.lsp_replay.specs.Turns.{Spends, AppendsFront, StaysWell};
 ghost use Rattle.lsp_replay.specs.Log.{Reading, Record};
 ghost use Rattle.lsp_replay.specs.Splitting.{IsReady, IsFed};
 ghost use Rattle.lsp_replay.specs.Course.{Course};
-ghost use Rattle.lsp_replay.specs.Engine.{Stopped, AtEnd, IsPieceFault, Ran, Called};
+ghost use Rattle.lsp_replay.specs.Engine.{Stopped, AtEnd, IsPieceFault, Ran, Called, NonePassedOver};
 ghost use Rattle.lsp_replay.specs.Progress.{IsHandled, IsHandleFault, IsLastFault, IsEndFault, Went};
 
 use crate::handler::{Handler, Output};
@@ -62,6 +62,8 @@ fn handle_record<W: Sink, H: Handler>(
         (record { head = head; spelling = spelling.now; body = body.now })) }
     ensures failed { IfErr result (λ fault. fault ≡ EngineFault.Write →
         (W.has_failed writer.new ≡ true) × Rose (W.count writer.old) (W.count writer.new)) }
+    ensures well { OnOk result (StaysWell (W.has_failed writer.old) (W.has_failed writer.new)) }
+    ensures told { IfErr result (λ fault. fault ≢ EngineFault.Write → StaysWell (W.has_failed writer.old) (W.has_failed writer.new)) }
     ensures none_left { IfErr result (λ fault. fault ≡ EngineFault.TooManyTurns → turns.new.left ≡ 0) }
     ensures spent { Spends (W.count writer.old) (W.count writer.new) turns.old.left turns.new.left }
 {
@@ -95,6 +97,8 @@ fn take_record<W: Sink, H: Handler>(
         IsPieceFault reading course input held (W.held writer.new) fault) }
     ensures failed { IfErr result (λ fault. fault ≡ EngineFault.Write →
         (W.has_failed writer.new ≡ true) × Rose (W.count writer.old) (W.count writer.new)) }
+    ensures well { OnOk result (StaysWell (W.has_failed writer.old) (W.has_failed writer.new)) }
+    ensures told { IfErr result (λ fault. fault ≢ EngineFault.Write → StaysWell (W.has_failed writer.old) (W.has_failed writer.new)) }
     ensures none_left { IfErr result (λ fault. fault ≡ EngineFault.TooManyTurns → turns.new.left ≡ 0) }
     ensures spent { Spends (W.count writer.old) (W.count writer.new) turns.old.left turns.new.left }
 {
@@ -130,6 +134,8 @@ fn take_piece<W: Sink, H: Handler>(
         IsPieceFault reading course input held (W.held writer.new) fault) }
     ensures failed { IfErr result (λ fault. fault ≡ EngineFault.Write →
         (W.has_failed writer.new ≡ true) × Rose (W.count writer.old) (W.count writer.new)) }
+    ensures well { OnOk result (StaysWell (W.has_failed writer.old) (W.has_failed writer.new)) }
+    ensures told { IfErr result (λ fault. fault ≢ EngineFault.Write → StaysWell (W.has_failed writer.old) (W.has_failed writer.new)) }
     ensures none_left { IfErr result (λ fault. fault ≡ EngineFault.TooManyTurns → turns.new.left ≡ 0) }
     ensures spent { Spends (W.count writer.old) (W.count writer.new) turns.old.left turns.new.left }
 {
@@ -157,6 +163,8 @@ fn write_last<W: Sink, H: Handler>(
     ensures kind { IfErr result IsLastFault }
     ensures failed { IfErr result (λ fault. fault ≡ EngineFault.Write →
         (W.has_failed writer.new ≡ true) × Rose (W.count writer.old) (W.count writer.new)) }
+    ensures well { OnOk result (StaysWell (W.has_failed writer.old) (W.has_failed writer.new)) }
+    ensures told { IfErr result (λ fault. fault ≢ EngineFault.Write → StaysWell (W.has_failed writer.old) (W.has_failed writer.new)) }
     ensures none_left { IfErr result (λ fault. fault ≡ EngineFault.TooManyTurns → turns.new.left ≡ 0) }
     ensures spent { Spends (W.count writer.old) (W.count writer.new) turns.old.left turns.new.left }
 {
@@ -191,6 +199,8 @@ fn finish_run<W: Sink, H: Handler>(
     ensures failed { IfErr result (λ fault. fault ≡ EngineFault.Write →
         (W.has_failed writer.new ≡ true) × Rose (W.count writer.old) (W.count writer.new)) }
     ensures not_read { IfErr result (λ fault. fault ≢ EngineFault.Read) }
+    ensures well { OnOk result (StaysWell (W.has_failed writer.old) (W.has_failed writer.new)) }
+    ensures told { IfErr result (λ fault. fault ≢ EngineFault.Write → StaysWell (W.has_failed writer.old) (W.has_failed writer.new)) }
     ensures none_left { IfErr result (λ fault. fault ≡ EngineFault.TooManyTurns → turns.new.left ≡ 0) }
     ensures spent { Spends (W.count writer.old) (W.count writer.new) turns.old.left turns.new.left }
 {
@@ -214,6 +224,7 @@ pub fn run_engine<R: Source, W: Sink, H: Handler>(
         (R.left reader.old) (R.left reader.new) (W.held writer.old) (W.held writer.new) result }
     ensures called { Called (R.count reader.old) (R.count reader.new) (W.count writer.old) (W.count writer.new) max_turns
         (R.has_failed reader.new) (W.has_failed writer.new) (R.has_ended reader.new) (R.left reader.new) result }
+    ensures none_passed_over { NonePassedOver (R.has_failed reader.old) (R.has_failed reader.new) (W.has_failed writer.old) (W.has_failed writer.new) result }
 {
     let mut turns = Turns::new(max_turns);
     let mut buf = [0u8; PIECE];

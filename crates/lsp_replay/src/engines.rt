@@ -2,7 +2,7 @@
 //! of the bytes that were read (`ran`), and by all that are whole in them (`told`).
 
 ghost use Rattle.std.specs.Prelude.{◌≡◌, true, false, IfOk};
-ghost use Rattle.lsp_replay.specs.Engine.{Ran, Called};
+ghost use Rattle.lsp_replay.specs.Engine.{Ran, Called, NonePassedOver};
 ghost use Rattle.lsp_replay.specs.Engines.{log_config, normal, as_stream, as_log, as_converted, replies, report, verdicts, converted};
 ghost use Rattle.lsp_frame.specs.Limits.{AreInRange};
 ghost use Rattle.lsp_replay.specs.Laws.{IsConverted, IsNormal, Wrote};
@@ -80,6 +80,7 @@ pub fn serve<R: Source, W: Sink>(
         (R.left reader.old) (R.left reader.new) (W.held writer.old) (W.held writer.new) result }
     ensures called { Called (R.count reader.old) (R.count reader.new) (W.count writer.old) (W.count writer.new) max_turns
         (R.has_failed reader.new) (W.has_failed writer.new) (R.has_ended reader.new) (R.left reader.new) result }
+    ensures none_passed_over { NonePassedOver (R.has_failed reader.old) (R.has_failed reader.new) (W.has_failed writer.old) (W.has_failed writer.new) result }
 {
     let rules = InputRules {
         limits: config.limits,
@@ -107,6 +108,7 @@ pub fn check<R: Source, W: Sink>(
         (R.left reader.old) (R.left reader.new) (W.held writer.old) (W.held writer.new) result }
     ensures called { Called (R.count reader.old) (R.count reader.new) (W.count writer.old) (W.count writer.new) max_turns
         (R.has_failed reader.new) (W.has_failed writer.new) (R.has_ended reader.new) (R.left reader.new) result }
+    ensures none_passed_over { NonePassedOver (R.has_failed reader.old) (R.has_failed reader.new) (W.has_failed writer.old) (W.has_failed writer.new) result }
 {
     let rules = settings.rules(false);
     let mut check = Check::new(alloc, settings.config());
@@ -130,6 +132,7 @@ pub fn replay<R: Source, W: Sink>(
         (R.left reader.old) (R.left reader.new) (W.held writer.old) (W.held writer.new) result }
     ensures called { Called (R.count reader.old) (R.count reader.new) (W.count writer.old) (W.count writer.new) max_turns
         (R.has_failed reader.new) (W.has_failed writer.new) (R.has_ended reader.new) (R.left reader.new) result }
+    ensures none_passed_over { NonePassedOver (R.has_failed reader.old) (R.has_failed reader.new) (W.has_failed writer.old) (W.has_failed writer.new) result }
 {
     let rules = settings.rules(false);
     let mut replay = Replay::new(alloc, settings.config());
@@ -155,6 +158,7 @@ pub fn convert<R: Source, W: Sink>(
     ensures converted { IfOk result (Wrote settings (IsConverted settings) (R.left reader.old) (R.left reader.new) (W.held writer.old) (W.held writer.new)) }
     ensures called { Called (R.count reader.old) (R.count reader.new) (W.count writer.old) (W.count writer.new) max_turns
         (R.has_failed reader.new) (W.has_failed writer.new) (R.has_ended reader.new) (R.left reader.new) result }
+    ensures none_passed_over { NonePassedOver (R.has_failed reader.old) (R.has_failed reader.new) (W.has_failed writer.old) (W.has_failed writer.new) result }
 {
     settings.known();
     let rules = settings.rules(true);
@@ -182,6 +186,7 @@ pub fn normalise<R: Source, W: Sink>(
     ensures normal { IfOk result (Wrote settings (IsNormal settings) (R.left reader.old) (R.left reader.new) (W.held writer.old) (W.held writer.new)) }
     ensures called { Called (R.count reader.old) (R.count reader.new) (W.count writer.old) (W.count writer.new) max_turns
         (R.has_failed reader.new) (W.has_failed writer.new) (R.has_ended reader.new) (R.left reader.new) result }
+    ensures none_passed_over { NonePassedOver (R.has_failed reader.old) (R.has_failed reader.new) (W.has_failed writer.old) (W.has_failed writer.new) result }
 {
     settings.known();
     let rules = settings.rules(false);

@@ -1,9 +1,9 @@
 //! The first bytes of an input, as many as tell its version.
 
-ghost use Rattle.std.specs.Prelude.{◌≡◌, ◌<◌, ◌≤◌, ◌^◌, ◌++◌, ◌↔◌, ◌⊎◌, [], ℕ, List, true, false, IfOk, IfErr, OnOk, length, take, drop};
+ghost use Rattle.std.specs.Prelude.{◌≡◌, ◌≢◌, ◌<◌, ◌≤◌, ◌^◌, ◌++◌, ◌↔◌, ◌⊎◌, [], ℕ, List, true, false, IfOk, IfErr, OnOk, length, take, drop};
 ghost use Rattle.std.specs.Io.KnownBytes.{Consumes, IsAtEnd};
 ghost use Rattle.lsp_replay.specs.Ports.{Rose};
-ghost use Rattle.lsp_replay.specs.Turns.{Spends};
+ghost use Rattle.lsp_replay.specs.Turns.{Spends, StaysWell};
 ghost use Rattle.lsp_replay.specs.Log.{IsVersion, line_of, version_line};
 ghost use Rattle.lsp_replay.specs.Opening.{IsLineFront, IsBelowLine};
 
@@ -43,6 +43,8 @@ pub fn read_opening<R: Source>(
     ensures fault { IfErr result (λ fault. (fault ≡ EngineFault.Read) ⊎ (fault ≡ EngineFault.TooManyTurns)) }
     ensures failed { IfErr result (λ fault. fault ≡ EngineFault.Read →
         (R.has_failed reader.new ≡ true) × (R.has_ended reader.new ≡ false) × Rose (R.count reader.old) (R.count reader.new)) }
+    ensures well { OnOk result (StaysWell (R.has_failed reader.old) (R.has_failed reader.new)) }
+    ensures told { IfErr result (λ fault. fault ≢ EngineFault.Read → StaysWell (R.has_failed reader.old) (R.has_failed reader.new)) }
     ensures none_left { IfErr result (λ fault. fault ≡ EngineFault.TooManyTurns → turns.new.left ≡ 0) }
     ensures spent { Spends (R.count reader.old) (R.count reader.new) turns.old.left turns.new.left }
 {

@@ -1,6 +1,9 @@
 //! A reader and a writer over memory whose calls go as a script says.
 
-ghost use Rattle.std.specs.Prelude.{◌≡◌, [], Some};
+ghost use Rattle.std.specs.Prelude.{◌≡◌, [], Some, min, length};
+ghost use Rattle.std.specs.Io.{ReadsAtMost, WritesAtMost};
+ghost use Rattle.std.specs.Io.KnownBytes.{ReadConsumes, WriteAppends, Keeps};
+ghost use Rattle.lsp_replay.specs.Scripts.{call_of, rest_of, IsStop, ReadGoes, WriteGoes, FlushGoes};
 
 use std::alloc::Global;
 use std::io::{self, ErrorKind, Read, Write};
@@ -17,7 +20,10 @@ pub enum Call {
 }
 
 /// The next call of a script, or how the calls behind its end go.
-fn next_call(script: &mut &[Call], others: Call) -> Call {
+fn next_call(script: &mut &[Call], others: Call) -> Call
+    ensures call { result ≡ call_of script.old.now others }
+    ensures rest { script.new.now ≡ rest_of script.old.now }
+{
     match script.split_first() {
         Some((call, rest)) => {
             *script = rest;
@@ -28,7 +34,9 @@ fn next_call(script: &mut &[Call], others: Call) -> Call {
 }
 
 /// Why a call moves no byte: it is interrupted or fails.
-fn stopped(call: Call) -> io::Error {
+fn stopped(call: Call) -> io::Error
+    ensures { IsStop call result }
+{
     match call {
         Call::Interrupt => io::Error::from(ErrorKind::Interrupted),
         _ => io::Error::other("a call that was to fail"),
@@ -45,7 +53,9 @@ pub struct StopReader<'a> {
 
 impl<'a> StopReader<'a> {
     pub fn new(bytes: &'a [u8], script: &'a [Call], others: Call) -> StopReader<'a>
-        ensures { result.rest.now ≡ bytes.now }
+        ensures bytes { result.rest.now ≡ bytes.now }
+        ensures script { result.script.now ≡ script.now }
+        ensures others { result.others ≡ others }
     {
         StopReader {
             rest: bytes,
@@ -58,7 +68,13 @@ impl<'a> StopReader<'a> {
 impl Read for StopReader<'_> {
     ghost remaining = { λ reader. Some reader.rest.now };
 
-    fn read(&mut self, buf: &mut [u8]) -> io::Result<usize> {
+    fn read(&mut self, buf: &mut [u8]) -> io::Result<usize>
+        ensures bound { ReadsAtMost result buf.new }
+        ensures bytes { ReadConsumes (Some self.old.rest.now) (Some self.new.rest.now) result buf.new }
+        ensures goes { ReadGoes (call_of self.old.script.now self.old.others) (min (length buf.old) (length self.old.rest.now)) result }
+        ensures script { self.new.script.now ≡ rest_of self.old.script.now }
+        ensures others { self.new.others ≡ self.old.others }
+    {
         match next_call(&mut self.script, self.others) {
             Call::Take(most) => {
                 let n = most.max(1).min(buf.len()).min(self.rest.len());
@@ -85,7 +101,10 @@ pub struct StopWriter<'a> {
 impl<'a> StopWriter<'a> {
     /// Holds nothing yet.
     pub fn new(alloc: Global, script: &'a [Call], others: Call) -> StopWriter<'a>
-        ensures { result.bytes.items ≡ [] }
+        ensures bytes { result.bytes.items ≡ [] }
+        ensures flushes { result.flushes ≡ 0 }
+        ensures script { result.script.now ≡ script.now }
+        ensures others { result.others ≡ others }
     {
         StopWriter {
             bytes: Vec::new(alloc),
@@ -113,7 +132,14 @@ impl<'a> StopWriter<'a> {
 impl Write for StopWriter<'_> {
     ghost contents = { λ writer. Some writer.bytes.items };
 
-    fn write(&mut self, buf: &[u8]) -> io::Result<usize> {
+    fn write(&mut self, buf: &[u8]) -> io::Result<usize>
+        ensures bound { WritesAtMost result buf.now }
+        ensures bytes { WriteAppends (Some self.old.bytes.items) (Some self.new.bytes.items) result buf.now }
+        ensures goes { WriteGoes (call_of self.old.script.now self.old.others) (length buf.now) result }
+        ensures script { self.new.script.now ≡ rest_of self.old.script.now }
+        ensures others { self.new.others ≡ self.old.others }
+        ensures flushes { self.new.flushes ≡ self.old.flushes }
+    {
         match next_call(&mut self.script, self.others) {
             Call::Take(most) => {
                 let n = most.min(buf.len());
@@ -124,7 +150,12 @@ impl Write for StopWriter<'_> {
         }
     }
 
-    fn flush(&mut self) -> io::Result<()> {
+    fn flush(&mut self) -> io::Result<()>
+        ensures bytes { Keeps (Some self.old.bytes.items) (Some self.new.bytes.items) }
+        ensures goes { FlushGoes (call_of self.old.script.now self.old.others) self.old.flushes self.new.flushes result }
+        ensures script { self.new.script.now ≡ rest_of self.old.script.now }
+        ensures others { self.new.others ≡ self.old.others }
+    {
         match next_call(&mut self.script, self.others) {
             Call::Take(_) => {
                 self.flushes = self.flushes.saturating_add(1);

@@ -1,9 +1,9 @@
 //! Reads, writes and flushes, each in a bounded number of calls.
 
-ghost use Rattle.std.specs.Prelude.{◌≡◌, ◌<◌, ◌≤◌, ◌+◌, ◌↔◌, ◌⊎◌, true, false, IfOk, IfErr, OnOk, OnErr, length, take};
+ghost use Rattle.std.specs.Prelude.{◌≡◌, ◌≢◌, ◌<◌, ◌≤◌, ◌+◌, ◌↔◌, ◌⊎◌, true, false, IfOk, IfErr, OnOk, OnErr, length, take};
 ghost use Rattle.std.specs.Io.KnownBytes.{Consumes, Appends, Keeps, IsAtEnd};
 ghost use Rattle.lsp_replay.specs.Ports.{Rose};
-ghost use Rattle.lsp_replay.specs.Turns.{Spends, AppendsFront};
+ghost use Rattle.lsp_replay.specs.Turns.{Spends, AppendsFront, StaysWell};
 
 use crate::outcome::EngineFault;
 use crate::port::{Sink, Source};
@@ -52,6 +52,8 @@ pub fn read_piece<R: Source>(
     ensures fault { IfErr result (λ fault. (fault ≡ EngineFault.Read) ⊎ (fault ≡ EngineFault.TooManyTurns)) }
     ensures failed { IfErr result (λ fault. fault ≡ EngineFault.Read →
         (R.has_failed reader.new ≡ true) × (R.has_ended reader.new ≡ false) × Rose (R.count reader.old) (R.count reader.new)) }
+    ensures well { OnOk result (StaysWell (R.has_failed reader.old) (R.has_failed reader.new)) }
+    ensures told { IfErr result (λ fault. fault ≢ EngineFault.Read → StaysWell (R.has_failed reader.old) (R.has_failed reader.new)) }
     ensures none_left { IfErr result (λ fault. fault ≡ EngineFault.TooManyTurns → turns.new.left ≡ 0) }
     ensures spent { Spends (R.count reader.old) (R.count reader.new) turns.old.left turns.new.left }
 {
@@ -76,6 +78,8 @@ fn write_out<W: Sink>(writer: &mut W, bytes: &[u8], turns: &mut Turns) -> Result
     ensures fault { IfErr result (λ fault. (fault ≡ EngineFault.Write) ⊎ (fault ≡ EngineFault.TooManyTurns)) }
     ensures failed { IfErr result (λ fault. fault ≡ EngineFault.Write →
         (W.has_failed writer.new ≡ true) × Rose (W.count writer.old) (W.count writer.new)) }
+    ensures well { OnOk result (StaysWell (W.has_failed writer.old) (W.has_failed writer.new)) }
+    ensures told { IfErr result (λ fault. fault ≢ EngineFault.Write → StaysWell (W.has_failed writer.old) (W.has_failed writer.new)) }
     ensures none_left { IfErr result (λ fault. fault ≡ EngineFault.TooManyTurns → turns.new.left ≡ 0) }
     ensures spent { Spends (W.count writer.old) (W.count writer.new) turns.old.left turns.new.left }
 {
@@ -101,6 +105,8 @@ fn flush_out<W: Sink>(writer: &mut W, turns: &mut Turns) -> Result<(), EngineFau
     ensures fault { IfErr result (λ fault. (fault ≡ EngineFault.Write) ⊎ (fault ≡ EngineFault.TooManyTurns)) }
     ensures failed { IfErr result (λ fault. fault ≡ EngineFault.Write →
         (W.has_failed writer.new ≡ true) × Rose (W.count writer.old) (W.count writer.new)) }
+    ensures well { OnOk result (StaysWell (W.has_failed writer.old) (W.has_failed writer.new)) }
+    ensures told { IfErr result (λ fault. fault ≢ EngineFault.Write → StaysWell (W.has_failed writer.old) (W.has_failed writer.new)) }
     ensures none_left { IfErr result (λ fault. fault ≡ EngineFault.TooManyTurns → turns.new.left ≡ 0) }
     ensures spent { Spends (W.count writer.old) (W.count writer.new) turns.old.left turns.new.left }
 {
@@ -129,6 +135,8 @@ pub fn write_given<W: Sink>(
     ensures fault { IfErr result (λ fault. (fault ≡ EngineFault.Write) ⊎ (fault ≡ EngineFault.TooManyTurns)) }
     ensures failed { IfErr result (λ fault. fault ≡ EngineFault.Write →
         (W.has_failed writer.new ≡ true) × Rose (W.count writer.old) (W.count writer.new)) }
+    ensures well { OnOk result (StaysWell (W.has_failed writer.old) (W.has_failed writer.new)) }
+    ensures told { IfErr result (λ fault. fault ≢ EngineFault.Write → StaysWell (W.has_failed writer.old) (W.has_failed writer.new)) }
     ensures none_left { IfErr result (λ fault. fault ≡ EngineFault.TooManyTurns → turns.new.left ≡ 0) }
     ensures spent { Spends (W.count writer.old) (W.count writer.new) turns.old.left turns.new.left }
 {

@@ -2,7 +2,7 @@ use Rattle.std.proofs.Common.{refl, arith, ◌≡◌, ◌-◌, ℕ, List, sym, a
 use Rattle.std.proofs.lemmas.List.{length-take}
 use Rattle.std.specs.Io.KnownBytes.{Consumes}
 use Rattle.std.proofs.lemmas.Result.{err_from_is_err_and}
-use Rattle.lsp_replay.proofs.RunLemmas.{runs_at_start, runs_on, runs_more, ran_stopped, ran_into_fault, ran_finished, ran_unread, ran_unopened, ran_refused, called_fault, piece_not_read, both_at_start, both_writes, both_reads, rose_more, read_not_write, read_not_ended, n_is_zero, zero_is}
+use Rattle.lsp_replay.proofs.RunLemmas.{runs_at_start, runs_on, runs_more, ran_stopped, ran_into_fault, ran_finished, ran_unread, ran_unopened, ran_refused, called_fault, piece_not_read, both_at_start, both_writes, both_reads, rose_more, told_fault, read_not_write, read_not_ended, n_is_zero, zero_is}
 use Rattle.lsp_replay.proofs.engine.run_engine.Goals as goal
 
 pub returns-in_err-opening-clause-ran : goal.returns-in_err-opening-clause-ran
@@ -30,6 +30,8 @@ pieces-init g c = record {
   ended = c.in_ok-opening.ensures.ended;
   at_end = c.in_ok-opening.ensures.at_end;
   rose = c.in_ok-opening.ensures.rose;
+  reads_well = c.in_ok-opening.ensures.well;
+  writes_well = λ before. before;
   spent = both_at_start _ _ _ _ _ _ c.new-turns.ensures c.in_ok-opening.ensures.spent;
 }
 
@@ -48,6 +50,11 @@ returns-in_err-end-clause-called g c =
     rw (p.1, p.2) (called_fault _ _ _ _ _ c.take_piece.new.turns.left _ _ _ _ _ (both_writes _ _ _ _ _ _ _ _ c.pieces.invariant.spent c.in_err-end.ensures.spent) c.in_err-end.ensures.none_left
     (λ is. absurd (piece_not_read _ (g.H.Handler.course c.args.handler.now) _ _ _ _ why is))
     (λ is. let failed = c.in_err-end.ensures.failed is in (failed.0, rose_more _ _ _ c.pieces.invariant.spent.writes failed.1)) (λ _ told. (c.pieces.invariant.at_end (c.pieces.invariant.ended.0 told), c.pieces.invariant.rose)))
+
+pub returns-in_err-end-clause-none_passed_over : goal.returns-in_err-end-clause-none_passed_over
+returns-in_err-end-clause-none_passed_over g c =
+    let p = err_from_is_err_and c.from_residual-in_err-end.result c.from_residual-in_err-end.ensures.1 in
+    rw (p.1, p.2) (told_fault _ _ _ _ _ (λ _. c.pieces.invariant.reads_well) (λ other before. c.in_err-end.ensures.told other (c.pieces.invariant.writes_well before)))
 
 pub returns-in-Some-clause-ran : goal.returns-in-Some-clause-ran
 returns-in-Some-clause-ran g c = ran_stopped (record { max_body = c.args.rules.limits.max_body; versions = c.args.rules.versions; only_one = c.args.rules.only_one }) (g.H.Handler.course c.args.handler.now) (g.R.Source.left c.args.reader.now) (g.W.Sink.held c.args.writer.now)
@@ -82,6 +89,11 @@ returns-in_err-to-clause-called g c =
     (λ is. absurd (read_not_write _ c.in_err-to.ensures.fault is))
     (λ other told. absurd (read_not_ended _ _ _ _ c.in_err-to.ensures.fault c.in_err-to.ensures.failed other told)))
 
+pub returns-in_err-to-clause-none_passed_over : goal.returns-in_err-to-clause-none_passed_over
+returns-in_err-to-clause-none_passed_over g c =
+    let p = err_from_is_err_and c.from_residual-in_err-to.result c.from_residual-in_err-to.ensures.1 in
+    rw (p.1, p.2) (told_fault _ _ _ _ _ (λ other before. c.in_err-to.ensures.told other (c.pieces.invariant.reads_well before)) (λ _ before. c.in_ok-end.ensures.well (c.pieces.invariant.writes_well before)))
+
 pub pieces-preserved : goal.pieces-preserved
 pieces-preserved g c =
     let piece : take (c.in_ok-to.to - 0) (drop 0 c.read_piece.new.buf) ≡ take c.in_ok-to.to c.read_piece.new.buf = ap (λ n. take n c.read_piece.new.buf) (omega arith) in
@@ -99,5 +111,7 @@ pieces-preserved g c =
       ended = (λ told. n_is_zero c.in_ok-to.to (c.in_ok-to.ensures.ended.0 told), λ zero. c.in_ok-to.ensures.ended.1 (zero_is c.in_ok-to.to zero));
       at_end = λ zero. c.in_ok-to.ensures.at_end (zero_is c.in_ok-to.to zero);
       rose = rose_more _ _ _ c.pieces.invariant.spent.reads c.in_ok-to.ensures.rose;
+      reads_well = λ before. c.in_ok-to.ensures.well (c.pieces.invariant.reads_well before);
+      writes_well = λ before. c.in_ok-end.ensures.well (c.pieces.invariant.writes_well before);
       spent = both_reads _ _ _ _ _ _ _ _ (both_writes _ _ _ _ _ _ _ _ c.pieces.invariant.spent c.in_ok-end.ensures.spent) c.in_ok-to.ensures.spent;
     }

@@ -2,6 +2,7 @@ use Rattle.std.specs.Prelude.{◌≡◌, ◌≤◌, ◌↔◌, ◌-◌, true, le
 use Rattle.std.specs.Io.KnownBytes.{IsAtEnd}
 use Rattle.lsp_replay.specs.Ports.{Rose}
 use Rattle.lsp_replay.specs.Splitting.{IsReady}
+use Rattle.lsp_replay.specs.Turns.{StaysWell}
 use Rattle.lsp_replay.specs.Progress.{Runs, BothSpend}
 use Rattle.lsp_replay.proofs.engine.run_engine.Given as goal
 
@@ -15,6 +16,8 @@ invariant-pieces g l = record {
   ended : g.R.Source.has_ended l.reader ≡ true ↔ l.ended ≡ true;
   at_end : l.ended ≡ true → IsAtEnd (g.R.Source.left l.reader);
   rose : Rose (g.R.Source.count l.fn.reader) (g.R.Source.count l.reader);
+  reads_well : StaysWell (g.R.Source.has_failed l.fn.reader) (g.R.Source.has_failed l.reader);
+  writes_well : StaysWell (g.W.Sink.has_failed l.fn.writer) (g.W.Sink.has_failed l.writer);
   spent : BothSpend (g.R.Source.count l.fn.reader) (g.R.Source.count l.reader) (g.W.Sink.count l.fn.writer) (g.W.Sink.count l.writer) l.fn.max_turns l.turns.left;
 }
 

@@ -48,6 +48,7 @@ bytes-preserved g c = record {
       rw c.in_default.is at (c.in_ok-outcome.ensures.went reading course held input (drop (c.bytes.at + c.in_ok-at.field-0) c.args.piece.now)
       (went_fed reading course held input c.args.piece.now _ c.bytes.at c.in_ok-at.field-0 c.bytes.splitter c.feed.new.self (g.H.Handler.course c.bytes.handler) (g.W.Sink.held c.bytes.writer)
       c.bytes.invariant.within refl (λ records at. c.in_ok-at.ensures.stands reading input records at) (c.bytes.invariant.went reading course held input w)));
+  well = λ before. c.in_ok-outcome.ensures.well (c.bytes.invariant.well before);
   spent = record {
     within = omega (arith, c.bytes.invariant.spent.within, c.in_ok-outcome.ensures.spent.within);
     least = omega (arith, c.bytes.invariant.spent.least, c.in_ok-outcome.ensures.spent.least);

@@ -1,5 +1,5 @@
 use Rattle.std.specs.Prelude.{ℕ, ◌≡◌, ◌≤◌, ◌-◌, List, Option, length, drop}
-use Rattle.lsp_replay.specs.Turns.{Spends}
+use Rattle.lsp_replay.specs.Turns.{Spends, StaysWell}
 use Rattle.lsp_replay.specs.Log.{Reading, Record}
 use Rattle.lsp_replay.specs.Splitting.{IsReady}
 use Rattle.lsp_replay.specs.Course.{Course}
@@ -14,6 +14,7 @@ invariant-bytes g l = record {
   went : (reading : Reading) (course : List Record → Course) (held : Option (List ℕ)) (input : List ℕ) →
       Went reading course held input l.piece l.fn.splitter (g.H.Handler.course l.fn.handler) (g.W.Sink.held l.fn.writer) →
       Went reading course held input (drop l.at l.piece) l.splitter (g.H.Handler.course l.handler) (g.W.Sink.held l.writer);
+  well : StaysWell (g.W.Sink.has_failed l.fn.writer) (g.W.Sink.has_failed l.writer);
   spent : Spends (g.W.Sink.count l.fn.writer) (g.W.Sink.count l.writer) l.fn.turns.left l.turns.left;
 }
 

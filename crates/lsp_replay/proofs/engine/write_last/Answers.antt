@@ -26,6 +26,7 @@ parts-preserved g c =
             (subst (λ (z : List ℕ). Appends (g.W.Sink.held c.parts.writer) (g.W.Sink.held c.write_given.new.writer) z) c.deref.ensures.value c.in_ok-write_given.ensures.wrote),
       );
       outcome = part.1 ∙ c.parts.invariant.outcome;
+      well = λ before. c.in_ok-write_given.ensures.well (c.parts.invariant.well before);
       spent = record {
         within = omega (arith, c.parts.invariant.spent.within, c.in_ok-write_given.ensures.spent.within);
         least = omega (arith, c.parts.invariant.spent.least, c.in_ok-write_given.ensures.spent.least);

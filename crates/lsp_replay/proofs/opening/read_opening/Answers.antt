@@ -21,6 +21,7 @@ opening-preserved g c =
       within = omega (arith, front.0, next_len c.opening.len c.in_ok-n.n c.opening.buf c.read_piece.new.buf within long c.in_ok-n.ensures.bound);
       front = front;
       read = next_read _ _ _ c.opening.len c.in_ok-n.n c.opening.buf c.read_piece.new.buf within long c.in_ok-n.ensures.bound c.opening.invariant.read c.in_ok-n.ensures.read;
+      well = λ before. c.in_ok-n.ensures.well (c.opening.invariant.well before);
       spent = record {
         within = omega (arith, c.opening.invariant.spent.within, c.in_ok-n.ensures.spent.within);
         least = omega (arith, c.opening.invariant.spent.least, c.in_ok-n.ensures.spent.least);

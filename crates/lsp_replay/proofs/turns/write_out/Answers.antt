@@ -1,4 +1,5 @@
 use Rattle.std.proofs.Common.{ℕ, take, drop, sym, arith}
+use Rattle.std.proofs.lemmas.Bool.{false_from_ne_true}
 use Rattle.std.proofs.lemmas.Result.{err_from_is_err_and}
 use Rattle.std.proofs.lemmas.List.{length-take, length-drop, take-append-drop}
 use Rattle.lsp_replay.proofs.PortLemmas.{kept, nothing_more, more_written}
@@ -16,6 +17,7 @@ pub writes-preserved-in-Ok : goal.writes-preserved-in-Ok
 writes-preserved-in-Ok g c = record {
   within = omega (arith, c.in-Ok.ensures.bound, length-take {A = ℕ}, length-drop {A = ℕ});
   wrote = more_written _ _ _ c.args.bytes.now c.writes.at c.in-Ok.n c.writes.invariant.within c.in-Ok.ensures.bound c.writes.invariant.wrote c.in-Ok.ensures.bytes;
+  well = λ before. false_from_ne_true _ (λ failed. omega (arith, c.in-Ok.n-test, (c.in-Ok.ensures.failed.0 failed).0));
   spent = record {
     within = omega (arith, c.writes.invariant.spent.within, c.in_ok-spend.ensures.spent);
     least = omega (arith, c.writes.invariant.spent.least, c.in-Ok.ensures.counted);
