@@ -53,7 +53,7 @@ pub fn run<R: Runtime + AllocGlobal>(rt: &R, turns: u32) -> Result<()> {
 fn change_one<R: Runtime + AllocGlobal>(rt: &R, size: usize, turns: u32) -> Result<()> {
     let text = made_text(rt.alloc(), size)?;
     let lines = text.len() / LINE.len();
-    let changes = scattered(rt.alloc(), turns, lines)?;
+    let changes = scattered(rt.alloc(), 0, turns, lines)?;
     for (work, what) in WORKS {
         let worked = worked(rt, &text, &changes, work)?;
         report(rt, what, size, &turns, &worked)?;

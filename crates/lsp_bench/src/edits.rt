@@ -3,7 +3,7 @@
 ghost use Rattle.lsp_text.specs.LineStarts.{Indexes};
 
 use anyhow::Result;
-use lsp_edit::{Change, MAX_OLD_TEXT, Pieces, compose_over, fits};
+use lsp_edit::{Change, MAX_OLD_TEXT, Pieces, compose, compose_over, fits};
 use lsp_text::{Encoding, Lines, Position, Range};
 use std::alloc::{AllocError, Global};
 use std::fmt::Display;
@@ -198,10 +198,17 @@ pub fn scattered_line(k: u32, lines: usize) -> usize {
     (k as usize).wrapping_mul(7_919) % lines.max(1)
 }
 
-pub fn scattered(alloc: Global, count: u32, lines: usize) -> Result<Vec<Change>, AllocError> {
+/// So many one-character changes all over a text of so many lines, from the k-th on.
+pub fn scattered(
+    alloc: Global,
+    k: u32,
+    count: u32,
+    lines: usize,
+) -> Result<Vec<Change>, AllocError> {
     let mut changes = Vec::new(alloc);
-    for k in 0..count {
-        changes.push(typed(alloc, scattered_line(k, lines))?)?;
+    for next in 0..count {
+        let line = scattered_line(k.wrapping_add(next), lines);
+        changes.push(typed(alloc, line)?)?;
     }
     Ok(changes)
 }
@@ -213,7 +220,7 @@ fn batch<R: Runtime + AllocGlobal>(rt: &R, text: &str, count: u32) -> Result<()>
     }
     let size = text.len();
     let lines = Lines::new(rt.alloc(), text)?;
-    let changes = scattered(rt.alloc(), count, size / LINE.len())?;
+    let changes = scattered(rt.alloc(), 0, count, size / LINE.len())?;
     let mut places = Vec::new(rt.alloc());
     for k in 0..count {
         places.push(scattered_line(k, size / LINE.len()))?;
@@ -221,7 +228,36 @@ fn batch<R: Runtime + AllocGlobal>(rt: &R, text: &str, count: u32) -> Result<()>
     let made = text_of_batch(rt, text, &lines, &changes)?;
     report(rt, "a batch and its text", size, &count, &made)?;
     let plain = replaced(rt, text, &places)?;
-    report(rt, "as many replace_range", size, &count, &plain)
+    report(rt, "as many replace_range", size, &count, &plain)?;
+    let next = scattered(rt.alloc(), count, count, size / LINE.len())?;
+    let both = told_as_one(rt, text, &changes, &next)?;
+    report(rt, "two such batches told as one", size, &count, &both)
+}
+
+/// What a second batch does to the text that a first one left, told over the first one's text. Only the telling is counted.
+fn told_as_one<R: Runtime + AllocGlobal>(
+    rt: &R,
+    text: &str,
+    first: &[Change],
+    second: &[Change],
+) -> Result<Measured> {
+    let mut measured = Measured::new();
+    if text.len() > MAX_OLD_TEXT || !fits(first) || !fits(second) {
+        return Ok(measured);
+    }
+    let one = compose(rt.alloc(), text, Encoding::Utf16, first)?;
+    let middle = one.text()?;
+    if middle.len() > MAX_OLD_TEXT {
+        return Ok(measured);
+    }
+    let two = compose(rt.alloc(), &middle, Encoding::Utf16, second)?;
+    for _ in 0..ROUNDS {
+        let start = Instant::now(rt)?;
+        let both = Pieces::then(rt.alloc(), &one, &two)?;
+        measured.took(start.elapsed(rt)?);
+        measured.made = both.spans().len();
+    }
+    Ok(measured)
 }
 
 /// The text that a batch leaves, with its lines.
