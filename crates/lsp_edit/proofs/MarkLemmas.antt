@@ -43,14 +43,6 @@ mark_passing spans index passed low mark order ordered =
     subst (λ (p : ℕ). Passing (parts_of spans) (parts_of (take index spans)) (parts_of (drop index spans)) p low) (sym mark.1)
     (passing_at spans low index mark.0 (omega (arith, mark.1, order)) ordered)
 
-pub mark_first : (spans : List Span) → IsMark spans 0 0
-mark_first spans = (omega arith, refl)
-
-pub mark_none : (spans : List Span) (index passed place : ℕ) → index ≡ 0 → 0 < place → IsMark spans index passed → passed < place
-mark_none spans index passed place none some mark =
-    let z : sum_by span_len (take index spans) ≡ 0 = ap (λ (k : ℕ). sum_by span_len (take k spans)) none in
-    omega (arith, mark.1, z, some)
-
 -- each span's ends are in order
 pub span_ordered : (spans : List Span) (index : ℕ) (default : Span) → index < length spans → AreOrdered (parts_of spans) → IsOrdered (part_of (get_or spans index default))
 span_ordered spans index default within ordered =

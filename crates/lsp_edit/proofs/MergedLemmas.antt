@@ -94,13 +94,6 @@ pub put_all_apart : (made parts : List Part) → NoneTouch made → NoneTouch pa
 put_all_apart made [] none more = none
 put_all_apart made (part ∷ parts) none more = put_apart made part parts none more.0 more.1
 
-pub whole_apart : (bytes : List ℕ) → NoneTouch (whole_parts bytes)
-whole_apart bytes =
-    ⊎_elim
-    (λ (t : (length bytes == 0) ≡ true). rw t tt)
-    (λ (f : (length bytes == 0) ≡ false). rw f (tt, tt))
-    (cases_Bool (length bytes == 0))
-
 pub new_apart : (bytes : List ℕ) → NoneTouch (new_parts bytes)
 new_apart bytes =
     ⊎_elim

@@ -121,10 +121,6 @@ pub record AreEnded (parts front rest : List Part) (passed place : ℕ) : Type 0
   pub front_is : front_parts parts place ≡ front ++ first_front rest (place - passed)
   pub cut : IsFirstCut rest (place - passed)
 
-pub ended_at_start : (parts : List Part) → AreCut parts 0 → AreEnded parts [] parts 0 0
-ended_at_start [] cut = record { front_is = refl; cut = tt }
-ended_at_start (part ∷ parts) cut = record { front_is = refl; cut = cut_to_end part parts 0 cut (omega arith) }
-
 pub ended_behind : (parts front rest : List Part) (passed place : ℕ) → 0 < place → ArePassed parts rest passed (place - 1) → AreBefore parts front rest passed (place - 1) → EndsBehind rest ((place - 1) - passed) → AreCut parts place → AreEnded parts front rest passed place
 ended_behind parts front rest passed place some are before behind cut = by_first rest (before place (omega arith)) (are.cut place (omega arith) cut) behind
   where

@@ -33,34 +33,11 @@ use Rattle.lsp_edit.proofs.RebuiltLemmas.{numbers-append}
 use Rattle.lsp_edit.proofs.RoomLemmas.{Applying, change_longer}
 use Rattle.lsp_edit.proofs.WalkLemmas.{changes_of, changes_of-cons}
 
--- one more of what is left
-on_more : {X : Type 0} (made rest more all : List X) (x : X) → rest ≡ x ∷ more → made ++ rest ≡ all → (made ++ x ∷ []) ++ more ≡ all
-on_more made rest more all x is told = append_assoc made (x ∷ []) more ∙ (ap (λ r. made ++ r) (sym is) ∙ told)
-
 pub item_rest : (items : List PlainItem) (index : ℕ) (default : PlainItem) (first : Item) → index < length items → item_of (get_or items index default) ≡ first → items_in_order (drop index items) ≡ first ∷ items_in_order (drop (index + 1) items)
 item_rest items index default first within is = ap items_in_order (drop_more items index default within) ∙ ap (λ (i : Item). i ∷ items_in_order (drop (index + 1) items)) is
 
 pub item_none : (items : List PlainItem) (index : ℕ) → length items ≤ index → items_in_order (drop index items) ≡ []
 item_none items index past = ap items_in_order (drop_all index items past)
-
-pub text_on : (old : List ℕ) (items : List PlainItem) (index : ℕ) (default : PlainItem) (made : List ℕ) (character : ℕ) → index < length items → character ≡ character_of old (item_of (get_or items index default))
-    → made ++ text_of old (items_in_order (drop index items)) ≡ text_of old (items_in_order items) → (made ++ character ∷ []) ++ text_of old (items_in_order (drop (index + 1) items)) ≡ text_of old (items_in_order items)
-text_on old items index default made character within is told =
-    on_more made (text_of old (items_in_order (drop index items))) (text_of old (items_in_order (drop (index + 1) items))) (text_of old (items_in_order items)) character
-    (ap (text_of old) (item_rest items index default (item_of (get_or items index default)) within refl) ∙ ap (λ (c : ℕ). c ∷ text_of old (items_in_order (drop (index + 1) items))) (sym is))
-    told
-
-pub spelled_on : (characters : List ℕ) (index default : ℕ) (made : List ℕ) → index < length characters → made ++ encode_utf8_all (drop index characters) ≡ encode_utf8_all characters
-    → (made ++ encode_utf8 (get_or characters index default)) ++ encode_utf8_all (drop (index + 1) characters) ≡ encode_utf8_all characters
-spelled_on characters index default made within told =
-    append_assoc made (encode_utf8 (get_or characters index default)) (encode_utf8_all (drop (index + 1) characters))
-    ∙ (ap (λ (cs : List ℕ). made ++ encode_utf8_all cs) (sym (drop_more characters index default within)) ∙ told)
-
-pub new_on : (all : List Item) (items : List PlainItem) (text : List ℕ) (index default : ℕ) (item : PlainItem) → index < length text → item_of item ≡ New (get_or text index default)
-    → items_in_order items ++ map New (drop index text) ≡ all → items_in_order (items ++ item ∷ []) ++ map New (drop (index + 1) text) ≡ all
-new_on all items text index default item within is told =
-    ap (λ (is : List Item). is ++ map New (drop (index + 1) text)) (map-append item_of items (item ∷ []) ∙ ap (λ (i : Item). items_in_order items ++ i ∷ []) is)
-    ∙ on_more (items_in_order items) (map New (drop index text)) (map New (drop (index + 1) text)) all (New (get_or text index default)) (ap (map New) (drop_more text index default within)) told
 
 pub numbered_on : (items : List PlainItem) (index : ℕ) (item : PlainItem) → item_of item ≡ Old index → items_in_order items ≡ map Old (numbers_from 0 index) → items_in_order (items ++ item ∷ []) ≡ map Old (numbers_from 0 (index + 1))
 numbered_on items index item is told =
@@ -242,10 +219,6 @@ pub range_put : (units : ℕ → ℕ) (old : List ℕ) (items own made : List It
 range_put units old items own made characters range start stop low high ends own_is low_is high_is made_is =
     range_made units old items characters range start stop ends
     ∙ ap (λ (i : List Item). Ok i) (sym (made_is ∙ (λ i. take (low_is i) (own_is i) ++ (map New characters ++ drop (high_is i) (own_is i)))))
-
--- An item told through others, as the program has them.
-pub item_through : (first : List PlainItem) (index : ℕ) → item_of (get_or first index (PlainNew 0)) ≡ told_through (items_in_order first) (Old index)
-item_through first index = sym (at_mapped item_of first index (PlainNew 0))
 
 -- The fields of what two runs of changes make together.
 pub then_plain : (before old mid over : List ℕ) (items others : List Item) (made : List Item) → ArePlain before old items → ArePlain mid over others → chars mid ≡ text_of (chars before) items → made ≡ then_items items others → ArePlain before old made

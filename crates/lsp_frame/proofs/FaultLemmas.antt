@@ -157,11 +157,6 @@ frame_len max_body held start stop_at at frame =
 pub no_frame_at_header : {A : Type 0} (max_body : ℕ) (held : List ℕ) → BeginsHeader held → IsFrame max_body held → A
 no_frame_at_header max_body held begins frame = absurd (no_frame_in_header max_body held held frame.body [] begins frame.spells (sym (append-nil held)))
 
-pub stage_bound : (max_body : ℕ) (held : List ℕ) (s : Stage) → IsAtStage max_body held s → length held ≤ 8192 + max_body
-stage_bound max_body held (stage.Header header) at = omega (arith, at.short)
-stage_bound max_body held (stage.Body start stop_at) at = omega (arith, at.within, at.ends, at.short, at.small)
-stage_bound max_body held stage.Failed at = at
-
 pub not_failed : (s : Stage) → (s ≡ stage.Failed → ⊥) → has_failed s ≡ false
 not_failed (stage.Header header) sound = refl
 not_failed (stage.Body start stop_at) sound = refl

@@ -114,18 +114,6 @@ judged_decided max_body bytes k header.BadLength at = at
 judged_decided max_body bytes k header.BodyTooLong at = at
 judged_decided max_body bytes k header.BadCharset at = at
 
--- A header that has ended is whole.
-pub end_whole : (max_body : ℕ) (held : List ℕ) (header : Header) → IsSoFar max_body held header → header.shape ≡ shape.End → length held ≤ 8192 → IsWhole max_body held header.notes
-end_whole max_body held header so_far at_end short =
-    let shaped : so_far.part ≡ 13 ∷ 10 ∷ [] = subst (λ (s : Shape). IsPartOfLine s so_far.part) at_end so_far.shaped in
-    record {
-      lines = so_far.lines;
-      each = so_far.each;
-      is = so_far.is ∙ ap (λ x. lines_bytes so_far.lines ++ x) shaped;
-      short = short;
-      noted = so_far.noted;
-    }
-
 -- The fault of a header that is whole.
 pub whole_fault : (max_body : ℕ) (held rest : List ℕ) (notes : Notes) (fault : HeaderFault) → IsWhole max_body held notes → Err fault ≡ judge_notes notes → IsDecidedAt max_body (held ++ rest) (length held - 1) fault
 whole_fault max_body held rest notes fault whole told =

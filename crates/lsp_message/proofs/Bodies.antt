@@ -60,9 +60,6 @@ depth-value_of (spec.error_reply id error) = omega (arith, depth-id_or_null id)
 
 -- ---- what is read back
 
-sound_ascii : (s : List ℕ) → IsUtf8 s → Sound (string s)
-sound_ascii s u = sound_string s u
-
 utf8-name_of : (e : Encoding) → IsUtf8 (name_of e)
 utf8-name_of Utf8 = IsUtf8-are_ascii _ refl
 utf8-name_of Utf16 = IsUtf8-are_ascii _ refl

@@ -2,7 +2,6 @@ pub mod Readings
 pub mod Sound
 pub mod Bodies
 pub mod ReadBack
-pub mod Proper
 pub mod Memory
 pub mod MessageLemmas
 pub mod RefusalLemmas

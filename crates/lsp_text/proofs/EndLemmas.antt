@@ -15,19 +15,6 @@ abbrev pub Marks : ℕ → ℕ → List ℕ → Type 0
 Marks low high [] = Unit {0}
 Marks low high (at ∷ marks) = (low + at < high) × Marks low high marks
 
--- one more that passes, and one that doesn't
-filter-yes : (p : ℕ → Bool) (x : ℕ) (xs : List ℕ) → p x ≡ true → filter p (x ∷ xs) ≡ x ∷ filter p xs
-filter-yes p x xs e = rw e refl
-
-filter-no : (p : ℕ → Bool) (x : ℕ) (xs : List ℕ) → p x ≡ false → filter p (x ∷ xs) ≡ filter p xs
-filter-no p x xs e = rw e refl
-
-pub ends_of-yes : (text : List ℕ) (low at : ℕ) (marks : List ℕ) → ends_line text (suc (low + at)) ≡ true → ends_of text low (at ∷ marks) ≡ suc (low + at) ∷ ends_of text low marks
-ends_of-yes text low at marks e = filter-yes (ends_line text) (suc (low + at)) (map (λ x. suc (low + x)) marks) e
-
-pub ends_of-no : (text : List ℕ) (low at : ℕ) (marks : List ℕ) → ends_line text (suc (low + at)) ≡ false → ends_of text low (at ∷ marks) ≡ ends_of text low marks
-ends_of-no text low at marks e = filter-no (ends_line text) (suc (low + at)) (map (λ x. suc (low + x)) marks) e
-
 -- behind any other character no line ends
 no_mark : (text : List ℕ) (k : ℕ) → is_byte2 10 13 (slice_index text k) ≡ false → ends_line text (suc k) ≡ false
 no_mark text k e = grind (arith, nat_tests)

@@ -10,9 +10,6 @@ use Rattle.std.proofs.lemmas.Bool.{cases_lt, and_parts, and_from}
 use Rattle.std.proofs.lemmas.Str.{encodes-append, length-encode, len_utf8_bounds, encodes-chars, chars-append, IsUtf8-take, IsCharBoundary-from_take, scalars-chars}
 use Rattle.lsp_text.specs.Text.{place_of}
 
-pub place_start : (text : List ℕ) → place_of text 0 ≡ 0
-place_start text = refl
-
 pub place_end : (text : List ℕ) → place_of text (length text) ≡ length (encode_utf8_all text)
 place_end text = ap (λ cs. length (encode_utf8_all cs)) (take_all (length text) text (omega arith))
 

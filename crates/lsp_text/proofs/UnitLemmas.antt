@@ -15,9 +15,6 @@ units_more units text i k order within =
     let at_k : get_or (drop i text) (k - i) 0 ≡ get_or text k 0 = rw (get_or-drop, here) refl in
     rw (next, sum_by_more units (drop i text) (k - i) 0 inside, at_k) refl
 
-pub units_none : (units : ℕ → ℕ) (text : List ℕ) (i : ℕ) → units_between units text i i ≡ 0
-units_none units text i = let e : i - i ≡ 0 = omega arith in rw e refl
-
 -- Each character has a unit, so a longer part of a text has more of them.
 module _ (units : ℕ → ℕ) (some : (c : ℕ) → 1 ≤ units c) (text : List ℕ) where
   pub units_rise : (i j k : ℕ) → i ≤ j → j < k → k ≤ length text → units_between units text i j < units_between units text i k
