@@ -1,5 +1,5 @@
 -- The plain program's steps.
-use Rattle.std.proofs.Common.{ℕ, suc, ◌≡◌, ◌+◌, ◌-◌, ◌<◌, ◌≤◌, ◌⊎◌, true, false, nat_lt, List, [], ◌∷◌, ◌++◌, length, map, take, drop, get_or, refl, sym, ap, ap₂, ◌∙◌, subst, arith, ⊎_elim, append_assoc, append-nil, length-take-le, take_all, IsCharBoundary, sum_by, le-leb, lt-ltb, le-ltb, encode_utf8, encode_utf8_all, string_bytes, string_len, Some, Ok}
+use Rattle.std.proofs.Common.{ℕ, suc, ◌≡◌, ◌+◌, ◌-◌, ◌<◌, ◌≤◌, ◌⊎◌, true, false, nat_lt, List, [], ◌∷◌, ◌++◌, length, map, take, drop, get_or, refl, sym, ap, ap₂, ◌∙◌, subst, arith, ⊎_elim, append_assoc, append-nil, length-take-le, take_all, IsCharBoundary, sum_by, le-leb, lt-ltb, le-ltb, encode_utf8_all, string_bytes, string_len, Some, Ok}
 use Rattle.std.specs.Str.{chars, IsUtf8}
 use Rattle.std.proofs.lemmas.Bool.{or_from, or_left, or_right}
 use Rattle.std.proofs.lemmas.List.{drop_more, drop_all, map-append, length-map, length-drop, take-map, drop-map}
@@ -13,10 +13,9 @@ use Rattle.lsp_text.specs.TextLines.{numbers_from, splits_crlf}
 use Rattle.lsp_text.proofs.PlaceLemmas.{place_boundary}
 use Rattle.lsp_edit.specs.declared.change.Change.{Change}
 use Rattle.lsp_edit.specs.declared.plain.Item.{Item as PlainItem}
-use Rattle.lsp_edit.specs.declared.plain.Item.TheVariants.{New as PlainNew}
 use Rattle.lsp_edit.specs.Items.{Item, Old, New, plain, character_of, text_of}
 use Rattle.lsp_edit.specs.Batch.{Edit, after_change, after_changes, changed_in, meaning}
-use Rattle.lsp_edit.specs.Compose.{told_through, then_items}
+use Rattle.lsp_edit.specs.Compose.{then_items}
 use Rattle.lsp_edit.specs.Canonical.{gaps, is_changed, change_of}
 use Rattle.lsp_edit.specs.Edited.{Edited, both_counts, edit_of, edited_bytes, edited_text}
 use Rattle.lsp_edit.specs.Faults.{places_at, ends_of}
@@ -24,7 +23,7 @@ use Rattle.lsp_edit.specs.Keeps.{Keeps}
 use Rattle.lsp_edit.specs.Laws.{HasExactEnds, AllHaveExactEnds}
 use Rattle.lsp_edit.specs.Plain.{ArePlain, item_of, items_in_order, gap_at, change_at}
 use Rattle.lsp_edit.proofs.AppliedLemmas.{AreEnds, ends_told}
-use Rattle.lsp_edit.proofs.ComposeLemmas.{at_mapped, text_of-then, then_keeps}
+use Rattle.lsp_edit.proofs.ComposeLemmas.{text_of-then, then_keeps}
 use Rattle.lsp_edit.proofs.CutLemmas.{chars_front}
 use Rattle.lsp_edit.proofs.GapLemmas.{gaps_from, gaps_are, ends_exact}
 use Rattle.lsp_edit.proofs.EditedLemmas.{plain_text, edited_chars, first_bytes}

@@ -9,15 +9,12 @@ use Rattle.lsp_frame.specs.Charset.{trimmed, has_good_charset}
 use Rattle.lsp_frame.specs.Verdict.{values_of, is_number, number, judge, judge_values, judge_single}
 use Rattle.lsp_frame.specs.Stream.{IsFrame}
 use Rattle.lsp_frame.specs.Faults.{IsJudgedAt, IsDecidedAt}
-use Rattle.lsp_frame.specs.Progress.{IsSoFar, IsWhole, IsInBody, IsPartOfLine, length_said, length_of, charset_of, notes_of, both_judged, length_judged, judge_notes}
+use Rattle.lsp_frame.specs.Progress.{IsWhole, IsInBody, length_said, length_of, charset_of, notes_of, both_judged, length_judged, judge_notes}
 use Rattle.lsp_frame.specs.declared.fault.HeaderFault.{HeaderFault}
 use Rattle.lsp_frame.specs.declared.fault.HeaderFault.TheVariants as header
 use Rattle.lsp_frame.specs.declared.notes.Length.TheVariants as said
 use Rattle.lsp_frame.specs.declared.notes.Charset.TheVariants as named
 use Rattle.lsp_frame.specs.declared.notes.Notes.{Notes}
-use Rattle.lsp_frame.specs.declared.header.Header.{Header}
-use Rattle.lsp_frame.specs.declared.shape.Shape.{Shape}
-use Rattle.lsp_frame.specs.declared.shape.Shape.TheVariants as shape
 
 pub or-true : (b : Bool) → (b || true) ≡ true
 or-true true = refl
