@@ -20,16 +20,10 @@ mod kept_lines;
 mod laws;
 mod pieces;
 pub mod plain;
-#[cfg(test)]
-mod plain_tests;
-#[cfg(test)]
-mod refused_tests;
 mod replace;
 mod row;
 mod span;
 mod spans;
-#[cfg(test)]
-mod tests;
 mod through;
 
 pub use change::{Change, MAX_NEW_TEXT, fits};

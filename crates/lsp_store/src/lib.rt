@@ -12,8 +12,6 @@ mod document;
 mod fault;
 mod held;
 mod store;
-#[cfg(test)]
-mod tests;
 
 pub use document::Document;
 pub use fault::StoreFault;

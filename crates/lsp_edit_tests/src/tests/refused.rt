@@ -1,11 +1,11 @@
-//! Each call that can answer want of memory, where one growth is refused: nothing changes, and the same call made again goes on. Each
+//! Each call that can run out of memory, where one growth is refused: nothing changes, and the same call made again goes on. Each
 //! test prints how many growths were refused.
 
 ghost use Rattle.std.specs.Prelude.{IfOk};
 ghost use Rattle.lsp_text.specs.LineStarts.{Indexes};
 
-use crate::tests::left_by_both;
-use crate::{Change, EditFault, Pieces, compose, fits};
+use super::pieces::left_by_both;
+use lsp_edit::{Change, EditFault, Pieces, compose, fits};
 use lsp_text::{Encoding, Lines, Position, Range};
 use std::alloc::{AllocError, Global};
 use std::test::Fail;
@@ -75,38 +75,78 @@ fn lines(alloc: Global, refused: &mut usize) -> Result<Lines, AllocError>
     }
 }
 
+/// The text before and after each of the three changes.
+static TEXTS: [(&str, &str); 3] = [
+    (TEXT, "aXYcdef\n"),
+    ("aXYcdef\n", "aXYcf\n"),
+    ("aXYcf\n", "ZaXYcf\n"),
+];
+
+/// Applies a change; where memory ran out the text is as before, and the same change is applied again.
+fn apply_again<'a>(
+    pieces: &mut Pieces<'a>,
+    change: &'a Change,
+    before: &str,
+    refused: &mut usize,
+) -> Result<bool, AllocError> {
+    if !pieces.has_room(change) {
+        return Ok(false);
+    }
+    let applied = pieces.apply(Encoding::Utf16, change);
+    if applied != Err(EditFault::NoMemory) {
+        return Ok(applied == Ok(()));
+    }
+    *refused = refused.saturating_add(1);
+    if pieces.text()?.as_str() != before || !pieces.has_room(change) {
+        return Ok(false);
+    }
+    Ok(pieces.apply(Encoding::Utf16, change) == Ok(()))
+}
+
+/// Is this the text as it is now? Asked again where it was refused.
+fn is_text(pieces: &Pieces<'_>, wanted: &str, refused: &mut usize) -> Result<bool, AllocError> {
+    let text = match pieces.text() {
+        Ok(text) => text,
+        Err(_) => {
+            *refused = refused.saturating_add(1);
+            pieces.text()?
+        }
+    };
+    Ok(text.as_str() == wanted)
+}
+
+/// Applies changes, and compares the text before and after each.
+fn texts_are<'a>(
+    pieces: &mut Pieces<'a>,
+    changes: &'a [Change],
+    texts: &[(&str, &str)],
+    refused: &mut usize,
+) -> Result<bool, AllocError> {
+    for (change, (before, after)) in changes.iter().zip(texts) {
+        if !apply_again(pieces, change, before, refused)? {
+            return Ok(false);
+        }
+        if !is_text(pieces, after, refused)? {
+            return Ok(false);
+        }
+    }
+    Ok(changes.len() == texts.len())
+}
+
+/// Is this the text that is handed over, with an index of so many lines?
+fn is_handed_over(pieces: Pieces<'_>, wanted: &str, lines: usize) -> Result<bool, AllocError> {
+    let (text, index) = pieces.into_text()?;
+    Ok(text.as_str() == wanted && index.count() == lines)
+}
+
 #[test]
 fn refused_apply(rt: HostRuntime) -> Result<(), Fail> {
     let mut refused: usize = 0;
     let lines = lines(rt.alloc(), &mut refused)?;
     let changes = changes(rt.alloc(), &mut refused)?;
     let mut pieces = Pieces::over(rt.alloc(), TEXT, &lines);
-    let texts = [TEXT, "aXYcdef\n", "aXYcf\n", "ZaXYcf\n"];
-    for (change, (before, after)) in changes.iter().zip(texts.iter().zip(texts.iter().skip(1))) {
-        assert!(rt; pieces.has_room(change));
-        let mut applied = pieces.apply(Encoding::Utf16, change);
-        if applied == Err(EditFault::NoMemory) {
-            refused = refused.saturating_add(1);
-            assert_eq!(rt; pieces.text()?.as_str(), *before);
-            assert!(rt; pieces.has_room(change));
-            applied = pieces.apply(Encoding::Utf16, change);
-        }
-        assert_eq!(rt; applied, Ok(()));
-        let text = match pieces.text() {
-            Ok(text) => text,
-            Err(_) => {
-                refused = refused.saturating_add(1);
-                pieces.text()?
-            }
-        };
-        assert_eq!(rt; text.as_str(), *after);
-    }
-    let (text, lines) = match pieces.into_text() {
-        Ok(made) => made,
-        Err(_) => return Err(EditFault::NoMemory.into()),
-    };
-    assert_eq!(rt; text.as_str(), "ZaXYcf\n");
-    assert_eq!(rt; lines.count(), 2);
+    assert!(rt; texts_are(&mut pieces, &changes, &TEXTS, &mut refused)?);
+    assert!(rt; is_handed_over(pieces, "ZaXYcf\n", 2)?);
     println!(rt; "refused {refused}")?;
     Ok(())
 }
@@ -147,22 +187,30 @@ fn refused_canonical(rt: HostRuntime) -> Result<(), Fail> {
     Ok(())
 }
 
+/// The text, how many canonical changes, and how many spans two batches leave.
+fn left_by(
+    alloc: Global,
+    first: &[Change],
+    second: &[Change],
+) -> Result<(String, usize, usize), EditFault> {
+    let (outcome, spans) = left_by_both(alloc, TEXT, first, second)?;
+    let (text, canonical) = outcome?;
+    Ok((text, canonical.len(), spans))
+}
+
 #[test]
 fn refused_then(rt: HostRuntime) -> Result<(), Fail> {
     let mut refused: usize = 0;
     let first = [change(rt.alloc(), Some((1, 2)), "XY", &mut refused)?];
     let second = [change(rt.alloc(), Some((2, 4)), "", &mut refused)?];
-    let (text, canonical, spans) = match left_by_both(rt.alloc(), TEXT, &first, &second) {
-        Ok(made) => made,
-        Err(fault) => {
-            assert_eq!(rt; fault, EditFault::NoMemory);
-            refused = refused.saturating_add(1);
-            left_by_both(rt.alloc(), TEXT, &first, &second)?
-        }
-    };
+    let mut outcome = left_by(rt.alloc(), &first, &second);
+    if outcome == Err(EditFault::NoMemory) {
+        refused = refused.saturating_add(1);
+        outcome = left_by(rt.alloc(), &first, &second);
+    }
+    let (text, canonical, spans) = outcome?;
     assert_eq!(rt; text.as_str(), "aXdef\n");
-    assert_eq!(rt; canonical.len(), 1);
-    assert_eq!(rt; spans, 3);
+    assert_eq!(rt; (canonical, spans), (1, 3));
     println!(rt; "refused {refused}")?;
     Ok(())
 }

@@ -1,0 +1,235 @@
+//! Batches on small texts: what they leave, their canonical batches and their faults. Ranges are counted in UTF-16.
+
+mod pieces;
+mod plain;
+mod refused;
+mod spans;
+
+use lsp_edit::{Change, EditFault, Side};
+use lsp_samples::edits::{ALL, Edit, batch, change};
+use std::alloc::{AllocError, Global};
+
+/// A text, a batch, the text that it leaves, and its canonical batch.
+pub(super) type Batch = (&'static str, &'static [Edit], &'static str, &'static [Edit]);
+
+pub(super) static BATCHES: [Batch; 16] = [
+    (
+        "abc",
+        &[(0, 1, 0, 2, ""), (0, 1, 0, 1, "X")],
+        "aXc",
+        &[(0, 1, 0, 2, "X")],
+    ),
+    (
+        "abc",
+        &[(0, 2, 0, 2, "X"), (0, 1, 0, 2, "")],
+        "aXc",
+        &[(0, 1, 0, 2, "X")],
+    ),
+    ("aa", &[(0, 0, 0, 1, "")], "a", &[(0, 0, 0, 1, "")]),
+    ("aa", &[(0, 1, 0, 2, "")], "a", &[(0, 1, 0, 2, "")]),
+    ("aa", &[(ALL, 0, 0, 0, "a")], "a", &[(0, 0, 0, 2, "a")]),
+    (
+        "abcde",
+        &[(0, 1, 0, 2, "X"), (0, 3, 0, 4, "Y"), (0, 2, 0, 3, "")],
+        "aXYe",
+        &[(0, 1, 0, 4, "XY")],
+    ),
+    (
+        "a\rX\nb",
+        &[(1, 0, 1, 1, ""), (1, 0, 1, 0, "Q")],
+        "a\r\nQb",
+        &[(2, 0, 2, 0, "Q"), (1, 0, 1, 1, "")],
+    ),
+    (
+        "a\r\nb",
+        &[(0, 1, 1, 0, "\r")],
+        "a\rb",
+        &[(0, 1, 1, 0, "\r")],
+    ),
+    (
+        "a\r\nb",
+        &[(0, 1, 1, 0, "\r\n")],
+        "a\r\nb",
+        &[(0, 1, 1, 0, "\r\n")],
+    ),
+    (
+        "abcdefgh",
+        &[(0, 0, 0, 3, ""), (0, 5, 0, 5, "xyz")],
+        "defghxyz",
+        &[(0, 8, 0, 8, "xyz"), (0, 0, 0, 3, "")],
+    ),
+    (
+        "abc",
+        &[(ALL, 0, 0, 0, "abc")],
+        "abc",
+        &[(0, 0, 0, 3, "abc")],
+    ),
+    ("abc", &[(ALL, 0, 0, 0, "")], "", &[(0, 0, 0, 3, "")]),
+    ("", &[(ALL, 0, 0, 0, "")], "", &[]),
+    ("abc", &[(0, 1, 0, 1, "X"), (0, 1, 0, 2, "")], "abc", &[]),
+    ("a\n", &[(7, 3, 7, 3, "b")], "a\nb", &[(1, 0, 1, 0, "b")]),
+    (
+        "\u{1F600}",
+        &[(0, 2, 0, 2, "e\u{301}"), (0, 0, 0, 0, "x")],
+        "x\u{1F600}e\u{301}",
+        &[(0, 2, 0, 2, "e\u{301}"), (0, 0, 0, 0, "x")],
+    ),
+];
+
+/// A text, a batch with a change that has no result, and its fault.
+pub(super) type Faulty = (&'static str, &'static [Edit], EditFault);
+
+pub(super) static FAULTS: [Faulty; 5] = [
+    (
+        "abc",
+        &[(0, 0, 0, 1, "Z"), (0, 2, 0, 1, "")],
+        EditFault::ReversedRange { change: 1 },
+    ),
+    (
+        "\u{1F600}",
+        &[(0, 1, 0, 1, "")],
+        EditFault::InsideCharacter {
+            change: 0,
+            side: Side::Start,
+        },
+    ),
+    (
+        "\u{1F600}",
+        &[(0, 2, 0, 1, "")],
+        EditFault::InsideCharacter {
+            change: 0,
+            side: Side::Stop,
+        },
+    ),
+    (
+        "\u{1F600}a",
+        &[
+            (0, 0, 0, 2, ""),
+            (0, 0, 0, 0, "\u{1F600}"),
+            (0, 1, 0, 1, ""),
+        ],
+        EditFault::InsideCharacter {
+            change: 2,
+            side: Side::Start,
+        },
+    ),
+    (
+        "ab\ncd",
+        &[(1, 0, 0, 2, "")],
+        EditFault::ReversedRange { change: 0 },
+    ),
+];
+
+/// A text, two batches, the text that they leave, the canonical batch of both together, and how many spans it has. What was put in and
+/// taken out again leaves no span, and what touches is one.
+pub(super) type Pair = (
+    &'static str,
+    &'static [Edit],
+    &'static [Edit],
+    &'static str,
+    &'static [Edit],
+    usize,
+);
+
+pub(super) static PAIRS: [Pair; 6] = [
+    (
+        "a\n",
+        &[(7, 3, 7, 3, "b")],
+        &[(1, 1, 1, 1, "c")],
+        "a\nbc",
+        &[(1, 0, 1, 0, "bc")],
+        3,
+    ),
+    (
+        "abc",
+        &[(0, 0, 0, 0, "x")],
+        &[(0, 0, 0, 1, "")],
+        "abc",
+        &[],
+        1,
+    ),
+    (
+        "abc",
+        &[(ALL, 0, 0, 0, "aXc")],
+        &[(0, 3, 0, 3, "d")],
+        "aXcd",
+        &[(0, 0, 0, 3, "aXcd")],
+        2,
+    ),
+    (
+        "abcdefgh",
+        &[(0, 0, 0, 3, "")],
+        &[(0, 5, 0, 5, "xyz")],
+        "defghxyz",
+        &[(0, 8, 0, 8, "xyz"), (0, 0, 0, 3, "")],
+        2,
+    ),
+    (
+        "a\rX\nb",
+        &[(1, 0, 1, 1, "")],
+        &[(1, 0, 1, 0, "Q")],
+        "a\r\nQb",
+        &[(2, 0, 2, 0, "Q"), (1, 0, 1, 1, "")],
+        4,
+    ),
+    (
+        "",
+        &[(ALL, 0, 0, 0, "")],
+        &[(0, 0, 0, 0, "a")],
+        "a",
+        &[(0, 0, 0, 0, "a")],
+        1,
+    ),
+];
+
+/// A text and a batch, or the fault of a call.
+pub(super) type Outcome = Result<(String, Vec<Change>), EditFault>;
+
+/// Are the text and the batch these?
+pub(super) fn is_left(
+    alloc: Global,
+    outcome: Outcome,
+    text: &str,
+    canonical: &[Edit],
+) -> Result<bool, AllocError> {
+    let Ok((after, written)) = outcome else {
+        return Ok(false);
+    };
+    if after.as_str() != text {
+        return Ok(false);
+    }
+    Ok(written.as_slice() == batch(alloc, canonical)?.as_slice())
+}
+
+/// The changes of two batches, one after the other.
+pub(super) fn joined(
+    alloc: Global,
+    first: &[Edit],
+    second: &[Edit],
+) -> Result<Vec<Change>, AllocError> {
+    let mut changes = batch(alloc, first)?;
+    for edit in second {
+        changes.push(change(alloc, *edit)?)?;
+    }
+    Ok(changes)
+}
+
+/// A text of so many times two letters.
+pub(super) fn pairs_of_letters(alloc: Global, count: u32) -> Result<String, AllocError> {
+    let mut text = String::new(alloc);
+    for _ in 0..count {
+        text.push_str("aa")?;
+    }
+    Ok(text)
+}
+
+/// A batch that changes the first letter of each of so many pairs.
+pub(super) fn first_letters(alloc: Global, count: u32) -> Result<Vec<Change>, AllocError> {
+    let mut changes = Vec::new(alloc);
+    let mut character: u32 = 0;
+    for _ in 0..count {
+        changes.push(change(alloc, (0, character, 0, character.saturating_add(1), "b"))?)?;
+        character = character.saturating_add(2);
+    }
+    Ok(changes)
+}

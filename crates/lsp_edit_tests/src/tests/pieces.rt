@@ -1,0 +1,143 @@
+//! `Pieces` on the tables: texts, canonical batches, faults, and two batches that are one.
+
+use super::{BATCHES, Batch, FAULTS, Faulty, Outcome, PAIRS, Pair, is_left, joined};
+use lsp_edit::{Change, EditFault, MAX_OLD_TEXT, Pieces, compose, fits};
+use lsp_samples::edits::{Edit, batch};
+use lsp_text::Encoding;
+use std::alloc::{AllocError, Global};
+use std::test::Fail;
+
+/// The text that pieces leave, and the canonical batch.
+fn meaning_of(pieces: &Pieces<'_>) -> Result<(String, Vec<Change>), AllocError> {
+    let text = pieces.text()?;
+    let canonical = pieces.canonical(Encoding::Utf16)?;
+    Ok((text, canonical))
+}
+
+/// What a batch leaves of a text and its canonical batch, or its fault.
+pub(super) fn left(alloc: Global, before: &str, changes: &[Change]) -> Outcome {
+    if before.len() > MAX_OLD_TEXT || !fits(changes) {
+        return Err(EditFault::NoMemory);
+    }
+    let pieces = compose(alloc, before, Encoding::Utf16, changes)?;
+    Ok(meaning_of(&pieces)?)
+}
+
+fn has_its_batch(alloc: Global, row: &Batch) -> Result<bool, AllocError> {
+    let (before, edits, text, canonical) = *row;
+    let changes = batch(alloc, edits)?;
+    is_left(alloc, left(alloc, before, &changes), text, canonical)
+}
+
+#[test]
+fn batches_have_canonical_batches(rt: HostRuntime) -> Result<(), Fail> {
+    for row in &BATCHES {
+        assert!(rt; has_its_batch(rt.alloc(), row)?, "{:?}", row.0);
+    }
+    Ok(())
+}
+
+fn has_its_fault(alloc: Global, row: &Faulty) -> Result<bool, AllocError> {
+    let (before, edits, fault) = *row;
+    let changes = batch(alloc, edits)?;
+    Ok(left(alloc, before, &changes).err() == Some(fault))
+}
+
+#[test]
+fn the_first_faulty_change_is_reported(rt: HostRuntime) -> Result<(), Fail> {
+    for row in &FAULTS {
+        assert!(rt; has_its_fault(rt.alloc(), row)?, "{:?}", row.0);
+    }
+    Ok(())
+}
+
+/// Two batches, one after the other, are one batch of both.
+fn is_one_batch(alloc: Global, row: &Pair) -> Result<bool, AllocError> {
+    let (before, first, second, text, canonical, _) = *row;
+    let changes = joined(alloc, first, second)?;
+    is_left(alloc, left(alloc, before, &changes), text, canonical)
+}
+
+#[test]
+fn two_batches_are_one(rt: HostRuntime) -> Result<(), Fail> {
+    for row in &PAIRS {
+        assert!(rt; is_one_batch(rt.alloc(), row)?, "{:?}", row.0);
+    }
+    Ok(())
+}
+
+/// What two batches, one after the other, leave of a text by what they mean together: the text, its canonical batch, how many spans it
+/// has.
+pub(super) fn left_by_both(
+    alloc: Global,
+    before: &str,
+    first: &[Change],
+    second: &[Change],
+) -> Result<(Outcome, usize), EditFault> {
+    if before.len() > MAX_OLD_TEXT || !fits(first) || !fits(second) {
+        return Err(EditFault::NoMemory);
+    }
+    let one = compose(alloc, before, Encoding::Utf16, first)?;
+    let middle = one.text()?;
+    if middle.len() > MAX_OLD_TEXT {
+        return Err(EditFault::NoMemory);
+    }
+    let two = compose(alloc, &middle, Encoding::Utf16, second)?;
+    let both = Pieces::then(alloc, &one, &two)?;
+    Ok((
+        meaning_of(&both).map_err(EditFault::from),
+        both.spans().len(),
+    ))
+}
+
+fn is_one_meaning(alloc: Global, row: &Pair) -> Result<bool, Fail> {
+    let (before, first, second, text, canonical, spans) = *row;
+    let one = batch(alloc, first)?;
+    let two = batch(alloc, second)?;
+    let (outcome, count) = left_by_both(alloc, before, &one, &two)?;
+    Ok(count == spans && is_left(alloc, outcome, text, canonical)?)
+}
+
+#[test]
+fn two_meanings_are_one(rt: HostRuntime) -> Result<(), Fail> {
+    for row in &PAIRS {
+        assert!(rt; is_one_meaning(rt.alloc(), row)?, "{:?}", row.0);
+    }
+    Ok(())
+}
+
+/// So many changes of `MADE_ANEW`, the text that they leave, and how many lines it has.
+static HANDED_OVER: [(&[Edit], &str, usize); 3] = [
+    (&[(1, 0, 1, 1, "")], "a\r\nb", 2),
+    (&[(1, 0, 1, 1, ""), (1, 0, 1, 0, "Q\r")], "a\r\nQ\rb", 3),
+    (
+        &[(1, 0, 1, 1, ""), (1, 0, 1, 0, "Q\r"), (0, 0, 0, 0, "\n")],
+        "\na\r\nQ\rb",
+        4,
+    ),
+];
+
+/// The text that a batch leaves of `a\rX\nb`, and how many lines the index has that is handed over with it.
+fn handed_over(alloc: Global, changes: &[Change]) -> Result<(String, usize), EditFault> {
+    if !fits(changes) {
+        return Err(EditFault::NoMemory);
+    }
+    let pieces = compose(alloc, "a\rX\nb", Encoding::Utf16, changes)?;
+    let (text, lines) = pieces.into_text()?;
+    Ok((text, lines.count()))
+}
+
+fn is_handed_over(alloc: Global, edits: &[Edit], text: &str, lines: usize) -> Result<bool, Fail> {
+    let changes = batch(alloc, edits)?;
+    let (after, count) = handed_over(alloc, &changes)?;
+    Ok(after.as_str() == text && count == lines)
+}
+
+/// The lines of the text that is handed over are those of that text, whether it was changed in place or built at the end.
+#[test]
+fn a_text_is_handed_over_with_its_lines(rt: HostRuntime) -> Result<(), Fail> {
+    for (edits, text, lines) in &HANDED_OVER {
+        assert!(rt; is_handed_over(rt.alloc(), edits, text, *lines)?, "{lines}");
+    }
+    Ok(())
+}

@@ -1,0 +1,38 @@
+//! Changes as rows of numbers and a text.
+
+use lsp_edit::Change;
+use lsp_text::{Position, Range};
+use std::alloc::{AllocError, Global};
+
+/// A change: the line and the character of its start, those of its end, and the text. [`ALL`] as the first line is the whole text.
+pub type Edit = (u32, u32, u32, u32, &'static str);
+
+/// The line of a change of the whole text.
+pub const ALL: u32 = 4294967295;
+
+/// The change of a row.
+pub fn change(alloc: Global, edit: Edit) -> Result<Change, AllocError> {
+    let (line, character, stop_line, stop_character, text) = edit;
+    let range = if line == ALL {
+        None
+    } else {
+        Some(Range {
+            start: Position { line, character },
+            stop: Position {
+                line: stop_line,
+                character: stop_character,
+            },
+        })
+    };
+    let text = String::from_str(alloc, text)?;
+    Ok(Change { range, text })
+}
+
+/// The batch of some rows.
+pub fn batch(alloc: Global, edits: &[Edit]) -> Result<Vec<Change>, AllocError> {
+    let mut changes = Vec::new(alloc);
+    for edit in edits {
+        changes.push(change(alloc, *edit)?)?;
+    }
+    Ok(changes)
+}

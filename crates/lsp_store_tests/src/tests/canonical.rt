@@ -1,0 +1,283 @@
+//! Canonical messages, byte for byte.
+
+use super::{URI, current, narrow, store_of};
+use lsp_edit::{Change, EditFault};
+use lsp_frame::Limits;
+use lsp_samples::edits::{ALL, Edit, batch, change};
+use lsp_store::{Store, StoreFault};
+use lsp_text::Encoding;
+use std::alloc::{AllocError, Global};
+use std::test::Fail;
+
+/// A text, a batch, the length of its canonical body, its canonical changes, and the text that both leave.
+type Row = (
+    &'static str,
+    &'static [Edit],
+    usize,
+    &'static [Edit],
+    &'static str,
+);
+
+static MESSAGES: [Row; 15] = [
+    ("", &[], 129, &[], ""),
+    (
+        "abc",
+        &[(0, 1, 0, 2, ""), (0, 1, 0, 1, "X")],
+        215,
+        &[(0, 1, 0, 2, "X")],
+        "aXc",
+    ),
+    (
+        "abc",
+        &[(0, 2, 0, 2, "X"), (0, 1, 0, 2, "")],
+        215,
+        &[(0, 1, 0, 2, "X")],
+        "aXc",
+    ),
+    ("aa", &[(0, 0, 0, 1, "")], 214, &[(0, 0, 0, 1, "")], "a"),
+    ("aa", &[(0, 1, 0, 2, "")], 214, &[(0, 1, 0, 2, "")], "a"),
+    ("aa", &[(ALL, 0, 0, 0, "a")], 215, &[(0, 0, 0, 2, "a")], "a"),
+    (
+        "abcde",
+        &[(0, 1, 0, 2, "X"), (0, 3, 0, 4, "Y"), (0, 2, 0, 3, "")],
+        216,
+        &[(0, 1, 0, 4, "XY")],
+        "aXYe",
+    ),
+    (
+        "a\rX\nb",
+        &[(1, 0, 1, 1, "")],
+        214,
+        &[(1, 0, 1, 1, "")],
+        "a\r\nb",
+    ),
+    (
+        "a\rX\nb",
+        &[(1, 0, 1, 1, ""), (1, 0, 1, 0, "Q")],
+        301,
+        &[(2, 0, 2, 0, "Q"), (1, 0, 1, 1, "")],
+        "a\r\nQb",
+    ),
+    (
+        "a\r\nb",
+        &[(0, 1, 1, 0, "\r")],
+        216,
+        &[(0, 1, 1, 0, "\r")],
+        "a\rb",
+    ),
+    (
+        "a\r\nb",
+        &[(0, 1, 1, 0, "\r\n")],
+        218,
+        &[(0, 1, 1, 0, "\r\n")],
+        "a\r\nb",
+    ),
+    (
+        "abcdefgh",
+        &[(0, 0, 0, 3, ""), (0, 5, 0, 5, "xyz")],
+        303,
+        &[(0, 8, 0, 8, "xyz"), (0, 0, 0, 3, "")],
+        "defghxyz",
+    ),
+    (
+        "abc",
+        &[(ALL, 0, 0, 0, "abc")],
+        217,
+        &[(0, 0, 0, 3, "abc")],
+        "abc",
+    ),
+    ("abc", &[(ALL, 0, 0, 0, "")], 214, &[(0, 0, 0, 3, "")], ""),
+    ("", &[(ALL, 0, 0, 0, "")], 129, &[], ""),
+];
+
+/// A text as it is written: only the two ends of a line come among these texts, and each is written by its letter.
+fn written(alloc: Global, text: &str) -> Result<String, AllocError> {
+    let mut written = String::new(alloc);
+    for character in text.chars() {
+        match character {
+            '\r' => written.push_str("\\r")?,
+            '\n' => written.push_str("\\n")?,
+            other => written.push(other)?,
+        }
+    }
+    Ok(written)
+}
+
+/// A change as it is written.
+fn written_change(alloc: Global, edit: &Edit) -> Result<String, AllocError> {
+    let (line, character, stop_line, stop_character, text) = *edit;
+    let text = written(alloc, text)?;
+    format!(in alloc;
+        "{{\"range\":{{\"end\":{{\"character\":{stop_character},\"line\":{stop_line}}},\"start\":{{\"character\":{character},\"line\":{line}}}}},\"text\":\"{text}\"}}"
+    )
+}
+
+/// Changes as they are written.
+fn written_changes(alloc: Global, edits: &[Edit]) -> Result<String, AllocError> {
+    let mut written = String::new(alloc);
+    for edit in edits {
+        if !written.is_empty() {
+            written.push(',')?;
+        }
+        written.push_str(&written_change(alloc, edit)?)?;
+    }
+    Ok(written)
+}
+
+/// The frame with a body of this length, which holds these changes and version 2.
+fn frame_of(alloc: Global, length: usize, edits: &[Edit]) -> Result<String, AllocError> {
+    let changes = written_changes(alloc, edits)?;
+    format!(in alloc;
+        "Content-Length: {length}\r\n\r\n{{\"jsonrpc\":\"2.0\",\"method\":\"textDocument/didChange\",\"params\":{{\"contentChanges\":[{changes}],\"textDocument\":{{\"uri\":\"file:///a\",\"version\":2}}}}}}"
+    )
+}
+
+/// The message of a batch on a text.
+fn message_of(alloc: Global, text: &str, edits: &[Edit]) -> Result<Vec<u8>, Fail> {
+    let store = store_of(alloc, narrow(1, 3)?, 1, text)?;
+    let changes = batch(alloc, edits)?;
+    Ok(store.canonical_message(URI, 2, Encoding::Utf16, &changes)?)
+}
+
+/// The store after a batch on a text.
+fn changed(alloc: Global, text: &str, edits: &[Edit]) -> Result<Store, Fail> {
+    let mut store = store_of(alloc, narrow(1, 3)?, 1, text)?;
+    let changes = batch(alloc, edits)?;
+    store.change(URI, 2, Encoding::Utf16, &changes)?;
+    Ok(store)
+}
+
+/// Is this the message of a batch on a text, and does the batch leave this text?
+fn is_written_so(
+    alloc: Global,
+    text: &str,
+    edits: &[Edit],
+    frame: &str,
+    after: &str,
+) -> Result<bool, Fail> {
+    let bytes = message_of(alloc, text, edits)?;
+    if bytes.as_slice() != frame.as_bytes() {
+        return Ok(false);
+    }
+    let store = changed(alloc, text, edits)?;
+    Ok(current(&store) == Some((2, after)))
+}
+
+/// Do the batch of a row and its canonical changes have the message of the row?
+fn has_its_bytes(alloc: Global, row: &Row) -> Result<bool, Fail> {
+    let (text, edits, length, canonical, after) = *row;
+    let frame = frame_of(alloc, length, canonical)?;
+    if frame.len() != length.saturating_add(23) {
+        return Ok(false);
+    }
+    if !is_written_so(alloc, text, edits, &frame, after)? {
+        return Ok(false);
+    }
+    is_written_so(alloc, text, canonical, &frame, after)
+}
+
+#[test]
+fn messages_have_their_bytes(rt: HostRuntime) -> Result<(), Fail> {
+    for row in &MESSAGES {
+        assert!(rt; has_its_bytes(rt.alloc(), row)?, "{}", row.0);
+    }
+    Ok(())
+}
+
+#[test]
+fn the_message_of_no_changes(rt: HostRuntime) -> Result<(), Fail> {
+    let store = store_of(rt.alloc(), narrow(1, 1)?, 5, "abc")?;
+    let bytes = store.canonical_message(URI, 2147483647, Encoding::Utf8, &[])?;
+    assert_eq!(rt; bytes.len(), 161);
+    assert!(rt; bytes.starts_with(b"Content-Length: 138\r\n\r\n{\"jsonrpc\""));
+    assert!(rt; bytes.ends_with(b"\"uri\":\"file:///a\",\"version\":2147483647}}}"));
+    Ok(())
+}
+
+/// A change that puts so many letters in at the front.
+fn letters(alloc: Global, count: usize) -> Result<Change, AllocError> {
+    let mut letters = change(alloc, (0, 0, 0, 0, ""))?;
+    for _ in 0..count {
+        letters.text.push('x')?;
+    }
+    Ok(letters)
+}
+
+/// A batch of a change that puts so many letters in at the front, and then others.
+fn letters_first(alloc: Global, count: usize, others: &[Edit]) -> Result<Vec<Change>, AllocError> {
+    let mut changes = Vec::new(alloc);
+    changes.push(letters(alloc, count)?)?;
+    for edit in others {
+        changes.push(change(alloc, *edit)?)?;
+    }
+    Ok(changes)
+}
+
+/// The length of the message that puts so many letters in, or its fault.
+fn message_len(store: &Store, alloc: Global, count: usize) -> Result<usize, StoreFault> {
+    let changes = letters_first(alloc, count, &[])?;
+    let bytes = store.canonical_message(URI, 2, Encoding::Utf16, &changes)?;
+    Ok(bytes.len())
+}
+
+/// A number of letters, and the length of the message, or its fault.
+static LENGTHS: [(usize, Result<usize, StoreFault>); 3] = [
+    (3_882, Ok(4_120)),
+    (3_883, Err(StoreFault::BodyTooLong { len: 4_097 })),
+    (4_000, Err(StoreFault::BodyTooLong { len: 4_214 })),
+];
+
+#[test]
+fn bodies_at_the_limit(rt: HostRuntime) -> Result<(), Fail> {
+    let store = store_of(rt.alloc(), Limits::new(4_096, 8_192, 1, 1)?, 1, "")?;
+    for (count, answer) in &LENGTHS {
+        assert!(rt;
+            message_len(&store, rt.alloc(), *count) == *answer,
+            "{count}"
+        );
+    }
+    Ok(())
+}
+
+/// A body that is too long is reported last: the version and the changes besides, and what is reported before it.
+static BEFORE_THE_BODY: [(i32, &[Edit], StoreFault); 4] = [
+    (1, &[], StoreFault::StaleVersion { held: 1 }),
+    (
+        2,
+        &[(0, 2, 0, 1, ""), (0, 0, 0, 0, "")],
+        StoreFault::TooManyChanges,
+    ),
+    (
+        2,
+        &[(0, 2, 0, 1, "")],
+        StoreFault::Edit(EditFault::ReversedRange { change: 1 }),
+    ),
+    (2, &[], StoreFault::TextTooLong),
+];
+
+/// Is a batch of many letters and these changes refused for this reason, and for a document that isn't open as such?
+fn is_refused_before(
+    store: &Store,
+    alloc: Global,
+    version: i32,
+    edits: &[Edit],
+    fault: StoreFault,
+) -> Result<bool, AllocError> {
+    let changes = letters_first(alloc, 5_000, edits)?;
+    if store.canonical_message(URI, version, Encoding::Utf16, &changes) != Err(fault) {
+        return Ok(false);
+    }
+    Ok(store.canonical_message("b", version, Encoding::Utf16, &changes) == Err(StoreFault::NotOpen))
+}
+
+#[test]
+fn a_body_that_is_too_long_is_reported_last(rt: HostRuntime) -> Result<(), Fail> {
+    let store = store_of(rt.alloc(), Limits::new(4_096, 4_999, 1, 2)?, 1, "")?;
+    for (version, edits, fault) in &BEFORE_THE_BODY {
+        assert!(rt;
+            is_refused_before(&store, rt.alloc(), *version, edits, *fault)?,
+            "{fault:?}"
+        );
+    }
+    Ok(())
+}

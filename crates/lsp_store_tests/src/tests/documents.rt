@@ -1,0 +1,346 @@
+//! What opens, changes and closes documents, and each refusal in its order.
+
+use super::{URI, current, narrow, open, store_of};
+use lsp_edit::{EditFault, Side};
+use lsp_samples::edits::{ALL, Edit, batch};
+use lsp_store::{Store, StoreFault};
+use lsp_text::Encoding;
+use std::alloc::Global;
+use std::test::Fail;
+
+const OLD: StoreFault = StoreFault::StaleVersion { held: 5 };
+
+const REVERSED: StoreFault = StoreFault::Edit(EditFault::ReversedRange { change: 1 });
+
+const INSIDE: StoreFault = StoreFault::Edit(EditFault::InsideCharacter {
+    change: 0,
+    side: Side::Stop,
+});
+
+/// A text of version 5, a version, a batch, and the refusal that comes first.
+type Refusal = (&'static str, i32, &'static [Edit], StoreFault);
+
+static REFUSALS: [Refusal; 9] = [
+    ("abc", 5, &[], OLD),
+    ("abc", 4, &[], OLD),
+    (
+        "abc",
+        -2147483648,
+        &[(0, 2, 0, 1, ""), (0, 2, 0, 1, ""), (0, 2, 0, 1, "")],
+        OLD,
+    ),
+    (
+        "abc",
+        6,
+        &[(0, 2, 0, 1, ""), (0, 2, 0, 1, ""), (0, 2, 0, 1, "")],
+        StoreFault::TooManyChanges,
+    ),
+    ("abc", 6, &[(0, 0, 0, 1, "Z"), (0, 2, 0, 1, "")], REVERSED),
+    (
+        "abc",
+        6,
+        &[(ALL, 0, 0, 0, "abcdefghi"), (0, 2, 0, 1, "")],
+        REVERSED,
+    ),
+    ("\u{1F600}", 6, &[(0, 0, 0, 1, "")], INSIDE),
+    ("abcdefgh", 6, &[(0, 8, 0, 8, "x")], StoreFault::TextTooLong),
+    (
+        "abc",
+        6,
+        &[(ALL, 0, 0, 0, "abcdefghi")],
+        StoreFault::TextTooLong,
+    ),
+];
+
+/// Is the batch of a row refused, alike as a message, and is nothing changed?
+fn is_refused(alloc: Global, row: &Refusal) -> Result<bool, Fail> {
+    let (text, version, edits, fault) = *row;
+    let mut store = store_of(alloc, narrow(1, 2)?, 5, text)?;
+    let changes = batch(alloc, edits)?;
+    if store.canonical_message(URI, version, Encoding::Utf16, &changes) != Err(fault) {
+        return Ok(false);
+    }
+    if store.change(URI, version, Encoding::Utf16, &changes) != Err(fault) {
+        return Ok(false);
+    }
+    Ok(current(&store) == Some((5, text)))
+}
+
+#[test]
+fn refusals_come_in_order(rt: HostRuntime) -> Result<(), Fail> {
+    for row in &REFUSALS {
+        assert!(rt; is_refused(rt.alloc(), row)?, "{} {:?}", row.0, row.3);
+    }
+    Ok(())
+}
+
+/// A call on a store.
+pub(super) enum Step {
+    Open(&'static str, i32, &'static str),
+    Change(&'static str, i32, Encoding, &'static [Edit]),
+    Close(&'static str),
+}
+
+/// A call, its answer, and the version and the text of the document of [`URI`] after it.
+pub(super) type Row = (Step, Result<(), StoreFault>, Option<(i32, &'static str)>);
+
+fn answer(store: &mut Store, alloc: Global, step: &Step) -> Result<(), StoreFault> {
+    match step {
+        Step::Open(uri, version, text) => open(store, alloc, uri, *version, text),
+        Step::Change(uri, version, encoding, edits) => {
+            let changes = batch(alloc, edits)?;
+            store.change(uri, *version, *encoding, &changes)
+        }
+        Step::Close(uri) => store.close(uri),
+    }
+}
+
+/// Are these the version and the text of the document of [`URI`], or is it not open?
+fn is_current(store: &Store, wanted: Option<(i32, &str)>) -> bool {
+    current(store) == wanted
+}
+
+/// The number of the first row whose call has another answer, or leaves another document.
+pub(super) fn wrong_row(store: &mut Store, alloc: Global, rows: &[Row]) -> Option<usize> {
+    for (number, (step, wanted, left)) in rows.iter().enumerate() {
+        if answer(store, alloc, step) != *wanted {
+            return Some(number);
+        }
+        if !is_current(store, *left) {
+            return Some(number);
+        }
+    }
+    None
+}
+
+static AFTER_A_FAULT: [Row; 5] = [
+    (Step::Open(URI, 1, "abc"), Ok(()), Some((1, "abc"))),
+    (
+        Step::Change(
+            URI,
+            2,
+            Encoding::Utf16,
+            &[(0, 0, 0, 1, "Z"), (0, 2, 0, 1, "")],
+        ),
+        Err(REVERSED),
+        Some((1, "abc")),
+    ),
+    (
+        Step::Change(URI, 2, Encoding::Utf16, &[(0, 0, 0, 1, "Z")]),
+        Ok(()),
+        Some((2, "Zbc")),
+    ),
+    (
+        Step::Change(
+            URI,
+            9,
+            Encoding::Utf16,
+            &[(0, 0, 0, 2, ""), (0, 1, 0, 1, "\r\nq")],
+        ),
+        Ok(()),
+        Some((9, "c\r\nq")),
+    ),
+    (
+        Step::Change(URI, 10, Encoding::Utf16, &[(1, 1, 1, 1, "!")]),
+        Ok(()),
+        Some((10, "c\r\nq!")),
+    ),
+];
+
+#[test]
+fn a_change_after_a_fault(rt: HostRuntime) -> Result<(), Fail> {
+    let mut store = Store::new(rt.alloc(), narrow(1, 2)?);
+    assert_eq!(rt; wrong_row(&mut store, rt.alloc(), &AFTER_A_FAULT), None);
+    Ok(())
+}
+
+#[test]
+fn the_final_text_alone_is_limited(rt: HostRuntime) -> Result<(), Fail> {
+    let mut store = store_of(rt.alloc(), narrow(1, 2)?, 1, "abcdefgh")?;
+    let changes = batch(rt.alloc(), &[(0, 8, 0, 8, "xyz"), (0, 0, 0, 3, "")])?;
+    assert_eq!(rt; store.change(URI, 2, Encoding::Utf16, &changes), Ok(()));
+    assert_eq!(rt; current(&store), Some((2, "defghxyz")));
+    Ok(())
+}
+
+static LINE_ENDS: [Row; 3] = [
+    (Step::Open(URI, 1, "a\rX\nb"), Ok(()), Some((1, "a\rX\nb"))),
+    (
+        Step::Change(URI, 2, Encoding::Utf16, &[(1, 0, 1, 1, "")]),
+        Ok(()),
+        Some((2, "a\r\nb")),
+    ),
+    (
+        Step::Change(URI, 3, Encoding::Utf16, &[(1, 0, 1, 0, "Q")]),
+        Ok(()),
+        Some((3, "a\r\nQb")),
+    ),
+];
+
+#[test]
+fn line_ends_that_come_together(rt: HostRuntime) -> Result<(), Fail> {
+    let mut store = Store::new(rt.alloc(), narrow(1, 1)?);
+    assert_eq!(rt; wrong_row(&mut store, rt.alloc(), &LINE_ENDS), None);
+    Ok(())
+}
+
+static VERSIONS: [Row; 5] = [
+    (
+        Step::Open(URI, -2147483648, ""),
+        Ok(()),
+        Some((-2147483648, "")),
+    ),
+    (
+        Step::Change(URI, -2147483648, Encoding::Utf8, &[]),
+        Err(StoreFault::StaleVersion { held: -2147483648 }),
+        Some((-2147483648, "")),
+    ),
+    (
+        Step::Change(URI, -2147483647, Encoding::Utf8, &[]),
+        Ok(()),
+        Some((-2147483647, "")),
+    ),
+    (
+        Step::Change(URI, 2147483647, Encoding::Utf8, &[]),
+        Ok(()),
+        Some((2147483647, "")),
+    ),
+    (
+        Step::Change(URI, 2147483647, Encoding::Utf8, &[]),
+        Err(StoreFault::StaleVersion { held: 2147483647 }),
+        Some((2147483647, "")),
+    ),
+];
+
+#[test]
+fn versions_at_their_ends(rt: HostRuntime) -> Result<(), Fail> {
+    let mut store = Store::new(rt.alloc(), narrow(1, 1)?);
+    assert_eq!(rt; wrong_row(&mut store, rt.alloc(), &VERSIONS), None);
+    Ok(())
+}
+
+/// A text that is longer than the limit.
+const LONG: &str = "abcdefghi";
+
+static OPENED_AND_CLOSED: [Row; 11] = [
+    (Step::Open(URI, 1, ""), Ok(()), Some((1, ""))),
+    (
+        Step::Open("", 1, LONG),
+        Err(StoreFault::TextTooLong),
+        Some((1, "")),
+    ),
+    (Step::Open("", 1, "abcdefgh"), Ok(()), Some((1, ""))),
+    (
+        Step::Open(URI, 1, LONG),
+        Err(StoreFault::AlreadyOpen),
+        Some((1, "")),
+    ),
+    (
+        Step::Open("b", 1, LONG),
+        Err(StoreFault::TooManyDocuments),
+        Some((1, "")),
+    ),
+    (Step::Close("b"), Err(StoreFault::NotOpen), Some((1, ""))),
+    (
+        Step::Change(
+            "b",
+            -2147483648,
+            Encoding::Utf8,
+            &[(0, 2, 0, 1, LONG), (0, 2, 0, 1, LONG)],
+        ),
+        Err(StoreFault::NotOpen),
+        Some((1, "")),
+    ),
+    (Step::Close(URI), Ok(()), None),
+    (Step::Close(URI), Err(StoreFault::NotOpen), None),
+    (Step::Open(URI, 0, "a"), Ok(()), Some((0, "a"))),
+    (Step::Close(""), Ok(()), Some((0, "a"))),
+];
+
+#[test]
+fn documents_are_opened_and_closed(rt: HostRuntime) -> Result<(), Fail> {
+    let mut store = Store::new(rt.alloc(), narrow(2, 1)?);
+    assert_eq!(rt; wrong_row(&mut store, rt.alloc(), &OPENED_AND_CLOSED), None);
+    assert_eq!(rt; store.len(), 1);
+    assert!(rt; store.get("").is_none());
+    assert_eq!(rt; store.limits().max_docs(), 2);
+    Ok(())
+}
+
+static ONE_DOCUMENT: [Row; 9] = [
+    (Step::Open(URI, 5, "abc"), Ok(()), Some((5, "abc"))),
+    (
+        Step::Open("b", 1, ""),
+        Err(StoreFault::TooManyDocuments),
+        Some((5, "abc")),
+    ),
+    (
+        Step::Open(URI, 1, ""),
+        Err(StoreFault::AlreadyOpen),
+        Some((5, "abc")),
+    ),
+    (
+        Step::Change(
+            URI,
+            6,
+            Encoding::Utf16,
+            &[(0, 0, 0, 0, ""), (0, 0, 0, 0, "")],
+        ),
+        Err(StoreFault::TooManyChanges),
+        Some((5, "abc")),
+    ),
+    (Step::Close(URI), Ok(()), None),
+    (Step::Open(URI, 1, "a"), Ok(()), Some((1, "a"))),
+    (
+        Step::Open(URI, 2, ""),
+        Err(StoreFault::AlreadyOpen),
+        Some((1, "a")),
+    ),
+    (Step::Close(URI), Ok(()), None),
+    (Step::Close(URI), Err(StoreFault::NotOpen), None),
+];
+
+#[test]
+fn one_document_and_one_change(rt: HostRuntime) -> Result<(), Fail> {
+    let mut store = Store::new(rt.alloc(), narrow(1, 1)?);
+    assert_eq!(rt; wrong_row(&mut store, rt.alloc(), &ONE_DOCUMENT), None);
+    assert_eq!(rt; store.len(), 0);
+    Ok(())
+}
+
+/// The URI and the language of the document at an index; empty where there is none.
+fn names_at(store: &Store, index: usize) -> (&str, &str) {
+    match store.at(index) {
+        Some(document) => (document.uri(), document.language()),
+        None => ("", ""),
+    }
+}
+
+/// Are these the URIs of the documents from the first on, and is there no other?
+fn is_order(store: &Store, uris: &[&str]) -> bool {
+    for (index, uri) in uris.iter().enumerate() {
+        if names_at(store, index) != (*uri, "plaintext") {
+            return false;
+        }
+    }
+    store.len() == uris.len() && store.at(uris.len()).is_none()
+}
+
+static THREE_OPENED: [Row; 4] = [
+    (Step::Open(URI, 1, ""), Ok(()), Some((1, ""))),
+    (Step::Open("b", 1, ""), Ok(()), Some((1, ""))),
+    (Step::Open("c", 1, ""), Ok(()), Some((1, ""))),
+    (Step::Close(URI), Ok(()), None),
+];
+
+static OPENED_AGAIN: [Row; 1] = [(Step::Open(URI, 1, ""), Ok(()), Some((1, "")))];
+
+#[test]
+fn a_document_that_is_opened_again_goes_last(rt: HostRuntime) -> Result<(), Fail> {
+    let mut store = Store::new(rt.alloc(), narrow(3, 1)?);
+    assert_eq!(rt; wrong_row(&mut store, rt.alloc(), &THREE_OPENED), None);
+    assert!(rt; is_order(&store, &["b", "c"]));
+    assert_eq!(rt; wrong_row(&mut store, rt.alloc(), &OPENED_AGAIN), None);
+    assert!(rt; is_order(&store, &["b", "c", URI]));
+    Ok(())
+}

@@ -1,0 +1,135 @@
+//! The least and the greatest limits, many documents, and a long URI.
+
+use super::documents::{Row, Step, wrong_row};
+use super::{URI, current, narrow, open, store_of};
+use lsp_edit::{Change, EditFault};
+use lsp_frame::Limits;
+use lsp_samples::edits::change;
+use lsp_store::{Store, StoreFault};
+use lsp_text::Encoding;
+use std::alloc::{AllocError, Global};
+use std::test::Fail;
+
+static NO_TEXT: [Row; 5] = [
+    (Step::Open(URI, 1, ""), Ok(()), Some((1, ""))),
+    (
+        Step::Change(URI, 2, Encoding::Utf16, &[(0, 0, 0, 0, "x")]),
+        Err(StoreFault::TextTooLong),
+        Some((1, "")),
+    ),
+    (
+        Step::Change(URI, 2, Encoding::Utf16, &[(9, 9, 9, 9, "")]),
+        Ok(()),
+        Some((2, "")),
+    ),
+    (Step::Close(URI), Ok(()), None),
+    (Step::Open(URI, 1, "x"), Err(StoreFault::TextTooLong), None),
+];
+
+#[test]
+fn the_least_limits(rt: HostRuntime) -> Result<(), Fail> {
+    let mut store = Store::new(rt.alloc(), Limits::new(4_096, 0, 1, 1)?);
+    assert_eq!(rt; wrong_row(&mut store, rt.alloc(), &NO_TEXT), None);
+    Ok(())
+}
+
+/// So many changes whose range is reversed.
+fn reversed(alloc: Global, count: usize) -> Result<Vec<Change>, AllocError> {
+    let mut changes = Vec::new(alloc);
+    for _ in 0..count {
+        changes.push(change(alloc, (0, 2, 0, 1, ""))?)?;
+    }
+    Ok(changes)
+}
+
+/// The answer to a batch of so many reversed changes. The first one is faulty, so that the others need not be put in.
+fn answer_to(store: &mut Store, alloc: Global, count: usize) -> Result<(), StoreFault> {
+    let changes = reversed(alloc, count)?;
+    store.change(URI, 2, Encoding::Utf16, &changes)
+}
+
+#[test]
+fn the_greatest_limits(rt: HostRuntime) -> Result<(), Fail> {
+    let greatest = Limits::new(1_073_741_824, 1_073_741_824, 65_536, 1_048_576)?;
+    let mut store = store_of(rt.alloc(), greatest, 1, "abc")?;
+    assert_eq!(rt;
+        answer_to(&mut store, rt.alloc(), 1_048_576),
+        Err(StoreFault::Edit(EditFault::ReversedRange { change: 0 }))
+    );
+    assert_eq!(rt;
+        answer_to(&mut store, rt.alloc(), 1_048_577),
+        Err(StoreFault::TooManyChanges)
+    );
+    assert_eq!(rt; current(&store), Some((1, "abc")));
+    Ok(())
+}
+
+/// Opens so many documents, each with its number for a URI.
+fn open_numbered(store: &mut Store, alloc: Global, count: u32) -> Result<(), StoreFault> {
+    for number in 0..count {
+        let uri = format!(in alloc; "{number}")?;
+        open(store, alloc, &uri, 1, "")?;
+    }
+    Ok(())
+}
+
+#[test]
+fn as_many_documents_as_there_may_be(rt: HostRuntime) -> Result<(), Fail> {
+    let mut store = Store::new(rt.alloc(), Limits::new(4_096, 0, 65_536, 1)?);
+    open_numbered(&mut store, rt.alloc(), 65_536)?;
+    assert_eq!(rt;
+        open(&mut store, rt.alloc(), "x", 1, ""),
+        Err(StoreFault::TooManyDocuments)
+    );
+    assert_eq!(rt; store.len(), 65_536);
+    assert!(rt;
+        store
+            .at(65_535)
+            .is_some_and(|document| document.uri() == "65535")
+    );
+    Ok(())
+}
+
+/// A URI of so many bytes.
+fn long_uri(alloc: Global, len: usize) -> Result<String, AllocError> {
+    let mut uri = String::new(alloc);
+    for _ in 0..len {
+        uri.push('%')?;
+    }
+    Ok(uri)
+}
+
+/// The length of the message of no changes, under this version.
+fn message_len(store: &Store, uri: &str, version: i32) -> Result<usize, StoreFault> {
+    let bytes = store.canonical_message(uri, version, Encoding::Utf8, &[])?;
+    Ok(bytes.len())
+}
+
+/// The answer of a store to the message of an open document, which is changed before and closed after it.
+fn changed_message_len(alloc: Global, limits: Limits, uri: &str) -> Result<usize, StoreFault> {
+    let mut store = Store::new(alloc, limits);
+    open(&mut store, alloc, uri, 1, "")?;
+    store.change(uri, 2, Encoding::Utf8, &[])?;
+    let len = message_len(&store, uri, 3);
+    store.close(uri)?;
+    len
+}
+
+/// The length of the message of an open document.
+fn opened_message_len(alloc: Global, limits: Limits, uri: &str) -> Result<usize, StoreFault> {
+    let mut store = Store::new(alloc, limits);
+    open(&mut store, alloc, uri, 1, "")?;
+    message_len(&store, uri, 2)
+}
+
+#[test]
+fn a_uri_of_a_million_bytes(rt: HostRuntime) -> Result<(), Fail> {
+    let uri = long_uri(rt.alloc(), 1_000_000)?;
+    assert_eq!(rt;
+        changed_message_len(rt.alloc(), narrow(1, 1)?, &uri),
+        Err(StoreFault::BodyTooLong { len: 1_000_120 })
+    );
+    let wide = Limits::new(1_000_120, 0, 1, 1)?;
+    assert_eq!(rt; opened_message_len(rt.alloc(), wide, &uri), Ok(1_000_147));
+    Ok(())
+}

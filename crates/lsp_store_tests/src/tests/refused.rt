@@ -1,0 +1,125 @@
+//! Calls that run out of memory once, and are made again.
+
+use super::{URI, current, narrow, open, store_of};
+use lsp_edit::Change;
+use lsp_samples::edits::{ALL, Edit, batch};
+use lsp_store::{Store, StoreFault};
+use lsp_text::Encoding;
+use std::alloc::{AllocError, Global};
+use std::test::Fail;
+
+#[test]
+fn refused_open(rt: HostRuntime) -> Result<(), Fail> {
+    let mut store = Store::new(rt.alloc(), narrow(1, 1)?);
+    let mut refused = 0;
+    if open(&mut store, rt.alloc(), URI, 1, "a\nb") == Err(StoreFault::NoMemory) {
+        refused += 1;
+        assert_eq!(rt; store.len(), 0);
+        open(&mut store, rt.alloc(), URI, 1, "a\nb")?;
+    }
+    assert_eq!(rt; current(&store), Some((1, "a\nb")));
+    println!(rt; "refused {refused}")?;
+    Ok(())
+}
+
+/// A store with one open document: made again where it was refused, which is counted.
+fn store_again(alloc: Global, text: &str, refused: &mut usize) -> Result<Store, Fail> {
+    match store_of(alloc, narrow(1, 2)?, 1, text) {
+        Ok(store) => Ok(store),
+        Err(_) => {
+            *refused = refused.saturating_add(1);
+            Ok(store_of(alloc, narrow(1, 2)?, 1, text)?)
+        }
+    }
+}
+
+/// A batch: made again where it was refused, which is counted.
+fn batch_again(
+    alloc: Global,
+    edits: &[Edit],
+    refused: &mut usize,
+) -> Result<Vec<Change>, AllocError> {
+    match batch(alloc, edits) {
+        Ok(changes) => Ok(changes),
+        Err(_) => {
+            *refused = refused.saturating_add(1);
+            batch(alloc, edits)
+        }
+    }
+}
+
+/// Changes the document; where memory ran out it is as it was, and the same call is made again.
+fn change_again(
+    store: &mut Store,
+    text: &str,
+    changes: &[Change],
+    refused: &mut usize,
+) -> Result<bool, StoreFault> {
+    if store.change(URI, 2, Encoding::Utf16, changes) != Err(StoreFault::NoMemory) {
+        return Ok(true);
+    }
+    *refused = refused.saturating_add(1);
+    if current(store) != Some((1, text)) {
+        return Ok(false);
+    }
+    store.change(URI, 2, Encoding::Utf16, changes)?;
+    Ok(true)
+}
+
+/// Does a batch on a text leave this text, whichever request was refused? Counts the refusals.
+fn leaves(
+    alloc: Global,
+    text: &str,
+    edits: &[Edit],
+    after: &str,
+    refused: &mut usize,
+) -> Result<bool, Fail> {
+    let mut store = store_again(alloc, text, refused)?;
+    let changes = batch_again(alloc, edits, refused)?;
+    if !change_again(&mut store, text, &changes, refused)? {
+        return Ok(false);
+    }
+    Ok(current(&store) == Some((2, after)))
+}
+
+#[test]
+fn refused_change_of_a_range(rt: HostRuntime) -> Result<(), Fail> {
+    let mut refused = 0;
+    let edits = [(0, 1, 1, 1, "X\r\n\n")];
+    assert!(rt; leaves(rt.alloc(), "a\nb", &edits, "aX\r\n\n", &mut refused)?);
+    println!(rt; "refused {refused}")?;
+    Ok(())
+}
+
+/// The length of the message of a batch: written again where it was refused, which is counted.
+fn message_len(
+    store: &Store,
+    changes: &[Change],
+    refused: &mut usize,
+) -> Result<usize, StoreFault> {
+    let mut outcome = store.canonical_message(URI, 2, Encoding::Utf16, changes);
+    if outcome == Err(StoreFault::NoMemory) {
+        *refused = refused.saturating_add(1);
+        outcome = store.canonical_message(URI, 2, Encoding::Utf16, changes);
+    }
+    Ok(outcome?.len())
+}
+
+#[test]
+fn refused_canonical_message(rt: HostRuntime) -> Result<(), Fail> {
+    let mut refused = 0;
+    let store = store_again(rt.alloc(), "ab", &mut refused)?;
+    let changes = batch_again(rt.alloc(), &[(ALL, 0, 0, 0, "")], &mut refused)?;
+    assert_eq!(rt; message_len(&store, &changes, &mut refused)?, 237);
+    println!(rt; "refused {refused}")?;
+    Ok(())
+}
+
+#[test]
+fn refused_change_of_a_batch(rt: HostRuntime) -> Result<(), Fail> {
+    let mut refused = 0;
+    let edits = [(0, 1, 0, 2, "\n"), (1, 0, 1, 0, "c")];
+    assert!(rt; leaves(rt.alloc(), "ab", &edits, "a\nc", &mut refused)?);
+    println!(rt; "refused {refused}")?;
+    Ok(())
+}
