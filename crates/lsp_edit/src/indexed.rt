@@ -1,10 +1,11 @@
 //! A text that is kept with its lines.
 
-ghost use Rattle.std.specs.Prelude.{◌≡◌, ◌≤◌, ◌⊎◌, IfErr, IfOk, OnErr, OnOk, Err, Ok, length, map, string_bytes, string_len, sum_by};
+ghost use Rattle.std.specs.Prelude.{◌≡◌, ◌<◌, ◌≤◌, ◌⊎◌, ℕ, List, IfErr, IfOk, IsOk, OnErr, OnOk, Err, Ok, length, map, string_bytes, string_len, sum_by};
 ghost use Rattle.std.specs.Str.{IsUtf8, chars};
 ghost use Rattle.lsp_text.specs.LineStarts.{Indexes};
 ghost use Rattle.lsp_text.specs.Units.{units_in};
-ghost use Rattle.lsp_edit.specs.declared.indexed.TextFault.TheVariants.{NoMemory};
+ghost use Rattle.lsp_text.specs.declared.position.Range.{Range};
+ghost use Rattle.lsp_edit.specs.declared.indexed.TextFault.TheVariants.{TooLong, NoMemory};
 ghost use Rattle.lsp_edit.specs.Batch.{meaning};
 ghost use Rattle.lsp_edit.specs.Edited.{Means, edit_of, edited_bytes};
 ghost use Rattle.lsp_edit.specs.Indexed.{IsCanonicalBatch, alone, told_as, text_within};
@@ -108,14 +109,13 @@ impl IndexedText {
         ensures means { IfOk result (λ pieces.
             Means (chars self.now) (meaning (units_in encoding) (chars self.now) (map edit_of changes.now)) (length changes.now) pieces) }
         ensures within { IfOk result (λ pieces. length (edited_bytes pieces) ≤ max_len) }
+        ensures ok { OnOk result (IsOk (text_within max_len self.now (meaning (units_in encoding) (chars self.now) (map edit_of changes.now)))) }
         ensures told { IfErr result (λ fault. (fault ≡ NoMemory)
             ⊎ (text_within max_len self.now (meaning (units_in encoding) (chars self.now) (map edit_of changes.now)) ≡ Err fault)) }
     {
         let alloc = *self.text.allocator();
         let pieces = compose_over(alloc, &self.text, &self.lines, encoding, changes)?;
-        if pieces.text_len() > max_len {
-            return Err(TextFault::TooLong);
-        }
+        may_have_len(&pieces, max_len)?;
         Ok(pieces)
     }
 
@@ -133,6 +133,9 @@ impl IndexedText {
         ensures same { OnErr result (self.new ≡ self.old) }
         ensures told { IfErr result (λ fault. (fault ≡ NoMemory)
             ⊎ (text_within max_len self.old (meaning (units_in encoding) (chars self.old) (alone range new.now)) ≡ Err fault)) }
+        // Memory is taken last.
+        ensures memory { result ≡ Err NoMemory
+            → IsOk (text_within max_len self.old (meaning (units_in encoding) (chars self.old) (alone range new.now))) }
     {
         let (start, stop) = ends(&self.lines, &self.text, encoding, range, 0)?;
         if self.text.len() - (stop - start) + new.len() > max_len {
@@ -158,6 +161,9 @@ impl IndexedText {
         ensures same { OnErr result (self.new ≡ self.old) }
         ensures told { IfErr result (λ fault. (fault ≡ NoMemory)
             ⊎ (text_within max_len self.old (meaning (units_in encoding) (chars self.old) (map edit_of changes.now)) ≡ Err fault)) }
+        // For one change of a range memory is taken last.
+        ensures memory { result ≡ Err NoMemory → (range : Range) (text : List ℕ) → map edit_of changes.now ≡ alone range text
+            → IsOk (text_within max_len self.old (meaning (units_in encoding) (chars self.old) (map edit_of changes.now))) }
     {
         if let [
             Change {
@@ -193,4 +199,15 @@ impl IndexedText {
         let pieces = self.composed(encoding, changes, max_len)?;
         Ok(pieces.canonical(encoding)?)
     }
+}
+
+/// Whether the text of pieces has at most `max_len` bytes. Takes no memory.
+fn may_have_len(pieces: &Pieces<'_>, max_len: usize) -> Result<(), TextFault>
+    ensures ok { OnOk result (length (edited_bytes pieces.now) ≤ max_len) }
+    ensures error { IfErr result (λ fault. (fault ≡ TooLong) × (max_len < length (edited_bytes pieces.now))) }
+{
+    if pieces.text_len() > max_len {
+        return Err(TextFault::TooLong);
+    }
+    Ok(())
 }

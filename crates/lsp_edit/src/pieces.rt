@@ -1,9 +1,10 @@
 //! A text that changes are applied to, kept as spans of the old text and of the changes' texts.
 
-ghost use Rattle.std.specs.Prelude.{◌≡◌, ◌↔◌, ◌+◌, ◌*◌, ◌++◌, ◌≤◌, ℕ, IfErr, IfOk, OnErr, OnOk, Ok, IsTrue, List, map, length, string_bytes, string_len};
+ghost use Rattle.std.specs.Prelude.{◌≡◌, ◌≢◌, ◌↔◌, ◌+◌, ◌*◌, ◌++◌, ◌≤◌, ℕ, IfErr, IfOk, OnErr, OnOk, Ok, Err, IsOk, IsTrue, List, map, length, string_bytes, string_len};
 ghost use Rattle.std.specs.Str.{chars};
 ghost use Rattle.lsp_text.specs.LineStarts.{Indexes};
 ghost use Rattle.lsp_text.specs.Units.{units_in};
+ghost use Rattle.lsp_edit.specs.declared.fault.EditFault.TheVariants.{NoMemory};
 ghost use Rattle.lsp_edit.specs.Items.{Item, plain};
 ghost use Rattle.lsp_edit.specs.Parts.{AreParts, Ascend, NoneEmpty, NoneTouch, items_of, parts_of};
 ghost use Rattle.lsp_edit.specs.Compose.{then_items};
@@ -145,6 +146,7 @@ impl<'a> Pieces<'a> {
     /// The places of a range's two ends in the text as it is now. `change` is the number that a fault tells.
     fn places(&mut self, encoding: Encoding, range: Range) -> Result<(usize, usize), EditFault>
         ensures same { self.new ≡ self.old }
+        ensures memory { result ≡ Err NoMemory → self.old.changes ≢ 0 }
         ensures places { IsPlaces result (places_at self.old.changes (edited_text self.old) (ends_of (units_in encoding) (edited_text self.old) range)) }
     {
         if self.changes == 0 {
@@ -185,6 +187,8 @@ impl<'a> Pieces<'a> {
         ensures same { OnErr result (self.new ≡ self.old) }
         ensures told { IfErr result (λ fault. TellsFault self.old.changes
             (after_change (units_in encoding) self.old.before self.old.items (record { range = Some range; text = chars text.now })) fault) }
+        ensures memory { result ≡ Err NoMemory → self.old.changes ≡ 0 → IsOk
+            (after_change (units_in encoding) self.old.before self.old.items (record { range = Some range; text = chars text.now })) }
     {
         let (start, stop) = self.places(encoding, range)?;
         let current = match self.current.take() {
@@ -207,6 +211,9 @@ impl<'a> Pieces<'a> {
         ensures same { OnErr result (self.new ≡ self.old) }
         ensures told { IfErr result (λ fault. TellsFault self.old.changes
             (after_change (units_in encoding) self.old.before self.old.items (edit_of change.now)) fault) }
+        // Before the first change its range is resolved without memory.
+        ensures memory { result ≡ Err NoMemory → self.old.changes ≡ 0
+            → IsOk (after_change (units_in encoding) self.old.before self.old.items (edit_of change.now)) }
     {
         match change.range {
             None => self.apply_to_all(&change.text),

@@ -6,7 +6,7 @@ ghost use Rattle.std.specs.Str.{chars};
 ghost use Rattle.lsp_text.specs.LineStarts.{Indexes};
 ghost use Rattle.lsp_text.specs.TextLines.{numbers_from};
 ghost use Rattle.lsp_text.specs.Units.{units_in};
-ghost use Rattle.lsp_edit.specs.Items.{Old as OldItem, New as NewItem, character_of as spec_character_of, plain as plain_items, text_of as spec_text_of};
+ghost use Rattle.lsp_edit.specs.Items.{Item as SpecItem, Old as OldItem, New as NewItem, character_of as spec_character_of, plain as plain_items, text_of as spec_text_of};
 ghost use Rattle.lsp_edit.specs.Batch.{Edit, after_change, after_changes, changed_in, meaning};
 ghost use Rattle.lsp_edit.specs.Canonical.{canonical as spec_canonical, is_changed};
 ghost use Rattle.lsp_edit.specs.Compose.{then_items as spec_then_items, told_through as spec_told_through};
@@ -115,11 +115,16 @@ impl<'a> Plain<'a> {
     /// What two runs of changes make together, the second over the text that the first left.
     pub fn then(&self, second: &Plain) -> Result<Self, AllocError>
         requires { second.now.before ≡ edited_text self.now }
-        ensures { IfOk result (λ plain. plain ≡ record {
+        ensures composed { IfOk result (λ plain. plain ≡ record {
           before = self.now.before;
           items = spec_then_items self.now.items second.now.items;
           changes = both_counts self.now.changes second.now.changes;
         }) }
+        ensures means { (units : ℕ → ℕ) (batch next : List Edit) → meaning units self.now.before batch ≡ Ok self.now.items
+            → meaning units second.now.before next ≡ Ok second.now.items
+            → meaning units self.now.before (batch ++ next) ≡ Ok (spec_then_items self.now.items second.now.items) }
+        ensures associative { (third : List SpecItem) → spec_then_items (spec_then_items self.now.items second.now.items) third
+            ≡ spec_then_items self.now.items (spec_then_items second.now.items third) }
     {
         let items = then_items(self.alloc, &self.items, &second.items)?;
         let characters = Vec::from_slice(self.alloc, &self.characters)?;

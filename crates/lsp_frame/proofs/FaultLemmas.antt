@@ -9,6 +9,7 @@ use Rattle.lsp_frame.specs.Frame.{Spells, IsHopeless}
 use Rattle.lsp_frame.specs.Limits.{Bounds}
 use Rattle.lsp_frame.specs.Stream.{Framing, IsFrame, IsPart, HoldsOne, IsStreamFault, IsFeedFault}
 use Rattle.lsp_frame.specs.declared.fault.FrameFault.{FrameFault}
+use Rattle.lsp_frame.specs.declared.fault.FrameFault.TheVariants.{Failed}
 use Rattle.lsp_frame.specs.Faults.{IsBadHeaderAt, IsHeaderTooLongAt, IsJudgedAt, IsDecidedAt, fault_at, place_behind}
 use Rattle.lsp_frame.specs.Progress.{IsInBody, IsAtStage, IsHeaderStop, has_failed}
 use Rattle.lsp_frame.specs.declared.header.Stop.{Stop}
@@ -162,6 +163,16 @@ not_failed (stage.Header header) sound = refl
 not_failed (stage.Body start stop_at) sound = refl
 not_failed stage.Failed sound = absurd (sound refl)
 
+-- A fault of a header is not the one that comes after it.
+pub never_failed : (kind : HeaderFault) (place : ℕ) → fault_at kind place ≡ Failed → ⊥
+never_failed header.BadHeader place e = cc
+never_failed header.HeaderTooLong place e = cc
+never_failed header.MissingLength place e = cc
+never_failed header.RepeatedHeader place e = cc
+never_failed header.BadLength place e = cc
+never_failed header.BodyTooLong place e = cc
+never_failed header.BadCharset place e = cc
+
 pub same_framing : (place : ℕ) (held other : List ℕ) (failed other_failed : Bool) (limits : Bounds) → held ≡ other → failed ≡ other_failed → (let f : Framing = record { place = place; held = held; failed = failed; limits = limits } in f) ≡ (let f : Framing = record { place = place; held = other; failed = other_failed; limits = limits } in f)
 same_framing place held other failed other_failed limits e f =
     ap (λ (p : List ℕ × Bool). record { place = place; held = p.0; failed = p.1; limits = limits }) (let r : (held, failed) ≡ (other, other_failed) = cc in r)
@@ -195,6 +206,10 @@ feed_fault_at now place max_body held other piece was limits why kind k told fau
     let after : new ≡ record old { failed = true } = same_framing place other held true true limits same refl in
     let at : IsStreamFault old new piece fault = stream_fault old piece new kind k told fault sound decided_here told_is fault_is after in
     subst (λ (f : Framing). IsFeedFault f new piece fault) is (feed_fault old piece new kind told fault fault_is at)
+
+-- A framer that hasn't failed holds a part of a frame, or one.
+pub framing_part : (now : Framing) (place : ℕ) (held : List ℕ) (s : Stage) (limits : Bounds) → (let f : Framing = record { place = place; held = held; failed = has_failed s; limits = limits } in f) ≡ now → IsAtStage limits.max_body held s → now.failed ≡ false → IsPart now.limits.max_body now.held
+framing_part now place held s limits is at = subst (λ (f : Framing). f.failed ≡ false → IsPart f.limits.max_body f.held) is (stage_part limits.max_body held s at)
 
 -- A framer that holds no whole frame.
 abbrev pub HasNone : Framing → Type 0

@@ -19,7 +19,9 @@ use Rattle.lsp_frame.specs.declared.header.Stop.TheVariants as stop
 use Rattle.lsp_frame.specs.declared.stage.Stage.{Stage}
 use Rattle.lsp_frame.specs.declared.stage.Stage.TheVariants as stage
 use Rattle.lsp_frame.specs.declared.written.WrittenHeader.{WrittenHeader}
-use Rattle.lsp_frame.specs.Faults.{IsDecidedAt}
+use Rattle.lsp_frame.specs.declared.fault.FrameFault.{FrameFault}
+use Rattle.lsp_frame.specs.declared.fault.FrameFault.TheVariants.{NoMemory}
+use Rattle.lsp_frame.specs.Faults.{IsDecidedAt, fault_at, place_behind}
 
 -- what is here of the line that is coming in
 abbrev pub IsPartOfLine : Shape → List ℕ → Type 0
@@ -147,6 +149,11 @@ IsLineStop held window stop.NoMemory = Unit {0}
 abbrev pub IsHeaderStop : ℕ → List ℕ → Stop → Type 0
 IsHeaderStop max_body bytes (stop.Fault fault at) = IsDecidedAt max_body bytes at fault
 IsHeaderStop max_body bytes stop.NoMemory = Unit {0}
+
+-- why a stream of which so many bytes came before stops
+abbrev pub stopped_at : ℕ → Stop → FrameFault
+stopped_at before (stop.Fault fault at) = fault_at fault (place_behind before at)
+stopped_at before stop.NoMemory = NoMemory
 
 -- a header that is whole
 pub record IsWhole (max_body : ℕ) (held : List ℕ) (notes : Notes) : Type 0 where

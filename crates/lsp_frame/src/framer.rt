@@ -79,11 +79,16 @@ impl Framer {
         let max_body = self.limits.max_body();
         match take_piece(&mut self.held, &mut self.stage, piece, max_body) {
             Ok(taken) => Ok(taken),
-            Err(Stop::Fault(fault, at)) => {
-                self.stage = Stage::Failed;
-                Err(fault.at(self.place.saturating_add(at as u64)))
+            Err(stop) => {
+                let fault = stop.in_stream(self.place);
+                match stop {
+                    Stop::Fault(..) => {
+                        self.stage = Stage::Failed;
+                        Err(fault)
+                    }
+                    Stop::NoMemory => Err(fault),
+                }
             }
-            Err(Stop::NoMemory) => Err(FrameFault::NoMemory),
         }
     }
 
@@ -130,8 +135,13 @@ impl Framer {
     }
 
     /// Is no byte of a frame held, and was no fault found?
+    ///
+    /// Its clauses also say what holds of every framer: it never has more bytes than a frame may have, and never a frame and more.
     pub fn at_rest(&self) -> bool
-        ensures { IsTrue result ↔ ((self.now.held ≡ []) × (self.now.failed ≡ false)) }
+        ensures bound { length self.now.held ≤ 8192 + self.now.limits.max_body }
+        ensures one { self.now.failed ≡ false → HoldsOne self.now.limits.max_body self.now.held }
+        ensures part { self.now.failed ≡ false → IsPart self.now.limits.max_body self.now.held }
+        ensures rest { IsTrue result ↔ ((self.now.held ≡ []) × (self.now.failed ≡ false)) }
     {
         self.held.is_empty() && !matches!(self.stage, Stage::Failed)
     }

@@ -2,10 +2,10 @@
 
 ghost use Rattle.std.specs.Prelude.{◌≡◌, ◌≢◌, ◌+◌, ◌-◌, ◌<◌, ◌≤◌, ◌^◌, ℕ, false, [], ◌++◌, length, take, slice_index, IfOk, IfErr, OnOk, OnErr};
 ghost use Rattle.lsp_frame.specs.Header.{Line, IsLine, line_bytes};
-ghost use Rattle.lsp_frame.specs.Progress.{IsSoFar, IsLineStop, IsHeaderStop, is_over};
+ghost use Rattle.lsp_frame.specs.Progress.{IsSoFar, IsLineStop, IsHeaderStop, is_over, stopped_at};
 ghost use Rattle.lsp_frame.specs.declared.shape.Shape.TheVariants as shape;
 
-use crate::fault::HeaderFault;
+use crate::fault::{FrameFault, HeaderFault};
 use crate::notes::Notes;
 use crate::shape::Shape;
 use memchr::memchr;
@@ -27,6 +27,18 @@ pub(crate) struct Header {
 pub(crate) enum Stop {
     Fault(HeaderFault, usize),
     NoMemory,
+}
+
+impl Stop {
+    /// Why a stream stops for it, with the offset in a stream of which so many bytes came before the frame.
+    pub(crate) fn in_stream(self, before: u64) -> FrameFault
+        ensures { result ≡ stopped_at before self }
+    {
+        match self {
+            Stop::Fault(fault, at) => fault.at(before.saturating_add(at as u64)),
+            Stop::NoMemory => FrameFault::NoMemory,
+        }
+    }
 }
 
 impl Header {

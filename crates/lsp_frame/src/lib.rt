@@ -17,6 +17,8 @@ mod notes;
 mod shape;
 mod stage;
 mod stream;
+#[cfg(test)]
+mod tests;
 mod words;
 mod written;
 

@@ -1,6 +1,6 @@
 //! The frames of a whole stream.
 
-ghost use Rattle.std.specs.Prelude.{◌≡◌, ◌++◌, ℕ, List, Option, false, map, drop, IfOk, MatchOption};
+ghost use Rattle.std.specs.Prelude.{◌≡◌, ◌≢◌, ◌++◌, ℕ, List, Option, false, map, drop, IfOk, OnOk, OnErr, MatchOption};
 ghost use Rattle.std.specs.List.{flat_map};
 ghost use Rattle.lsp_frame.specs.Stream.{IsRead, IsHolding, IsBehind, IsFaulty, IsFrame};
 ghost use Rattle.lsp_frame.specs.declared.fault.FrameFault.{FrameFault};
@@ -46,6 +46,18 @@ pub fn read_frames(alloc: Global, limits: Limits, pieces: &[Vec<u8>]) -> Result<
     })
 }
 
+/// A fault of a stream; out of memory is none.
+fn fault_of_stream(fault: FrameFault) -> Result<FrameFault, AllocError>
+    ensures same { IfOk result (λ found. found ≡ fault) }
+    ensures of_stream { OnOk result (fault ≢ FrameFault.NoMemory) }
+    ensures memory { OnErr result (fault ≡ FrameFault.NoMemory) }
+{
+    match fault {
+        FrameFault::NoMemory => Err(AllocError),
+        _ => Ok(fault),
+    }
+}
+
 /// Takes the frames of one piece, up to a fault.
 fn take_frames(
     alloc: Global,
@@ -66,10 +78,7 @@ fn take_frames(
     while at < piece.len() {
         match framer.feed(&piece[at..]) {
             Ok(taken) => at += taken,
-            Err(fault) => match fault {
-                FrameFault::NoMemory => return Err(AllocError),
-                _ => return Ok(Some(fault)),
-            },
+            Err(fault) => return Ok(Some(fault_of_stream(fault)?)),
         }
         take_frame(alloc, framer, bodies)?;
     }

@@ -1,9 +1,11 @@
 -- A body against the value that its bytes are.
-use Rattle.std.proofs.Common.{◌≡◌, ℕ, ◌<◌, Bool, true, false, List, length, Some, None, Result, Ok, Err, IfOk, IfErr, IsUtf8, refl, ◌∙◌}
+use Rattle.std.proofs.Common.{◌≡◌, ℕ, ◌<◌, Bool, true, false, List, length, Some, None, Result, Ok, Err, IfOk, IfErr, IsErrAnd, MatchResult, IsUtf8, refl, ◌∙◌}
 use Rattle.std.specs.Str.{is_utf8}
 use Rattle.std.proofs.lemmas.Str.{IsUtf8-from_is_utf8, is_utf8-from_IsUtf8}
 use Rattle.serde_json.specs.Data.{Data}
 use Rattle.serde_json.specs.Read.{read}
+use Rattle.serde_json.specs.View.{view}
+use Rattle.serde_json.specs.declared.value.Value.{Value}
 use Rattle.lsp_message.specs.declared.message.Message.{Message}
 use Rattle.lsp_message.specs.declared.message.ReadFault.{ReadFault}
 use Rattle.lsp_message.specs.declared.message.ReadFault.TheVariants.{NotJson, NotAMessage, NoMemory}
@@ -39,3 +41,14 @@ pub fault_by_error : (body : List ℕ) (error : Error) (fault : ReadFault) → I
 fault_by_error body error NotJson is refused memory = reading_of_none body (refused is)
 fault_by_error body error (NotAMessage id) is refused memory = absurd is
 fault_by_error body error NoMemory is refused memory = memory is
+
+-- What is answered to a body by what `serde_json` makes of it.
+pub read_by : (body : List ℕ) (parsed : Result Value Error) (answer : Result Message ReadFault) →
+    IfOk parsed (λ value. IsUtf8 body × (read body ≡ Some (view value))) →
+    IfErr parsed (λ error. ¬ IsMemory error → IsUtf8 body → read body ≡ None) → IfErr parsed (λ error. IsMemory error → 0 < length body) →
+    MatchResult parsed (λ value. Answers answer (message_of (view value))) (λ error. IsErrAnd answer (IsFaultOf error)) →
+    IfOk answer (λ m. reading body ≡ message (message_view m)) × IfErr answer (IsReadFault body)
+read_by body (Ok value) answer ok refused memory h =
+    let is = reading_of_value body (view value) ok.0 ok.1 in (ok_by_reading answer body _ is h, err_by_reading answer body _ is h)
+read_by body (Err error) (Ok m) ok refused memory h = absurd h
+read_by body (Err error) (Err fault) ok refused memory h = (tt, fault_by_error body error fault h refused memory)

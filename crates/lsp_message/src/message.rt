@@ -1,10 +1,10 @@
 //! Which message a body is (LSP 3.17, Base Protocol).
 
-ghost use Rattle.std.specs.Prelude.{◌≡◌, Some, IfOk, IfErr, codes, option_map, string_bytes};
+ghost use Rattle.std.specs.Prelude.{◌≡◌, Some, IfOk, IfErr, IsErrAnd, MatchResult, codes, option_map, string_bytes};
 ghost use Rattle.serde_json.specs.Find.{get_member};
 ghost use Rattle.serde_json.specs.View.{view, members_view};
 ghost use Rattle.lsp_message.specs.Message.{reading, message, id_in, id_found, call_of, answer_of, outcome_of, message_by, message_of, is_version_two};
-ghost use Rattle.lsp_message.specs.Seen.{id_view, message_view, IsReadFault, Answers};
+ghost use Rattle.lsp_message.specs.Seen.{id_view, message_view, IsReadFault, IsFaultOf, Answers};
 
 use crate::members::take;
 use serde_json::{Map, Value};
@@ -85,8 +85,14 @@ pub fn read(alloc: Global, body: &[u8]) -> Result<Message, ReadFault>
     ensures ok { IfOk result (λ m. reading body.now ≡ message (message_view m)) }
     ensures err { IfErr result (IsReadFault body.now) }
 {
-    let value = Value::from_slice(alloc, body)?;
-    message_of(value)
+    message_from(Value::from_slice(alloc, body))
+}
+
+/// The message that a value is, or why a body that was parsed so is none. Out of memory only where parsing was.
+fn message_from(parsed: Result<Value, serde_json::Error>) -> Result<Message, ReadFault>
+    ensures { MatchResult parsed (λ value. Answers result (message_of (view value))) (λ error. IsErrAnd result (IsFaultOf error)) }
+{
+    message_of(parsed?)
 }
 
 fn message_of(value: Value) -> Result<Message, ReadFault>

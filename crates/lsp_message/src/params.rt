@@ -1,6 +1,6 @@
 //! The typed parameters of the three document messages (LSP 3.17, DidOpen, DidChange, DidClose Text Document Notification).
 
-ghost use Rattle.std.specs.Prelude.{◌≡◌, ◌<◌, None, Some, IfOk, IfErr, map, option_map, Err, vec_len};
+ghost use Rattle.std.specs.Prelude.{◌≡◌, ◌<◌, ◌≤◌, [], None, Some, IfOk, IfErr, map, option_map, Err, vec_len, vec_capacity};
 ghost use Rattle.serde_json.specs.View.{view, items_view, members_view};
 ghost use Rattle.lsp_message.specs.declared.params.ParamsFault.TheVariants.{InvalidParams, NoMemory};
 ghost use Rattle.lsp_message.specs.Params.{open_of, change_of, close_of, open_by, edit_in, edits_in, document_in, document_and_changes, change_by, version_in, coordinate_in, position_in, range_in, range_of, TakesMemoryBy, TakesMemory};
@@ -225,9 +225,20 @@ fn edits_in(alloc: Global, values: Vec<Value>) -> Result<Vec<Change>, ParamsFaul
     ensures invalid { result ≡ Err ParamsFault.InvalidParams → edits_in (items_view values.items) ≡ None }
     ensures memory { result ≡ Err ParamsFault.NoMemory → 0 < vec_len values }
 {
-    let mut changes = Vec::with_capacity(alloc, values.len())?;
+    let changes = Vec::with_capacity(alloc, values.len())?;
+    edits_into(changes, values).ok_or(ParamsFault::InvalidParams)
+}
+
+/// Puts changes into an empty list that has room for them; none where one is faulty. Takes no memory.
+fn edits_into(mut changes: Vec<Change>, values: Vec<Value>) -> Option<Vec<Change>>
+    requires empty { changes.items ≡ [] }
+    requires room { vec_len values ≤ vec_capacity changes }
+    ensures { option_map (λ edits. map edit_view edits.items) result ≡ edits_in (items_view values.items) }
+{
     for value in values {
-        changes.push(edit_in(value).ok_or(ParamsFault::InvalidParams)?)?;
+        if changes.push(edit_in(value)?).is_err() {
+            unreachable!();
+        }
     }
-    Ok(changes)
+    Some(changes)
 }

@@ -15,8 +15,8 @@ use Rattle.lsp_store.specs.declared.fault.StoreFault.{StoreFault}
 use Rattle.lsp_store.specs.declared.fault.StoreFault.TheVariants.{AlreadyOpen, TooManyDocuments, TextTooLong, NotOpen}
 use Rattle.lsp_store.specs.declared.held.Held.{Held}
 use Rattle.lsp_store.specs.Faults.{fault_of, IsRefusal}
-use Rattle.lsp_store.specs.Table.{Entry, Refusal, entry_at, open_refusal, entry_refusal, change_refusal, changed, already_open, opens, changes, closes}
-use Rattle.lsp_store.specs.Opened.{StoreData, Takes, IsRefused, entry_under, entry_of}
+use Rattle.lsp_store.specs.Table.{IsLeftToMeaning, Entry, Refusal, entry_at, open_refusal, entry_refusal, change_refusal, changed, already_open, opens, changes, closes}
+use Rattle.lsp_store.specs.Opened.{MayTakeMemory, StoreData, Takes, IsRefused, entry_under, entry_of}
 use Rattle.lsp_store.proofs.TableLemmas.{at_uri, entry_at-lookup, is_some-entry_at, entry_found, table-insert_entry, table-set_value, set_value-found, table-remove_entry}
 
 -- what callers see of the fields
@@ -120,3 +120,8 @@ module _ (limits : Bounds) (es : List (String Global × Held)) (kept : StoreData
         table = rw (entry_at-lookup uri es, ← found, is, table-remove_entry uri es) refl;
         limits = refl;
       })
+
+-- An open document, on which nothing but its meaning refuses a batch.
+pub may_take : (kept : StoreData) (uri : List ℕ) (version : ℤ) (batch : List Edit) (entry : Entry) → entry_at kept.table uri ≡ Some entry
+    → IsLeftToMeaning kept.limits entry version batch → MayTakeMemory kept uri version batch
+may_take kept uri version batch entry is_open left = rw is_open left

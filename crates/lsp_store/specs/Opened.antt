@@ -1,10 +1,11 @@
 -- A store as callers see it, and what its calls make of it.
-use Rattle.std.specs.Prelude.{◌≡◌, ℕ, List, String, string_bytes, Ok}
+use Rattle.std.specs.Prelude.{◌≡◌, ℕ, ℤ, IsSomeAnd, List, String, string_bytes, Ok}
 use Rattle.std.specs.declared.alloc.Global.{Global}
 use Rattle.lsp_frame.specs.Limits.{Bounds}
 use Rattle.lsp_store.specs.declared.fault.StoreFault.{StoreFault}
 use Rattle.lsp_store.specs.declared.held.Held.{Held}
-use Rattle.lsp_store.specs.Table.{Entry, Command, after_command, command_refusal}
+use Rattle.lsp_edit.specs.Batch.{Edit}
+use Rattle.lsp_store.specs.Table.{Entry, Command, IsLeftToMeaning, entry_at, after_command, command_refusal}
 use Rattle.lsp_store.specs.Faults.{IsRefusal}
 
 -- the limits that a store keeps, and its open documents
@@ -27,3 +28,7 @@ pub record Takes (old : StoreData) (command : Command) (new : StoreData) : Type 
 -- A command is refused for the cause that stands in the table, or for want of memory.
 abbrev pub IsRefused : StoreData → Command → StoreFault → Type 0
 IsRefused old command fault = IsRefusal (command_refusal old.limits old.table command) fault
+
+-- All that may still refuse a change of the open document of this URI is what the batch means.
+abbrev pub MayTakeMemory : StoreData → List ℕ → ℤ → List Edit → Type 0
+MayTakeMemory old uri version batch = IsSomeAnd (entry_at old.table uri) (λ entry. IsLeftToMeaning old.limits entry version batch)

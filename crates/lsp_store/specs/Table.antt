@@ -1,6 +1,6 @@
 -- The table of open documents (LSP 3.17, Text Document Synchronization), in order of opening: which command on it is refused and why,
 -- and what an accepted one makes of it.
-use Rattle.std.specs.Prelude.{ℕ, ℤ, ◌||◌, if◌then◌else◌, nat_lt, nat_le, int_le, List, [], ◌∷◌, ◌++◌, length, sum_by, encode_utf8_all, Option, Some, None, is_some, Result, Ok, Err}
+use Rattle.std.specs.Prelude.{ℕ, ℤ, ◌≡◌, ◌||◌, if◌then◌else◌, nat_lt, nat_le, int_le, List, [], ◌∷◌, ◌++◌, length, sum_by, encode_utf8_all, Option, Some, None, is_some, Result, Ok, Err}
 use Rattle.std.specs.Str.{bytes_eq, chars}
 use Rattle.lsp_frame.specs.Limits.{Bounds}
 use Rattle.lsp_text.specs.declared.encoding.Encoding.{Encoding}
@@ -66,6 +66,11 @@ entry_refusal limits units entry version batch =
     if int_le version entry.version then Some (stale_version entry.version)
     else if nat_lt limits.max_changes (length batch) || nat_lt greatest_batch (batch_bytes batch) then Some too_many_changes
     else meaning_refusal limits entry.text (meaning units (chars entry.text) batch)
+
+-- Nothing refuses the batch but what it means: the version is greater, and there are not too many changes nor too long ones.
+abbrev pub IsLeftToMeaning : Bounds → Entry → ℤ → List Edit → Type 0
+IsLeftToMeaning limits entry version batch =
+    (units : ℕ → ℕ) → entry_refusal limits units entry version batch ≡ meaning_refusal limits entry.text (meaning units (chars entry.text) batch)
 
 abbrev pub refusal_on : Bounds → (ℕ → ℕ) → Option Entry → ℤ → List Edit → Option Refusal
 refusal_on limits units None version batch = Some not_open

@@ -1,13 +1,15 @@
 //! The one message in which an accepted batch of changes is written.
 
-ghost use Rattle.std.specs.Prelude.{◌≡◌, ◌≤◌, ◌↔◌, List, None, IfErr, IfOk, OnOk, length, map};
+ghost use Rattle.std.specs.Prelude.{◌≡◌, ◌≤◌, ◌↔◌, List, None, Err, IfErr, IfOk, OnOk, length, map};
 ghost use Rattle.lsp_frame.specs.Frame.{frame};
 ghost use Rattle.lsp_text.specs.Units.{units_in};
 ghost use Rattle.lsp_edit.specs.Batch.{Edit};
 ghost use Rattle.lsp_edit.specs.Edited.{edit_of};
 ghost use Rattle.lsp_message.specs.Outgoing.{OutgoingData, body_of};
 ghost use Rattle.lsp_message.specs.Sent.{IsProper, IsReadAsSent, IsReadBack};
+ghost use Rattle.lsp_store.specs.declared.fault.StoreFault.TheVariants.{NoMemory};
 ghost use Rattle.lsp_store.specs.Faults.{IsRefusal};
+ghost use Rattle.lsp_store.specs.Opened.{MayTakeMemory};
 ghost use Rattle.lsp_store.specs.Table.{change_refusal};
 ghost use Rattle.lsp_store.specs.Message.{AreTexts, DoAlike, IsCanonicalOn, IsReadAs, IsSettled};
 ghost use Rattle.lsp_store.specs.Message.{body_refusal, canonical_batch, canonical_frame, change_body, message_refusal};
@@ -42,7 +44,17 @@ fn framed_change(
         changes,
     });
     let body = write(alloc, &message)?;
-    Ok(encode(alloc, limits, &body)?)
+    framed(alloc, limits, &body)
+}
+
+/// The frame of a body that was written. Out of memory only where the body isn't too long.
+fn framed(alloc: Global, limits: &Limits, body: &[u8]) -> Result<Vec<u8>, StoreFault>
+    ensures framed { IfOk result (λ bytes. bytes.items ≡ frame body.now) }
+    ensures within { OnOk result (body_refusal limits.now body.now ≡ None) }
+    ensures told { IfErr result (IsRefusal (body_refusal limits.now body.now)) }
+    ensures memory { result ≡ Err NoMemory → body_refusal limits.now body.now ≡ None }
+{
+    Ok(encode(alloc, limits, body)?)
 }
 
 impl Store {
@@ -61,6 +73,8 @@ impl Store {
         ensures framed { IfOk result (λ bytes. bytes.items ≡ canonical_frame (units_in encoding) self.now.table uri.now version (map edit_of changes.now)) }
         ensures accepted { OnOk result (message_refusal self.now.limits (units_in encoding) self.now.table uri.now version (map edit_of changes.now) ≡ None) }
         ensures told { IfErr result (IsRefusal (message_refusal self.now.limits (units_in encoding) self.now.table uri.now version (map edit_of changes.now))) }
+        // Memory is taken only once nothing but what the batch means, or its message's length, can refuse it.
+        ensures memory { result ≡ Err NoMemory → MayTakeMemory self.now uri.now version (map edit_of changes.now) }
         // What holds of the batch that is written.
         ensures canonical { OnOk result (IsCanonicalOn (units_in encoding) self.now.table uri.now (map edit_of changes.now)) }
         // Of every other batch that is accepted here the canonical message has the same bytes exactly if both do the same.

@@ -18,13 +18,14 @@ pub struct Held {
 }
 
 impl Held {
-    ghost use Rattle.std.specs.Prelude.{◌≡◌, ℕ, List, Some, None, IfErr, IfOk, OnErr, OnOk, map, option_map, string_bytes, string_len};
+    ghost use Rattle.std.specs.Prelude.{◌≡◌, ◌≢◌, ℕ, List, Some, None, Err, IfErr, IfOk, OnErr, OnOk, map, option_map, string_bytes, string_len};
     ghost use Rattle.std.specs.Str.{chars};
     ghost use Rattle.lsp_text.specs.Units.{units_in};
     ghost use Rattle.lsp_edit.specs.Batch.{meaning};
     ghost use Rattle.lsp_edit.specs.Edited.{edit_of};
     ghost use Rattle.lsp_edit.specs.Indexed.{IsCanonicalBatch};
-    ghost use Rattle.lsp_store.specs.Table.{changed, entry_refusal, meaning_refusal};
+    ghost use Rattle.lsp_store.specs.declared.fault.StoreFault.TheVariants.{NoMemory};
+    ghost use Rattle.lsp_store.specs.Table.{IsLeftToMeaning, changed, entry_refusal, meaning_refusal};
     ghost use Rattle.lsp_store.specs.Faults.{fault_of, IsRefusal};
     ghost use Rattle.lsp_store.specs.Opened.{entry_under};
 
@@ -59,6 +60,7 @@ impl Held {
         ensures told { IfErr result (λ fault. (units : ℕ → ℕ) (uri : List ℕ) →
             option_map fault_of (entry_refusal limits.now units (entry_under uri self.now) version (map edit_of changes.now)) ≡ Some fault) }
         ensures fits { OnOk result (sum_by (λ change. string_len change.text) changes.now ≤ 1073741824) }
+        ensures memory { result ≢ Err NoMemory }
     {
         if version <= self.version {
             return Err(StoreFault::StaleVersion { held: self.version });
@@ -84,6 +86,9 @@ impl Held {
         ensures same { OnErr result (self.new ≡ self.old) }
         ensures told { IfErr result (λ fault. (uri : List ℕ) →
             IsRefusal (entry_refusal limits.now (units_in encoding) (entry_under uri self.old) version (map edit_of changes.now)) fault) }
+        // Memory is taken only once nothing but the meaning can refuse the batch.
+        ensures memory { result ≡ Err NoMemory → (uri : List ℕ) →
+            IsLeftToMeaning limits.now (entry_under uri self.old) version (map edit_of changes.now) }
     {
         self.may_change(limits, version, changes)?;
         self.text.change(encoding, changes, limits.max_text())?;
@@ -106,6 +111,11 @@ impl Held {
         ensures short { (length self.now.text ≤ 1073741824) × (limits.now.max_text ≤ 1073741824) }
         ensures told { IfErr result (λ fault. (uri : List ℕ) →
             IsRefusal (entry_refusal limits.now (units_in encoding) (entry_under uri self.now) version (map edit_of changes.now)) fault) }
+        // Memory is taken only once nothing but the meaning can refuse the batch.
+        ensures memory { result ≡ Err NoMemory → (uri : List ℕ) →
+            IsLeftToMeaning limits.now (entry_under uri self.now) version (map edit_of changes.now) }
+        ensures left { OnOk result ((uri : List ℕ) →
+            IsLeftToMeaning limits.now (entry_under uri self.now) version (map edit_of changes.now)) }
     {
         let max_text = limits.max_text();
         self.may_change(limits, version, changes)?;

@@ -1,10 +1,10 @@
 //! The open documents, in order of opening.
 
-ghost use Rattle.std.specs.Prelude.{◌≡◌, ◌≤◌, ℕ, ℤ, List, [], Some, None, option_map, IfErr, OnErr, OnOk, map, length, slice_get, string_bytes};
+ghost use Rattle.std.specs.Prelude.{◌≡◌, ◌≢◌, ◌≤◌, ℕ, ℤ, List, [], Some, None, Err, option_map, IfErr, OnErr, OnOk, map, length, slice_get, string_bytes};
 ghost use Rattle.lsp_edit.specs.Edited.{edit_of};
-ghost use Rattle.lsp_store.specs.declared.fault.StoreFault.TheVariants.{NotOpen};
+ghost use Rattle.lsp_store.specs.declared.fault.StoreFault.TheVariants.{NotOpen, NoMemory};
 ghost use Rattle.lsp_store.specs.Table.{Entry, entry_at, open_refusal, opens, changes as changing, closes};
-ghost use Rattle.lsp_store.specs.Opened.{IsRefused, Takes};
+ghost use Rattle.lsp_store.specs.Opened.{IsRefused, MayTakeMemory, Takes};
 ghost use Rattle.lsp_store.specs.Faults.{fault_of};
 
 use crate::document::Document;
@@ -83,6 +83,7 @@ impl Store {
             option_map fault_of (open_refusal self.now.limits self.now.table
             (record { uri = uri.now; language = language; version = version; text = text.now })) ≡ Some fault) }
         ensures short { OnOk result (length text.now ≤ 1073741824) }
+        ensures memory { result ≢ Err NoMemory }
     {
         if self.documents.contains_key(uri) {
             return Err(StoreFault::AlreadyOpen);
@@ -112,6 +113,9 @@ impl Store {
         ensures same { OnErr result (self.new ≡ self.old) }
         ensures told { IfErr result (IsRefused self.old
             (opens (record { uri = string_bytes uri; language = string_bytes language; version = version; text = string_bytes text }))) }
+        // Memory is taken only once nothing refuses the document.
+        ensures memory { result ≡ Err NoMemory → open_refusal self.old.limits self.old.table
+            (record { uri = string_bytes uri; language = string_bytes language; version = version; text = string_bytes text }) ≡ None }
     {
         self.may_open(&uri, &text)?;
         let held = Held::new(*self.documents.allocator(), language, version, text)?;
@@ -135,6 +139,8 @@ impl Store {
         ensures taken { OnOk result (Takes self.old (changing uri.now version encoding (map edit_of changes.now)) self.new) }
         ensures same { OnErr result (self.new ≡ self.old) }
         ensures told { IfErr result (IsRefused self.old (changing uri.now version encoding (map edit_of changes.now))) }
+        // Memory is taken only once nothing but what the batch means can refuse it.
+        ensures memory { result ≡ Err NoMemory → MayTakeMemory self.old uri.now version (map edit_of changes.now) }
     {
         let limits = self.limits;
         let Some(held) = self.documents.get_mut(uri) else {

@@ -15,6 +15,7 @@ use Rattle.lsp_text.specs.Units.{name_of, encoding_named}
 use Rattle.lsp_text.specs.UnitLaws.{utf8_bounds, utf16_bounds, utf32_bounds}
 use Rattle.lsp_text.specs.PlaceLaws.{RisingLaw, EndsLaw, BoundaryLaw}
 use Rattle.lsp_text.specs.EncodingLaws.{NameLaw, UnitLaw}
+use Rattle.lsp_text.specs.LineLaws.{StartsLaw}
 use Rattle.lsp_text.specs.PositionLaws.{FoundLaw}
 use Rattle.lsp_text.proofs.PlaceLemmas.{place_rises, place_order, place_one, place_end, index_at}
 use Rattle.lsp_text.proofs.LineLemmas.{line_rises, line_has_start, in_content_line}
@@ -44,6 +45,24 @@ unit_law Utf8 c = let b = utf8_bounds c in let l = len_utf8_bounds c in (b.0, om
 unit_law Utf16 c = let b = utf16_bounds c in let l = len_utf8_bounds c in (b.0, omega arith)
 unit_law Utf32 c = let b = utf32_bounds c in let l = len_utf8_bounds c in (b.0, omega arith)
 
+-- The kept start of a line is the place of the line's start.
+start_place : (text : List ℕ) (line : ℕ) → line ≤ line_ends text → slice_index (start_places text) line ≡ place_of text (line_start text line)
+start_place text line there =
+    get_or-map (place_of text) (line_starts text) line 0 0 (omega (arith, length-line_starts text)) ∙ ap (place_of text) (start_at text line there)
+
+-- It is the line's first index.
+pub starts_law : StartsLaw
+starts_law text line there =
+    let start = line_has_start text line there in
+    record {
+      first = record {
+        within = omega (arith, start.in_row);
+        here = in_content_line text line (line_start text line) start.passes;
+        least = λ k within here. omega (arith, start_before text k within, ap (line_start text) here);
+      };
+      kept = start_place text line there;
+    }
+
 -- The line of a text whose start is the last at or before the place of an index is the index's line.
 pub found_law : FoundLaw
 found_law text k line within found =
@@ -65,10 +84,6 @@ found_law text k line within found =
     absurd (omega (arith, start_place text m up, place_rises text (line_start text m) k before within)))
     (λ (h : line_at text k ≤ line). omega arith)
     (cases_lt line (line_at text k))
-  where
-    start_place : (text : List ℕ) (line : ℕ) → line ≤ line_ends text → slice_index (start_places text) line ≡ place_of text (line_start text line)
-    start_place text line there =
-        get_or-map (place_of text) (line_starts text) line 0 0 (omega (arith, length-line_starts text)) ∙ ap (place_of text) (start_at text line there)
 
 -- ---- names
 

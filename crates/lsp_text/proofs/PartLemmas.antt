@@ -2,7 +2,7 @@
 use Rattle.std.proofs.Common.{◌≡◌, ◌≢◌, ℕ, zero, suc, ◌+◌, ◌-◌, ◌≤◌, ◌<◌, true, false, not, ◌&&◌, ◌==◌, cond, List, [], ◌∷◌, length, take, drop, get_or, slice_index, inl, inr, sym, ap, ◌∙◌, arith, ⊎_elim, eqb-true, eq-eqb}
 use Rattle.std.proofs.Math.Seq.{drop-cons}
 use Rattle.std.specs.List.{prefix_len}
-use Rattle.std.proofs.lemmas.List.{get_or-drop}
+use Rattle.std.proofs.lemmas.List.{get_or-drop, length-take, length-drop}
 use Rattle.std.proofs.lemmas.List.Sums.{prefix_len_passes}
 use Rattle.std.proofs.lemmas.Bool.{cases_Bool, and_parts, or_cases, not-true, false≢true}
 use Rattle.lsp_text.specs.TextLines.{line_feed, carriage_return, ends_line, splits_crlf, line_ends, line_start, line_stop}
@@ -69,12 +69,41 @@ line_end_is text line (suc k) there start =
     end_from text line (suc k) 1 here (omega (arith, start)) (one_end text (suc k) (omega (arith, start, next.within)) ends))
     (cases_Bool (splits_crlf text (suc k)))
 
+-- A carriage return that ends a line by itself has no line feed after it.
+return_alone : (text : List ℕ) (line k : ℕ) → line < line_ends text → line_start text (suc line) ≡ suc k →
+    line_end_of text line ≡ carriage_return ∷ [] → slice_index text (suc k) ≢ line_feed
+return_alone text line k there start alone feed =
+    let next = next_start text line there in
+    let within : k < length text = omega (arith, start, next.within) in
+    let size = line_start text (suc line) - line_stop text line in
+    let stop : line_stop text line ≡ k =
+    omega (arith, start, next.within, ap length alone, length-take size (drop (line_stop text line) text), length-drop (line_stop text line) text) in
+    let one : size ≡ 1 = omega (arith, start, stop) in
+    let same : take 1 (drop k text) ≡ carriage_return ∷ [] = rw (one, stop) at alone in
+    let last : get_or text k 0 ∷ [] ≡ carriage_return ∷ [] = sym (take_one text k within) ∙ same in
+    let is_return : slice_index text k ≡ carriage_return = cc in
+    let ends : ends_line text (suc k) ≡ true = ap (ends_line text) (sym start) ∙ next.ends in
+    ⊎_elim
+    (λ (h : (slice_index text k == line_feed) ≡ true). absurd (omega (arith, is_return, eqb-true (slice_index text k) 10 h)))
+    (λ (h : ((slice_index text k == carriage_return) && not (slice_index text (suc k) == line_feed)) ≡ true).
+    false≢true
+    (sym (not-true (slice_index text (suc k) == line_feed) (and_parts (slice_index text k == carriage_return) (not (slice_index text (suc k) == line_feed)) h).1)
+    ∙ eq-eqb (slice_index text (suc k)) line_feed feed))
+    (or_cases (slice_index text k == line_feed) ((slice_index text k == carriage_return) && not (slice_index text (suc k) == line_feed)) ends)
+
+crlf_is_one : (text : List ℕ) (line : ℕ) → line < line_ends text → line_end_of text line ≡ carriage_return ∷ [] →
+    slice_index text (line_start text (suc line)) ≢ line_feed
+crlf_is_one text line there alone feed =
+    let at : line_start text (suc line) ≡ suc (line_start text (suc line) - 1) = omega (arith, (next_start text line there).some) in
+    return_alone text line (line_start text (suc line) - 1) there at alone (ap (slice_index text) (sym at) ∙ feed)
+
 pub lines_part : (text : List ℕ) → LinesPart text
 lines_part text = record {
   first = first_starts text;
   last = last_stop text;
   order = stop_behind text;
   ends = λ line there. line_end_is text line (line_start text (suc line) - 1) there (omega (arith, (next_start text line there).some));
+  crlf_is_one = crlf_is_one text;
   no_feed = λ line k there low high. not_feed (slice_index text k) (inside text line k there low high);
   no_return = λ line k there low high. not_return (slice_index text k) (inside text line k there low high);
   each = λ k within. line_rises text k (length text) within;

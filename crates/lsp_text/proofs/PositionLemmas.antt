@@ -1,12 +1,12 @@
 -- Positions: an exact position denotes its index, and whatever a position denotes is an index of the text that splits no CRLF.
-use Rattle.std.proofs.Common.{ℕ, suc, ◌≡◌, ◌<◌, ◌≤◌, true, false, cond, List, length, ◌==◌, nat_lt, nat_le, Some, find, ⊎_elim, refl, ap, arith, eqb-true, eq-eqb, le-ltb, ltb-false, le-leb}
-use Rattle.std.proofs.lemmas.Bool.{cases_Bool, cases_eq, lt-leb}
+use Rattle.std.proofs.Common.{ℕ, suc, ◌≡◌, ◌<◌, ◌≤◌, true, false, cond, List, length, ◌==◌, nat_lt, nat_le, Some, find, ⊎_elim, refl, sym, ap, ◌∙◌, arith, eqb-true, eq-eqb, le-ltb, ltb-false, le-leb}
+use Rattle.std.proofs.lemmas.Bool.{cases_Bool, cases_eq, lt-leb, leb-true}
 use Rattle.lsp_text.specs.declared.position.Position.{Position}
 use Rattle.lsp_text.specs.TextLines.{splits_crlf, line_at, line_ends, is_in_content, line_content, line_start, line_stop}
 use Rattle.lsp_text.specs.Units.{units_between}
 use Rattle.lsp_text.specs.Positions.{exact_position, denoted}
 use Rattle.lsp_text.proofs.RowLemmas.{find_only, IsFound, find_found}
-use Rattle.lsp_text.proofs.LineLemmas.{line_rises, splits_none_past, in_content, in_content_whole, start_in_content, stop_in_content, line_has_stop, IsStart, IsStop}
+use Rattle.lsp_text.proofs.LineLemmas.{line_rises, splits_none_past, in_content, in_content_line, in_content_whole, start_in_content, stop_in_content, line_has_stop, IsStart, IsStop}
 use Rattle.lsp_text.proofs.UnitLemmas.{units_rise, units_same}
 
 -- The index of a content with the units of an index of that content is that index.
@@ -93,3 +93,35 @@ denoted_whole units text p k h =
         (λ (e : nat_le (units_between units text (line_start text p.line) (line_stop text p.line)) p.character ≡ false).
         at_found (find_found (is_in_content text p.line) (λ j. units_between units text (line_start text p.line) j == p.character) 0 (suc (length text)) k (rw e at g)))
         (cases_Bool (nat_le (units_between units text (line_start text p.line) (line_stop text p.line)) p.character))
+
+-- A position that isn't past an end is the exact position of what it denotes.
+pub denoted_exact : (units : ℕ → ℕ) (text : List ℕ) (p : Position) (k : ℕ) → p.line ≤ line_ends text →
+    p.character ≤ units_between units text (line_start text p.line) (line_stop text p.line) → denoted units text p ≡ Some k → exact_position units text k ≡ p
+denoted_exact units text p k there within h =
+    let g = rw (le-ltb (line_ends text) p.line there) at h in
+    ⊎_elim
+    (λ (e : nat_le (units_between units text start stop) p.character ≡ true).
+    at_stop (leb-true (units_between units text start stop) p.character e) (let s : Some stop ≡ Some k = rw e at g in cc))
+    (λ (e : nat_le (units_between units text start stop) p.character ≡ false).
+    at_found (find_found (is_in_content text p.line) (λ j. units_between units text start j == p.character) 0 (suc (length text)) k (rw e at g)))
+    (cases_Bool (nat_le (units_between units text start stop) p.character))
+  where
+    start : ℕ
+    start = line_start text p.line
+
+    stop : ℕ
+    stop = line_stop text p.line
+
+    exact : line_at text k ≡ p.line → units_between units text start k ≡ p.character → exact_position units text k ≡ p
+    exact line units_are =
+        let u : units_between units text (line_start text (line_at text k)) k ≡ p.character =
+        ap (λ (n : ℕ). units_between units text (line_start text n) k) line ∙ units_are in
+        λ i. record { line = line i; character = u i }
+
+    at_stop : units_between units text start stop ≤ p.character → stop ≡ k → exact_position units text k ≡ p
+    at_stop least e =
+        let s = line_has_stop text p.line there in
+        exact (in_content_line text p.line k (ap (is_in_content text p.line) (sym e) ∙ s.passes)) (omega (arith, ap (units_between units text start) e, least, within))
+
+    at_found : IsFound (is_in_content text p.line) (λ j. units_between units text start j == p.character) 0 (suc (length text)) k → exact_position units text k ≡ p
+    at_found f = exact (in_content_line text p.line k f.passes) (eqb-true (units_between units text start k) p.character f.is_wanted)

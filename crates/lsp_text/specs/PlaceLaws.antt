@@ -1,5 +1,5 @@
 -- Laws over the indexes of a text and their places among its bytes.
-use Rattle.std.specs.Prelude.{ℕ, ◌≡◌, ◌≤◌, ◌<◌, List, length}
+use Rattle.std.specs.Prelude.{ℕ, ◌≡◌, ◌+◌, ◌-◌, ◌≤◌, ◌<◌, List, length, take, drop, encode_utf8_all}
 use Rattle.std.specs.Str.{chars, IsUtf8, IsCharBoundary}
 use Rattle.lsp_text.specs.Text.{place_of}
 
@@ -24,3 +24,21 @@ BoundaryLaw = (bytes : List ℕ) (place : ℕ) → IsUtf8 bytes → IsCharBounda
 -- The place of an index is a boundary of characters.
 abbrev pub IndexLaw : Type 0
 IndexLaw = (bytes : List ℕ) (index : ℕ) → IsUtf8 bytes → index ≤ length (chars bytes) → IsCharBoundary bytes (place_of (chars bytes) index)
+
+-- The bytes before the place of an index are those of the characters before it.
+abbrev pub BytesBeforeLaw : Type 0
+BytesBeforeLaw = (text : List ℕ) (k : ℕ) → take (place_of text k) (encode_utf8_all text) ≡ encode_utf8_all (take k text)
+
+-- The bytes after it are those of the characters after it.
+abbrev pub BytesAfterLaw : Type 0
+BytesAfterLaw = (text : List ℕ) (k : ℕ) → drop (place_of text k) (encode_utf8_all text) ≡ encode_utf8_all (drop k text)
+
+-- The bytes between the places of two indexes are those of the characters between them.
+abbrev pub BytesBetweenLaw : Type 0
+BytesBetweenLaw =
+    (text : List ℕ) (j k : ℕ) → j ≤ k → k ≤ length text →
+    take (place_of text k - place_of text j) (drop (place_of text j) (encode_utf8_all text)) ≡ encode_utf8_all (take (k - j) (drop j text))
+
+-- The place of an index further on: that of the first, and the bytes of the characters from there.
+abbrev pub FurtherLaw : Type 0
+FurtherLaw = (text : List ℕ) (j n : ℕ) → place_of text (j + n) ≡ place_of text j + place_of (drop j text) n

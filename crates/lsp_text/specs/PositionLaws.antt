@@ -34,6 +34,13 @@ AloneLaw =
     j ≤ length text → splits_crlf text j ≡ false → k ≤ length text → splits_crlf text k ≡ false →
     exact_position units text j ≡ exact_position units text k → j ≡ k
 
+-- A position that isn't past an end is the exact position of what it denotes: nothing is rounded.
+abbrev pub ExactLaw : Type 0
+ExactLaw =
+    (units : ℕ → ℕ) (text : List ℕ) (p : Position) (k : ℕ) →
+    p.line ≤ line_ends text → p.character ≤ units_between units text (line_start text p.line) (line_stop text p.line) →
+    denoted units text p ≡ Some k → exact_position units text k ≡ p
+
 -- A position past a line's content denotes its end.
 abbrev pub PastLineLaw : Type 0
 PastLineLaw =

@@ -24,9 +24,7 @@ returns-clause-taken c = λ max_body stream at.
     let all : take c.loop-at.at c.args.piece.now ≡ c.args.piece.now = take_all c.loop-at.at c.args.piece.now c.loop-at-test.false in
     subst (λ (z : List ℕ). IsBehind max_body (stream ++ z) (map (λ (v : Vec ℕ Global). v.items) c.loop-at.bodies.items) c.loop-at.framer) all (c.loop-at.invariant.taken max_body stream at)
 
-pub returns-in_default : goal.returns-in_default
-returns-in_default c = record {
-  none = tt;
-  taken = λ max_body stream at.
-      fault_behind max_body stream c.args.piece.now c.loop-at.at _ c.loop-at.framer c.feed.new.self c.in-Err.fault (c.loop-at.invariant.taken max_body stream at) c.in-Err.ensures.fault c.in_default.not-NoMemory;
-}
+pub returns-in-Err-clause-taken : goal.returns-in-Err-clause-taken
+returns-in-Err-clause-taken c = λ max_body stream at.
+    rw c.in_ok-fault_of_stream-in-Err.ensures.same
+    (fault_behind max_body stream c.args.piece.now c.loop-at.at _ c.loop-at.framer c.feed.new.self c.in-Err.fault (c.loop-at.invariant.taken max_body stream at) c.in-Err.ensures.fault c.in_ok-fault_of_stream-in-Err.ensures.of_stream)

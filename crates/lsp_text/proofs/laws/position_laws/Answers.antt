@@ -1,4 +1,4 @@
-use Rattle.lsp_text.proofs.PositionLemmas.{exact_denotes, exact_same, denoted_whole}
+use Rattle.lsp_text.proofs.PositionLemmas.{exact_denotes, exact_same, denoted_whole, denoted_exact}
 use Rattle.lsp_text.proofs.NearLemmas.{exact_near}
 use Rattle.lsp_text.proofs.PastLemmas.{past_line, past_text}
 use Rattle.lsp_text.proofs.Examples.{holds_on_examples}
@@ -10,6 +10,7 @@ returns c = record {
   whole = λ units text p k h. ((denoted_whole units text p k h).within, (denoted_whole units text p k h).whole);
   near = exact_near;
   alone = exact_same;
+  exact = denoted_exact;
   past_line = past_line;
   past_text = past_text;
   examples = holds_on_examples;

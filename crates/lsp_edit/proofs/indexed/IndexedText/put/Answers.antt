@@ -1,4 +1,4 @@
-use Rattle.std.proofs.Common.{◌≡◌, length, IsUtf8, string_bytes, sym, ap, ◌∙◌, inr, subst, arith, Ok}
+use Rattle.std.proofs.Common.{◌≡◌, refl, length, IsUtf8, string_bytes, sym, ap, ◌∙◌, inr, subst, arith, Ok}
 use Rattle.std.proofs.lemmas.Result.{err_from_is_err_and}
 use Rattle.std.proofs.lemmas.Str.{IsUtf8-string_bytes}
 use Rattle.std.specs.Str.{chars}
@@ -57,3 +57,14 @@ returns-clause-changed c =
     range_within (units_in c.args.encoding) c.args.self.now utf8 c.args.range c.args.new.now c.utf8.new c.in_ok-start.start c.in_ok-start.stop told c.args.max_len
     (omega (arith, replaced_len c.args.self.now utf8 c.in_ok-start.start c.in_ok-start.stop c.args.new.now c.utf8.new order start stop, order, stop.0, c.if-len-stop.false, c.len.ensures, ap length c.self.view_is, c.self.inside.text.bytes.ok.0))
     ∙ ap Ok (sym bytes)
+
+pub returns-in_err-put_in_place-clause-memory : goal.returns-in_err-put_in_place-clause-memory
+returns-in_err-put_in_place-clause-memory c = λ e.
+    let utf8 : IsUtf8 c.args.self.now = subst IsUtf8 c.self.view_is (IsUtf8-string_bytes c.self.inside.text) in
+    let told : Ok (c.in_ok-start.start, c.in_ok-start.stop) ≡ places_at 0 (chars c.args.self.now) (ends_of (units_in c.args.encoding) (chars c.args.self.now) c.args.range) = places_of_bytes (units_in c.args.encoding) c.args.range _ _ _ (c.deref.ensures ∙ c.self.view_is) c.in_ok-start.ensures in
+    let order = range_order (units_in c.args.encoding) c.args.self.now utf8 c.args.range c.args.new.now c.utf8.new c.in_ok-start.start c.in_ok-start.stop told in
+    let start = range_start (units_in c.args.encoding) c.args.self.now utf8 c.args.range c.args.new.now c.utf8.new c.in_ok-start.start c.in_ok-start.stop told in
+    let stop = range_stop (units_in c.args.encoding) c.args.self.now utf8 c.args.range c.args.new.now c.utf8.new c.in_ok-start.start c.in_ok-start.stop told in
+    let left = range_within (units_in c.args.encoding) c.args.self.now utf8 c.args.range c.args.new.now c.utf8.new c.in_ok-start.start c.in_ok-start.stop told c.args.max_len
+    (omega (arith, replaced_len c.args.self.now utf8 c.in_ok-start.start c.in_ok-start.stop c.args.new.now c.utf8.new order start stop, order, stop.0, c.if-len-stop.false, c.len.ensures, ap length c.self.view_is, c.self.inside.text.bytes.ok.0)) in
+    rw left refl

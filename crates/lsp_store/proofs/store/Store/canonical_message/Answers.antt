@@ -1,12 +1,13 @@
-use Rattle.std.proofs.Common.{◌≡◌, ◌<◌, ◌^◌, ap, length, map, None, Some, rules, arith, w32, to_z, of_z}
+use Rattle.std.proofs.Common.{◌≡◌, ◌<◌, ◌^◌, ap, length, map, None, Some, Err, rules, arith, w32, to_z, of_z}
 use Rattle.std.proofs.lemmas.Int.{to_z-of_z}
 use Rattle.std.proofs.lemmas.Result.{err_from_is_err_and}
 use Rattle.lsp_text.specs.Units.{units_in}
 use Rattle.lsp_edit.specs.Edited.{edit_of}
+use Rattle.lsp_store.specs.declared.fault.StoreFault.TheVariants.{NoMemory}
 use Rattle.lsp_store.specs.Opened.{entry_under}
-use Rattle.lsp_store.specs.Table.{entry_at, entry_refusal}
+use Rattle.lsp_store.specs.Table.{IsLeftToMeaning, entry_at, entry_refusal}
 use Rattle.lsp_store.specs.Message.{body_refusal, canonical_batch, canonical_body, canonical_frame}
-use Rattle.lsp_store.proofs.StoreLemmas.{change_absent, change_refused, held_at, limits_are}
+use Rattle.lsp_store.proofs.StoreLemmas.{change_absent, change_refused, held_at, limits_are, may_take}
 use Rattle.lsp_store.proofs.MessageLemmas.{first_told, message_accepted, message_refused, canonical_is, canonical_on, is_settled, exactly_alike, is_read, texts_held}
 use Rattle.lsp_store.proofs.store.Store.canonical_message.Goals as goal
 
@@ -35,6 +36,31 @@ returns-in_err-bytes-clause-told c =
     canonical_is c.args.self.now.limits c.args.encoding c.args.self.now.table c.args.uri.now c.args.version (entry_under c.args.uri.now c.in-Some.held.now) is_open made.law (map edit_of c.args.changes.now) may _ made.items made.means made.is in
     let p = err_from_is_err_and c.from_residual-in_err-bytes.result c.from_residual-in_err-bytes.ensures.1 in
     rw (p.1, p.2) (message_refused c.args.self.now.limits c.args.encoding c.args.self.now.table c.args.uri.now c.args.version (entry_under c.args.uri.now c.in-Some.held.now) is_open made.law (map edit_of c.args.changes.now) may _ (rw (batch, ← limits) (rw version at c.in_err-bytes.ensures.told)))
+
+pub returns-in_err-changes-clause-memory : goal.returns-in_err-changes-clause-memory
+returns-in_err-changes-clause-memory c = λ e.
+    let version : to_z w32 (of_z w32 c.args.version) ≡ c.args.version = to_z-of_z w32 c.args.version (search rules) in
+    let p = err_from_is_err_and c.from_residual.result c.from_residual.ensures.1 in
+    let converted = p.1 in
+    let same = p.2 in
+    let was = c.in_err-changes.was in
+    let no_memory : c.canonical.result ≡ Err NoMemory = cc in
+    let is_open : entry_at c.args.self.now.table c.args.uri.now ≡ Some (entry_under c.args.uri.now c.in-Some.held.now) =
+    held_at c.self.inside.limits c.self.inside.documents.entries c.args.self.now c.self.view_is c.args.uri.now c.in-Some.held.now c.in-Some.ensures.value in
+    let limits : c.self.inside.limits ≡ c.args.self.now.limits = limits_are c.self.inside.limits c.self.inside.documents.entries c.args.self.now c.self.view_is in
+    let left : IsLeftToMeaning c.args.self.now.limits (entry_under c.args.uri.now c.in-Some.held.now) c.args.version (map edit_of c.args.changes.now) =
+    rw (version, limits) at (c.canonical.ensures.memory no_memory c.args.uri.now) in
+    may_take c.args.self.now c.args.uri.now c.args.version (map edit_of c.args.changes.now) (entry_under c.args.uri.now c.in-Some.held.now) is_open left
+
+pub returns-in_err-bytes-clause-memory : goal.returns-in_err-bytes-clause-memory
+returns-in_err-bytes-clause-memory c = λ e.
+    let version : to_z w32 (of_z w32 c.args.version) ≡ c.args.version = to_z-of_z w32 c.args.version (search rules) in
+    let is_open : entry_at c.args.self.now.table c.args.uri.now ≡ Some (entry_under c.args.uri.now c.in-Some.held.now) =
+    held_at c.self.inside.limits c.self.inside.documents.entries c.args.self.now c.self.view_is c.args.uri.now c.in-Some.held.now c.in-Some.ensures.value in
+    let limits : c.self.inside.limits ≡ c.args.self.now.limits = limits_are c.self.inside.limits c.self.inside.documents.entries c.args.self.now c.self.view_is in
+    let left : IsLeftToMeaning c.args.self.now.limits (entry_under c.args.uri.now c.in-Some.held.now) c.args.version (map edit_of c.args.changes.now) =
+    rw (version, limits) at (c.in_ok-changes.ensures.left c.args.uri.now) in
+    may_take c.args.self.now c.args.uri.now c.args.version (map edit_of c.args.changes.now) (entry_under c.args.uri.now c.in-Some.held.now) is_open left
 
 pub returns-clause-framed : goal.returns-clause-framed
 returns-clause-framed c =

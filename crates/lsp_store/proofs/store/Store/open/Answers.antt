@@ -1,6 +1,7 @@
-use Rattle.std.proofs.Common.{◌≡◌, inr, rules, w32, to_z, of_z, string_bytes}
+use Rattle.std.proofs.Common.{◌≡◌, Err, inr, rules, w32, to_z, of_z, string_bytes}
 use Rattle.std.proofs.lemmas.Int.{to_z-of_z}
 use Rattle.std.proofs.lemmas.Result.{err_from_is_err_and}
+use Rattle.lsp_store.specs.declared.fault.StoreFault.TheVariants.{NoMemory}
 use Rattle.lsp_store.proofs.StoreLemmas.{opened}
 use Rattle.lsp_store.proofs.store.Store.open.Goals as goal
 
@@ -15,3 +16,20 @@ returns-clause-taken c =
     opened c.self.inside.limits c.self.inside.documents.entries c.args.self.now c.self.view_is c.args.uri c.in_ok-held.held _ (rw version at (c.in_ok-held.ensures (string_bytes c.args.uri)))
     (rw (c.deref.ensures, c.deref-2.ensures) at (c.in_ok-may_open.ensures.may (string_bytes c.args.language) c.args.version))
     c.insert.new.self.entries c.in_ok-insert.ensures.entries
+
+pub returns-in_err-may_open-clause-memory : goal.returns-in_err-may_open-clause-memory
+returns-in_err-may_open-clause-memory c = λ e.
+    let p = err_from_is_err_and c.from_residual.result c.from_residual.ensures.1 in
+    let converted = p.1 in
+    let same = p.2 in
+    let was = c.in_err-may_open.was in
+    let no_memory : c.may_open.result ≡ Err NoMemory = cc in
+    absurd (c.may_open.ensures.memory no_memory)
+
+pub returns-in_err-held-clause-memory : goal.returns-in_err-held-clause-memory
+returns-in_err-held-clause-memory c = λ e.
+    rw (c.deref.ensures, c.deref-2.ensures) at (c.in_ok-may_open.ensures.may (string_bytes c.args.language) c.args.version)
+
+pub returns-in_err-insert-clause-memory : goal.returns-in_err-insert-clause-memory
+returns-in_err-insert-clause-memory c = λ e.
+    rw (c.deref.ensures, c.deref-2.ensures) at (c.in_ok-may_open.ensures.may (string_bytes c.args.language) c.args.version)

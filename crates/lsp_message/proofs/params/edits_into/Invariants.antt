@@ -1,9 +1,9 @@
-use Rattle.std.proofs.Common.{◌≡◌, ◌≤◌, ◌++◌, length, map, option_map}
+use Rattle.std.proofs.Common.{◌≡◌, ◌≤◌, ◌++◌, ◌+◌, length, map, option_map, vec_len, vec_capacity}
 use Rattle.std.specs.Vec.Iter.{into_iter_items}
 use Rattle.serde_json.specs.View.{items_view}
 use Rattle.lsp_message.specs.Params.{edits_in}
 use Rattle.lsp_message.specs.Seen.{edit_view}
-use Rattle.lsp_message.proofs.params.edits_in.Given as goal
+use Rattle.lsp_message.proofs.params.edits_into.Given as goal
 
 -- the changes that were read, and those of the rest
 abbrev pub invariant-loop-value : goal.invariant-loop-value
@@ -11,5 +11,5 @@ invariant-loop-value l = record {
   going : (goal.iterator-loop-value).can_next l.value-iterator;
   ending : (goal.iterator-loop-value).is_finite l.value-iterator;
   so_far : option_map (λ es. map edit_view l.changes.items ++ es) (edits_in (items_view (into_iter_items l.value-iterator))) ≡ edits_in (items_view l.fn.values.items);
-  fewer : length (into_iter_items l.value-iterator) ≤ length l.fn.values.items;
+  room : vec_len l.changes + length (into_iter_items l.value-iterator) ≤ vec_capacity l.changes;
 }
