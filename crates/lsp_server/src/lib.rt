@@ -68,8 +68,6 @@ mod incoming;
 mod laws;
 mod phase;
 mod server;
-#[cfg(test)]
-mod tests;
 
 pub use answer::{Answer, Refusal, ServerFault};
 pub use config::{Config, EncodingChoice, Sync};

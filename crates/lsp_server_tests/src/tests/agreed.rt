@@ -1,7 +1,8 @@
 //! The encoding that is chosen, how changes are asked for, and what both do to the changes that follow.
 
-use super::{ACCEPTED, INITIALIZE, INITIALIZED, OPEN, answers, is_told, server_with};
-use crate::{EncodingChoice, Server, Sync};
+use super::{Row, document, is_answer, server_with, wrong_row};
+use lsp_samples::bodies::{ACCEPTED, AFTER_ONE_UNIT, INITIALIZE, INITIALIZED, OPEN, OPEN_EMOJI};
+use lsp_server::{EncodingChoice, Server, Sync};
 use lsp_text::Encoding;
 use std::alloc::{AllocError, Global};
 use std::test::Fail;
@@ -19,7 +20,7 @@ const NEGOTIATED_32: EncodingChoice = EncodingChoice::Negotiated {
 };
 
 /// How a server chooses, the client's `general`, and the name of the encoding that is announced, or none for invalid params.
-const OFFERS: &[(EncodingChoice, &str, &str)] = &[
+static OFFERS: [(EncodingChoice, &str, &str); 20] = [
     (
         EncodingChoice::Fixed(Encoding::Utf8),
         r#"{"positionEncodings":["utf-16"]}"#,
@@ -88,17 +89,25 @@ const OFFERS: &[(EncodingChoice, &str, &str)] = &[
     (NEGOTIATED_8, "[]", ""),
 ];
 
+/// Is the encoding of this name announced to a client with this `general`, and chosen?
+fn is_chosen(
+    alloc: Global,
+    choice: EncodingChoice,
+    general: &str,
+    name: &str,
+) -> Result<bool, Fail> {
+    let mut server = server_with(alloc, choice, Sync::Incremental)?;
+    let given = server.handle(initialize(alloc, general)?.as_bytes());
+    if server.encoding() != Encoding::of_name(name) {
+        return Ok(false);
+    }
+    Ok(is_answer(alloc, &given, &accepted(alloc, name)?)?)
+}
+
 #[test]
 fn the_encoding_is_chosen_among_those_offered(rt: HostRuntime) -> Result<(), Fail> {
-    let alloc = rt.alloc();
-    for (choice, general, name) in OFFERS {
-        let mut server = server_with(alloc, *choice, Sync::Incremental)?;
-        let given = server.handle(initialize(alloc, general)?.as_bytes());
-        assert!(rt;
-            is_told(alloc, &given, &accepted(alloc, name)?)?,
-            "{general}"
-        );
-        assert_eq!(rt; server.encoding(), Encoding::of_name(name), "{general}");
+    for (choice, general, name) in &OFFERS {
+        assert!(rt; is_chosen(rt.alloc(), *choice, general, name)?, "{general}");
     }
     Ok(())
 }
@@ -122,8 +131,8 @@ fn accepted(alloc: Global, name: &str) -> Result<String, AllocError> {
     )
 }
 
-/// A session under full synchronisation: changes of the whole text and of a range are both applied as they stand.
-const FULL: &[(&str, &str)] = &[
+/// A session under full synchronisation: changes of the whole text and of a range are both applied as they are.
+static FULL: [Row; 5] = [
     (
         INITIALIZE,
         r#"{"id":1,"jsonrpc":"2.0","result":{"capabilities":{"positionEncoding":"utf-16","textDocumentSync":{"change":1,"openClose":true}}}}"#,
@@ -142,61 +151,58 @@ const FULL: &[(&str, &str)] = &[
 
 #[test]
 fn a_range_under_full_synchronisation(rt: HostRuntime) -> Result<(), Fail> {
-    let alloc = rt.alloc();
-    let mut server = server_with(alloc, NEGOTIATED_8, Sync::Full)?;
-    answers(&rt, alloc, &mut server, FULL)?;
-    assert_eq!(rt;
-        server
-            .store()
-            .get("file:///a")
-            .map(|document| document.text()),
-        Some("aYZc")
-    );
+    let mut server = server_with(rt.alloc(), NEGOTIATED_8, Sync::Full)?;
+    assert_eq!(rt; wrong_row(rt.alloc(), &mut server, &FULL)?, None);
+    assert_eq!(rt; document(&server), Some((3, "aYZc")));
     Ok(())
 }
 
-const FACE: &str =
-    r#"{"jsonrpc":"2.0","method":"textDocument/didOpen","params":{"textDocument":{"languageId":"plaintext","text":"😀","uri":"file:///a","version":1}}}"#;
+/// An encoding that is settled, if any, the one in which changes count then, a body, and its answer.
+type Settled = (
+    Option<Encoding>,
+    Option<Encoding>,
+    &'static str,
+    &'static str,
+);
 
-/// Puts a `b` behind the first unit of line 0.
-const BEHIND_ONE: &str =
-    r#"{"jsonrpc":"2.0","method":"textDocument/didChange","params":{"contentChanges":[{"range":{"end":{"character":1,"line":0},"start":{"character":1,"line":0}},"text":"b"}],"textDocument":{"uri":"file:///a","version":2}}}"#;
+static SETTLED: [Settled; 5] = [
+    (Some(Encoding::Utf32), None, INITIALIZE, ACCEPTED),
+    (None, Some(Encoding::Utf16), OPEN_EMOJI, "changed"),
+    (None, Some(Encoding::Utf16), AFTER_ONE_UNIT, "refused E1"),
+    (
+        Some(Encoding::Utf8),
+        Some(Encoding::Utf8),
+        AFTER_ONE_UNIT,
+        "refused E1",
+    ),
+    (
+        Some(Encoding::Utf32),
+        Some(Encoding::Utf32),
+        AFTER_ONE_UNIT,
+        "changed",
+    ),
+];
+
+/// Settles the encoding of a row, and hands its body in: are the encoding and the answer those that are wanted?
+fn is_settled(alloc: Global, server: &mut Server, row: &Settled) -> Result<bool, AllocError> {
+    let (settled, encoding, body, wanted) = *row;
+    if let Some(encoding) = settled {
+        server.settle(encoding);
+    }
+    if server.encoding() != encoding {
+        return Ok(false);
+    }
+    let given = server.handle(body.as_bytes());
+    is_answer(alloc, &given, wanted)
+}
 
 #[test]
 fn settled_changes_count_in_another_encoding(rt: HostRuntime) -> Result<(), Fail> {
-    let alloc = rt.alloc();
-    let mut server = server_with(
-        alloc,
-        EncodingChoice::Fixed(Encoding::Utf16),
-        Sync::Incremental,
-    )?;
-    server.settle(Encoding::Utf32);
-    assert_eq!(rt; server.encoding(), None);
-    answers(
-        &rt,
-        alloc,
-        &mut server,
-        &[
-            (INITIALIZE, ACCEPTED),
-            (FACE, "changed"),
-            (BEHIND_ONE, "refused E1"),
-        ],
-    )?;
-    server.settle(Encoding::Utf8);
-    answers(&rt, alloc, &mut server, &[(BEHIND_ONE, "refused E1")])?;
-    server.settle(Encoding::Utf32);
-    assert_eq!(rt; server.encoding(), Some(Encoding::Utf32));
-    answers(&rt, alloc, &mut server, &[(BEHIND_ONE, "changed")])?;
-    holds_text(&rt, &server, "😀b");
+    let fixed = EncodingChoice::Fixed(Encoding::Utf16);
+    let mut server = server_with(rt.alloc(), fixed, Sync::Incremental)?;
+    for row in &SETTLED {
+        assert!(rt; is_settled(rt.alloc(), &mut server, row)?, "{}", row.3);
+    }
+    assert_eq!(rt; document(&server), Some((2, "😀b")));
     Ok(())
-}
-
-fn holds_text(rt: &impl std::process::Abort, server: &Server, wanted: &str) {
-    assert_eq!(rt;
-        server
-            .store()
-            .get("file:///a")
-            .map(|document| document.text()),
-        Some(wanted)
-    );
 }

@@ -1,15 +1,16 @@
-//! Limits, hostile bodies, a message that is looked at first, and the texts of faults.
+//! Limits, hostile bodies, a message that is read first, and the texts of faults.
 
-use super::{ACCEPTED, CHANGE, INITIALIZE, OPEN, answers, is_told, new_server};
-use crate::{Answer, Config, EncodingChoice, Incoming, Phase, Server, ServerFault, Sync};
+use super::{Row, is_answer, new_server, wrong_row};
 use lsp_frame::Limits;
 use lsp_message::{ErrorCode, Message, read};
+use lsp_samples::bodies::{ACCEPTED, CHANGE, INITIALIZE, OPEN, PARSE_ERROR};
+use lsp_server::{Answer, Config, EncodingChoice, Incoming, Phase, Server, ServerFault, Sync};
 use lsp_text::Encoding;
 use std::alloc::{AllocError, Global};
 use std::test::Fail;
 
 /// What a server with the smallest limits refuses: no text of one byte, no second document, no second change.
-const SMALLEST: &[(&str, &str)] = &[
+static SMALLEST: [Row; 12] = [
     (INITIALIZE, ACCEPTED),
     (
         r#"{"jsonrpc":"2.0","method":"textDocument/didOpen","params":{"textDocument":{"languageId":"","text":"a","uri":"a","version":1}}}"#,
@@ -66,10 +67,11 @@ fn the_smallest_limits(rt: HostRuntime) -> Result<(), Fail> {
         sync: Sync::Incremental,
     };
     let mut server = Server::new(alloc, config);
-    answers(&rt, alloc, &mut server, SMALLEST)
+    assert_eq!(rt; wrong_row(alloc, &mut server, &SMALLEST)?, None);
+    Ok(())
 }
 
-const REVERSED: &[(&str, &str)] = &[
+static REVERSED: [Row; 5] = [
     (INITIALIZE, ACCEPTED),
     (OPEN, "changed"),
     (
@@ -83,21 +85,24 @@ const REVERSED: &[(&str, &str)] = &[
 #[test]
 fn the_version_stays_after_a_refusal(rt: HostRuntime) -> Result<(), Fail> {
     let alloc = rt.alloc();
-    answers(&rt, alloc, &mut new_server(alloc)?, REVERSED)
+    let mut server = new_server(alloc)?;
+    assert_eq!(rt; wrong_row(alloc, &mut server, &REVERSED)?, None);
+    Ok(())
 }
 
-const PARSE_ERROR: &str =
-    r#"{"error":{"code":-32700,"message":"parse error"},"id":null,"jsonrpc":"2.0"}"#;
+fn is_parse_error(alloc: Global, server: &mut Server, body: &[u8]) -> Result<bool, AllocError> {
+    let given = server.handle(body);
+    is_answer(alloc, &given, PARSE_ERROR)
+}
 
 #[test]
 fn hostile_bodies_are_parse_errors(rt: HostRuntime) -> Result<(), Fail> {
     let alloc = rt.alloc();
     let mut server = new_server(alloc)?;
+    assert!(rt; is_parse_error(alloc, &mut server, b"")?);
+    assert!(rt; is_parse_error(alloc, &mut server, b"\xff")?);
     let deep = nested(alloc, 200)?;
-    for body in [b"".as_slice(), b"\xff".as_slice(), deep.as_bytes()] {
-        let given = server.handle(body);
-        assert!(rt; is_told(alloc, &given, PARSE_ERROR)?);
-    }
+    assert!(rt; is_parse_error(alloc, &mut server, deep.as_bytes())?);
     assert_eq!(rt; server.phase(), Phase::New);
     Ok(())
 }
@@ -114,53 +119,64 @@ fn nested(alloc: Global, depth: usize) -> Result<String, AllocError> {
     Ok(body)
 }
 
-#[test]
-fn an_engine_looks_at_a_message_first(rt: HostRuntime) -> Result<(), Fail> {
-    let alloc = rt.alloc();
-    let mut server = new_server(alloc)?;
-    answers(
-        &rt,
-        alloc,
-        &mut server,
-        &[(INITIALIZE, ACCEPTED), (OPEN, "changed")],
-    )?;
+static OPENED: [Row; 2] = [(INITIALIZE, ACCEPTED), (OPEN, "changed")];
+
+/// Is the body of a change read as one to version 2, and changes it the document then?
+fn change_is_read_first(alloc: Global, server: &mut Server) -> Result<bool, Fail> {
     let incoming = Incoming::read(alloc, CHANGE.as_bytes())?;
-    assert!(rt; matches!(&incoming, Incoming::DidChange(Some(params)) if params.version == 2));
-    assert_eq!(rt; server.handle_incoming(incoming), Ok(Answer::Changed));
-    match read(
-        alloc,
-        b"{\"id\":7,\"jsonrpc\":\"2.0\",\"method\":\"hover\",\"params\":[]}",
-    )? {
-        message @ Message::Request { .. } => {
-            let incoming = Incoming::of(alloc, message)?;
-            assert!(rt;
-                matches!(&incoming, Incoming::OtherRequest { method, .. } if method.as_str() == "hover")
-            );
-            let answer = server.handle_incoming(incoming);
-            assert!(rt;
-                matches!(
-                    answer,
-                    Ok(Answer::Reply {
-                        code: Some(ErrorCode::MethodNotFound),
-                        ..
-                    })
-                )
-            );
-        }
-        _other => return Err(Fail::from("a request")),
+    if !matches!(&incoming, Incoming::DidChange(Some(params)) if params.version == 2) {
+        return Ok(false);
     }
-    Ok(())
+    Ok(server.handle_incoming(incoming) == Ok(Answer::Changed))
+}
+
+/// A request that no server of ours knows, read as a message and then as what comes in.
+fn hover(alloc: Global) -> Result<Incoming, Fail> {
+    let body = b"{\"id\":7,\"jsonrpc\":\"2.0\",\"method\":\"hover\",\"params\":[]}";
+    match read(alloc, body)? {
+        message @ Message::Request { .. } => Ok(Incoming::of(alloc, message)?),
+        _other => Err(Fail::from("a request")),
+    }
+}
+
+/// Is that request read as such, and is the answer then that its method isn't found?
+fn request_is_read_first(alloc: Global, server: &mut Server) -> Result<bool, Fail> {
+    let incoming = hover(alloc)?;
+    if !matches!(&incoming, Incoming::OtherRequest { method, .. } if method.as_str() == "hover") {
+        return Ok(false);
+    }
+    Ok(matches!(
+        server.handle_incoming(incoming),
+        Ok(Answer::Reply {
+            code: Some(ErrorCode::MethodNotFound),
+            ..
+        })
+    ))
 }
 
 #[test]
-fn faults_are_told(rt: HostRuntime) -> Result<(), Fail> {
+fn an_engine_reads_a_message_first(rt: HostRuntime) -> Result<(), Fail> {
     let alloc = rt.alloc();
-    let told = [
-        (ServerFault::AlreadyEnded, "the session has ended"),
-        (ServerFault::NoMemory, "out of memory"),
-    ];
-    for (fault, wanted) in told {
-        assert_eq!(rt; format!(in alloc; "{fault}")?.as_str(), wanted);
-    }
+    let mut server = new_server(alloc)?;
+    assert_eq!(rt; wrong_row(alloc, &mut server, &OPENED)?, None);
+    assert!(rt; change_is_read_first(alloc, &mut server)?);
+    assert!(rt; request_is_read_first(alloc, &mut server)?);
+    Ok(())
+}
+
+fn is_text(alloc: Global, fault: ServerFault, wanted: &str) -> Result<bool, AllocError> {
+    Ok(format!(in alloc; "{fault}")?.as_str() == wanted)
+}
+
+#[test]
+fn faults_have_their_texts(rt: HostRuntime) -> Result<(), Fail> {
+    assert!(rt;
+        is_text(
+            rt.alloc(),
+            ServerFault::AlreadyEnded,
+            "the session has ended"
+        )?
+    );
+    assert!(rt; is_text(rt.alloc(), ServerFault::NoMemory, "out of memory")?);
     Ok(())
 }

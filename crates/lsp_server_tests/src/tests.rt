@@ -7,37 +7,13 @@ mod refused;
 mod sessions;
 mod texts;
 
-use crate::{Answer, Config, EncodingChoice, Refusal, Server, ServerFault, Sync};
 use lsp_edit::EditFault;
 use lsp_frame::{Limits, frame};
+use lsp_server::{Answer, Config, EncodingChoice, Refusal, Server, ServerFault, Sync};
 use lsp_store::StoreFault;
 use lsp_text::Encoding;
 use std::alloc::{AllocError, Global};
-use std::process::Abort;
 use std::test::Fail;
-
-pub(super) const INITIALIZE: &str =
-    r#"{"id":1,"jsonrpc":"2.0","method":"initialize","params":{"capabilities":{"general":{"positionEncodings":["utf-16"]}},"processId":null,"rootUri":null}}"#;
-
-pub(super) const ACCEPTED: &str =
-    r#"{"id":1,"jsonrpc":"2.0","result":{"capabilities":{"positionEncoding":"utf-16","textDocumentSync":{"change":2,"openClose":true}}}}"#;
-
-pub(super) const INITIALIZED: &str = r#"{"jsonrpc":"2.0","method":"initialized","params":{}}"#;
-
-pub(super) const OPEN: &str =
-    r#"{"jsonrpc":"2.0","method":"textDocument/didOpen","params":{"textDocument":{"languageId":"plaintext","text":"abc","uri":"file:///a","version":1}}}"#;
-
-pub(super) const CHANGE: &str =
-    r#"{"jsonrpc":"2.0","method":"textDocument/didChange","params":{"contentChanges":[{"range":{"end":{"character":2,"line":0},"start":{"character":1,"line":0}},"text":"X"}],"textDocument":{"uri":"file:///a","version":2}}}"#;
-
-pub(super) const CLOSE: &str =
-    r#"{"jsonrpc":"2.0","method":"textDocument/didClose","params":{"textDocument":{"uri":"file:///a"}}}"#;
-
-pub(super) const SHUTDOWN: &str = r#"{"id":2,"jsonrpc":"2.0","method":"shutdown"}"#;
-
-pub(super) const SHUT_DOWN: &str = r#"{"id":2,"jsonrpc":"2.0","result":null}"#;
-
-pub(super) const EXIT: &str = r#"{"jsonrpc":"2.0","method":"exit"}"#;
 
 /// A server that counts in UTF-16 and wants changed ranges, with wide limits.
 pub(super) fn new_server(alloc: Global) -> Result<Server, Fail> {
@@ -64,22 +40,32 @@ pub(super) fn server_with(
     ))
 }
 
-/// Hands bodies in, one after another, and compares each answer with the body of the reply that is wanted, or with its word.
-pub(super) fn answers(
-    rt: &impl Abort,
+/// A body, and the body of the reply that is wanted, or the word of the answer.
+pub(super) type Row = (&'static str, &'static str);
+
+/// Hands bodies in, one after another. The number of the first row with another answer than is wanted.
+pub(super) fn wrong_row(
     alloc: Global,
     server: &mut Server,
-    rows: &[(&str, &str)],
-) -> Result<(), Fail> {
-    for (body, wanted) in rows {
+    rows: &[Row],
+) -> Result<Option<usize>, AllocError> {
+    for (number, (body, wanted)) in rows.iter().enumerate() {
         let given = server.handle(body.as_bytes());
-        assert!(rt; is_told(alloc, &given, wanted)?, "{body}");
+        if !is_answer(alloc, &given, wanted)? {
+            return Ok(Some(number));
+        }
     }
-    Ok(())
+    Ok(None)
+}
+
+/// The version and the text of the document that the bodies are about.
+pub(super) fn document(server: &Server) -> Option<(i32, &str)> {
+    let document = server.store().get("file:///a")?;
+    Some((document.version(), document.text()))
 }
 
 /// Is this the answer that is wanted: a reply with this body, or what this word names?
-pub(super) fn is_told(
+pub(super) fn is_answer(
     alloc: Global,
     given: &Result<Answer, ServerFault>,
     wanted: &str,

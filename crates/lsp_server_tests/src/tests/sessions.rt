@@ -1,16 +1,17 @@
 //! Whole sessions, with the exact bytes of each reply.
 
-use super::{
-    ACCEPTED, CHANGE, CLOSE, EXIT, INITIALIZE, INITIALIZED, OPEN, SHUT_DOWN, SHUTDOWN, answers,
-    new_server,
+use super::{Row, document, is_answer, new_server, wrong_row};
+use lsp_samples::bodies::{
+    ACCEPTED, CHANGE, CLOSE, EXIT, HOVER, INITIALIZE, INITIALIZED, INVALID, NO_ID, NOT_INITIALIZED,
+    OPEN, PARSE_ERROR, SHUT_DOWN, SHUTDOWN,
 };
-use crate::{Phase, Server};
+use lsp_server::{Phase, Server};
 use lsp_text::Encoding;
-use std::process::Abort;
+use std::alloc::{AllocError, Global};
 use std::test::Fail;
 
 /// The lengths of the bodies and replies of the session below, in bytes.
-const LENGTHS: &[(&str, usize)] = &[
+static LENGTHS: [(&str, usize); 12] = [
     (INITIALIZE, 149),
     (ACCEPTED, 129),
     (INITIALIZED, 52),
@@ -27,99 +28,93 @@ const LENGTHS: &[(&str, usize)] = &[
 
 #[test]
 fn bodies_and_replies_have_these_lengths(rt: HostRuntime) {
-    for (body, length) in LENGTHS {
+    for (body, length) in &LENGTHS {
         assert_eq!(rt; body.len(), *length, "{body}");
     }
 }
 
-#[test]
-fn a_session_from_initialize_to_exit(rt: HostRuntime) -> Result<(), Fail> {
-    let alloc = rt.alloc();
-    let mut server = new_server(alloc)?;
-    assert_eq!(rt; server.phase(), Phase::New);
-    assert_eq!(rt; server.encoding(), None);
-    answers(
-        &rt,
-        alloc,
-        &mut server,
-        &[(INITIALIZE, ACCEPTED), (INITIALIZED, "ignored")],
-    )?;
-    assert_eq!(rt; server.phase(), Phase::Running);
-    assert_eq!(rt; server.encoding(), Some(Encoding::Utf16));
-    answers(&rt, alloc, &mut server, &[(OPEN, "changed")])?;
-    holds(&rt, &server, Some((1, "abc")));
-    answers(&rt, alloc, &mut server, &[(CHANGE, "changed")])?;
-    holds(&rt, &server, Some((2, "aXc")));
-    answers(&rt, alloc, &mut server, &[(CLOSE, "changed")])?;
-    holds(&rt, &server, None);
-    answers(&rt, alloc, &mut server, &[(SHUTDOWN, SHUT_DOWN)])?;
-    assert_eq!(rt; server.phase(), Phase::Down);
-    answers(
-        &rt,
-        alloc,
-        &mut server,
-        &[(EXIT, "exit 0"), (EXIT, "ended"), ("", "ended")],
-    )?;
-    assert_eq!(rt; server.phase(), Phase::Ended);
-    assert_eq!(rt; server.encoding(), Some(Encoding::Utf16));
-    Ok(())
+/// A body, its answer, the phase then, and the document.
+type Step = (
+    &'static str,
+    &'static str,
+    Phase,
+    Option<(i32, &'static str)>,
+);
+
+static SESSION: [Step; 9] = [
+    (INITIALIZE, ACCEPTED, Phase::Running, None),
+    (INITIALIZED, "ignored", Phase::Running, None),
+    (OPEN, "changed", Phase::Running, Some((1, "abc"))),
+    (CHANGE, "changed", Phase::Running, Some((2, "aXc"))),
+    (CLOSE, "changed", Phase::Running, None),
+    (SHUTDOWN, SHUT_DOWN, Phase::Down, None),
+    (EXIT, "exit 0", Phase::Ended, None),
+    (EXIT, "ended", Phase::Ended, None),
+    ("", "ended", Phase::Ended, None),
+];
+
+/// Is the body of a step answered so, and what is left as the step says?
+fn is_taken(alloc: Global, server: &mut Server, step: &Step) -> Result<bool, AllocError> {
+    let (body, wanted, phase, left) = *step;
+    let given = server.handle(body.as_bytes());
+    if server.phase() != phase || server.encoding() != Some(Encoding::Utf16) {
+        return Ok(false);
+    }
+    if !holds(server, left) {
+        return Ok(false);
+    }
+    is_answer(alloc, &given, wanted)
 }
 
 /// Does the server hold this version and text of its one document, or no document?
-fn holds(rt: &impl Abort, server: &Server, wanted: Option<(i32, &str)>) {
-    let held = server
-        .store()
-        .get("file:///a")
-        .map(|document| (document.version(), document.text()));
-    assert_eq!(rt; held, wanted);
-    assert_eq!(rt; server.store().len(), if wanted.is_some() { 1 } else { 0 });
+fn holds(server: &Server, wanted: Option<(i32, &str)>) -> bool {
+    let count = if wanted.is_some() { 1 } else { 0 };
+    document(server) == wanted && server.store().len() == count
 }
 
-const PARSE_ERROR: &str =
-    r#"{"error":{"code":-32700,"message":"parse error"},"id":null,"jsonrpc":"2.0"}"#;
+#[test]
+fn a_session_from_initialize_to_exit(rt: HostRuntime) -> Result<(), Fail> {
+    let mut server = new_server(rt.alloc())?;
+    assert_eq!(rt; server.phase(), Phase::New);
+    assert_eq!(rt; server.encoding(), None);
+    for step in &SESSION {
+        assert!(rt; is_taken(rt.alloc(), &mut server, step)?, "{}", step.0);
+    }
+    Ok(())
+}
 
-const NO_ID: &str =
-    r#"{"error":{"code":-32600,"message":"invalid request"},"id":null,"jsonrpc":"2.0"}"#;
-
-const NOT_INITIALIZED: &str =
-    r#"{"error":{"code":-32002,"message":"server not initialized"},"id":"q","jsonrpc":"2.0"}"#;
-
-const BEFORE_INITIALIZE: &[(&str, &str)] = &[
-    (
-        r#"{"id":"q","jsonrpc":"2.0","method":"textDocument/hover"}"#,
-        NOT_INITIALIZED,
-    ),
+static BEFORE_INITIALIZE: [Row; 5] = [
+    (HOVER, NOT_INITIALIZED),
     (OPEN, "dropped"),
     (EXIT, "exit 1"),
     (OPEN, "ended"),
     ("[", "ended"),
 ];
 
-const AFTER_SHUTDOWN: &[(&str, &str)] = &[
+static AFTER_SHUTDOWN: [Row; 6] = [
     (INITIALIZE, ACCEPTED),
     (OPEN, "changed"),
     (SHUTDOWN, SHUT_DOWN),
-    (
-        r#"{"id":"q","jsonrpc":"2.0","method":"textDocument/hover"}"#,
-        r#"{"error":{"code":-32600,"message":"invalid request"},"id":"q","jsonrpc":"2.0"}"#,
-    ),
+    (HOVER, INVALID),
     (CHANGE, "dropped"),
     (EXIT, "exit 0"),
 ];
 
 #[test]
 fn before_initialize_and_after_shutdown(rt: HostRuntime) -> Result<(), Fail> {
-    let alloc = rt.alloc();
-    let mut early = new_server(alloc)?;
-    answers(&rt, alloc, &mut early, BEFORE_INITIALIZE)?;
+    let mut early = new_server(rt.alloc())?;
+    assert_eq!(rt;
+        wrong_row(rt.alloc(), &mut early, &BEFORE_INITIALIZE)?,
+        None
+    );
     assert_eq!(rt; early.store().len(), 0);
-    let mut late = new_server(alloc)?;
-    answers(&rt, alloc, &mut late, AFTER_SHUTDOWN)?;
-    holds(&rt, &late, Some((1, "abc")));
+    let mut late = new_server(rt.alloc())?;
+    assert_eq!(rt; wrong_row(rt.alloc(), &mut late, &AFTER_SHUTDOWN)?, None);
+    assert!(rt; holds(&late, Some((1, "abc"))));
     Ok(())
 }
 
-const WHILE_RUNNING: &[(&str, &str)] = &[
+static WHILE_RUNNING: [Row; 15] = [
     (INITIALIZE, ACCEPTED),
     ("[", PARSE_ERROR),
     ("[]", NO_ID),
@@ -161,9 +156,8 @@ const WHILE_RUNNING: &[(&str, &str)] = &[
 
 #[test]
 fn while_running(rt: HostRuntime) -> Result<(), Fail> {
-    let alloc = rt.alloc();
-    let mut server = new_server(alloc)?;
-    answers(&rt, alloc, &mut server, WHILE_RUNNING)?;
+    let mut server = new_server(rt.alloc())?;
+    assert_eq!(rt; wrong_row(rt.alloc(), &mut server, &WHILE_RUNNING)?, None);
     assert_eq!(rt; server.phase(), Phase::Running);
     assert_eq!(rt; server.store().len(), 0);
     Ok(())

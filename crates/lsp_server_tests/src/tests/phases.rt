@@ -1,21 +1,24 @@
 //! Every pair of phase and kind of body.
 
-use super::{CHANGE, CLOSE, EXIT, INITIALIZE, INITIALIZED, OPEN, SHUTDOWN, is_told, new_server};
-use crate::{Phase, Server};
+use super::{is_answer, new_server};
+use lsp_samples::bodies::{
+    CHANGE, CLOSE, EXIT, INITIALIZE, INITIALIZED, NO_ID, OPEN, PARSE_ERROR, SHUTDOWN,
+};
+use lsp_server::{Phase, Server};
 use std::alloc::Global;
 use std::test::Fail;
 
-const PHASES: [Phase; 4] = [Phase::New, Phase::Running, Phase::Down, Phase::Ended];
+static PHASES: [Phase; 4] = [Phase::New, Phase::Running, Phase::Down, Phase::Ended];
 
 /// What takes a server from each phase to the next. In Running one document is open; `initialized` didn't come.
-const WAY: [&[&str]; 4] = [&[], &[INITIALIZE, OPEN], &[SHUTDOWN], &[EXIT]];
+static WAY: [&[&str]; 4] = [&[], &[INITIALIZE, OPEN], &[SHUTDOWN], &[EXIT]];
 
 /// A new server in this phase.
 fn server_in(alloc: Global, phase: Phase) -> Result<Server, Fail> {
     let mut server = new_server(alloc)?;
-    for bodies in WAY {
+    for bodies in &WAY {
         if server.phase() != phase {
-            for body in bodies {
+            for body in *bodies {
                 server.handle(body.as_bytes())?;
             }
         }
@@ -24,7 +27,7 @@ fn server_in(alloc: Global, phase: Phase) -> Result<Server, Fail> {
 }
 
 /// A body, and what is wanted of its answer in the phases New, Running, Down and Ended.
-const TABLE: &[(&str, [&str; 4])] = &[
+static TABLE: [(&str, [&str; 4]); 26] = [
     ("{", [PARSE_ERROR, PARSE_ERROR, PARSE_ERROR, "ended"]),
     ("7", [NO_ID, NO_ID, NO_ID, "ended"]),
     (
@@ -113,12 +116,6 @@ const TABLE: &[(&str, [&str; 4])] = &[
     ),
 ];
 
-const PARSE_ERROR: &str =
-    r#"{"error":{"code":-32700,"message":"parse error"},"id":null,"jsonrpc":"2.0"}"#;
-
-const NO_ID: &str =
-    r#"{"error":{"code":-32600,"message":"invalid request"},"id":null,"jsonrpc":"2.0"}"#;
-
 const INVALID_REQUEST: &str =
     r#"{"error":{"code":-32600,"message":"invalid request"},"id":7,"jsonrpc":"2.0"}"#;
 
@@ -136,15 +133,24 @@ const ACCEPTED: &str =
 
 const SHUT_DOWN: &str = r#"{"id":7,"jsonrpc":"2.0","result":null}"#;
 
+/// Is a body answered so in this phase?
+fn is_answered(alloc: Global, phase: Phase, body: &str, wanted: &str) -> Result<bool, Fail> {
+    let mut server = server_in(alloc, phase)?;
+    if server.phase() != phase {
+        return Ok(false);
+    }
+    let given = server.handle(body.as_bytes());
+    Ok(is_answer(alloc, &given, wanted)?)
+}
+
 #[test]
 fn every_body_in_every_phase(rt: HostRuntime) -> Result<(), Fail> {
-    let alloc = rt.alloc();
-    for (body, wanted) in TABLE {
-        for (phase, wanted) in PHASES.iter().zip(wanted) {
-            let mut server = server_in(alloc, *phase)?;
-            assert!(rt; server.phase() == *phase);
-            let given = server.handle(body.as_bytes());
-            assert!(rt; is_told(alloc, &given, wanted)?, "{phase:?}: {body}");
+    for (body, answers) in &TABLE {
+        for (phase, wanted) in PHASES.iter().zip(answers) {
+            assert!(rt;
+                is_answered(rt.alloc(), *phase, body, wanted)?,
+                "{phase:?}: {body}"
+            );
         }
     }
     Ok(())
