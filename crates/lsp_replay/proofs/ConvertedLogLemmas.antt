@@ -11,12 +11,12 @@ use Rattle.lsp_message.specs.Outgoing.{OutgoingData, body_of}
 use Rattle.lsp_server.specs.Answer.{AnswerData, Sent, reply, changed, dropped, ignored, already_ended, refused, exits, as_sent, sent}
 use Rattle.lsp_server.specs.Incoming.{asked}
 use Rattle.lsp_server.specs.Step.{State, step_on}
-use Rattle.lsp_replay.specs.declared.outcome.EngineFault.TheVariants.{BadLog}
-use Rattle.lsp_replay.specs.declared.record.Version.{Version}
-use Rattle.lsp_replay.specs.declared.record.Version.TheVariants.{One, Two}
-use Rattle.lsp_replay.specs.declared.record.Side.TheVariants.{Client, Server}
-use Rattle.lsp_replay.specs.Ports.{one_more}
-use Rattle.lsp_replay.specs.Log.{Record, IsRecord, AreRecords, together, record_bytes, line_of, version_line, is_line_due}
+use Rattle.lsp_stream.specs.declared.fault.EngineFault.TheVariants.{BadLog}
+use Rattle.lsp_log.specs.declared.record.Version.{Version}
+use Rattle.lsp_log.specs.declared.record.Version.TheVariants.{One, Two}
+use Rattle.lsp_log.specs.declared.record.Side.TheVariants.{Client, Server}
+use Rattle.lsp_stream.specs.Ports.{one_more}
+use Rattle.lsp_log.specs.Log.{Record, IsRecord, AreRecords, together, record_bytes, line_of, version_line, is_line_due}
 use Rattle.lsp_replay.specs.Course.{Course, written_first}
 use Rattle.lsp_replay.specs.Session.{Session, Verdict, answered, recorded, bad, Judged, judged, judge, judge_from, judge_incoming, counted, versioned, opened}
 use Rattle.lsp_replay.specs.Engines.{Gives, gives, unless_bad, course_in, replaying, converting, line_if, line_before, reply_record, log_config, converted}

@@ -8,18 +8,18 @@ use Rattle.lsp_frame.specs.Limits.{Bounds, AreInRange}
 use Rattle.lsp_frame.proofs.WrittenLemmas.{written_spells}
 use Rattle.lsp_replay.specs.declared.engines.Settings.{Settings}
 use Rattle.lsp_replay.specs.declared.outcome.Outcome.{Outcome}
-use Rattle.lsp_replay.specs.declared.outcome.EngineFault.{EngineFault}
-use Rattle.lsp_replay.specs.declared.outcome.EngineFault.TheVariants.{BadLog, BodyTooLong}
-use Rattle.lsp_replay.specs.declared.record.Version.{Version}
-use Rattle.lsp_replay.specs.declared.record.Version.TheVariants.{One, Two}
-use Rattle.lsp_replay.specs.declared.record.Head.{Head}
-use Rattle.lsp_replay.specs.Log.{Record, Log, IsRecord, AreRecords, IsVersion, together, record_bytes, mark_of, line_of, version_line, is_line_due}
+use Rattle.lsp_stream.specs.declared.fault.EngineFault.{EngineFault}
+use Rattle.lsp_stream.specs.declared.fault.EngineFault.TheVariants.{BadLog, BodyTooLong}
+use Rattle.lsp_log.specs.declared.record.Version.{Version}
+use Rattle.lsp_log.specs.declared.record.Version.TheVariants.{One, Two}
+use Rattle.lsp_log.specs.declared.record.Head.{Head}
+use Rattle.lsp_log.specs.Log.{Record, Log, IsRecord, AreRecords, IsVersion, together, record_bytes, mark_of, line_of, version_line, is_line_due}
 use Rattle.lsp_replay.specs.Course.{Course, written_first}
 use Rattle.lsp_replay.specs.Session.{Session, Verdict, answered, recorded, bad, Judged, judge, judge_at, opened}
 use Rattle.lsp_replay.specs.Engines.{View, Gives, gives, ends, go_on, unless_bad, course_in, normalising, replaying, normal_gives, normal_of, written, front_of, line_if, log_config, normal}
 use Rattle.lsp_replay.specs.Laws.{NormalLaw, all_of}
 use Rattle.lsp_replay.proofs.StateLemmas.{IsHeldState}
-use Rattle.lsp_replay.proofs.LineLemmas.{is_version_one}
+use Rattle.lsp_log.proofs.LineLemmas.{is_version_one}
 use Rattle.lsp_replay.proofs.JudgeLemmas.{IsVersionAt, judged_version, judged_held, judged_again}
 
 -- ---- a course, a record at a time

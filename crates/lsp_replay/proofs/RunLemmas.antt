@@ -9,19 +9,19 @@ use Rattle.lsp_frame.specs.Faults.{place_behind}
 use Rattle.lsp_frame.specs.Frame.{Spells}
 use Rattle.lsp_frame.specs.Header.{lines_bytes}
 use Rattle.lsp_replay.specs.declared.outcome.Outcome.{Outcome}
-use Rattle.lsp_replay.specs.declared.outcome.EngineFault.{EngineFault}
-use Rattle.lsp_replay.specs.declared.outcome.EngineFault.TheVariants.{Read, Write, Frame, Truncated, BodyTooLong, NoMemory, TooManyTurns, BadLog}
-use Rattle.lsp_replay.specs.declared.record.Version.{Version}
-use Rattle.lsp_replay.specs.declared.record.Version.TheVariants.{One, Two}
-use Rattle.lsp_replay.specs.declared.splitter.Splitter.{Splitter}
-use Rattle.lsp_replay.specs.Log.{Reading, Record, IsVersion, HasNoRecord, line_of, version_line, together, record_bytes}
-use Rattle.lsp_replay.specs.Opening.{IsLineFront, IsBelowLine}
-use Rattle.lsp_replay.specs.Splitting.{IsReady, IsOpen, Stands, held_of}
+use Rattle.lsp_stream.specs.declared.fault.EngineFault.{EngineFault}
+use Rattle.lsp_stream.specs.declared.fault.EngineFault.TheVariants.{Read, Write, Frame, Truncated, BodyTooLong, NoMemory, TooManyTurns, BadLog}
+use Rattle.lsp_log.specs.declared.record.Version.{Version}
+use Rattle.lsp_log.specs.declared.record.Version.TheVariants.{One, Two}
+use Rattle.lsp_log.specs.declared.splitter.Splitter.{Splitter}
+use Rattle.lsp_log.specs.Log.{Reading, Record, IsVersion, HasNoRecord, line_of, version_line, together, record_bytes}
+use Rattle.lsp_log.specs.Opening.{IsLineFront, IsBelowLine}
+use Rattle.lsp_log.specs.Splitting.{IsReady, IsOpen, Stands, held_of}
 use Rattle.lsp_replay.specs.Course.{Course}
 use Rattle.lsp_replay.specs.Engine.{Stopped, Reached, AtEnd, Ran, Called, NonePassedOver, IsPieceFault, IsRunFault}
 use Rattle.lsp_replay.specs.Progress.{Went, Runs, IsEndFault, BothSpend}
-use Rattle.lsp_replay.specs.Ports.{Rose}
-use Rattle.lsp_replay.specs.Turns.{Spends, StaysWell}
+use Rattle.lsp_stream.specs.Ports.{Rose}
+use Rattle.lsp_stream.specs.Turns.{Spends, StaysWell}
 use Rattle.lsp_replay.proofs.EngineLemmas.{IsQuiet, went_read}
 
 together_more : (version : Version) (rs : List Record) (rest more : List ℕ) → together version rs (rest ++ more) ≡ together version rs rest ++ more

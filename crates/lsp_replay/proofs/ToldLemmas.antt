@@ -5,22 +5,22 @@ use Rattle.std.specs.Io.KnownBytes.{Appends}
 use Rattle.std.proofs.lemmas.List.{length-append}
 use Rattle.lsp_frame.specs.declared.fault.FrameFault.{FrameFault}
 use Rattle.lsp_replay.specs.declared.outcome.Outcome.{Outcome}
-use Rattle.lsp_replay.specs.declared.outcome.EngineFault.{EngineFault}
-use Rattle.lsp_replay.specs.declared.outcome.EngineFault.TheVariants.{Read, Write, Frame, Truncated, BodyTooLong, NoMemory, TooManyTurns, BadLog}
-use Rattle.lsp_replay.specs.declared.record.Version.{Version}
-use Rattle.lsp_replay.specs.declared.record.Version.TheVariants.{One, Two}
-use Rattle.lsp_replay.specs.declared.record.Side.{Side}
-use Rattle.lsp_replay.specs.declared.record.Side.TheVariants.{Client, Server}
-use Rattle.lsp_replay.specs.Turns.{AppendsFront}
-use Rattle.lsp_replay.specs.Log.{Reading, Record, Log, IsReadAs, HasNoRecord, IsCut, IsMalformed, IsBadMark, mark_of}
+use Rattle.lsp_stream.specs.declared.fault.EngineFault.{EngineFault}
+use Rattle.lsp_stream.specs.declared.fault.EngineFault.TheVariants.{Read, Write, Frame, Truncated, BodyTooLong, NoMemory, TooManyTurns, BadLog}
+use Rattle.lsp_log.specs.declared.record.Version.{Version}
+use Rattle.lsp_log.specs.declared.record.Version.TheVariants.{One, Two}
+use Rattle.lsp_log.specs.declared.record.Side.{Side}
+use Rattle.lsp_log.specs.declared.record.Side.TheVariants.{Client, Server}
+use Rattle.lsp_stream.specs.Turns.{AppendsFront}
+use Rattle.lsp_log.specs.Log.{Reading, Record, Log, IsReadAs, HasNoRecord, IsCut, IsMalformed, IsBadMark, mark_of}
 use Rattle.lsp_replay.specs.Course.{Course}
 use Rattle.lsp_replay.specs.Session.{Session, judge}
 use Rattle.lsp_replay.specs.Engine.{Ran, Stopped, Reached, Broken, AtEnd, BreaksAtEnd, IsRunFault, IsRefused}
 use Rattle.lsp_replay.specs.Engines.{View, go_on, course_in}
 use Rattle.lsp_replay.specs.Told.{EndedBy, Passed, PassedEnd, CutAtEnd, IsFaultTold, IsTold, RanOver}
-use Rattle.lsp_replay.proofs.LineLemmas.{first_byte}
-use Rattle.lsp_replay.proofs.SplitLemmas.{frame_len}
-use Rattle.lsp_replay.proofs.UniqueLemmas.{IsFirstOf, first_of, same_version}
+use Rattle.lsp_log.proofs.LineLemmas.{first_byte}
+use Rattle.lsp_log.proofs.SplitLemmas.{frame_len}
+use Rattle.lsp_log.proofs.UniqueLemmas.{IsFirstOf, first_of, same_version}
 
 -- ---- courses: a record that ended a run ends it whatever follows, and more records give more output
 

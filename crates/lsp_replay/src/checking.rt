@@ -8,8 +8,9 @@ ghost use Rattle.lsp_replay.specs.Engines.{checking, course_in, check_line, code
 ghost use Rattle.lsp_replay.specs.Verdicts.{verdict_view};
 
 use crate::handler::{Given, Handler, Output};
-use crate::outcome::{EngineFault, Outcome};
-use crate::record::Head;
+use crate::outcome::Outcome;
+use lsp_stream::EngineFault;
+use lsp_log::Head;
 use crate::session::{Session, Verdict};
 use itoa::Buffer;
 use lsp_edit::EditFault;

@@ -6,8 +6,9 @@ ghost use Rattle.lsp_replay.specs.Engines.{converting, course_in, line_before, r
 ghost use Rattle.lsp_replay.specs.Verdicts.{verdict_view};
 
 use crate::handler::{Given, Handler, Output};
-use crate::outcome::{EngineFault, Outcome};
-use crate::record::{Head, VERSION_LINE};
+use crate::outcome::Outcome;
+use lsp_stream::EngineFault;
+use lsp_log::{Head, VERSION_LINE};
 use crate::session::{Session, Verdict};
 use lsp_server::{Answer, Config};
 use std::alloc::{AllocError, Global};

@@ -3,21 +3,22 @@
 ghost use Rattle.std.specs.Prelude.{◌≡◌, ◌≢◌, ◌++◌, ◌∷◌, [], ℕ, List, Option, true, OnOk, OnErr, IfOk, IfErr, MatchOption};
 ghost use Rattle.std.specs.Io.KnownBytes.{Appends};
 ghost use Rattle.lsp_frame.specs.Frame.{Spells};
-ghost use Rattle.lsp_replay.specs.Ports.{Rose};
-ghost use Rattle.lsp_replay.specs.Turns.{Spends, AppendsFront, StaysWell};
-ghost use Rattle.lsp_replay.specs.Log.{Reading, Record};
-ghost use Rattle.lsp_replay.specs.Splitting.{IsReady, IsFed};
+ghost use Rattle.lsp_stream.specs.Ports.{Rose};
+ghost use Rattle.lsp_stream.specs.Turns.{Spends, AppendsFront, StaysWell};
+ghost use Rattle.lsp_log.specs.Log.{Reading, Record};
+ghost use Rattle.lsp_log.specs.Splitting.{IsReady, IsFed};
 ghost use Rattle.lsp_replay.specs.Course.{Course};
 ghost use Rattle.lsp_replay.specs.Engine.{Stopped, AtEnd, IsPieceFault, Ran, Called, NonePassedOver};
 ghost use Rattle.lsp_replay.specs.Progress.{IsHandled, IsHandleFault, IsLastFault, IsEndFault, Went};
 
 use crate::handler::{Handler, Output};
-use crate::opening::read_opening;
-use crate::outcome::{EngineFault, Outcome};
-use crate::port::{Sink, Source};
-use crate::record::{Head, Version};
-use crate::splitter::Splitter;
-use crate::turns::{Turns, read_piece, write_given};
+use lsp_log::read_opening;
+use crate::outcome::Outcome;
+use lsp_stream::EngineFault;
+use lsp_stream::{Sink, Source};
+use lsp_log::{Head, Version};
+use lsp_log::Splitter;
+use lsp_stream::{Turns, read_piece, write_given};
 use lsp_frame::Limits;
 use std::alloc::Global;
 
@@ -257,8 +258,3 @@ pub fn run_engine<R: Source, W: Sink, H: Handler>(
         ended = to == 0;
     }
 }
-
-#[cfg(test)]
-mod copier;
-#[cfg(test)]
-mod tests;

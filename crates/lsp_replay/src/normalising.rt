@@ -1,15 +1,16 @@
 //! `normalise`: a log in which each accepted change is its one canonical message.
 
 ghost use Rattle.std.specs.Prelude.{ℕ, ◌≡◌, ◌⊎◌, ◌++◌, List, [], Option, false, refl, IfOk, IfErr, OnOk, None, Err};
-ghost use Rattle.lsp_replay.specs.Log.{mark_of};
+ghost use Rattle.lsp_log.specs.Log.{mark_of};
 ghost use Rattle.lsp_replay.specs.Course.{output_of};
 ghost use Rattle.lsp_replay.specs.Session.{opened};
 ghost use Rattle.lsp_replay.specs.Engines.{normalising, course_in, line_if, written, gives, ends};
 ghost use Rattle.lsp_replay.specs.Verdicts.{IsTold};
 
 use crate::handler::{Given, Handler, Output};
-use crate::outcome::{EngineFault, Outcome};
-use crate::record::{Head, Side, VERSION_LINE, Version};
+use crate::outcome::Outcome;
+use lsp_stream::EngineFault;
+use lsp_log::{Head, Side, VERSION_LINE, Version};
 use crate::session::{Canonical, Session, Verdict};
 use lsp_server::Config;
 use std::alloc::{AllocError, Global};

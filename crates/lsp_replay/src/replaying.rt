@@ -8,8 +8,9 @@ ghost use Rattle.lsp_replay.specs.Session.{opened};
 ghost use Rattle.lsp_replay.specs.Engines.{replaying, replaying_from, course_in, document_line, document_value};
 
 use crate::handler::{Given, Handler, Output};
-use crate::outcome::{EngineFault, Outcome};
-use crate::record::Head;
+use crate::outcome::Outcome;
+use lsp_stream::EngineFault;
+use lsp_log::Head;
 use crate::session::{Session, Verdict};
 use json::Writer;
 use lsp_server::Config;

@@ -5,8 +5,9 @@ ghost use Rattle.lsp_replay.specs.Session.{opened};
 ghost use Rattle.lsp_replay.specs.Engines.{serving, course_in};
 
 use crate::handler::{Given, Handler, Output};
-use crate::outcome::{EngineFault, Outcome};
-use crate::record::Head;
+use crate::outcome::Outcome;
+use lsp_stream::EngineFault;
+use lsp_log::Head;
 use crate::session::{Session, Verdict};
 use lsp_server::{Answer, Config};
 use std::alloc::Global;

@@ -1,6 +1,6 @@
 use Rattle.std.proofs.Common.{◌≡◌, [], true, false, refl, sym, ◌∙◌, subst}
 use Rattle.std.specs.Io.KnownBytes.{Appends}
-use Rattle.lsp_replay.specs.Turns.{AppendsFront}
+use Rattle.lsp_stream.specs.Turns.{AppendsFront}
 use Rattle.lsp_replay.proofs.EngineLemmas.{went_cut, went_at_end, last_fault, ok_and, err_and}
 use Rattle.lsp_replay.proofs.engine.finish_run.Goals as goal
 

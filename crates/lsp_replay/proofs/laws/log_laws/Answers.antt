@@ -1,4 +1,4 @@
-use Rattle.lsp_replay.proofs.UniqueLemmas.{unique_law}
+use Rattle.lsp_log.proofs.UniqueLemmas.{unique_law}
 use Rattle.lsp_replay.proofs.QuietLemmas.{report_law}
 use Rattle.lsp_replay.proofs.NormalisedLemmas.{normal_law}
 use Rattle.lsp_replay.proofs.ConvertedLogLemmas.{converted_law}
