@@ -80,7 +80,3 @@ behind_line versions One bytes one = refl
 behind_line versions Two bytes two =
     let rest : drop 18 (version_line ++ two.1.0) ≡ two.1.0 = refl in
     two.1.1 ∙ ap (λ z. version_line ++ z) (sym rest ∙ ap (drop 18) (sym two.1.1))
-
-pub line_within : (versions : Bool) (version : Version) (bytes : List ℕ) → IsVersion versions version bytes → length (line_of version) ≤ length bytes
-line_within versions version bytes known =
-    omega (arith, ap length (behind_line versions version bytes known), length-append (line_of version) (drop (length (line_of version)) bytes))

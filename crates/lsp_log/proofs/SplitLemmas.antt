@@ -14,8 +14,8 @@ use Rattle.lsp_log.specs.declared.record.Version.TheVariants.{One, Two}
 use Rattle.lsp_log.specs.declared.record.Side.{Side}
 use Rattle.lsp_log.specs.declared.record.Side.TheVariants.{Client}
 use Rattle.lsp_log.specs.declared.splitter.Splitter.{Splitter}
-use Rattle.lsp_log.specs.Log.{Reading, Record, IsRecord, IsReadAs, IsMalformed, IsBadMark, line_of, mark_of, is_line_due, together, record_bytes}
-use Rattle.lsp_log.specs.Splitting.{IsSplitterFault, IsFed, IsReady, Stands, IsSplitFault, IsSide, IsOpen, mark_part, held_of, log_at, head_of, side_of}
+use Rattle.lsp_log.specs.Log.{Reading, Record, IsRecord, IsReadAs, IsMalformed, line_of, mark_of, is_line_due, together, record_bytes}
+use Rattle.lsp_log.specs.Splitting.{IsSplitterFault, IsFed, IsReady, Stands, IsSplitFault, IsSide, IsOpen, mark_part, held_of, log_at, side_of, record_at}
 use Rattle.lsp_log.proofs.LogLemmas.{together_push, input_len, are_push, due_now, not_due}
 
 -- Nothing is the beginning of a frame, and no frame.
@@ -158,26 +158,10 @@ marked_stands reading input piece tail mark records s side f none nothing is sai
     } in
     subst (λ (g : Framing). Stands reading input tail records (record s { framer = g; side = Some side })) (sym e) stands
 
-pub bad_mark : (reading : Reading) (input piece tail : List ℕ) (mark : ℕ) (records : List Record) (s : Splitter) → s.side ≡ None → s.framer.held ≡ [] → piece ≡ mark ∷ tail
-    → (mark ≡ 62 → ⊥) → (mark ≡ 60 → ⊥) → Stands reading input piece records s → IsBadMark input s.place (log_at s records piece)
-bad_mark reading input piece tail mark records s none nothing is not_client not_server at = record {
-  version = two_between s.version (subst (λ (o : Option Side). IsSide s.version o) none at.side);
-  byte = mark;
-  more = tail;
-  is = ap (λ (o : Option Side). (mark_part s.version o ++ s.framer.held) ++ piece) none ∙ ap (λ z. z ++ piece) nothing ∙ is;
-  not_client = not_client;
-  not_server = not_server;
-  placed = at.placed;
-}
-
 -- A record was given up.
 one_side : (version : Version) (side : Side) → IsSide version (Some side) → version ≡ One → side ≡ Client
 one_side One side is e = is
 one_side Two side is e = let other : Two ≡ One = e in cc
-
--- the record that is held, with this body
-abbrev pub record_at : Splitter → List ℕ → Record
-record_at s body = record { head = head_of s; spelling = s.framer.held; body = body }
 
 known_reads : (reading : Reading) (input more body : List ℕ) (records : List Record) (s : Splitter) (was : Side) → s.side ≡ Some was → Spells reading.max_body s.framer.held body
     → Stands reading input more records s → IsReadAs reading input (record { version = s.version; records = records ++ record_at s body ∷ []; rest = more })

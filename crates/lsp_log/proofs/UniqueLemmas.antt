@@ -9,15 +9,17 @@ use Rattle.lsp_log.specs.declared.record.Version.TheVariants.{One, Two}
 use Rattle.lsp_log.specs.declared.record.Side.{Side}
 use Rattle.lsp_log.specs.declared.record.Side.TheVariants.{Client, Server}
 use Rattle.lsp_log.specs.declared.record.Head.{Head}
-use Rattle.lsp_log.specs.Log.{Reading, Record, Log, IsRecord, AreRecords, IsReadAs, IsVersion, HasNoRecord, together, record_bytes, mark_of, line_of, is_line_due}
-use Rattle.lsp_log.specs.Laws.{UniqueLaw}
-use Rattle.lsp_log.proofs.LineLemmas.{first_byte}
+use Rattle.lsp_log.specs.Log.{Record, IsRecord, AreRecords, HasNoRecord, together, record_bytes, mark_of, line_of, is_line_due}
+use Rattle.lsp_log.specs.Laws.{UniqueLaw, FirstLaw, VersionLaw}
 
-pub same_version : (versions : Bool) (version other : Version) (input : List ℕ) → IsVersion versions version input → IsVersion versions other input → version ≡ other
+pub same_version : VersionLaw
 same_version versions One One input is also = refl
 same_version versions Two Two input is also = refl
 same_version versions One Two input is also = absurd (is also.0 also.1.0 also.1.1)
 same_version versions Two One input is also = absurd (also is.0 is.1.0 is.1.1)
+
+first_byte : (x y : ℕ) (xs ys : List ℕ) → x ∷ xs ≡ y ∷ ys → x ≡ y
+first_byte x y xs ys e = cc
 
 -- Two marks are one where the same stands behind them.
 same_mark : (version : Version) (side other : Side) (a b : List ℕ) → (version ≡ One → side ≡ Client) → (version ≡ One → other ≡ Client) → mark_of version side ++ a ≡ mark_of version other ++ b
@@ -78,13 +80,7 @@ none_behind : (max_body : ℕ) (version : Version) (place : ℕ) (due : Bool) (r
 none_behind max_body version place due [] more rest end each is ends = none_more max_body version place due more rest end each is ends
 none_behind max_body version place due (r ∷ rs) more rest end each is ends = none_behind max_body version (place + length (record_bytes version r)) false rs more rest end each.1 is ends
 
--- Some records of an input against all of its records.
-pub record IsFirstOf (reading : Reading) (log all : Log) : Type 0 where
-  pub more : List Record
-  pub all_are : all.records ≡ log.records ++ more
-  pub same : HasNoRecord reading.max_body log → log ≡ all
-
-pub first_of : (reading : Reading) (input : List ℕ) (log all : Log) → IsReadAs reading input log → IsReadAs reading input all → HasNoRecord reading.max_body all → IsFirstOf reading log all
+pub first_of : FirstLaw
 first_of reading input log all reads also ends = record { more = f.more; all_are = f.all_are; same = same }
   where
     version : log.version ≡ all.version

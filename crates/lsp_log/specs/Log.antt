@@ -1,5 +1,5 @@
 -- A log, and the records that are whole in it.
-use Rattle.std.specs.Prelude.{ℕ, ◌≡◌, ◌≢◌, ◌+◌, ◌-◌, Bool, true, false, List, [], ◌∷◌, ◌++◌, length, codes}
+use Rattle.std.specs.Prelude.{ℕ, ◌≡◌, ◌≢◌, ◌⊎◌, ◌+◌, ◌-◌, Bool, true, false, List, [], ◌∷◌, ◌++◌, length, codes}
 use Rattle.lsp_frame.specs.Frame.{Spells, IsHopeless}
 use Rattle.lsp_frame.specs.Stream.{IsPart}
 use Rattle.lsp_frame.specs.Faults.{IsDecided, place_behind}
@@ -102,6 +102,10 @@ pub record IsCut (max_body : ℕ) (log : Log) : Type 0 where
   pub begins : IsPart max_body part
   pub some : log.rest ≢ []
   pub none : HasNoRecord max_body log
+
+-- The rest is nothing, or the beginning of a record in which no fault was decided.
+abbrev pub IsUndecided : ℕ → Log → Type 0
+IsUndecided max_body log = (log.rest ≡ []) ⊎ IsCut max_body log
 
 -- In the frame that the rest begins with a fault was decided, at its place in the input.
 pub record IsMalformed (max_body : ℕ) (input : List ℕ) (fault : FrameFault) (log : Log) : Type 0 where

@@ -67,6 +67,10 @@ side_of (Some side) = side
 abbrev pub head_of : Splitter → Head
 head_of s = record { version = s.version; side = side_of s.side; place = s.place; line_due = s.line_due }
 
+-- the record that comes in, with this body
+abbrev pub record_at : Splitter → List ℕ → Record
+record_at s body = record { head = head_of s; spelling = s.framer.held; body = body }
+
 -- why the rest of the input is not taken
 abbrev pub IsSplitFault : ℕ → List ℕ → Log → EngineFault → Type 0
 IsSplitFault max_body input log Read = ⊥

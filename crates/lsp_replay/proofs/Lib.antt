@@ -1,3 +1,4 @@
+pub mod LineLemmas
 pub mod EngineLemmas
 pub mod RunLemmas
 pub mod ReportLemmas

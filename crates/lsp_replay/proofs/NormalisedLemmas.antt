@@ -19,7 +19,7 @@ use Rattle.lsp_replay.specs.Session.{Session, Verdict, answered, recorded, bad, 
 use Rattle.lsp_replay.specs.Engines.{View, Gives, gives, ends, go_on, unless_bad, course_in, normalising, replaying, normal_gives, normal_of, written, front_of, line_if, log_config, normal}
 use Rattle.lsp_replay.specs.Laws.{NormalLaw, all_of}
 use Rattle.lsp_replay.proofs.StateLemmas.{IsHeldState}
-use Rattle.lsp_log.proofs.LineLemmas.{is_version_one}
+use Rattle.lsp_replay.proofs.LineLemmas.{is_version_one}
 use Rattle.lsp_replay.proofs.JudgeLemmas.{IsVersionAt, judged_version, judged_held, judged_again}
 
 -- ---- a course, a record at a time

@@ -9,14 +9,14 @@ ghost use Rattle.lsp_replay.specs.Verdicts.{verdict_view};
 
 use crate::handler::{Given, Handler, Output};
 use crate::outcome::Outcome;
-use lsp_stream::EngineFault;
-use lsp_log::Head;
 use crate::session::{Session, Verdict};
 use itoa::Buffer;
 use lsp_edit::EditFault;
+use lsp_log::Head;
 use lsp_message::ErrorCode;
 use lsp_server::{Answer, Config, Refusal};
 use lsp_store::StoreFault;
+use lsp_stream::EngineFault;
 use std::alloc::{AllocError, Global};
 
 /// Writes a line for each record.

@@ -7,10 +7,10 @@ ghost use Rattle.lsp_replay.specs.Verdicts.{verdict_view};
 
 use crate::handler::{Given, Handler, Output};
 use crate::outcome::Outcome;
-use lsp_stream::EngineFault;
-use lsp_log::{Head, VERSION_LINE};
 use crate::session::{Session, Verdict};
+use lsp_log::{VERSION_LINE, Head};
 use lsp_server::{Answer, Config};
+use lsp_stream::EngineFault;
 use std::alloc::{AllocError, Global};
 
 /// Writes each record with its mark, and behind it the reply.

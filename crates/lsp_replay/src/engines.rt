@@ -13,12 +13,11 @@ use crate::converting::Convert;
 use crate::engine::{InputRules, run_engine};
 use crate::normalising::Normalise;
 use crate::outcome::Outcome;
-use lsp_stream::EngineFault;
-use lsp_stream::{Sink, Source};
 use crate::replaying::Replay;
 use crate::serving::Serve;
 use lsp_frame::Limits;
 use lsp_server::{Config, EncodingChoice, Sync};
+use lsp_stream::{EngineFault, Sink, Source};
 use lsp_text::Encoding;
 use std::alloc::Global;
 

@@ -6,8 +6,8 @@ ghost use Rattle.lsp_log.specs.Log.{Record};
 ghost use Rattle.lsp_replay.specs.Course.{Course, after, stopped, output_of, IsRecordFault};
 
 use crate::outcome::Outcome;
-use lsp_stream::EngineFault;
 use lsp_log::Head;
+use lsp_stream::EngineFault;
 
 /// Which bytes a record's output is.
 #[derive(Clone, Copy, Debug, PartialEq, Eq)]

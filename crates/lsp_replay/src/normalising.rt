@@ -9,10 +9,10 @@ ghost use Rattle.lsp_replay.specs.Verdicts.{IsTold};
 
 use crate::handler::{Given, Handler, Output};
 use crate::outcome::Outcome;
-use lsp_stream::EngineFault;
-use lsp_log::{Head, Side, VERSION_LINE, Version};
 use crate::session::{Canonical, Session, Verdict};
+use lsp_log::{VERSION_LINE, Head, Side, Version};
 use lsp_server::Config;
+use lsp_stream::EngineFault;
 use std::alloc::{AllocError, Global};
 
 /// Writes each record as it stands, and an accepted change in its one canonical message.

@@ -9,12 +9,12 @@ ghost use Rattle.lsp_replay.specs.Engines.{replaying, replaying_from, course_in,
 
 use crate::handler::{Given, Handler, Output};
 use crate::outcome::Outcome;
-use lsp_stream::EngineFault;
-use lsp_log::Head;
 use crate::session::{Session, Verdict};
 use json::Writer;
+use lsp_log::Head;
 use lsp_server::Config;
 use lsp_store::Document;
+use lsp_stream::EngineFault;
 use std::alloc::{AllocError, Global};
 use std::mem::replace;
 

@@ -6,10 +6,10 @@ ghost use Rattle.lsp_replay.specs.Engines.{serving, course_in};
 
 use crate::handler::{Given, Handler, Output};
 use crate::outcome::Outcome;
-use lsp_stream::EngineFault;
-use lsp_log::Head;
 use crate::session::{Session, Verdict};
+use lsp_log::Head;
 use lsp_server::{Answer, Config};
+use lsp_stream::EngineFault;
 use std::alloc::Global;
 
 /// Writes each reply as it comes, up to `exit`.

@@ -1,17 +1,21 @@
-//! Sessions and logs through the five engines, over readers and writers in memory.
+//! Rows of inputs, with what each engine answers and writes.
 
 mod documents;
 mod failures;
+mod pieces;
 mod refused;
 mod sessions;
 mod versions;
 mod words;
 
-use super::*;
-use lsp_stream::{Call, StopReader, StopWriter};
-use lsp_stream::Told;
-use lsp_frame::{BadLimits, frame};
-use std::alloc::AllocError;
+use lsp_frame::{Limits, frame};
+use lsp_replay::{
+    Call, EngineFault, Outcome, Settings, Sink, Source, StopReader, StopWriter, Told, check, convert,
+    normalise, replay, serve,
+};
+use lsp_server::{Config, EncodingChoice, Sync};
+use lsp_text::Encoding;
+use std::alloc::{AllocError, Global};
 use std::test::Fail;
 
 const INITIALIZE: &str =
@@ -28,6 +32,14 @@ const OPEN: &str =
 const WHOLE: &str =
     r#"{"jsonrpc":"2.0","method":"textDocument/didChange","params":{"contentChanges":[{"text":"aXc"}],"textDocument":{"uri":"file:///a","version":2}}}"#;
 
+/// The canonical message that means the same as [`WHOLE`].
+const CANONICAL: &str =
+    r#"{"jsonrpc":"2.0","method":"textDocument/didChange","params":{"contentChanges":[{"range":{"end":{"character":3,"line":0},"start":{"character":0,"line":0}},"text":"aXc"}],"textDocument":{"uri":"file:///a","version":2}}}"#;
+
+/// A change of `abc` to `aXc` by its range.
+const EDITED: &str =
+    r#"{"jsonrpc":"2.0","method":"textDocument/didChange","params":{"contentChanges":[{"range":{"end":{"character":2,"line":0},"start":{"character":1,"line":0}},"text":"X"}],"textDocument":{"uri":"file:///a","version":2}}}"#;
+
 const CLOSE: &str =
     r#"{"jsonrpc":"2.0","method":"textDocument/didClose","params":{"textDocument":{"uri":"file:///a"}}}"#;
 
@@ -37,18 +49,57 @@ const SHUT_DOWN: &str = r#"{"id":2,"jsonrpc":"2.0","result":null}"#;
 
 const EXIT: &str = r#"{"jsonrpc":"2.0","method":"exit"}"#;
 
-/// The line that a log of version 2 begins with.
-const LINE: &[u8] = b"lsp-session-log 2\n";
+/// What a server answers to a body that is no message.
+const INVALID: &str =
+    r#"{"error":{"code":-32600,"message":"invalid request"},"id":null,"jsonrpc":"2.0"}"#;
 
-/// What `replay` writes for the document behind the session `WORKED`.
-const WORKED_REPORT: &[u8] =
+/// The line that a log of version 2 begins with.
+static LINE: &[u8] = b"lsp-session-log 2\n";
+
+/// What `replay` writes for the document after the session [`WORKED`].
+static WORKED_REPORT: &[u8] =
     b"{\"languageId\":\"plaintext\",\"text\":\"aXc\",\"uri\":\"file:///a\",\"version\":2}\n";
 
 /// A document is opened, and its whole text replaced.
-const WORKED: &[&str] = &[INITIALIZE, OPEN, WHOLE];
+static WORKED: &[&str] = &[INITIALIZE, OPEN, WHOLE];
+
+/// What `normalise` makes of it.
+static NORMAL: &[&str] = &[INITIALIZE, OPEN, CANONICAL];
+
+/// What `convert` makes of it.
+static CONVERTED: &[(&str, &str)] =
+    &[(">", INITIALIZE), ("<", REPLY), (">", OPEN), (">", WHOLE)];
+
+/// What `normalise` makes of that.
+static NORMAL_CONVERTED: &[(&str, &str)] = &[
+    (">", INITIALIZE),
+    ("<", REPLY),
+    (">", OPEN),
+    (">", CANONICAL),
+];
+
+/// What `check` writes for [`WORKED`].
+static CHECK_1: &[u8] = b"1 reply\n2 changed\n3 changed\n";
+
+/// What `check` writes for [`CONVERTED`].
+static CHECK_2: &[u8] = b"1 reply\n2 server\n3 changed\n4 changed\n";
+
+/// An editor's session.
+static SESSION: &[&str] = &[
+    INITIALIZE,
+    INITIALIZED,
+    OPEN,
+    EDITED,
+    CLOSE,
+    SHUTDOWN,
+    EXIT,
+];
+
+/// What a server replies to it.
+static REPLIES: &[&str] = &[REPLY, SHUT_DOWN];
 
 /// Exit without `shutdown`.
-const BRIEF: &[&str] = &[INITIALIZE, EXIT];
+static BRIEF: &[&str] = &[INITIALIZE, EXIT];
 
 #[derive(Clone, Copy, Debug, PartialEq, Eq)]
 enum Command {
@@ -57,6 +108,40 @@ enum Command {
     Replay,
     Normalise,
     Convert,
+}
+
+/// Some bytes of a row.
+#[derive(Clone, Copy)]
+enum Bytes {
+    Plain(&'static [u8]),
+    /// The frames of these bodies: a log of version 1.
+    Frames(&'static [&'static str]),
+    /// So many first bytes of them.
+    Cut(&'static [&'static str], usize),
+    /// They, and then more bytes.
+    Then(&'static [&'static str], &'static [u8]),
+    /// A log of version 2, of records with their marks.
+    Marked(&'static [(&'static str, &'static str)]),
+}
+
+impl Bytes {
+    fn get(&self, alloc: Global) -> Result<Vec<u8>, AllocError> {
+        match self {
+            Bytes::Plain(bytes) => Vec::from_slice(alloc, bytes),
+            Bytes::Frames(bodies) => log(alloc, bodies),
+            Bytes::Cut(bodies, len) => {
+                let mut bytes = log(alloc, bodies)?;
+                bytes.truncate(*len);
+                Ok(bytes)
+            }
+            Bytes::Then(bodies, more) => {
+                let mut bytes = log(alloc, bodies)?;
+                bytes.extend_from_slice(more)?;
+                Ok(bytes)
+            }
+            Bytes::Marked(records) => marked(alloc, records),
+        }
+    }
 }
 
 /// How reader and writer behave, and how many calls are allowed.
@@ -87,10 +172,12 @@ const SINGLE: Calls<'static> = Calls {
     turns: u64::MAX,
 };
 
+type Answer = Result<Outcome, EngineFault>;
+
 /// What a run answered, wrote and did.
 #[derive(Drop)]
 struct Report {
-    answer: Result<Outcome, EngineFault>,
+    answer: Answer,
     output: Vec<u8>,
     flushes: usize,
     reads: u64,
@@ -98,11 +185,38 @@ struct Report {
 }
 
 /// The limits by default, and UTF-16.
-fn settings() -> Result<Settings, BadLimits> {
+fn settings() -> Result<Settings, Fail> {
     Ok(Settings {
         limits: Limits::new(16_777_216, 16_777_216, 1_024, 65_536)?,
         encoding: Encoding::Utf16,
     })
+}
+
+/// The server of `serve`.
+fn config(settings: Settings) -> Config {
+    Config {
+        limits: settings.limits,
+        choice: EncodingChoice::Fixed(settings.encoding),
+        sync: Sync::Incremental,
+    }
+}
+
+/// Calls an engine.
+fn call<R: Source, W: Sink>(
+    alloc: Global,
+    command: Command,
+    from: &mut R,
+    to: &mut W,
+    settings: Settings,
+    turns: u64,
+) -> Answer {
+    match command {
+        Command::Serve => serve(alloc, from, to, config(settings), turns),
+        Command::Check => check(alloc, from, to, settings, turns),
+        Command::Replay => replay(alloc, from, to, settings, turns),
+        Command::Normalise => normalise(alloc, from, to, settings, turns),
+        Command::Convert => convert(alloc, from, to, settings, turns),
+    }
 }
 
 /// Runs an engine over an input.
@@ -115,14 +229,7 @@ fn run_with(
 ) -> Result<Report, AllocError> {
     let mut reader = Told::new(StopReader::new(input, calls.reads, calls.other_reads));
     let mut writer = Told::new(StopWriter::new(alloc, calls.writes, calls.other_writes));
-    let (from, to, turns) = (&mut reader, &mut writer, calls.turns);
-    let answer = match command {
-        Command::Serve => serve(alloc, from, to, settings.config(), turns),
-        Command::Check => check(alloc, from, to, settings, turns),
-        Command::Replay => replay(alloc, from, to, settings, turns),
-        Command::Normalise => normalise(alloc, from, to, settings, turns),
-        Command::Convert => convert(alloc, from, to, settings, turns),
-    };
+    let answer = call(alloc, command, &mut reader, &mut writer, settings, calls.turns);
     let (reads, writes) = (Source::calls(&reader), Sink::calls(&writer));
     let written = writer.into_inner();
     Ok(Report {
@@ -132,11 +239,6 @@ fn run_with(
         reads,
         writes,
     })
-}
-
-/// The same with the usual settings, where each call moves all that it can.
-fn run(alloc: Global, command: Command, input: &[u8]) -> Result<Report, Fail> {
-    Ok(run_with(alloc, command, input, settings()?, SMOOTH)?)
 }
 
 /// The frames of some bodies, one after another: a log of version 1.
@@ -158,13 +260,6 @@ fn marked(alloc: Global, records: &[(&str, &str)]) -> Result<Vec<u8>, AllocError
     Ok(bytes)
 }
 
-/// A `didOpen`, its text as it stands in JSON.
-fn open(alloc: Global, uri: &str, text: &str) -> Result<String, AllocError> {
-    format!(in alloc;
-        r#"{{"jsonrpc":"2.0","method":"textDocument/didOpen","params":{{"textDocument":{{"languageId":"plaintext","text":"{text}","uri":"{uri}","version":1}}}}}}"#
-    )
-}
-
 /// A `didChange` of the document `file:///a`, with these content changes.
 fn change(alloc: Global, version: i32, changes: &str) -> Result<String, AllocError> {
     format!(in alloc;
@@ -172,17 +267,58 @@ fn change(alloc: Global, version: i32, changes: &str) -> Result<String, AllocErr
     )
 }
 
-/// A content change of a part of the first line.
-fn edit(alloc: Global, from: u32, to: u32, text: &str) -> Result<String, AllocError> {
-    format!(in alloc;
-        r#"{{"range":{{"end":{{"character":{to},"line":0}},"start":{{"character":{from},"line":0}}}},"text":"{text}"}}"#
-    )
-}
-
-fn ended(status: u8, messages: u64, refused: u64) -> Result<Outcome, EngineFault> {
+const fn ended(status: u8, messages: u64, refused: u64) -> Answer {
     Ok(Outcome {
         status,
         messages,
         refused,
     })
+}
+
+/// An input, and what an engine answers and writes, and how often it flushes.
+struct Row {
+    command: Command,
+    input: Bytes,
+    answer: Answer,
+    output: Bytes,
+    flushes: usize,
+}
+
+/// A row of a log command, which flushes nothing.
+const fn row(command: Command, input: Bytes, answer: Answer, output: Bytes) -> Row {
+    Row {
+        command,
+        input,
+        answer,
+        output,
+        flushes: 0,
+    }
+}
+
+/// Does the engine answer and write this, however its calls go?
+fn gives(alloc: Global, row: &Row, calls: Calls) -> Result<bool, Fail> {
+    let input = row.input.get(alloc)?;
+    let run = run_with(alloc, row.command, &input, settings()?, calls)?;
+    let output = row.output.get(alloc)?;
+    Ok(run.answer == row.answer && run.output == output && run.flushes == row.flushes)
+}
+
+/// Do all rows hold?
+fn all_give(alloc: Global, rows: &[Row]) -> Result<bool, Fail> {
+    for row in rows {
+        if !gives(alloc, row, SMOOTH)? {
+            return Ok(false);
+        }
+    }
+    Ok(true)
+}
+
+/// Have the bytes these lengths?
+fn have_lengths(alloc: Global, rows: &[(Bytes, usize)]) -> Result<bool, Fail> {
+    for (bytes, len) in rows {
+        if bytes.get(alloc)?.len() != *len {
+            return Ok(false);
+        }
+    }
+    Ok(true)
 }

@@ -2,67 +2,82 @@
 
 use super::*;
 use lsp_frame::FrameFault;
-use std::process::Abort;
+
+static WORKED_ROWS: [Row; 4] = [
+    row(Command::Check, Bytes::Frames(WORKED), ended(0, 3, 0), Bytes::Plain(CHECK_1)),
+    row(Command::Replay, Bytes::Frames(WORKED), ended(0, 3, 0), Bytes::Plain(WORKED_REPORT)),
+    row(Command::Normalise, Bytes::Frames(WORKED), ended(0, 3, 0), Bytes::Frames(NORMAL)),
+    row(Command::Normalise, Bytes::Frames(NORMAL), ended(0, 3, 0), Bytes::Frames(NORMAL)),
+];
+
+static WORKED_LENGTHS: [(Bytes, usize); 1] = [(Bytes::Frames(WORKED), 506)];
 
 #[test]
 fn a_log_is_checked_replayed_and_normalised(rt: HostRuntime) -> Result<(), Fail> {
-    let alloc = rt.alloc();
-    let input = log(alloc, WORKED)?;
-    assert_eq!(rt; input.len(), 506);
-    let checked = run(alloc, Command::Check, &input)?;
-    assert_eq!(rt; checked.answer, ended(0, 3, 0));
-    assert_eq!(rt;
-        checked.output.as_slice(),
-        b"1 reply\n2 changed\n3 changed\n".as_slice()
-    );
-    let replayed = run(alloc, Command::Replay, &input)?;
-    assert_eq!(rt; replayed.answer, ended(0, 3, 0));
-    assert_eq!(rt; replayed.output.as_slice(), WORKED_REPORT);
-    let canonical = change(alloc, 2, &edit(alloc, 0, 3, "aXc")?)?;
-    assert_eq!(rt; canonical.len(), 217);
-    let normal = log(alloc, &[INITIALIZE, OPEN, &canonical])?;
-    for log in [&input, &normal] {
-        let normalised = run(alloc, Command::Normalise, log)?;
-        assert_eq!(rt; normalised.answer, ended(0, 3, 0));
-        assert_eq!(rt; normalised.output, normal);
-    }
+    assert_eq!(rt; CANONICAL.len(), 217);
+    assert!(rt; have_lengths(rt.alloc(), &WORKED_LENGTHS)?);
+    assert!(rt; all_give(rt.alloc(), &WORKED_ROWS)?);
     Ok(())
 }
 
+/// The session and a second exit.
+static TWICE: &[&str] = &[
+    INITIALIZE,
+    INITIALIZED,
+    OPEN,
+    EDITED,
+    CLOSE,
+    SHUTDOWN,
+    EXIT,
+    EXIT,
+];
+
+static SESSION_ROWS: [Row; 6] = [
+    Row {
+        command: Command::Serve,
+        input: Bytes::Frames(SESSION),
+        answer: ended(0, 7, 0),
+        output: Bytes::Frames(REPLIES),
+        flushes: 2,
+    },
+    // What comes after the exit is ignored, though it was read.
+    Row {
+        command: Command::Serve,
+        input: Bytes::Then(SESSION, b"no header"),
+        answer: ended(0, 7, 0),
+        output: Bytes::Frames(REPLIES),
+        flushes: 2,
+    },
+    Row {
+        command: Command::Serve,
+        input: Bytes::Frames(TWICE),
+        answer: ended(0, 7, 0),
+        output: Bytes::Frames(REPLIES),
+        flushes: 2,
+    },
+    // A log command goes on after it, and takes no more of the client.
+    row(Command::Normalise, Bytes::Frames(SESSION), ended(0, 7, 0), Bytes::Frames(SESSION)),
+    row(
+        Command::Check,
+        Bytes::Then(SESSION, b"no header"),
+        Err(EngineFault::Frame(FrameFault::BadHeader { place: 893 })),
+        Bytes::Plain(b"1 reply\n2 ignored\n3 changed\n4 changed\n5 changed\n6 reply\n7 exit 0\n"),
+    ),
+    row(
+        Command::Normalise,
+        Bytes::Frames(TWICE),
+        Err(EngineFault::BadLog { place: 891 }),
+        Bytes::Frames(SESSION),
+    ),
+];
+
+static SESSION_LENGTHS: [(Bytes, usize); 2] =
+    [(Bytes::Frames(SESSION), 891), (Bytes::Frames(REPLIES), 212)];
+
 #[test]
 fn an_editors_session_is_served(rt: HostRuntime) -> Result<(), Fail> {
-    let alloc = rt.alloc();
-    let edited = change(alloc, 2, &edit(alloc, 1, 2, "X")?)?;
-    let session = [
-        INITIALIZE,
-        INITIALIZED,
-        OPEN,
-        &edited,
-        CLOSE,
-        SHUTDOWN,
-        EXIT,
-    ];
-    let mut input = log(alloc, &session)?;
-    let replies = log(alloc, &[REPLY, SHUT_DOWN])?;
-    assert_eq!(rt; (input.len(), replies.len()), (891, 212));
-    let served = run(alloc, Command::Serve, &input)?;
-    assert_eq!(rt; (served.answer, served.flushes), (ended(0, 7, 0), 2));
-    assert_eq!(rt; served.output, replies);
-    // Nothing behind the exit is looked at, though it was read.
-    input.extend_from_slice(b"no header")?;
-    let more = run(alloc, Command::Serve, &input)?;
-    assert_eq!(rt; more.answer, ended(0, 7, 0));
-    assert_eq!(rt; more.output, replies);
-    // A log command goes on behind it, and takes no more of the client.
-    let log = run(alloc, Command::Normalise, input.get(..891).unwrap_or(&[]))?;
-    assert_eq!(rt; log.answer, ended(0, 7, 0));
-    let fault = EngineFault::Frame(FrameFault::BadHeader { place: 893 });
-    assert_eq!(rt; run(alloc, Command::Check, &input)?.answer, Err(fault));
-    input.truncate(891);
-    input.extend_from_slice(&frame(alloc, EXIT.as_bytes())?)?;
-    let twice = Err(EngineFault::BadLog { place: 891 });
-    assert_eq!(rt; run(alloc, Command::Normalise, &input)?.answer, twice);
-    assert_eq!(rt; run(alloc, Command::Serve, &input)?.answer, ended(0, 7, 0));
+    assert!(rt; have_lengths(rt.alloc(), &SESSION_LENGTHS)?);
+    assert!(rt; all_give(rt.alloc(), &SESSION_ROWS)?);
     Ok(())
 }
 
@@ -74,81 +89,107 @@ const EARLY: &str =
 const LATE: &str =
     r#"{"error":{"code":-32600,"message":"invalid request"},"id":"q","jsonrpc":"2.0"}"#;
 
-/// Bodies that the client sends, the status and the counts of messages and refusals, and the replies.
-const SESSIONS: &[(&[&str], (u8, u64, u64), &[&str])] = &[
-    (&[], (1, 0, 0), &[]),
-    (BRIEF, (1, 2, 1), &[REPLY]),
-    (&[HOVER, OPEN, EXIT, EXIT], (1, 3, 2), &[EARLY]),
-    (&[INITIALIZE, OPEN], (1, 2, 0), &[REPLY]),
-    (
+/// A served session: each reply is flushed.
+const fn served(
+    bodies: &'static [&'static str],
+    answer: Answer,
+    replies: &'static [&'static str],
+) -> Row {
+    Row {
+        command: Command::Serve,
+        input: Bytes::Frames(bodies),
+        answer,
+        output: Bytes::Frames(replies),
+        flushes: replies.len(),
+    }
+}
+
+static ENDS: [Row; 5] = [
+    served(&[], ended(1, 0, 0), &[]),
+    served(BRIEF, ended(1, 2, 1), &[REPLY]),
+    served(&[HOVER, OPEN, EXIT, EXIT], ended(1, 3, 2), &[EARLY]),
+    served(&[INITIALIZE, OPEN], ended(1, 2, 0), &[REPLY]),
+    served(
         &[INITIALIZE, SHUTDOWN, HOVER, WHOLE, EXIT],
-        (0, 5, 1),
+        ended(0, 5, 1),
         &[REPLY, SHUT_DOWN, LATE],
     ),
 ];
 
+static REPLY_LENGTHS: [(Bytes, usize); 1] = [(Bytes::Frames(&[REPLY]), 152)];
+
 #[test]
 fn a_session_ends_with_its_exit_or_its_input(rt: HostRuntime) -> Result<(), Fail> {
-    let alloc = rt.alloc();
-    assert_eq!(rt; (EARLY.len(), log(alloc, &[REPLY])?.len()), (85, 152));
-    for (bodies, (status, messages, refused), replies) in SESSIONS {
-        let served = run(alloc, Command::Serve, &log(alloc, bodies)?)?;
-        assert_eq!(rt; served.answer, ended(*status, *messages, *refused));
-        assert_eq!(rt; served.output, log(alloc, replies)?);
-        assert_eq!(rt; served.flushes, replies.len());
-    }
+    assert_eq!(rt; EARLY.len(), 85);
+    assert!(rt; have_lengths(rt.alloc(), &REPLY_LENGTHS)?);
+    assert!(rt; all_give(rt.alloc(), &ENDS)?);
     Ok(())
 }
 
-/// Inputs that no log is, and their faults.
-const FAULTS: &[(&[u8], EngineFault)] = &[
+/// Inputs that no log is: their faults, and what `check` writes first.
+static FAULTS: [(Bytes, EngineFault, &[u8]); 7] = [
     (
-        b"Content-Length: 5\r\n\r\nab",
+        Bytes::Plain(b"Content-Length: 5\r\n\r\nab"),
         EngineFault::Truncated { place: 23 },
+        b"",
     ),
     (
-        b"lsp-session-log 3\n",
+        Bytes::Plain(b"lsp-session-log 3\n"),
         EngineFault::Frame(FrameFault::BadHeader { place: 15 }),
+        b"",
     ),
     (
-        b"lsp-session-log 2",
+        Bytes::Plain(b"lsp-session-log 2"),
         EngineFault::Frame(FrameFault::BadHeader { place: 15 }),
+        b"",
     ),
-    (b"lsp-session-log 2\nx", EngineFault::BadLog { place: 18 }),
     (
-        b"lsp-session-log 2\n>",
+        Bytes::Plain(b"lsp-session-log 2\nx"),
+        EngineFault::BadLog { place: 18 },
+        b"",
+    ),
+    (
+        Bytes::Plain(b"lsp-session-log 2\n>"),
         EngineFault::Truncated { place: 19 },
+        b"",
+    ),
+    (
+        Bytes::Cut(WORKED, 505),
+        EngineFault::Truncated { place: 505 },
+        b"1 reply\n2 changed\n",
+    ),
+    (
+        Bytes::Frames(&[INITIALIZE, EXIT, EXIT]),
+        EngineFault::BadLog { place: 227 },
+        b"1 reply\n2 exit 1\n",
     ),
 ];
 
-/// Checks and replays an input that ends in a fault, behind these lines.
-fn faults(
-    rt: &impl Abort,
-    alloc: Global,
-    input: &[u8],
-    fault: EngineFault,
-    lines: &str,
-) -> Result<(), Fail> {
-    let checked = run(alloc, Command::Check, input)?;
-    assert_eq!(rt; checked.answer, Err(fault));
-    assert_eq!(rt; checked.output.as_slice(), lines.as_bytes());
-    let replayed = run(alloc, Command::Replay, input)?;
-    assert_eq!(rt; replayed.answer, Err(fault));
-    assert_eq!(rt; replayed.output.len(), 0);
-    Ok(())
+/// Do `check` and `replay` report the fault, after these lines and after nothing?
+fn has_fault(alloc: Global, row: &(Bytes, EngineFault, &'static [u8])) -> Result<bool, Fail> {
+    let (input, fault, lines) = row;
+    let checked = Row {
+        command: Command::Check,
+        input: *input,
+        answer: Err(*fault),
+        output: Bytes::Plain(lines),
+        flushes: 0,
+    };
+    if !gives(alloc, &checked, SMOOTH)? {
+        return Ok(false);
+    }
+    let replayed = Row {
+        command: Command::Replay,
+        output: Bytes::Plain(b""),
+        ..checked
+    };
+    gives(alloc, &replayed, SMOOTH)
 }
 
 #[test]
 fn faults_have_their_places(rt: HostRuntime) -> Result<(), Fail> {
-    let alloc = rt.alloc();
-    for (input, fault) in FAULTS {
-        faults(&rt, alloc, input, *fault, "")?;
+    for row in &FAULTS {
+        assert!(rt; has_fault(rt.alloc(), row)?, "{:?}", row.1);
     }
-    let mut cut = log(alloc, WORKED)?;
-    cut.truncate(505);
-    let fault = EngineFault::Truncated { place: 505 };
-    faults(&rt, alloc, &cut, fault, "1 reply\n2 changed\n")?;
-    let after_exit = log(alloc, &[INITIALIZE, EXIT, EXIT])?;
-    let fault = EngineFault::BadLog { place: 227 };
-    faults(&rt, alloc, &after_exit, fault, "1 reply\n2 exit 1\n")
+    Ok(())
 }

@@ -4,14 +4,8 @@ use super::*;
 
 const HOVER: &str = r#"{"id":"q","jsonrpc":"2.0","method":"textDocument/hover"}"#;
 
-const NO_VERSION: &str =
-    r#"{"jsonrpc":"2.0","method":"textDocument/didOpen","params":{"textDocument":{"languageId":"plaintext","text":"abc","uri":"file:///a","version":"1"}}}"#;
-
-const CLOSE_ANOTHER: &str =
-    r#"{"jsonrpc":"2.0","method":"textDocument/didClose","params":{"textDocument":{"uri":"file:///c"}}}"#;
-
-/// A session up to the first document, with the word for each body.
-const BEGINNING: &[(&str, &str)] = &[
+/// A session of 27 bodies, with the word for each. Texts have at most 8 bytes; two documents and two changes are allowed.
+static WORDS: [(&str, &str); 27] = [
     (HOVER, "error -32002"),
     (OPEN, "dropped"),
     (
@@ -24,64 +18,97 @@ const BEGINNING: &[(&str, &str)] = &[
     ("[]", "error -32600"),
     (r#"{"id":7,"jsonrpc":"2.0","method":"x"}"#, "error -32601"),
     (r#"{"jsonrpc":"2.0","method":"$/x"}"#, "ignored"),
-    (NO_RESULT, "ignored"),
+    (r#"{"id":1,"jsonrpc":"2.0","result":null}"#, "ignored"),
     (INITIALIZE, "error -32600"),
-    (NO_VERSION, "refused M4"),
+    // The version is a text.
+    (
+        r#"{"jsonrpc":"2.0","method":"textDocument/didOpen","params":{"textDocument":{"languageId":"plaintext","text":"abc","uri":"file:///a","version":"1"}}}"#,
+        "refused M4",
+    ),
     (OPEN, "changed"),
     (OPEN, "refused S1"),
-    (CLOSE_ANOTHER, "refused S4"),
-];
-
-const NO_RESULT: &str = r#"{"id":1,"jsonrpc":"2.0","result":null}"#;
-
-const WIDE: &str = r#"{"text":"😀"}"#;
-
-/// How it ends.
-const END: &[(&str, &str)] = &[
+    (
+        r#"{"jsonrpc":"2.0","method":"textDocument/didClose","params":{"textDocument":{"uri":"file:///c"}}}"#,
+        "refused S4",
+    ),
+    // A second document, and a third.
+    (
+        r#"{"jsonrpc":"2.0","method":"textDocument/didOpen","params":{"textDocument":{"languageId":"plaintext","text":"","uri":"file:///b","version":1}}}"#,
+        "changed",
+    ),
+    (
+        r#"{"jsonrpc":"2.0","method":"textDocument/didOpen","params":{"textDocument":{"languageId":"plaintext","text":"","uri":"file:///c","version":1}}}"#,
+        "refused S2",
+    ),
+    // A text of 9 bytes.
+    (
+        r#"{"jsonrpc":"2.0","method":"textDocument/didChange","params":{"contentChanges":[{"range":{"end":{"character":0,"line":0},"start":{"character":0,"line":0}},"text":"123456"}],"textDocument":{"uri":"file:///a","version":2}}}"#,
+        "refused S3",
+    ),
+    // It ends before it starts.
+    (
+        r#"{"jsonrpc":"2.0","method":"textDocument/didChange","params":{"contentChanges":[{"range":{"end":{"character":1,"line":0},"start":{"character":2,"line":0}},"text":""}],"textDocument":{"uri":"file:///a","version":2}}}"#,
+        "refused E2",
+    ),
+    // The version is the current one.
+    (
+        r#"{"jsonrpc":"2.0","method":"textDocument/didChange","params":{"contentChanges":[{"text":"😀"}],"textDocument":{"uri":"file:///a","version":1}}}"#,
+        "refused S5",
+    ),
+    (
+        r#"{"jsonrpc":"2.0","method":"textDocument/didChange","params":{"contentChanges":[{"text":"😀"}],"textDocument":{"uri":"file:///a","version":2}}}"#,
+        "changed",
+    ),
+    // Inside of that character.
+    (
+        r#"{"jsonrpc":"2.0","method":"textDocument/didChange","params":{"contentChanges":[{"range":{"end":{"character":1,"line":0},"start":{"character":1,"line":0}},"text":"b"}],"textDocument":{"uri":"file:///a","version":3}}}"#,
+        "refused E1",
+    ),
+    (
+        r#"{"jsonrpc":"2.0","method":"textDocument/didChange","params":{"contentChanges":[{"text":""},{"text":""},{"text":""}],"textDocument":{"uri":"file:///a","version":3}}}"#,
+        "refused S6",
+    ),
     (SHUTDOWN, "reply"),
     (HOVER, "error -32600"),
     (WHOLE, "dropped"),
     (EXIT, "exit 0"),
 ];
 
-#[test]
-fn every_answer_has_its_word(rt: HostRuntime) -> Result<(), Fail> {
-    let alloc = rt.alloc();
-    // Texts of 8 bytes, two documents and two changes at most.
+/// The frames of the bodies.
+fn frames(alloc: Global, rows: &[(&str, &str)]) -> Result<Vec<u8>, AllocError> {
+    let mut bytes = Vec::new(alloc);
+    for (body, _) in rows {
+        bytes.extend_from_slice(&frame(alloc, body.as_bytes())?)?;
+    }
+    Ok(bytes)
+}
+
+/// Their lines.
+fn lines(alloc: Global, rows: &[(&str, &str)]) -> Result<Vec<u8>, AllocError> {
+    let mut bytes = Vec::new(alloc);
+    let mut number = 0usize;
+    for (_, word) in rows {
+        number = number.saturating_add(1);
+        let line = format!(in alloc; "{number} {word}\n")?;
+        bytes.extend_from_slice(line.as_bytes())?;
+    }
+    Ok(bytes)
+}
+
+/// Has each body its word, with this answer?
+fn have_words(alloc: Global, rows: &[(&str, &str)], answer: Answer) -> Result<bool, Fail> {
     let settings = Settings {
         limits: Limits::new(4_096, 8, 2, 2)?,
         ..settings()?
     };
-    let second = open(alloc, "file:///b", "")?;
-    let third = open(alloc, "file:///c", "")?;
-    let longer = change(alloc, 2, &edit(alloc, 0, 0, "123456")?)?;
-    let reversed = change(alloc, 2, &edit(alloc, 2, 1, "")?)?;
-    let stale = change(alloc, 1, WIDE)?;
-    let wide = change(alloc, 2, WIDE)?;
-    let inside = change(alloc, 3, &edit(alloc, 1, 1, "b")?)?;
-    let many = change(alloc, 3, r#"{"text":""},{"text":""},{"text":""}"#)?;
-    let middle = [
-        (second.as_str(), "changed"),
-        (third.as_str(), "refused S2"),
-        (longer.as_str(), "refused S3"),
-        (reversed.as_str(), "refused E2"),
-        (stale.as_str(), "refused S5"),
-        (wide.as_str(), "changed"),
-        (inside.as_str(), "refused E1"),
-        (many.as_str(), "refused S6"),
-    ];
-    let mut input = Vec::new(alloc);
-    let mut lines = Vec::new(alloc);
-    let mut number = 0usize;
-    for (body, word) in BEGINNING.iter().chain(middle.iter()).chain(END.iter()) {
-        number = number.saturating_add(1);
-        input.extend_from_slice(&frame(alloc, body.as_bytes())?)?;
-        let line = format!(in alloc; "{number} {word}\n")?;
-        lines.extend_from_slice(line.as_bytes())?;
-    }
-    let checked = run_with(alloc, Command::Check, &input, settings, SMOOTH)?;
-    assert_eq!(rt; checked.output, lines);
-    // Five errors and three refusals of the beginning, six refusals behind it and an error of the end; not the unknown method.
-    assert_eq!(rt; checked.answer, ended(1, 27, 15));
+    let input = frames(alloc, rows)?;
+    let run = run_with(alloc, Command::Check, &input, settings, SMOOTH)?;
+    Ok(run.answer == answer && run.output == lines(alloc, rows)?)
+}
+
+#[test]
+fn every_answer_has_its_word(rt: HostRuntime) -> Result<(), Fail> {
+    // Five errors and three refusals up to the first document, then six refusals and an error; not the unknown method.
+    assert!(rt; have_words(rt.alloc(), &WORDS, ended(1, 27, 15))?);
     Ok(())
 }
