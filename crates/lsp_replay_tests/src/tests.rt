@@ -10,8 +10,8 @@ mod words;
 
 use lsp_frame::{Limits, frame};
 use lsp_replay::{
-    Call, EngineFault, Outcome, Settings, Sink, Source, StopReader, StopWriter, Told, check, convert,
-    normalise, replay, serve,
+    Call, EngineFault, Outcome, Settings, Sink, Source, StopReader, StopWriter, Told, check,
+    convert, normalise, replay, serve,
 };
 use lsp_server::{Config, EncodingChoice, Sync};
 use lsp_text::Encoding;
@@ -54,24 +54,23 @@ const INVALID: &str =
     r#"{"error":{"code":-32600,"message":"invalid request"},"id":null,"jsonrpc":"2.0"}"#;
 
 /// The line that a log of version 2 begins with.
-static LINE: &[u8] = b"lsp-session-log 2\n";
+const LINE: &[u8] = b"lsp-session-log 2\n";
 
 /// What `replay` writes for the document after the session [`WORKED`].
-static WORKED_REPORT: &[u8] =
+const WORKED_REPORT: &[u8] =
     b"{\"languageId\":\"plaintext\",\"text\":\"aXc\",\"uri\":\"file:///a\",\"version\":2}\n";
 
 /// A document is opened, and its whole text replaced.
-static WORKED: &[&str] = &[INITIALIZE, OPEN, WHOLE];
+const WORKED: &[&str] = &[INITIALIZE, OPEN, WHOLE];
 
 /// What `normalise` makes of it.
-static NORMAL: &[&str] = &[INITIALIZE, OPEN, CANONICAL];
+const NORMAL: &[&str] = &[INITIALIZE, OPEN, CANONICAL];
 
 /// What `convert` makes of it.
-static CONVERTED: &[(&str, &str)] =
-    &[(">", INITIALIZE), ("<", REPLY), (">", OPEN), (">", WHOLE)];
+const CONVERTED: &[(&str, &str)] = &[(">", INITIALIZE), ("<", REPLY), (">", OPEN), (">", WHOLE)];
 
 /// What `normalise` makes of that.
-static NORMAL_CONVERTED: &[(&str, &str)] = &[
+const NORMAL_CONVERTED: &[(&str, &str)] = &[
     (">", INITIALIZE),
     ("<", REPLY),
     (">", OPEN),
@@ -79,27 +78,19 @@ static NORMAL_CONVERTED: &[(&str, &str)] = &[
 ];
 
 /// What `check` writes for [`WORKED`].
-static CHECK_1: &[u8] = b"1 reply\n2 changed\n3 changed\n";
+const CHECK_1: &[u8] = b"1 reply\n2 changed\n3 changed\n";
 
 /// What `check` writes for [`CONVERTED`].
-static CHECK_2: &[u8] = b"1 reply\n2 server\n3 changed\n4 changed\n";
+const CHECK_2: &[u8] = b"1 reply\n2 server\n3 changed\n4 changed\n";
 
 /// An editor's session.
-static SESSION: &[&str] = &[
-    INITIALIZE,
-    INITIALIZED,
-    OPEN,
-    EDITED,
-    CLOSE,
-    SHUTDOWN,
-    EXIT,
-];
+const SESSION: &[&str] = &[INITIALIZE, INITIALIZED, OPEN, EDITED, CLOSE, SHUTDOWN, EXIT];
 
 /// What a server replies to it.
-static REPLIES: &[&str] = &[REPLY, SHUT_DOWN];
+const REPLIES: &[&str] = &[REPLY, SHUT_DOWN];
 
 /// Exit without `shutdown`.
-static BRIEF: &[&str] = &[INITIALIZE, EXIT];
+const BRIEF: &[&str] = &[INITIALIZE, EXIT];
 
 #[derive(Clone, Copy, Debug, PartialEq, Eq)]
 enum Command {
@@ -229,7 +220,14 @@ fn run_with(
 ) -> Result<Report, AllocError> {
     let mut reader = Told::new(StopReader::new(input, calls.reads, calls.other_reads));
     let mut writer = Told::new(StopWriter::new(alloc, calls.writes, calls.other_writes));
-    let answer = call(alloc, command, &mut reader, &mut writer, settings, calls.turns);
+    let answer = call(
+        alloc,
+        command,
+        &mut reader,
+        &mut writer,
+        settings,
+        calls.turns,
+    );
     let (reads, writes) = (Source::calls(&reader), Sink::calls(&writer));
     let written = writer.into_inner();
     Ok(Report {
@@ -267,40 +265,40 @@ fn change(alloc: Global, version: i32, changes: &str) -> Result<String, AllocErr
     )
 }
 
-const fn ended(status: u8, messages: u64, refused: u64) -> Answer {
-    Ok(Outcome {
-        status,
-        messages,
-        refused,
-    })
+/// How a run of a row ends.
+#[derive(Clone, Copy)]
+enum End {
+    /// With a status, so many messages, and so many of them refused.
+    Ended(u8, u64, u64),
+    Fault(EngineFault),
 }
 
-/// An input, and what an engine answers and writes, and how often it flushes.
-struct Row {
-    command: Command,
-    input: Bytes,
-    answer: Answer,
-    output: Bytes,
-    flushes: usize,
-}
+use End::{Ended, Fault};
 
-/// A row of a log command, which flushes nothing.
-const fn row(command: Command, input: Bytes, answer: Answer, output: Bytes) -> Row {
-    Row {
-        command,
-        input,
-        answer,
-        output,
-        flushes: 0,
+impl End {
+    fn answer(self) -> Answer {
+        match self {
+            Ended(status, messages, refused) => Ok(Outcome {
+                status,
+                messages,
+                refused,
+            }),
+            Fault(fault) => Err(fault),
+        }
     }
 }
 
+/// A command and its input; how it ends, what it writes, and how often it flushes.
+#[derive(Clone, Copy)]
+struct Row(Command, Bytes, End, Bytes, usize);
+
 /// Does the engine answer and write this, however its calls go?
 fn gives(alloc: Global, row: &Row, calls: Calls) -> Result<bool, Fail> {
-    let input = row.input.get(alloc)?;
-    let run = run_with(alloc, row.command, &input, settings()?, calls)?;
-    let output = row.output.get(alloc)?;
-    Ok(run.answer == row.answer && run.output == output && run.flushes == row.flushes)
+    let Row(command, input, end, output, flushes) = row;
+    let input = input.get(alloc)?;
+    let run = run_with(alloc, *command, &input, settings()?, calls)?;
+    let output = output.get(alloc)?;
+    Ok(run.answer == end.answer() && run.output == output && run.flushes == *flushes)
 }
 
 /// Do all rows hold?

@@ -1,109 +1,123 @@
 //! Readers and writers that give little, are interrupted or fail.
 
 use super::*;
-use std::process::Abort;
-
-/// The inputs of the runs, and what `normalise` makes of two of them.
-#[derive(Drop)]
-struct Logs {
-    worked: Vec<u8>,
-    normal: Vec<u8>,
-    converted: Vec<u8>,
-    normal_converted: Vec<u8>,
-    session: Vec<u8>,
-    replies: Vec<u8>,
-}
-
-impl Logs {
-    fn new(alloc: Global) -> Result<Logs, AllocError> {
-        let canonical = change(alloc, 2, &edit(alloc, 0, 3, "aXc")?)?;
-        let edited = change(alloc, 2, &edit(alloc, 1, 2, "X")?)?;
-        Ok(Logs {
-            worked: log(alloc, WORKED)?,
-            normal: log(alloc, &[INITIALIZE, OPEN, &canonical])?,
-            converted: marked(
-                alloc,
-                &[(">", INITIALIZE), ("<", REPLY), (">", OPEN), (">", WHOLE)],
-            )?,
-            normal_converted: marked(
-                alloc,
-                &[
-                    (">", INITIALIZE),
-                    ("<", REPLY),
-                    (">", OPEN),
-                    (">", &canonical),
-                ],
-            )?,
-            session: log(
-                alloc,
-                &[
-                    INITIALIZE,
-                    INITIALIZED,
-                    OPEN,
-                    &edited,
-                    CLOSE,
-                    SHUTDOWN,
-                    EXIT,
-                ],
-            )?,
-            replies: log(alloc, &[REPLY, SHUT_DOWN])?,
-        })
-    }
-}
 
 /// A run of an engine, and how it goes on.
-#[derive(Clone, Copy)]
-struct Case<'a> {
+struct Case {
     command: Command,
-    input: &'a [u8],
-    output: &'a [u8],
-    answer: Result<Outcome, EngineFault>,
+    input: Bytes,
+    output: Bytes,
+    end: End,
     /// How many bytes were read and written when a record was handled, for each that gives something.
-    records: &'a [(usize, usize)],
+    records: &'static [(usize, usize)],
     /// Which of the writer's calls flush, where each write takes one byte.
-    flushes: &'a [usize],
-    /// The reads of the next.
-    reads: &'a [Call],
+    flushes: &'static [usize],
+    /// The reads, where the calls are counted.
+    reads: &'static [Call],
     /// The calls in their order where each moves all that it can: reads, writes and flushes.
-    order: &'a [u8],
+    order: &'static [u8],
 }
 
-/// The frames of the session, one for each read.
-const FRAMES: &[Call] = &[
-    Call::Take(172),
-    Call::Take(74),
-    Call::Take(168),
-    Call::Take(238),
-    Call::Take(118),
-    Call::Take(66),
-    Call::Take(55),
+/// An editor's session up to its exit, a frame for each read.
+static SERVED: [Case; 1] = [Case {
+    command: Command::Serve,
+    input: Bytes::Frames(SESSION),
+    output: Bytes::Frames(REPLIES),
+    end: Ended(0, 7, 0),
+    records: &[(172, 152), (836, 212)],
+    flushes: &[152, 213],
+    reads: &[
+        Call::Take(172),
+        Call::Take(74),
+        Call::Take(168),
+        Call::Take(238),
+        Call::Take(118),
+        Call::Take(66),
+        Call::Take(55),
+    ],
+    order: b"RWFRRRRRWFR",
+}];
+
+/// The log commands over a log of version 1.
+static OVER_1: [Case; 4] = [
+    Case {
+        command: Command::Check,
+        input: Bytes::Frames(WORKED),
+        output: Bytes::Plain(CHECK_1),
+        end: Ended(0, 3, 0),
+        records: &[(172, 8), (340, 18), (506, 28)],
+        flushes: &[],
+        reads: &[],
+        order: b"RWWWR",
+    },
+    Case {
+        command: Command::Replay,
+        input: Bytes::Frames(WORKED),
+        output: Bytes::Plain(WORKED_REPORT),
+        end: Ended(0, 3, 0),
+        records: &[],
+        flushes: &[],
+        reads: &[],
+        order: b"RRW",
+    },
+    Case {
+        command: Command::Normalise,
+        input: Bytes::Frames(WORKED),
+        output: Bytes::Frames(NORMAL),
+        end: Ended(0, 3, 0),
+        records: &[(172, 172), (340, 340), (506, 580)],
+        flushes: &[],
+        reads: &[],
+        order: b"RWWWR",
+    },
+    Case {
+        command: Command::Convert,
+        input: Bytes::Frames(WORKED),
+        output: Bytes::Marked(CONVERTED),
+        end: Ended(0, 3, 0),
+        records: &[(172, 344), (340, 513), (506, 680)],
+        flushes: &[],
+        reads: &[],
+        order: b"RWWWR",
+    },
 ];
 
-const CHECK_1: &[u8] = b"1 reply\n2 changed\n3 changed\n";
+/// Those that take one, over a log of version 2.
+static OVER_2: [Case; 3] = [
+    Case {
+        command: Command::Check,
+        input: Bytes::Marked(CONVERTED),
+        output: Bytes::Plain(CHECK_2),
+        end: Ended(0, 3, 0),
+        records: &[(191, 8), (344, 17), (513, 27), (680, 37)],
+        flushes: &[],
+        reads: &[],
+        order: b"RWWWWR",
+    },
+    Case {
+        command: Command::Replay,
+        input: Bytes::Marked(CONVERTED),
+        output: Bytes::Plain(WORKED_REPORT),
+        end: Ended(0, 3, 0),
+        records: &[],
+        flushes: &[],
+        reads: &[],
+        order: b"RRW",
+    },
+    Case {
+        command: Command::Normalise,
+        input: Bytes::Marked(CONVERTED),
+        output: Bytes::Marked(NORMAL_CONVERTED),
+        end: Ended(0, 3, 0),
+        records: &[(191, 191), (344, 344), (513, 513), (680, 754)],
+        flushes: &[],
+        reads: &[],
+        order: b"RWWWWR",
+    },
+];
 
-const CHECK_2: &[u8] = b"1 reply\n2 server\n3 changed\n4 changed\n";
-
-impl<'a> Case<'a> {
-    fn new(
-        command: Command,
-        input: &'a [u8],
-        output: &'a [u8],
-        records: &'a [(usize, usize)],
-        order: &'a [u8],
-    ) -> Case<'a> {
-        Case {
-            command,
-            input,
-            output,
-            answer: ended(0, 3, 0),
-            records,
-            flushes: &[],
-            reads: &[],
-            order,
-        }
-    }
-
-    /// How many bytes stand written once so many were read.
+impl Case {
+    /// How many bytes are written once so many were read.
     fn written_at(&self, read: usize) -> usize {
         let mut written = 0;
         for (bytes, output) in self.records {
@@ -114,75 +128,241 @@ impl<'a> Case<'a> {
         written
     }
 
-    /// How many bytes stand written behind so many writes.
-    fn written_by(&self, writes: usize) -> usize {
+    /// How many bytes are written after so many writes.
+    fn written_by(&self, writes: usize, all: usize) -> usize {
         match writes.checked_sub(1) {
             None => 0,
             Some(last) => match self.records.get(last) {
                 Some((_, written)) => *written,
-                None => self.output.len(),
+                None => all,
             },
         }
     }
+}
 
-    /// Runs the engine, and looks whether it wrote so many bytes and answered this.
-    fn meets(
-        &self,
-        rt: &impl Abort,
-        alloc: Global,
-        calls: Calls,
-        answer: Result<Outcome, EngineFault>,
-        written: usize,
-    ) -> Result<Report, Fail> {
-        let run = run_with(alloc, self.command, self.input, settings()?, calls)?;
-        let command = self.command;
-        assert_eq!(rt; run.answer, answer, "{command:?}");
-        assert_eq!(rt;
-            Some(run.output.as_slice()),
-            self.output.get(..written),
-            "{command:?}"
-        );
-        Ok(run)
+/// What a run answers, how much it writes, and how many calls it makes where that is asked.
+#[derive(Clone, Copy)]
+struct Wanted {
+    answer: Answer,
+    written: usize,
+    reads: Option<u64>,
+    writes: Option<u64>,
+    flushes: Option<usize>,
+}
+
+fn expected(answer: Answer, written: usize) -> Wanted {
+    Wanted {
+        answer,
+        written,
+        reads: None,
+        writes: None,
+        flushes: None,
     }
 }
 
-/// An editor's session up to its exit.
-fn served(logs: &Logs) -> Case<'_> {
-    let records = &[(172, 152), (836, 212)];
-    let order = b"RWFRRRRRWFR";
-    Case {
-        answer: ended(0, 7, 0),
-        flushes: &[152, 213],
-        reads: FRAMES,
-        ..Case::new(Command::Serve, &logs.session, &logs.replies, records, order)
+fn is_count(asked: Option<u64>, count: u64) -> bool {
+    match asked {
+        None => true,
+        Some(asked) => asked == count,
     }
 }
 
-/// The log commands over a log of version 1.
-fn over_version_1(logs: &Logs) -> [Case<'_>; 4] {
-    let log = &logs.worked;
-    let checked = &[(172, 8), (340, 18), (506, 28)];
-    let normal = &[(172, 172), (340, 340), (506, 580)];
-    let converted = &[(172, 344), (340, 513), (506, 680)];
-    [
-        Case::new(Command::Check, log, CHECK_1, checked, b"RWWWR"),
-        Case::new(Command::Replay, log, WORKED_REPORT, &[], b"RRW"),
-        Case::new(Command::Normalise, log, &logs.normal, normal, b"RWWWR"),
-        Case::new(Command::Convert, log, &logs.converted, converted, b"RWWWR"),
-    ]
+impl Wanted {
+    fn is_met(&self, run: &Report, output: &[u8]) -> bool {
+        run.answer == self.answer
+            && Some(run.output.as_slice()) == output.get(..self.written)
+            && is_count(self.reads, run.reads)
+            && is_count(self.writes, run.writes)
+            && (self.flushes.is_none() || self.flushes == Some(run.flushes))
+    }
 }
 
-/// Those that take one, over a log of version 2.
-fn over_version_2(logs: &Logs) -> [Case<'_>; 3] {
-    let log = &logs.converted;
-    let output = &logs.normal_converted;
-    let checked = &[(191, 8), (344, 17), (513, 27), (680, 37)];
-    let normal = &[(191, 191), (344, 344), (513, 513), (680, 754)];
-    [
-        Case::new(Command::Check, log, CHECK_2, checked, b"RWWWWR"),
-        Case::new(Command::Replay, log, WORKED_REPORT, &[], b"RRW"),
-        Case::new(Command::Normalise, log, output, normal, b"RWWWWR"),
-    ]
+/// A case with its bytes.
+#[derive(Drop)]
+struct Runs<'a> {
+    alloc: Global,
+    case: &'a Case,
+    input: Vec<u8>,
+    output: Vec<u8>,
+}
+
+impl<'a> Runs<'a> {
+    fn new(alloc: Global, case: &'a Case) -> Result<Runs<'a>, AllocError> {
+        Ok(Runs {
+            alloc,
+            case,
+            input: case.input.get(alloc)?,
+            output: case.output.get(alloc)?,
+        })
+    }
+
+    fn meets(&self, calls: Calls, wanted: Wanted) -> Result<bool, Fail> {
+        let run = run_with(
+            self.alloc,
+            self.case.command,
+            &self.input,
+            settings()?,
+            calls,
+        )?;
+        Ok(wanted.is_met(&run, &self.output))
+    }
+
+    /// The run to its end.
+    fn whole(&self) -> Wanted {
+        expected(self.case.end.answer(), self.output.len())
+    }
+
+    /// How many reads of one byte it makes: one for each byte, and one that has the end, but for `serve`, which ends at the exit.
+    fn reads(&self) -> usize {
+        let more = usize::from(self.case.command != Command::Serve);
+        self.input.len().saturating_add(more)
+    }
+
+    /// How many calls of the writer it makes that write one byte or flush.
+    fn writes(&self) -> usize {
+        self.output.len().saturating_add(self.case.flushes.len())
+    }
+
+    /// Where the reader gives single bytes, and is interrupted before each.
+    fn reads_slowly(&self) -> Result<bool, Fail> {
+        let reads = self.reads() as u64;
+        let single = Wanted {
+            reads: Some(reads),
+            ..self.whole()
+        };
+        if !self.meets(SINGLE, single)? {
+            return Ok(false);
+        }
+        let twice = interrupted(self.alloc, self.reads())?;
+        let calls = Calls {
+            reads: &twice,
+            ..SINGLE
+        };
+        let double = Wanted {
+            reads: Some(reads.saturating_mul(2)),
+            ..self.whole()
+        };
+        self.meets(calls, double)
+    }
+
+    /// Where the read of this number fails.
+    fn fails_at_read(&self, script: &[Call], number: usize) -> Result<bool, Fail> {
+        let calls = Calls {
+            reads: script,
+            ..SMOOTH
+        };
+        let failed = Wanted {
+            reads: Some((number as u64).saturating_add(1)),
+            ..expected(Err(EngineFault::Read), self.case.written_at(number))
+        };
+        self.meets(calls, failed)
+    }
+
+    fn each_read_fails(&self) -> Result<bool, Fail> {
+        let mut script = script(self.alloc, self.reads())?;
+        for number in 0..self.reads() {
+            set(&mut script, number, Call::Fail);
+            if !self.fails_at_read(&script, number)? {
+                return Ok(false);
+            }
+            set(&mut script, number, Call::Take(1));
+        }
+        Ok(true)
+    }
+
+    /// Where the writer takes single bytes, and is interrupted before each.
+    fn writes_slowly(&self) -> Result<bool, Fail> {
+        let twice = interrupted(self.alloc, self.writes())?;
+        let calls = Calls {
+            writes: &twice,
+            ..SMOOTH
+        };
+        let double = Wanted {
+            writes: Some((self.writes() as u64).saturating_mul(2)),
+            ..self.whole()
+        };
+        self.meets(calls, double)
+    }
+
+    /// How many of the writer's first calls flush.
+    fn flushed_before(&self, number: usize) -> usize {
+        let mut flushed = 0usize;
+        for flush in self.case.flushes {
+            if *flush < number {
+                flushed = flushed.saturating_add(1);
+            }
+        }
+        flushed
+    }
+
+    /// Where the writer's call of this number fails, or takes nothing.
+    fn fails_at_write(&self, script: &[Call], number: usize) -> Result<bool, Fail> {
+        let calls = Calls {
+            writes: script,
+            ..SMOOTH
+        };
+        let written = number.saturating_sub(self.flushed_before(number));
+        let failed = Wanted {
+            writes: Some((number as u64).saturating_add(1)),
+            ..expected(Err(EngineFault::Write), written)
+        };
+        self.meets(calls, failed)
+    }
+
+    fn each_write_fails(&self, ending: Call) -> Result<bool, Fail> {
+        let mut script = script(self.alloc, self.writes())?;
+        for number in 0..self.writes() {
+            // A flush has nothing to take.
+            if ending == Call::Fail || !self.case.flushes.contains(&number) {
+                set(&mut script, number, ending);
+                if !self.fails_at_write(&script, number)? {
+                    return Ok(false);
+                }
+                set(&mut script, number, Call::Take(1));
+            }
+        }
+        Ok(true)
+    }
+
+    /// With so many calls allowed, are these made?
+    fn stops_after(&self, turns: usize, made: [usize; 3], answer: Answer) -> Result<bool, Fail> {
+        let [reads, writes, flushes] = made;
+        let calls = Calls {
+            reads: self.case.reads,
+            turns: turns as u64,
+            ..SMOOTH
+        };
+        let stopped = Wanted {
+            answer,
+            written: self.case.written_by(writes, self.output.len()),
+            reads: Some(reads as u64),
+            writes: Some(writes.saturating_add(flushes) as u64),
+            flushes: Some(flushes),
+        };
+        self.meets(calls, stopped)
+    }
+
+    /// With so many calls allowed as it needs, and with each smaller number: its calls come in their order.
+    fn calls_in_order(&self) -> Result<bool, Fail> {
+        let mut made = [0usize; 3];
+        for (turns, call) in self.case.order.iter().enumerate() {
+            if !self.stops_after(turns, made, Err(EngineFault::TooManyTurns))? {
+                return Ok(false);
+            }
+            made = one_more(made, *call);
+        }
+        self.stops_after(self.case.order.len(), made, self.case.end.answer())
+    }
+}
+
+/// The counts of reads, writes and flushes with one call more.
+fn one_more(made: [usize; 3], call: u8) -> [usize; 3] {
+    let [reads, writes, flushes] = made;
+    match call {
+        b'R' => [reads.saturating_add(1), writes, flushes],
+        b'W' => [reads, writes.saturating_add(1), flushes],
+        _ => [reads, writes, flushes.saturating_add(1)],
+    }
 }
 
 /// A script in which each call is interrupted, and then moves one byte.
@@ -211,197 +391,126 @@ fn script(alloc: Global, calls: usize) -> Result<Vec<Call>, AllocError> {
     Ok(script)
 }
 
-/// Runs an engine that reads byte by byte. Each read is interrupted once, and then each fails in turn.
-fn fail_reads(rt: &impl Abort, alloc: Global, case: &Case) -> Result<(), Fail> {
-    let whole = case.output.len();
-    let single = case.meets(rt, alloc, SINGLE, case.answer, whole)?;
-    // A read for each byte, and one that tells the end, but for `serve`, which ends at the exit.
-    let reads = case.input.len() + if case.command == Command::Serve { 0 } else { 1 };
-    assert_eq!(rt; single.reads, reads as u64);
-    let twice = interrupted(alloc, reads)?;
-    let calls = Calls {
-        reads: &twice,
-        ..SINGLE
-    };
-    let run = case.meets(rt, alloc, calls, case.answer, whole)?;
-    assert_eq!(rt; run.reads, (reads as u64).saturating_mul(2));
-    let mut script = script(alloc, reads)?;
-    for n in 0..reads {
-        set(&mut script, n, Call::Fail);
-        let calls = Calls {
-            reads: &script,
-            ..SMOOTH
-        };
-        let run = case.meets(rt, alloc, calls, Err(EngineFault::Read), case.written_at(n))?;
-        assert_eq!(rt; run.reads, n as u64 + 1);
-        set(&mut script, n, Call::Take(1));
-    }
-    Ok(())
-}
-
-/// Runs an engine that writes byte by byte. Each call of the writer is interrupted once; then each fails, or takes nothing, in turn.
-fn fail_writes(rt: &impl Abort, alloc: Global, case: &Case) -> Result<(), Fail> {
-    let whole = case.output.len();
-    let writes = whole + case.flushes.len();
-    let twice = interrupted(alloc, writes)?;
-    let calls = Calls {
-        writes: &twice,
-        ..SMOOTH
-    };
-    let run = case.meets(rt, alloc, calls, case.answer, whole)?;
-    assert_eq!(rt; run.writes, (writes as u64).saturating_mul(2));
-    let mut script = script(alloc, writes)?;
-    let mut flushed = 0usize;
-    for n in 0..writes {
-        let flushes = case.flushes.contains(&n);
-        for call in [Call::Take(0), Call::Fail] {
-            // A flush has nothing to take.
-            if flushes && call == Call::Take(0) {
-                continue;
-            }
-            set(&mut script, n, call);
-            let calls = Calls {
-                writes: &script,
-                ..SMOOTH
-            };
-            let run = case.meets(
-                rt,
-                alloc,
-                calls,
-                Err(EngineFault::Write),
-                n.saturating_sub(flushed),
-            )?;
-            assert_eq!(rt; run.writes, n as u64 + 1);
+/// The reader gives little in each case, and then fails at each call in turn.
+fn reads_fail(alloc: Global, cases: &[Case]) -> Result<bool, Fail> {
+    for case in cases {
+        let runs = Runs::new(alloc, case)?;
+        if !runs.reads_slowly()? || !runs.each_read_fails()? {
+            return Ok(false);
         }
-        set(&mut script, n, Call::Take(1));
-        flushed = flushed.saturating_add(usize::from(flushes));
     }
-    Ok(())
+    Ok(true)
 }
 
 #[test]
 fn each_read_of_a_session_fails_in_turn(rt: HostRuntime) -> Result<(), Fail> {
-    let logs = Logs::new(rt.alloc())?;
-    fail_reads(&rt, rt.alloc(), &served(&logs))
+    assert!(rt; reads_fail(rt.alloc(), &SERVED)?);
+    Ok(())
 }
 
 #[test]
 fn each_read_of_version_1_fails_in_turn(rt: HostRuntime) -> Result<(), Fail> {
-    let alloc = rt.alloc();
-    let logs = Logs::new(alloc)?;
-    for case in &over_version_1(&logs) {
-        fail_reads(&rt, alloc, case)?;
-    }
+    assert!(rt; reads_fail(rt.alloc(), &OVER_1)?);
     Ok(())
 }
 
 #[test]
 fn each_read_of_version_2_fails_in_turn(rt: HostRuntime) -> Result<(), Fail> {
-    let alloc = rt.alloc();
-    let logs = Logs::new(alloc)?;
-    for case in &over_version_2(&logs) {
-        fail_reads(&rt, alloc, case)?;
-    }
+    assert!(rt; reads_fail(rt.alloc(), &OVER_2)?);
     Ok(())
+}
+
+/// The writer takes little in each case, and then fails, or takes nothing, at each call in turn.
+fn writes_fail(alloc: Global, cases: &[Case]) -> Result<bool, Fail> {
+    for case in cases {
+        let runs = Runs::new(alloc, case)?;
+        if !runs.writes_slowly()? {
+            return Ok(false);
+        }
+        if !runs.each_write_fails(Call::Take(0))? || !runs.each_write_fails(Call::Fail)? {
+            return Ok(false);
+        }
+    }
+    Ok(true)
 }
 
 #[test]
 fn each_write_and_flush_fails_in_turn(rt: HostRuntime) -> Result<(), Fail> {
-    let alloc = rt.alloc();
-    let logs = Logs::new(alloc)?;
-    fail_writes(&rt, alloc, &served(&logs))?;
-    for case in &over_version_1(&logs) {
-        fail_writes(&rt, alloc, case)?;
-    }
+    assert!(rt; writes_fail(rt.alloc(), &SERVED)?);
+    assert!(rt; writes_fail(rt.alloc(), &OVER_1)?);
     Ok(())
 }
 
 #[test]
 fn each_write_of_version_2_fails_in_turn(rt: HostRuntime) -> Result<(), Fail> {
-    let alloc = rt.alloc();
-    let logs = Logs::new(alloc)?;
-    for case in &over_version_2(&logs) {
-        fail_writes(&rt, alloc, case)?;
-    }
+    assert!(rt; writes_fail(rt.alloc(), &OVER_2)?);
     Ok(())
 }
 
-/// Runs an engine with so many calls allowed as it needs, and with each smaller number: its calls come in their order.
-fn count_turns(rt: &impl Abort, alloc: Global, case: &Case) -> Result<(), Fail> {
-    let (mut reads, mut writes, mut flushes) = (0usize, 0usize, 0usize);
-    for (turns, call) in case.order.iter().enumerate() {
-        let calls = Calls {
-            reads: case.reads,
-            turns: turns as u64,
-            ..SMOOTH
-        };
-        let fault = Err(EngineFault::TooManyTurns);
-        let run = case.meets(rt, alloc, calls, fault, case.written_by(writes))?;
-        assert_eq!(rt; run.reads, reads as u64);
-        assert_eq!(rt; run.writes, writes.saturating_add(flushes) as u64);
-        assert_eq!(rt; run.flushes, flushes);
-        match call {
-            b'R' => reads = reads.saturating_add(1),
-            b'W' => writes = writes.saturating_add(1),
-            _ => flushes = flushes.saturating_add(1),
+fn are_in_order(alloc: Global, cases: &[Case]) -> Result<bool, Fail> {
+    for case in cases {
+        if !Runs::new(alloc, case)?.calls_in_order()? {
+            return Ok(false);
         }
     }
-    let calls = Calls {
-        reads: case.reads,
-        turns: case.order.len() as u64,
-        ..SMOOTH
-    };
-    let run = case.meets(rt, alloc, calls, case.answer, case.output.len())?;
-    assert_eq!(rt; (run.reads, run.flushes), (reads as u64, flushes));
-    Ok(())
+    Ok(true)
 }
 
 #[test]
 fn output_is_written_and_flushed_before_the_next_read(rt: HostRuntime) -> Result<(), Fail> {
-    let alloc = rt.alloc();
-    let logs = Logs::new(alloc)?;
-    count_turns(&rt, alloc, &served(&logs))?;
-    for case in &over_version_1(&logs) {
-        count_turns(&rt, alloc, case)?;
-    }
-    for case in &over_version_2(&logs) {
-        count_turns(&rt, alloc, case)?;
-    }
+    assert!(rt; are_in_order(rt.alloc(), &SERVED)?);
+    assert!(rt; are_in_order(rt.alloc(), &OVER_1)?);
+    assert!(rt; are_in_order(rt.alloc(), &OVER_2)?);
     Ok(())
+}
+
+/// Is this the answer of the session, and how much of its replies is written?
+fn serves(alloc: Global, calls: Calls, answer: Answer, written: usize) -> Result<bool, Fail> {
+    for case in &SERVED {
+        if !Runs::new(alloc, case)?.meets(calls, expected(answer, written))? {
+            return Ok(false);
+        }
+    }
+    Ok(true)
 }
 
 #[test]
 fn a_reader_and_a_writer_that_stop(rt: HostRuntime) -> Result<(), Fail> {
-    let alloc = rt.alloc();
-    let logs = Logs::new(alloc)?;
-    let served = served(&logs);
     let first = Calls {
         reads: &[Call::Take(172)],
         other_reads: Call::Fail,
         ..SMOOTH
     };
-    served.meets(&rt, alloc, first, Err(EngineFault::Read), 152)?;
+    assert!(rt; serves(rt.alloc(), first, Err(EngineFault::Read), 152)?);
     let short = Calls {
         writes: &[Call::Take(100)],
         other_writes: Call::Fail,
         ..SMOOTH
     };
-    served.meets(&rt, alloc, short, Err(EngineFault::Write), 100)?;
-    // A request that is none, again and again: each is answered before the next is read.
-    let mut endless = Vec::new(alloc);
-    for _ in 0..20 {
-        endless.extend_from_slice(b"Content-Length: 2\r\n\r\n[]")?;
-    }
+    assert!(rt; serves(rt.alloc(), short, Err(EngineFault::Write), 100)?);
+    Ok(())
+}
+
+/// A request that is none, again and again: each is answered, and the answer flushed, before the next is read.
+fn is_answered_at_once(alloc: Global) -> Result<bool, Fail> {
+    let bodies = ["[]"; 20];
+    let endless = log(alloc, &bodies)?;
     let calls = Calls {
         other_reads: Call::Take(23),
         turns: 10,
         ..SMOOTH
     };
     let run = run_with(alloc, Command::Serve, &endless, settings()?, calls)?;
-    let invalid =
-        r#"{"error":{"code":-32600,"message":"invalid request"},"id":null,"jsonrpc":"2.0"}"#;
-    assert_eq!(rt; run.answer, Err(EngineFault::TooManyTurns));
-    assert_eq!(rt; run.output, log(alloc, &[invalid, invalid, invalid])?);
-    assert_eq!(rt; (run.output.len(), run.flushes, run.reads), (303, 3, 4));
+    Ok(
+        run.answer == Err(EngineFault::TooManyTurns)
+            && run.output == log(alloc, &[INVALID, INVALID, INVALID])?
+            && (run.output.len(), run.flushes) == (303, 3)
+            && (run.reads, run.writes) == (4, 6),
+    )
+}
+
+#[test]
+fn a_client_that_goes_on_is_answered_at_once(rt: HostRuntime) -> Result<(), Fail> {
+    assert!(rt; is_answered_at_once(rt.alloc())?);
     Ok(())
 }

@@ -4,10 +4,34 @@ use super::*;
 use lsp_frame::FrameFault;
 
 static WORKED_ROWS: [Row; 4] = [
-    row(Command::Check, Bytes::Frames(WORKED), ended(0, 3, 0), Bytes::Plain(CHECK_1)),
-    row(Command::Replay, Bytes::Frames(WORKED), ended(0, 3, 0), Bytes::Plain(WORKED_REPORT)),
-    row(Command::Normalise, Bytes::Frames(WORKED), ended(0, 3, 0), Bytes::Frames(NORMAL)),
-    row(Command::Normalise, Bytes::Frames(NORMAL), ended(0, 3, 0), Bytes::Frames(NORMAL)),
+    Row(
+        Command::Check,
+        Bytes::Frames(WORKED),
+        Ended(0, 3, 0),
+        Bytes::Plain(CHECK_1),
+        0,
+    ),
+    Row(
+        Command::Replay,
+        Bytes::Frames(WORKED),
+        Ended(0, 3, 0),
+        Bytes::Plain(WORKED_REPORT),
+        0,
+    ),
+    Row(
+        Command::Normalise,
+        Bytes::Frames(WORKED),
+        Ended(0, 3, 0),
+        Bytes::Frames(NORMAL),
+        0,
+    ),
+    Row(
+        Command::Normalise,
+        Bytes::Frames(NORMAL),
+        Ended(0, 3, 0),
+        Bytes::Frames(NORMAL),
+        0,
+    ),
 ];
 
 static WORKED_LENGTHS: [(Bytes, usize); 1] = [(Bytes::Frames(WORKED), 506)];
@@ -21,7 +45,7 @@ fn a_log_is_checked_replayed_and_normalised(rt: HostRuntime) -> Result<(), Fail>
 }
 
 /// The session and a second exit.
-static TWICE: &[&str] = &[
+const TWICE: &[&str] = &[
     INITIALIZE,
     INITIALIZED,
     OPEN,
@@ -33,46 +57,56 @@ static TWICE: &[&str] = &[
 ];
 
 static SESSION_ROWS: [Row; 6] = [
-    Row {
-        command: Command::Serve,
-        input: Bytes::Frames(SESSION),
-        answer: ended(0, 7, 0),
-        output: Bytes::Frames(REPLIES),
-        flushes: 2,
-    },
+    Row(
+        Command::Serve,
+        Bytes::Frames(SESSION),
+        Ended(0, 7, 0),
+        Bytes::Frames(REPLIES),
+        2,
+    ),
     // What comes after the exit is ignored, though it was read.
-    Row {
-        command: Command::Serve,
-        input: Bytes::Then(SESSION, b"no header"),
-        answer: ended(0, 7, 0),
-        output: Bytes::Frames(REPLIES),
-        flushes: 2,
-    },
-    Row {
-        command: Command::Serve,
-        input: Bytes::Frames(TWICE),
-        answer: ended(0, 7, 0),
-        output: Bytes::Frames(REPLIES),
-        flushes: 2,
-    },
+    Row(
+        Command::Serve,
+        Bytes::Then(SESSION, b"no header"),
+        Ended(0, 7, 0),
+        Bytes::Frames(REPLIES),
+        2,
+    ),
+    Row(
+        Command::Serve,
+        Bytes::Frames(TWICE),
+        Ended(0, 7, 0),
+        Bytes::Frames(REPLIES),
+        2,
+    ),
     // A log command goes on after it, and takes no more of the client.
-    row(Command::Normalise, Bytes::Frames(SESSION), ended(0, 7, 0), Bytes::Frames(SESSION)),
-    row(
+    Row(
+        Command::Normalise,
+        Bytes::Frames(SESSION),
+        Ended(0, 7, 0),
+        Bytes::Frames(SESSION),
+        0,
+    ),
+    Row(
         Command::Check,
         Bytes::Then(SESSION, b"no header"),
-        Err(EngineFault::Frame(FrameFault::BadHeader { place: 893 })),
+        Fault(EngineFault::Frame(FrameFault::BadHeader { place: 893 })),
         Bytes::Plain(b"1 reply\n2 ignored\n3 changed\n4 changed\n5 changed\n6 reply\n7 exit 0\n"),
+        0,
     ),
-    row(
+    Row(
         Command::Normalise,
         Bytes::Frames(TWICE),
-        Err(EngineFault::BadLog { place: 891 }),
+        Fault(EngineFault::BadLog { place: 891 }),
         Bytes::Frames(SESSION),
+        0,
     ),
 ];
 
-static SESSION_LENGTHS: [(Bytes, usize); 2] =
-    [(Bytes::Frames(SESSION), 891), (Bytes::Frames(REPLIES), 212)];
+static SESSION_LENGTHS: [(Bytes, usize); 2] = [
+    (Bytes::Frames(SESSION), 891),
+    (Bytes::Frames(REPLIES), 212),
+];
 
 #[test]
 fn an_editors_session_is_served(rt: HostRuntime) -> Result<(), Fail> {
@@ -89,30 +123,41 @@ const EARLY: &str =
 const LATE: &str =
     r#"{"error":{"code":-32600,"message":"invalid request"},"id":"q","jsonrpc":"2.0"}"#;
 
-/// A served session: each reply is flushed.
-const fn served(
-    bodies: &'static [&'static str],
-    answer: Answer,
-    replies: &'static [&'static str],
-) -> Row {
-    Row {
-        command: Command::Serve,
-        input: Bytes::Frames(bodies),
-        answer,
-        output: Bytes::Frames(replies),
-        flushes: replies.len(),
-    }
-}
-
 static ENDS: [Row; 5] = [
-    served(&[], ended(1, 0, 0), &[]),
-    served(BRIEF, ended(1, 2, 1), &[REPLY]),
-    served(&[HOVER, OPEN, EXIT, EXIT], ended(1, 3, 2), &[EARLY]),
-    served(&[INITIALIZE, OPEN], ended(1, 2, 0), &[REPLY]),
-    served(
-        &[INITIALIZE, SHUTDOWN, HOVER, WHOLE, EXIT],
-        ended(0, 5, 1),
-        &[REPLY, SHUT_DOWN, LATE],
+    Row(
+        Command::Serve,
+        Bytes::Frames(&[]),
+        Ended(1, 0, 0),
+        Bytes::Frames(&[]),
+        0,
+    ),
+    Row(
+        Command::Serve,
+        Bytes::Frames(BRIEF),
+        Ended(1, 2, 1),
+        Bytes::Frames(&[REPLY]),
+        1,
+    ),
+    Row(
+        Command::Serve,
+        Bytes::Frames(&[HOVER, OPEN, EXIT, EXIT]),
+        Ended(1, 3, 2),
+        Bytes::Frames(&[EARLY]),
+        1,
+    ),
+    Row(
+        Command::Serve,
+        Bytes::Frames(&[INITIALIZE, OPEN]),
+        Ended(1, 2, 0),
+        Bytes::Frames(&[REPLY]),
+        1,
+    ),
+    Row(
+        Command::Serve,
+        Bytes::Frames(&[INITIALIZE, SHUTDOWN, HOVER, WHOLE, EXIT]),
+        Ended(0, 5, 1),
+        Bytes::Frames(&[REPLY, SHUT_DOWN, LATE]),
+        3,
     ),
 ];
 
@@ -168,21 +213,17 @@ static FAULTS: [(Bytes, EngineFault, &[u8]); 7] = [
 /// Do `check` and `replay` report the fault, after these lines and after nothing?
 fn has_fault(alloc: Global, row: &(Bytes, EngineFault, &'static [u8])) -> Result<bool, Fail> {
     let (input, fault, lines) = row;
-    let checked = Row {
-        command: Command::Check,
-        input: *input,
-        answer: Err(*fault),
-        output: Bytes::Plain(lines),
-        flushes: 0,
-    };
+    let checked = Row(
+        Command::Check,
+        *input,
+        Fault(*fault),
+        Bytes::Plain(lines),
+        0,
+    );
     if !gives(alloc, &checked, SMOOTH)? {
         return Ok(false);
     }
-    let replayed = Row {
-        command: Command::Replay,
-        output: Bytes::Plain(b""),
-        ..checked
-    };
+    let replayed = Row(Command::Replay, *input, Fault(*fault), Bytes::Plain(b""), 0);
     gives(alloc, &replayed, SMOOTH)
 }
 

@@ -109,6 +109,6 @@ fn have_words(alloc: Global, rows: &[(&str, &str)], answer: Answer) -> Result<bo
 #[test]
 fn every_answer_has_its_word(rt: HostRuntime) -> Result<(), Fail> {
     // Five errors and three refusals up to the first document, then six refusals and an error; not the unknown method.
-    assert!(rt; have_words(rt.alloc(), &WORDS, ended(1, 27, 15))?);
+    assert!(rt; have_words(rt.alloc(), &WORDS, Ended(1, 27, 15).answer())?);
     Ok(())
 }
