@@ -171,7 +171,6 @@ known_reads reading input more body records s was is spells at =
     let len = input_len reading input (log_at s records more) at.reads in
     let record_here : IsRecord reading.max_body s.version (length (line_of s.version) + length (together s.version records [])) (is_line_due s.version records) (record_at s body) = record {
       spells = spells;
-      version_is = refl;
       side = λ one. ap side_of is ∙ one_side s.version was (subst (λ (o : Option Side). IsSide s.version o) is at.side) one;
       placed = at.placed ∙ ap (place_behind 0) (omega (arith, len));
       due = at.due;

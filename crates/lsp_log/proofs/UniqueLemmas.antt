@@ -30,9 +30,9 @@ same_mark Two Server Server a b one also e = (refl, append_cancel_left (60 ∷ [
 same_mark Two Client Server a b one also e = let byte = first_byte 62 60 a b e in absurd (omega arith)
 same_mark Two Server Client a b one also e = let byte = first_byte 60 62 a b e in absurd (omega arith)
 
-same_head : (version : Version) (place : ℕ) (due : Bool) (head other : Head) → head.version ≡ version → other.version ≡ version → head.side ≡ other.side → head.place ≡ place_behind 0 place → other.place ≡ place_behind 0 place
+same_head : (place : ℕ) (due : Bool) (head other : Head) → head.side ≡ other.side → head.place ≡ place_behind 0 place → other.place ≡ place_behind 0 place
     → head.line_due ≡ due → other.line_due ≡ due → head ≡ other
-same_head version place due head other a b side c d e f = λ i. record { version = (a ∙ sym b) i; side = side i; place = (c ∙ sym d) i; line_due = (e ∙ sym f) i }
+same_head place due head other side c d e f = λ i. record { side = side i; place = (c ∙ sym d) i; line_due = (e ∙ sym f) i }
 
 record IsSame (r q : Record) (rest other : List ℕ) : Type 0 where
   record_is : r ≡ q
@@ -45,7 +45,7 @@ same_record max_body version place due r q rest other is also e =
     sym (append_assoc (mark_of version r.head.side) r.spelling rest) ∙ e ∙ append_assoc (mark_of version q.head.side) q.spelling other in
     let marks = same_mark version r.head.side q.head.side (r.spelling ++ rest) (q.spelling ++ other) is.side also.side apart in
     let frames : SameFrame r.spelling q.spelling r.body q.body rest other = same_frame max_body r.spelling q.spelling r.body q.body rest other is.spells also.spells marks.1 in
-    let heads : r.head ≡ q.head = same_head version place due r.head q.head is.version_is also.version_is marks.0 is.placed also.placed is.due also.due in
+    let heads : r.head ≡ q.head = same_head place due r.head q.head marks.0 is.placed also.placed is.due also.due in
     record { record_is = λ i. record { head = heads i; spelling = frames.spelling_is i; body = frames.body_is i }; rest_is = frames.rest_is }
 
 -- No record begins a rest.

@@ -62,7 +62,6 @@ is_line_due Two (r ∷ rs) = false
 -- a record whose first byte stands at a place
 pub record IsRecord (max_body : ℕ) (version : Version) (place : ℕ) (line_due : Bool) (r : Record) : Type 0 where
   pub spells : Spells max_body r.spelling r.body
-  pub version_is : r.head.version ≡ version
   pub side : version ≡ One → r.head.side ≡ Client
   pub placed : r.head.place ≡ place_behind 0 place
   pub due : r.head.line_due ≡ line_due

@@ -65,7 +65,7 @@ side_of (Some side) = side
 
 -- the head of the record that comes in
 abbrev pub head_of : Splitter → Head
-head_of s = record { version = s.version; side = side_of s.side; place = s.place; line_due = s.line_due }
+head_of s = record { side = side_of s.side; place = s.place; line_due = s.line_due }
 
 -- the record that comes in, with this body
 abbrev pub record_at : Splitter → List ℕ → Record

@@ -55,11 +55,9 @@ impl Side {
 /// What is known of a record beside its frame.
 #[derive(Clone, Copy, Debug, PartialEq, Eq)]
 pub struct Head {
-    /// Of the log that it stands in.
-    pub version: Version,
     /// In version 1 all records are the client's.
     pub side: Side,
-    /// Where its first byte stands in the input, in version 2 its mark. It stays at the greatest value of a `u64`.
+    /// The offset of its first byte in the input, in version 2 of its mark. It stays at the greatest value of a `u64`.
     pub place: u64,
     /// Is it the first of a version 2 log, to whose output the log's line belongs?
     pub line_due: bool,

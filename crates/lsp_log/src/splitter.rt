@@ -144,7 +144,6 @@ impl Splitter {
         ensures { result ≡ head_of self.now }
     {
         Head {
-            version: self.version,
             side: self.side.unwrap_or(Side::Client),
             place: self.place,
             line_due: self.line_due,

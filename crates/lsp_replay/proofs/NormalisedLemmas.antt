@@ -61,7 +61,6 @@ normal_record at r (Some body) = record { head = placed at r.head; spelling = fr
 pub record IsWrittenAs (limits : Bounds) (at : ℕ) (s : Session) (r q : Record) : Type 0 where
   pub spells : Spells limits.max_body q.spelling q.body
   pub place : q.head.place ≡ place_behind 0 at
-  pub version : q.head.version ≡ r.head.version
   pub side : q.head.side ≡ r.head.side
   pub due : q.head.line_due ≡ r.head.line_due
   pub same : judge s q ≡ judge s r
@@ -77,7 +76,6 @@ module _ (limits : Bounds) (ranges : AreInRange limits) where
     kept none = record {
       spells = spells;
       place = refl;
-      version = refl;
       side = refl;
       due = refl;
       same = refl;
@@ -107,7 +105,6 @@ module _ (limits : Bounds) (ranges : AreInRange limits) where
         record {
           spells = written_spells limits.max_body body small (omega (arith, small, ranges.greatest_body));
           place = refl;
-          version = refl;
           side = refl;
           due = refl;
           same = twice.0;
@@ -169,7 +166,6 @@ module _ (limits : Bounds) (ranges : AreInRange limits) where
       are = (
         record {
           spells = one.spells;
-          version_is = one.version ∙ is.version_is;
           side = λ e. one.side ∙ is.side e;
           placed = one.place;
           due = one.due ∙ is.due;
