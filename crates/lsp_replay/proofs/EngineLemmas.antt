@@ -182,13 +182,13 @@ module _ (reading : Reading) (course : List Record → Course) (held : Option (L
   pub went_cut : RestLaw → (s : Splitter) (now : List Record → Course) (held_now : Option (List ℕ)) → IsReady s → IsQuiet now → (held_of s ≡ [] → ⊥)
       → Went reading course held input [] s now held_now → Reached reading course input held held_now (IsCut reading.max_body)
   went_cut rest_law s now held_now ready quiet some w =
-      went_so_far reading course held input [] s now held_now held_now (IsCut reading.max_body) w quiet (Appends-nil held_now) 
+      went_so_far reading course held input [] s now held_now held_now (IsCut reading.max_body) w quiet (Appends-nil held_now)
       (cut_only reading.max_body (log_at s w.records []) (rest_law reading input w.records s ready w.stands) (λ nothing. some (sym (append-nil (held_of s)) ∙ nothing)))
 
   pub went_read : RestLaw → (s : Splitter) (now : List Record → Course) (held_now : Option (List ℕ)) → IsReady s → IsQuiet now
       → Went reading course held input [] s now held_now → Reached reading course input held held_now (HasNoRecord reading.max_body)
   went_read rest_law s now held_now ready quiet w =
-      went_so_far reading course held input [] s now held_now held_now (HasNoRecord reading.max_body) w quiet (Appends-nil held_now) 
+      went_so_far reading course held input [] s now held_now held_now (HasNoRecord reading.max_body) w quiet (Appends-nil held_now)
       (no_record reading.max_body (log_at s w.records []) (rest_law reading input w.records s ready w.stands))
 
   -- what the course of the records says of the end

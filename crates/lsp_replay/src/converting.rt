@@ -8,7 +8,7 @@ ghost use Rattle.lsp_replay.specs.Verdicts.{verdict_view};
 use crate::handler::{Given, Handler, Output};
 use crate::outcome::Outcome;
 use crate::session::{Session, Verdict};
-use lsp_log::{VERSION_LINE, Head};
+use lsp_log::{Head, VERSION_LINE};
 use lsp_server::{Answer, Config};
 use lsp_stream::EngineFault;
 use std::alloc::{AllocError, Global};

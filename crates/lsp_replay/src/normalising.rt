@@ -10,7 +10,7 @@ ghost use Rattle.lsp_replay.specs.Verdicts.{IsTold};
 use crate::handler::{Given, Handler, Output};
 use crate::outcome::Outcome;
 use crate::session::{Canonical, Session, Verdict};
-use lsp_log::{VERSION_LINE, Head, Side, Version};
+use lsp_log::{Head, Side, VERSION_LINE, Version};
 use lsp_server::Config;
 use lsp_stream::EngineFault;
 use std::alloc::{AllocError, Global};
