@@ -16,9 +16,9 @@ use Rattle.lsp_server.specs.Answer.{AnswerData, Sent, reply, changed, dropped, i
 use Rattle.lsp_server.specs.Choice.{chosen, kind_of}
 use Rattle.lsp_server.specs.Incoming.{IncomingData, not_json, not_a_message, response, initialize, shutdown, other_request, exit, did_open, did_change, did_close, other_notification}
 use Rattle.lsp_server.specs.Step.{State, step_in, step_on, begins, settled}
-use Rattle.lsp_replay.specs.declared.record.Version.{Version}
-use Rattle.lsp_replay.specs.declared.record.Version.TheVariants.{One, Two}
-use Rattle.lsp_replay.specs.Ports.{one_more}
+use Rattle.lsp_log.specs.declared.record.Version.{Version}
+use Rattle.lsp_log.specs.declared.record.Version.TheVariants.{One, Two}
+use Rattle.lsp_stream.specs.Ports.{one_more}
 use Rattle.lsp_replay.specs.Session.{Session, Verdict, answered, recorded, bad, Judged, judged, judge_incoming, handled, hear_for, heard, settle_by, result_for, same_id, is_ended, is_early, is_new, expected_of, count_if, is_refused, versioned}
 use Rattle.lsp_replay.proofs.AskedLemmas.{IsProperIncoming}
 

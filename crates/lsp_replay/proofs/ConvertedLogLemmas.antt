@@ -11,12 +11,12 @@ use Rattle.lsp_message.specs.Outgoing.{OutgoingData, body_of}
 use Rattle.lsp_server.specs.Answer.{AnswerData, Sent, reply, changed, dropped, ignored, already_ended, refused, exits, as_sent, sent}
 use Rattle.lsp_server.specs.Incoming.{asked}
 use Rattle.lsp_server.specs.Step.{State, step_on}
-use Rattle.lsp_replay.specs.declared.outcome.EngineFault.TheVariants.{BadLog}
-use Rattle.lsp_replay.specs.declared.record.Version.{Version}
-use Rattle.lsp_replay.specs.declared.record.Version.TheVariants.{One, Two}
-use Rattle.lsp_replay.specs.declared.record.Side.TheVariants.{Client, Server}
-use Rattle.lsp_replay.specs.Ports.{one_more}
-use Rattle.lsp_replay.specs.Log.{Record, IsRecord, AreRecords, together, record_bytes, line_of, version_line, is_line_due}
+use Rattle.lsp_stream.specs.declared.fault.EngineFault.TheVariants.{BadLog}
+use Rattle.lsp_log.specs.declared.record.Version.{Version}
+use Rattle.lsp_log.specs.declared.record.Version.TheVariants.{One, Two}
+use Rattle.lsp_log.specs.declared.record.Side.TheVariants.{Client, Server}
+use Rattle.lsp_stream.specs.Ports.{one_more}
+use Rattle.lsp_log.specs.Log.{Record, IsRecord, AreRecords, together, record_bytes, line_of, version_line, is_line_due}
 use Rattle.lsp_replay.specs.Course.{Course, written_first}
 use Rattle.lsp_replay.specs.Session.{Session, Verdict, answered, recorded, bad, Judged, judged, judge, judge_from, judge_incoming, counted, versioned, opened}
 use Rattle.lsp_replay.specs.Engines.{Gives, gives, unless_bad, course_in, replaying, converting, line_if, line_before, reply_record, log_config, converted}
@@ -58,10 +58,10 @@ some_records n = omega arith
 -- ---- the records of the log of version 2
 
 client_at : ℕ → Bool → Record → Record
-client_at at due r = record { head = record { version = Two; side = Client; place = place_behind 0 at; line_due = due }; spelling = r.spelling; body = r.body }
+client_at at due r = record { head = record { side = Client; place = place_behind 0 at; line_due = due }; spelling = r.spelling; body = r.body }
 
 server_at : ℕ → OutgoingData → Record
-server_at at m = record { head = record { version = Two; side = Server; place = place_behind 0 at; line_due = false }; spelling = frame (body_of m); body = body_of m }
+server_at at m = record { head = record { side = Server; place = place_behind 0 at; line_due = false }; spelling = frame (body_of m); body = body_of m }
 
 five : (a b c d e : List ℕ) → (((a ++ b) ++ c) ++ d) ++ e ≡ a ++ ((b ++ c) ++ (d ++ e))
 five a b c d e = append_assoc ((a ++ b) ++ c) d e ∙ ap (λ z. z ++ (d ++ e)) (append_assoc a b c) ∙ append_assoc a (b ++ c) (d ++ e)
@@ -85,7 +85,7 @@ module _ (limits : Bounds) (ranges : AreInRange limits) where
   module _ (at before : ℕ) (due : Bool) (s t : Session) (n : ℕ) (r : Record) (rs : List Record) (is : IsRecord limits.max_body One before false r) (counts : Counts due s.records) where
     first_is : IsRecord limits.max_body Two at due (client_at at due r)
     unfolding client_at
-    first_is = record { spells = is.spells; version_is = refl; side = λ e. refl; placed = refl; due = refl }
+    first_is = record { spells = is.spells; side = λ e. refl; placed = refl; due = refl }
 
     plain : (server : State) (answer : AnswerData Sent) (e : Option IdData) → reply_record (answered answer) ≡ [] → judge s r ≡ judged (answered answer) (next_of s server answer)
         → judge t (client_at at due r) ≡ judged (answered answer) (behind s n server answer e) → e ≡ None
@@ -134,7 +134,6 @@ module _ (limits : Bounds) (ranges : AreInRange limits) where
             (
               record {
                 spells = written_spells limits.max_body (body_of o) fits (omega (arith, fits, ranges.greatest_body));
-                version_is = refl;
                 side = λ x. refl_or_not x;
                 placed = refl;
                 due = refl;

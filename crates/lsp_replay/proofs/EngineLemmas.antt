@@ -6,23 +6,23 @@ use Rattle.std.specs.Prelude.{MatchOption, OnOk, OnErr, IfOk, IfErr}
 use Rattle.std.specs.Io.KnownBytes.{Appends}
 use Rattle.std.proofs.KnownBytes.{Appends-trans, Appends-nil}
 use Rattle.lsp_frame.specs.Frame.{Spells}
-use Rattle.lsp_frame.specs.Stream.{IsFrame}
+use Rattle.lsp_frame.specs.Header.{header_of, lines_bytes}
 use Rattle.lsp_replay.specs.declared.outcome.Outcome.{Outcome}
-use Rattle.lsp_replay.specs.declared.outcome.EngineFault.{EngineFault}
-use Rattle.lsp_replay.specs.declared.outcome.EngineFault.TheVariants.{Read, Write, Frame, Truncated, BodyTooLong, NoMemory, TooManyTurns, BadLog}
-use Rattle.lsp_replay.specs.declared.record.Head.{Head}
-use Rattle.lsp_replay.specs.declared.record.Version.{Version}
-use Rattle.lsp_replay.specs.declared.record.Version.TheVariants.{One, Two}
-use Rattle.lsp_replay.specs.declared.record.Side.{Side}
-use Rattle.lsp_replay.specs.declared.record.Side.TheVariants.{Client, Server}
-use Rattle.lsp_replay.specs.declared.splitter.Splitter.{Splitter}
-use Rattle.lsp_replay.specs.Turns.{AppendsFront}
-use Rattle.lsp_replay.specs.Log.{Reading, Record, Log, IsReadAs, HasNoRecord, IsCut, mark_of, is_line_due}
-use Rattle.lsp_replay.specs.Splitting.{IsFed, IsReady, Stands, IsSplitFault, log_at, head_of, held_of, mark_part}
+use Rattle.lsp_stream.specs.declared.fault.EngineFault.{EngineFault}
+use Rattle.lsp_stream.specs.declared.fault.EngineFault.TheVariants.{Read, Write, Frame, Truncated, BodyTooLong, NoMemory, TooManyTurns, BadLog}
+use Rattle.lsp_log.specs.declared.record.Head.{Head}
+use Rattle.lsp_log.specs.declared.record.Version.{Version}
+use Rattle.lsp_log.specs.declared.record.Version.TheVariants.{One, Two}
+use Rattle.lsp_log.specs.declared.record.Side.{Side}
+use Rattle.lsp_log.specs.declared.record.Side.TheVariants.{Client, Server}
+use Rattle.lsp_log.specs.declared.splitter.Splitter.{Splitter}
+use Rattle.lsp_stream.specs.Turns.{AppendsFront}
+use Rattle.lsp_log.specs.Log.{Reading, Record, Log, IsReadAs, HasNoRecord, IsCut, IsUndecided, mark_of, is_line_due}
+use Rattle.lsp_log.specs.Splitting.{IsFed, IsReady, Stands, IsSplitFault, log_at, head_of, held_of, record_at}
+use Rattle.lsp_log.specs.Laws.{HeldLaw, RestLaw}
 use Rattle.lsp_replay.specs.Course.{Course, written_first, stopped}
 use Rattle.lsp_replay.specs.Engine.{Stopped, Reached, Broken, AtEnd, BrokenAtEnd, IsPieceFault, last_of}
 use Rattle.lsp_replay.specs.Progress.{GoesOn, Ends, IsHandled, IsHandleFault, IsLastFault, IsEndFault, Went}
-use Rattle.lsp_replay.proofs.SplitLemmas.{record_at, given_reads, some_side, some_or, frame_len}
 
 -- Without more records nothing more is written, and the run goes on.
 pub record IsQuiet (now : List Record → Course) : Type 0 where
@@ -111,12 +111,12 @@ module _ (reading : Reading) (course : List Record → Course) (held : Option (L
       → Spells s.framer.limits.max_body s.framer.held body → Spells reading.max_body s.framer.held body
   spells_here more s now held_now body w spells = subst (λ (m : ℕ). Spells m s.framer.held body) w.stands.limit spells
 
-  pub taken_fault : (more : List ℕ) (s : Splitter) (now : List Record → Course) (held_now held_new : Option (List ℕ)) (head : Head) (spelling body : List ℕ) (fault : EngineFault) → IsFed s
+  pub taken_fault : HeldLaw → (more : List ℕ) (s : Splitter) (now : List Record → Course) (held_now held_new : Option (List ℕ)) (head : Head) (spelling body : List ℕ) (fault : EngineFault) → IsFed s
       → head ≡ head_of s → spelling ≡ s.framer.held → Spells s.framer.limits.max_body s.framer.held body → IsQuiet now
       → IsHandleFault now held_now held_new (record { head = head; spelling = spelling; body = body }) fault
       → Went reading course held input more s now held_now → IsPieceFault reading course input held held_new fault
-  taken_fault more s now held_now held_new head spelling body fault fed e f spells quiet why w =
-      let reads = given_reads reading input more body w.records s (some_side s fed (record { body = body; spells = spells })) (spells_here more s now held_now body w spells) w.stands in
+  taken_fault held_law more s now held_now held_new head spelling body fault fed e f spells quiet why w =
+      let reads = held_law reading input more body w.records s fed spells w.stands in
       record_fault (record { version = s.version; records = w.records ++ record_at s body ∷ []; rest = more }) more s now held_now held_new (record_at s body) fault w reads refl quiet
       (subst (λ (r : Record). IsHandleFault now held_now held_new r fault) (sym (held_record s head spelling body e f)) why)
 
@@ -161,56 +161,35 @@ module _ (reading : Reading) (course : List Record → Course) (held : Option (L
       let here : Went reading course held input bytes s now held_now = subst (λ (z : List ℕ). Went reading course held input z s now held_now) (sym all) w in
       split_faults bytes s now held_now held_new fault here quiet nothing (fed here.records here.stands)
 
--- Two marks of one version have one length.
-behind_mark : (version : Version) (side other : Side) (a b : List ℕ) → mark_of version side ++ a ≡ mark_of version other ++ b → a ≡ b
-behind_mark One side other a b e = e
-behind_mark Two Client Client a b e = ap (drop 1) e
-behind_mark Two Client Server a b e = ap (drop 1) e
-behind_mark Two Server Client a b e = ap (drop 1) e
-behind_mark Two Server Server a b e = ap (drop 1) e
+-- ---- rests that no record begins
 
--- At the end of the input no whole record is held.
-pub no_record : (reading : Reading) (input : List ℕ) (records : List Record) (s : Splitter) → IsReady s → Stands reading input [] records s → HasNoRecord reading.max_body (log_at s records [])
-no_record reading input records s ready at other spelling body more spells e =
-    let none : IsFrame reading.max_body s.framer.held → ⊥ = λ frame. ready.none (subst (λ (m : ℕ). IsFrame m s.framer.held) (sym at.limit) frame) in
-    let plain : mark_part s.version s.side ++ s.framer.held ≡ mark_of s.version other ++ (spelling ++ more) = sym (append-nil (held_of s)) ∙ e in
-    elim (some_or s.side) [
-      | inl known ↦
-          let known_plain : mark_of s.version known.0 ++ s.framer.held ≡ mark_of s.version other ++ (spelling ++ more) =
-          ap (λ (o : Option Side). mark_part s.version o ++ s.framer.held) (sym known.1) ∙ plain in
-          let same : s.framer.held ≡ spelling ++ more = behind_mark s.version known.0 other s.framer.held (spelling ++ more) known_plain in
-          let nothing : more ≡ [] = at.one spelling body more spells same in
-          let all : spelling ≡ s.framer.held = sym (same ∙ ap (λ z. spelling ++ z) nothing ∙ append-nil spelling) in
-          none (record { body = body; spells = subst (λ (z : List ℕ). Spells reading.max_body z body) all spells })
-      | inr unknown ↦
-          let empty : mark_part s.version s.side ++ s.framer.held ≡ [] = ap (λ (o : Option Side). mark_part s.version o ++ s.framer.held) unknown ∙ ready.fed.between unknown in
-          omega (arith, ap length plain, ap length empty, length-append (mark_of s.version other) (spelling ++ more), length-append spelling more, frame_len reading.max_body spelling body spells)
-    ]
+frame_len : (max_body : ℕ) (spelling body : List ℕ) → Spells max_body spelling body → 2 ≤ length spelling
+frame_len max_body spelling body s = omega (arith, ap length s.is, length-append (header_of s.lines) body, length-append (lines_bytes s.lines) (13 ∷ 10 ∷ []))
 
-pub cut_at_end : (reading : Reading) (input : List ℕ) (records : List Record) (s : Splitter) → IsReady s → Stands reading input [] records s → (held_of s ≡ [] → ⊥) → IsCut reading.max_body (log_at s records [])
-cut_at_end reading input records s ready at some =
-    elim (some_or s.side) [
-      | inl known ↦ record {
-        side = known.0;
-        part = s.framer.held;
-        is = append-nil (held_of s) ∙ ap (λ (o : Option Side). mark_part s.version o ++ s.framer.held) known.1;
-        begins = at.part;
-        some = λ nothing. some (sym (append-nil (held_of s)) ∙ nothing);
-        none = no_record reading input records s ready at;
-      }
-      | inr unknown ↦ absurd (some (ap (λ (o : Option Side). mark_part s.version o ++ s.framer.held) unknown ∙ ready.fed.between unknown))
-    ]
+pub empty_rest : (max_body : ℕ) (log : Log) → log.rest ≡ [] → HasNoRecord max_body log
+empty_rest max_body log nothing side spelling body more spells e =
+    absurd (omega (arith, ap length nothing, ap length e, length-append (mark_of log.version side) (spelling ++ more), length-append spelling more, frame_len max_body spelling body spells))
+
+pub no_record : (max_body : ℕ) (log : Log) → IsUndecided max_body log → HasNoRecord max_body log
+no_record max_body log (inl nothing) = empty_rest max_body log nothing
+no_record max_body log (inr cut) = cut.none
+
+cut_only : (max_body : ℕ) (log : Log) → IsUndecided max_body log → (log.rest ≡ [] → ⊥) → IsCut max_body log
+cut_only max_body log (inl nothing) some = absurd (some nothing)
+cut_only max_body log (inr cut) some = cut
 
 module _ (reading : Reading) (course : List Record → Course) (held : Option (List ℕ)) (input : List ℕ) where
-  pub went_cut : (s : Splitter) (now : List Record → Course) (held_now : Option (List ℕ)) → IsReady s → IsQuiet now → (held_of s ≡ [] → ⊥)
+  pub went_cut : RestLaw → (s : Splitter) (now : List Record → Course) (held_now : Option (List ℕ)) → IsReady s → IsQuiet now → (held_of s ≡ [] → ⊥)
       → Went reading course held input [] s now held_now → Reached reading course input held held_now (IsCut reading.max_body)
-  went_cut s now held_now ready quiet some w =
-      went_so_far reading course held input [] s now held_now held_now (IsCut reading.max_body) w quiet (Appends-nil held_now) (cut_at_end reading input w.records s ready w.stands some)
+  went_cut rest_law s now held_now ready quiet some w =
+      went_so_far reading course held input [] s now held_now held_now (IsCut reading.max_body) w quiet (Appends-nil held_now)
+      (cut_only reading.max_body (log_at s w.records []) (rest_law reading input w.records s ready w.stands) (λ nothing. some (sym (append-nil (held_of s)) ∙ nothing)))
 
-  pub went_read : (s : Splitter) (now : List Record → Course) (held_now : Option (List ℕ)) → IsReady s → IsQuiet now
+  pub went_read : RestLaw → (s : Splitter) (now : List Record → Course) (held_now : Option (List ℕ)) → IsReady s → IsQuiet now
       → Went reading course held input [] s now held_now → Reached reading course input held held_now (HasNoRecord reading.max_body)
-  went_read s now held_now ready quiet w =
-      went_so_far reading course held input [] s now held_now held_now (HasNoRecord reading.max_body) w quiet (Appends-nil held_now) (no_record reading input w.records s ready w.stands)
+  went_read rest_law s now held_now ready quiet w =
+      went_so_far reading course held input [] s now held_now held_now (HasNoRecord reading.max_body) w quiet (Appends-nil held_now)
+      (no_record reading.max_body (log_at s w.records []) (rest_law reading input w.records s ready w.stands))
 
   -- what the course of the records says of the end
   went_whole : (s : Splitter) (now : List Record → Course) (held_now : Option (List ℕ)) (w : Went reading course held input [] s now held_now) → course w.records ≡ written_first w.out (now [])

@@ -12,14 +12,14 @@ use Rattle.lsp_message.specs.Params.{ChangeData}
 use Rattle.lsp_server.specs.Answer.{AnswerData, Sent, reply, changed, dropped, ignored, already_ended, refused, exits, as_sent}
 use Rattle.lsp_server.specs.Incoming.{IncomingData, not_json, not_a_message, response, initialize, shutdown, other_request, exit, did_open, did_change, did_close, other_notification, asked}
 use Rattle.lsp_server.specs.Step.{State, Step, step_on, settled}
-use Rattle.lsp_replay.specs.declared.record.Version.{Version}
-use Rattle.lsp_replay.specs.declared.record.Version.TheVariants.{One, Two}
-use Rattle.lsp_replay.specs.declared.record.Side.{Side}
-use Rattle.lsp_replay.specs.declared.record.Side.TheVariants.{Client, Server}
-use Rattle.lsp_replay.specs.declared.record.Head.{Head}
-use Rattle.lsp_replay.specs.Log.{Record}
+use Rattle.lsp_log.specs.declared.record.Version.{Version}
+use Rattle.lsp_log.specs.declared.record.Version.TheVariants.{One, Two}
+use Rattle.lsp_log.specs.declared.record.Side.{Side}
+use Rattle.lsp_log.specs.declared.record.Side.TheVariants.{Client, Server}
+use Rattle.lsp_log.specs.declared.record.Head.{Head}
+use Rattle.lsp_log.specs.Log.{Record}
 use Rattle.lsp_replay.specs.Session.{Session, Verdict, answered, recorded, bad, Judged, judged, judge, judge_at, judge_from, judge_incoming, handled, hear_for, heard, settle_by, settle_in, result_for, versioned, is_ended, is_early, is_new, expected_of, count_if, is_refused}
-use Rattle.lsp_replay.specs.Ports.{one_more}
+use Rattle.lsp_stream.specs.Ports.{one_more}
 use Rattle.lsp_replay.specs.Engines.{change_in, normal_if, normal_of, normal_body}
 use Rattle.lsp_replay.proofs.NormalLemmas.{accepted, heard_has_none}
 use Rattle.lsp_replay.proofs.AskedLemmas.{IsProperIncoming, asked_proper}

@@ -1,8 +1,5 @@
-pub mod PortLemmas
-pub mod LogLemmas
-pub mod SplitLemmas
+pub mod LineLemmas
 pub mod EngineLemmas
-pub mod OpeningLemmas
 pub mod RunLemmas
 pub mod ReportLemmas
 pub mod NormalLemmas
@@ -12,11 +9,9 @@ pub mod AskedLemmas
 pub mod StateLemmas
 pub mod SettledLemmas
 pub mod JudgeLemmas
-pub mod LineLemmas
 pub mod NormalisedLemmas
 pub mod WroteLemmas
 pub mod ConvertedLemmas
-pub mod ConvertedLogLemmas
-pub mod UniqueLemmas
 pub mod ToldLemmas
 pub mod QuietLemmas
+pub mod ConvertedLogLemmas

@@ -4,8 +4,8 @@ use Rattle.std.specs.Prelude.{⊤}
 use Rattle.std.specs.List.{AllByRecursion}
 use Rattle.lsp_frame.specs.Frame.{Spells}
 use Rattle.lsp_frame.specs.Header.{IsNameByte, Line, AreLines, header_of, lines_bytes}
-use Rattle.lsp_replay.specs.declared.record.Version.TheVariants.{One}
-use Rattle.lsp_replay.specs.Log.{Record, IsVersion, AreRecords, together, version_line}
+use Rattle.lsp_log.specs.declared.record.Version.TheVariants.{One}
+use Rattle.lsp_log.specs.Log.{Record, IsVersion, AreRecords, together, version_line}
 
 abbrev NoColon : List ℕ → Type 0
 NoColon [] = ⊤

@@ -26,11 +26,11 @@ use Rattle.lsp_server.specs.Incoming.{did_change}
 use Rattle.lsp_server.specs.Step.{State, edit_of, encoding_of, obeyed, change_command, step_in}
 use Rattle.lsp_replay.specs.Session.{Session, Verdict, answered, recorded, bad, Judged, judged, judge_incoming, hear_for, heard, settle_by, settle_in, result_for, versioned}
 use Rattle.lsp_replay.specs.Engines.{normal_if, normal_body, written, gives, ends}
-use Rattle.lsp_replay.specs.Log.{Record}
+use Rattle.lsp_log.specs.Log.{Record}
 use Rattle.lsp_replay.specs.Verdicts.{IsTold}
 use Rattle.lsp_replay.specs.declared.session.Canonical.{Canonical}
 use Rattle.lsp_replay.specs.declared.session.Canonical.TheVariants.{Frame, TooLong}
-use Rattle.lsp_replay.specs.declared.outcome.EngineFault.TheVariants as fault
+use Rattle.lsp_stream.specs.declared.fault.EngineFault.TheVariants as fault
 
 -- a record that isn't answered has no canonical message
 none_unless_answered : (server : State) (change : Option ChangeData) (verdict : Verdict) → (verdict ≡ recorded) ⊎ (verdict ≡ bad)

@@ -8,12 +8,12 @@ use Rattle.lsp_frame.specs.Limits.{Bounds, AreInRange}
 use Rattle.lsp_frame.proofs.WrittenLemmas.{written_spells}
 use Rattle.lsp_replay.specs.declared.engines.Settings.{Settings}
 use Rattle.lsp_replay.specs.declared.outcome.Outcome.{Outcome}
-use Rattle.lsp_replay.specs.declared.outcome.EngineFault.{EngineFault}
-use Rattle.lsp_replay.specs.declared.outcome.EngineFault.TheVariants.{BadLog, BodyTooLong}
-use Rattle.lsp_replay.specs.declared.record.Version.{Version}
-use Rattle.lsp_replay.specs.declared.record.Version.TheVariants.{One, Two}
-use Rattle.lsp_replay.specs.declared.record.Head.{Head}
-use Rattle.lsp_replay.specs.Log.{Record, Log, IsRecord, AreRecords, IsVersion, together, record_bytes, mark_of, line_of, version_line, is_line_due}
+use Rattle.lsp_stream.specs.declared.fault.EngineFault.{EngineFault}
+use Rattle.lsp_stream.specs.declared.fault.EngineFault.TheVariants.{BadLog, BodyTooLong}
+use Rattle.lsp_log.specs.declared.record.Version.{Version}
+use Rattle.lsp_log.specs.declared.record.Version.TheVariants.{One, Two}
+use Rattle.lsp_log.specs.declared.record.Head.{Head}
+use Rattle.lsp_log.specs.Log.{Record, Log, IsRecord, AreRecords, IsVersion, together, record_bytes, mark_of, line_of, version_line, is_line_due}
 use Rattle.lsp_replay.specs.Course.{Course, written_first}
 use Rattle.lsp_replay.specs.Session.{Session, Verdict, answered, recorded, bad, Judged, judge, judge_at, opened}
 use Rattle.lsp_replay.specs.Engines.{View, Gives, gives, ends, go_on, unless_bad, course_in, normalising, replaying, normal_gives, normal_of, written, front_of, line_if, log_config, normal}
@@ -61,7 +61,6 @@ normal_record at r (Some body) = record { head = placed at r.head; spelling = fr
 pub record IsWrittenAs (limits : Bounds) (at : ℕ) (s : Session) (r q : Record) : Type 0 where
   pub spells : Spells limits.max_body q.spelling q.body
   pub place : q.head.place ≡ place_behind 0 at
-  pub version : q.head.version ≡ r.head.version
   pub side : q.head.side ≡ r.head.side
   pub due : q.head.line_due ≡ r.head.line_due
   pub same : judge s q ≡ judge s r
@@ -77,7 +76,6 @@ module _ (limits : Bounds) (ranges : AreInRange limits) where
     kept none = record {
       spells = spells;
       place = refl;
-      version = refl;
       side = refl;
       due = refl;
       same = refl;
@@ -107,7 +105,6 @@ module _ (limits : Bounds) (ranges : AreInRange limits) where
         record {
           spells = written_spells limits.max_body body small (omega (arith, small, ranges.greatest_body));
           place = refl;
-          version = refl;
           side = refl;
           due = refl;
           same = twice.0;
@@ -169,7 +166,6 @@ module _ (limits : Bounds) (ranges : AreInRange limits) where
       are = (
         record {
           spells = one.spells;
-          version_is = one.version ∙ is.version_is;
           side = λ e. one.side ∙ is.side e;
           placed = one.place;
           due = one.due ∙ is.due;

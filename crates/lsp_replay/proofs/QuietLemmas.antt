@@ -2,8 +2,8 @@
 use Rattle.std.proofs.Common.{◌≡◌, ℕ, List, [], ◌∷◌, ◌++◌, Option, Some, None, refl, ap, ◌∙◌}
 use Rattle.std.specs.Prelude.{Result}
 use Rattle.lsp_replay.specs.declared.outcome.Outcome.{Outcome}
-use Rattle.lsp_replay.specs.declared.outcome.EngineFault.{EngineFault}
-use Rattle.lsp_replay.specs.Log.{Record}
+use Rattle.lsp_stream.specs.declared.fault.EngineFault.{EngineFault}
+use Rattle.lsp_log.specs.Log.{Record}
 use Rattle.lsp_replay.specs.Course.{Course}
 use Rattle.lsp_replay.specs.Session.{Session, Verdict, answered, recorded, bad, judge, opened}
 use Rattle.lsp_replay.specs.Engines.{gives, go_on, unless_bad, course_in, replaying, log_config}

@@ -7,10 +7,6 @@ use Rattle.std.proofs.lemmas.Option.{slice_get_within, get_or_from_slice_get}
 use Rattle.lsp_store.specs.Table.{Entry}
 use Rattle.lsp_replay.specs.Engines.{document_line, report_from}
 
--- with no document at the index, nothing is left
-pub report_ends : (index : ℕ) (table : List Entry) → length table ≤ index → report_from index table ≡ []
-report_ends index table past = rw (drop_all index table past) refl
-
 -- a document's line, and then those behind it
 pub report_goes_on : (index : ℕ) (table : List Entry) (entry : Entry) → slice_get table index ≡ Some entry
     → report_from index table ≡ document_line entry ++ report_from (index + 1) table

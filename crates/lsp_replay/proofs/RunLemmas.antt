@@ -9,19 +9,20 @@ use Rattle.lsp_frame.specs.Faults.{place_behind}
 use Rattle.lsp_frame.specs.Frame.{Spells}
 use Rattle.lsp_frame.specs.Header.{lines_bytes}
 use Rattle.lsp_replay.specs.declared.outcome.Outcome.{Outcome}
-use Rattle.lsp_replay.specs.declared.outcome.EngineFault.{EngineFault}
-use Rattle.lsp_replay.specs.declared.outcome.EngineFault.TheVariants.{Read, Write, Frame, Truncated, BodyTooLong, NoMemory, TooManyTurns, BadLog}
-use Rattle.lsp_replay.specs.declared.record.Version.{Version}
-use Rattle.lsp_replay.specs.declared.record.Version.TheVariants.{One, Two}
-use Rattle.lsp_replay.specs.declared.splitter.Splitter.{Splitter}
-use Rattle.lsp_replay.specs.Log.{Reading, Record, IsVersion, HasNoRecord, line_of, version_line, together, record_bytes}
-use Rattle.lsp_replay.specs.Opening.{IsLineFront, IsBelowLine}
-use Rattle.lsp_replay.specs.Splitting.{IsReady, IsOpen, Stands, held_of}
+use Rattle.lsp_stream.specs.declared.fault.EngineFault.{EngineFault}
+use Rattle.lsp_stream.specs.declared.fault.EngineFault.TheVariants.{Read, Write, Frame, Truncated, BodyTooLong, NoMemory, TooManyTurns, BadLog}
+use Rattle.lsp_log.specs.declared.record.Version.{Version}
+use Rattle.lsp_log.specs.declared.record.Version.TheVariants.{One, Two}
+use Rattle.lsp_log.specs.declared.splitter.Splitter.{Splitter}
+use Rattle.lsp_log.specs.Log.{Reading, Record, IsVersion, HasNoRecord, line_of, version_line, together, record_bytes}
+use Rattle.lsp_log.specs.Opening.{IsLineFront, IsBelowLine}
+use Rattle.lsp_log.specs.Splitting.{IsReady, IsOpen, Stands, held_of}
+use Rattle.lsp_log.specs.Laws.{RestLaw}
 use Rattle.lsp_replay.specs.Course.{Course}
 use Rattle.lsp_replay.specs.Engine.{Stopped, Reached, AtEnd, Ran, Called, NonePassedOver, IsPieceFault, IsRunFault}
 use Rattle.lsp_replay.specs.Progress.{Went, Runs, IsEndFault, BothSpend}
-use Rattle.lsp_replay.specs.Ports.{Rose}
-use Rattle.lsp_replay.specs.Turns.{Spends, StaysWell}
+use Rattle.lsp_stream.specs.Ports.{Rose}
+use Rattle.lsp_stream.specs.Turns.{Spends, StaysWell}
 use Rattle.lsp_replay.proofs.EngineLemmas.{IsQuiet, went_read}
 
 together_more : (version : Version) (rs : List Record) (rest more : List ℕ) → together version rs (rest ++ more) ≡ together version rs rest ++ more
@@ -198,13 +199,13 @@ module _ (reading : Reading) (course : List Record → Course) (left held : Opti
       subst (IsRunFault reading course told_end input held held_new) (sym is)
       (inl (record { log = reached.log; reads = reached.reads; wrote = ((course reached.log.records).out, [], sym (append-nil (course reached.log.records).out), reached.wrote) }))
 
-  pub ran_unread : (left_now left_new : Option (List ℕ)) (ended told_end : Bool) (place : ℕ) (s : Splitter) (now : List Record → Course) (held_now : Option (List ℕ)) (fault : EngineFault) → IsReady s → IsQuiet now
+  pub ran_unread : (left_now left_new : Option (List ℕ)) (ended told_end : Bool) (place : ℕ) (s : Splitter) (now : List Record → Course) (held_now : Option (List ℕ)) (fault : EngineFault) → RestLaw → IsReady s → IsQuiet now
       → Keeps left_now left_new → (fault ≡ Read) ⊎ (fault ≡ TooManyTurns)
       → Runs reading course left held left_now ended place [] s now held_now → Ran reading course told_end left left_new held held_now (Err fault)
-  ran_unread left_now left_new ended told_end place s now held_now fault ready quiet kept kind r = record {
+  ran_unread left_now left_new ended told_end place s now held_now fault rest_law ready quiet kept kind r = record {
     input = r.input;
     read = Consumes-kept left left_now left_new r.input r.read kept;
-    came = read_fault told_end r.input held_now fault kind (went_read reading course held r.input s now held_now ready quiet r.went);
+    came = read_fault told_end r.input held_now fault kind (went_read reading course held r.input rest_law s now held_now ready quiet r.went);
   }
 
   -- A log of version 2 was refused.

@@ -2,25 +2,24 @@
 use Rattle.std.proofs.Common.{◌≡◌, ◌≢◌, ◌⊎◌, inl, inr, ℕ, Bool, true, List, [], ◌∷◌, ◌++◌, length, drop, Option, Some, None, refl, sym, ap, ◌∙◌, subst, arith, append_assoc, append-nil}
 use Rattle.std.specs.Prelude.{Result, Ok, Err, MatchResult}
 use Rattle.std.specs.Io.KnownBytes.{Appends}
-use Rattle.std.proofs.lemmas.List.{length-append}
 use Rattle.lsp_frame.specs.declared.fault.FrameFault.{FrameFault}
 use Rattle.lsp_replay.specs.declared.outcome.Outcome.{Outcome}
-use Rattle.lsp_replay.specs.declared.outcome.EngineFault.{EngineFault}
-use Rattle.lsp_replay.specs.declared.outcome.EngineFault.TheVariants.{Read, Write, Frame, Truncated, BodyTooLong, NoMemory, TooManyTurns, BadLog}
-use Rattle.lsp_replay.specs.declared.record.Version.{Version}
-use Rattle.lsp_replay.specs.declared.record.Version.TheVariants.{One, Two}
-use Rattle.lsp_replay.specs.declared.record.Side.{Side}
-use Rattle.lsp_replay.specs.declared.record.Side.TheVariants.{Client, Server}
-use Rattle.lsp_replay.specs.Turns.{AppendsFront}
-use Rattle.lsp_replay.specs.Log.{Reading, Record, Log, IsReadAs, HasNoRecord, IsCut, IsMalformed, IsBadMark, mark_of}
+use Rattle.lsp_stream.specs.declared.fault.EngineFault.{EngineFault}
+use Rattle.lsp_stream.specs.declared.fault.EngineFault.TheVariants.{Read, Write, Frame, Truncated, BodyTooLong, NoMemory, TooManyTurns, BadLog}
+use Rattle.lsp_log.specs.declared.record.Version.{Version}
+use Rattle.lsp_log.specs.declared.record.Version.TheVariants.{One, Two}
+use Rattle.lsp_log.specs.declared.record.Side.{Side}
+use Rattle.lsp_log.specs.declared.record.Side.TheVariants.{Client, Server}
+use Rattle.lsp_stream.specs.Turns.{AppendsFront}
+use Rattle.lsp_log.specs.Log.{Reading, Record, Log, IsReadAs, HasNoRecord, IsCut, IsMalformed, IsBadMark, mark_of}
 use Rattle.lsp_replay.specs.Course.{Course}
 use Rattle.lsp_replay.specs.Session.{Session, judge}
 use Rattle.lsp_replay.specs.Engine.{Ran, Stopped, Reached, Broken, AtEnd, BreaksAtEnd, IsRunFault, IsRefused}
 use Rattle.lsp_replay.specs.Engines.{View, go_on, course_in}
 use Rattle.lsp_replay.specs.Told.{EndedBy, Passed, PassedEnd, CutAtEnd, IsFaultTold, IsTold, RanOver}
+use Rattle.lsp_log.specs.Laws.{IsFirstOf, FirstLaw, VersionLaw}
 use Rattle.lsp_replay.proofs.LineLemmas.{first_byte}
-use Rattle.lsp_replay.proofs.SplitLemmas.{frame_len}
-use Rattle.lsp_replay.proofs.UniqueLemmas.{IsFirstOf, first_of, same_version}
+use Rattle.lsp_replay.proofs.EngineLemmas.{empty_rest}
 
 -- ---- courses: a record that ended a run ends it whatever follows, and more records give more output
 
@@ -52,10 +51,6 @@ grows view s (r ∷ rs) more = grows_on (view.record_gives s r (judge s r)).out 
 
 -- ---- rests that no record begins
 
-empty_rest : (max_body : ℕ) (log : Log) → log.rest ≡ [] → HasNoRecord max_body log
-empty_rest max_body log nothing side spelling body more spells e =
-    absurd (omega (arith, ap length nothing, ap length e, length-append (mark_of log.version side) (spelling ++ more), length-append spelling more, frame_len max_body spelling body spells))
-
 behind_marks : (version : Version) (side other : Side) (a b : List ℕ) → mark_of version side ++ a ≡ mark_of version other ++ b → a ≡ b
 behind_marks One side other a b e = e
 behind_marks Two Client Client a b e = ap (drop 1) e
@@ -77,7 +72,7 @@ bad_rest max_body input place log is side spelling body more spells e = bad_mark
 
 -- ---- from some records to all
 
-module _ (reading : Reading) (view : View) (s : Session) (ended : Bool) (input : List ℕ) (held_old held_new : Option (List ℕ)) (all : Log) (reads : IsReadAs reading input all) (ends : HasNoRecord reading.max_body all) where
+module _ (first_of : FirstLaw) (same_version : VersionLaw) (reading : Reading) (view : View) (s : Session) (ended : Bool) (input : List ℕ) (held_old held_new : Option (List ℕ)) (all : Log) (reads : IsReadAs reading input all) (ends : HasNoRecord reading.max_body all) where
   ended_by : (answer : Result Outcome EngineFault) → Stopped reading (course_in view s) input held_old held_new answer → EndedBy (course_in view s) held_old held_new answer all
   ended_by answer stopped =
       let f : IsFirstOf reading stopped.log all = first_of reading input stopped.log all stopped.reads reads ends in
@@ -151,10 +146,10 @@ module _ (reading : Reading) (view : View) (s : Session) (ended : Bool) (input :
   is_told (Err fault) came = fault_told fault came
 
 -- What is told by some records of the input is told by all.
-pub ran_over : (reading : Reading) (view : View) (s : Session) (ended : Bool) (left_old left_new held_old held_new : Option (List ℕ)) (result : Result Outcome EngineFault)
+pub ran_over : FirstLaw → VersionLaw → (reading : Reading) (view : View) (s : Session) (ended : Bool) (left_old left_new held_old held_new : Option (List ℕ)) (result : Result Outcome EngineFault)
     → Ran reading (course_in view s) ended left_old left_new held_old held_new result → RanOver reading (course_in view s) ended left_old left_new held_old held_new result
-ran_over reading view s ended left_old left_new held_old held_new result ran = record {
+ran_over first version reading view s ended left_old left_new held_old held_new result ran = record {
   input = ran.input;
   read = ran.read;
-  told = λ all reads ends. is_told reading view s ended ran.input held_old held_new all reads ends result ran.came;
+  told = λ all reads ends. is_told first version reading view s ended ran.input held_old held_new all reads ends result ran.came;
 }

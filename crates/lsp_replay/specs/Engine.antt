@@ -3,12 +3,12 @@ use Rattle.std.specs.Prelude.{ℕ, ◌≡◌, ◌≢◌, ◌⊎◌, ◌+◌, ◌
 use Rattle.std.specs.Io.KnownBytes.{Consumes, Appends, IsAtEnd}
 use Rattle.lsp_frame.specs.Faults.{place_behind}
 use Rattle.lsp_replay.specs.declared.outcome.Outcome.{Outcome}
-use Rattle.lsp_replay.specs.declared.outcome.EngineFault.{EngineFault}
-use Rattle.lsp_replay.specs.declared.outcome.EngineFault.TheVariants.{Read, Write, Frame, Truncated, BodyTooLong, NoMemory, TooManyTurns, BadLog}
-use Rattle.lsp_replay.specs.declared.record.Version.TheVariants.{Two}
-use Rattle.lsp_replay.specs.Ports.{Rose}
-use Rattle.lsp_replay.specs.Turns.{AppendsFront, StaysWell}
-use Rattle.lsp_replay.specs.Log.{Reading, Record, Log, IsVersion, IsReadAs, HasNoRecord, IsCut, IsMalformed, IsBadMark, is_line_due}
+use Rattle.lsp_stream.specs.declared.fault.EngineFault.{EngineFault}
+use Rattle.lsp_stream.specs.declared.fault.EngineFault.TheVariants.{Read, Write, Frame, Truncated, BodyTooLong, NoMemory, TooManyTurns, BadLog}
+use Rattle.lsp_log.specs.declared.record.Version.TheVariants.{Two}
+use Rattle.lsp_stream.specs.Ports.{Rose}
+use Rattle.lsp_stream.specs.Turns.{AppendsFront, StaysWell}
+use Rattle.lsp_log.specs.Log.{Reading, Record, Log, IsVersion, IsReadAs, HasNoRecord, IsCut, IsMalformed, IsBadMark, is_line_due}
 use Rattle.lsp_replay.specs.Course.{Course}
 
 -- A record ended the run: what was written is the output of the records up to it.

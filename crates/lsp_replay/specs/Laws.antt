@@ -6,7 +6,7 @@ use Rattle.lsp_frame.specs.Limits.{AreInRange}
 use Rattle.lsp_server.specs.Answer.{reply}
 use Rattle.lsp_replay.specs.declared.engines.Settings.{Settings}
 use Rattle.lsp_replay.specs.declared.outcome.Outcome.{Outcome}
-use Rattle.lsp_replay.specs.Log.{Reading, Record, Log, IsReadAs, HasNoRecord}
+use Rattle.lsp_log.specs.Log.{Record, Log, IsReadAs}
 use Rattle.lsp_replay.specs.Course.{Course}
 use Rattle.lsp_replay.specs.Engine.{last_of}
 use Rattle.lsp_replay.specs.Engines.{report, normal, converted, as_log, as_converted, log_config}
@@ -74,12 +74,6 @@ ConvertedLaw =
     → (converted settings log.records).stop ≡ None → IsConverted settings log.records (all_of (converted settings) log)
 
 -- ---- reading
-
--- The records that are whole in an input are one list, and what is left behind them is one.
-abbrev pub UniqueLaw : Type 0
-UniqueLaw =
-    (reading : Reading) (input : List ℕ) (log other : Log) → IsReadAs reading input log → HasNoRecord reading.max_body log
-    → IsReadAs reading input other → HasNoRecord reading.max_body other → log ≡ other
 
 -- `replay` gives nothing before the end of the input.
 abbrev pub ReportLaw : Type 0

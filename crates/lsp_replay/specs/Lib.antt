@@ -1,16 +1,8 @@
-pub mod Ports
-pub mod Turns
-pub mod Faults
-pub mod Log
-pub mod Opening
-pub mod Splitting
 pub mod Course
 pub mod Engine
 pub mod Progress
-pub mod Copy
 pub mod Session
 pub mod Verdicts
 pub mod Engines
 pub mod Laws
 pub mod Told
-pub mod Scripts

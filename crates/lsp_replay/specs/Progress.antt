@@ -3,12 +3,12 @@ use Rattle.std.specs.Prelude.{ℕ, ◌≡◌, ◌+◌, ◌≤◌, ◌<◌, ◌^�
 use Rattle.std.specs.Io.KnownBytes.{Consumes, Appends}
 use Rattle.lsp_frame.specs.Faults.{place_behind}
 use Rattle.lsp_replay.specs.declared.outcome.Outcome.{Outcome}
-use Rattle.lsp_replay.specs.declared.outcome.EngineFault.{EngineFault}
-use Rattle.lsp_replay.specs.declared.outcome.EngineFault.TheVariants.{Read, Write, Frame, Truncated, BodyTooLong, NoMemory, TooManyTurns, BadLog}
-use Rattle.lsp_replay.specs.declared.splitter.Splitter.{Splitter}
-use Rattle.lsp_replay.specs.Turns.{AppendsFront}
-use Rattle.lsp_replay.specs.Log.{Reading, Record, IsVersion, IsCut}
-use Rattle.lsp_replay.specs.Splitting.{Stands}
+use Rattle.lsp_stream.specs.declared.fault.EngineFault.{EngineFault}
+use Rattle.lsp_stream.specs.declared.fault.EngineFault.TheVariants.{Read, Write, Frame, Truncated, BodyTooLong, NoMemory, TooManyTurns, BadLog}
+use Rattle.lsp_log.specs.declared.splitter.Splitter.{Splitter}
+use Rattle.lsp_stream.specs.Turns.{AppendsFront}
+use Rattle.lsp_log.specs.Log.{Reading, Record, IsVersion, IsCut}
+use Rattle.lsp_log.specs.Splitting.{Stands}
 use Rattle.lsp_replay.specs.Course.{Course, written_first, stopped}
 use Rattle.lsp_replay.specs.Engine.{Reached, BrokenAtEnd}
 

@@ -17,13 +17,13 @@ use Rattle.lsp_server.specs.Answer.{AnswerData, reply, refused, exits, Sent, as_
 use Rattle.lsp_server.specs.declared.config.Config.{Config}
 use Rattle.lsp_server.specs.Step.{State, start, step_on, settled}
 use Rattle.lsp_replay.specs.declared.outcome.Outcome.{Outcome}
-use Rattle.lsp_replay.specs.Ports.{one_more}
-use Rattle.lsp_replay.specs.declared.record.Version.{Version}
-use Rattle.lsp_replay.specs.declared.record.Version.TheVariants.{One, Two}
-use Rattle.lsp_replay.specs.declared.record.Side.{Side}
-use Rattle.lsp_replay.specs.declared.record.Side.TheVariants.{Client, Server}
-use Rattle.lsp_replay.specs.declared.record.Head.{Head}
-use Rattle.lsp_replay.specs.Log.{Record}
+use Rattle.lsp_stream.specs.Ports.{one_more}
+use Rattle.lsp_log.specs.declared.record.Version.{Version}
+use Rattle.lsp_log.specs.declared.record.Version.TheVariants.{One, Two}
+use Rattle.lsp_log.specs.declared.record.Side.{Side}
+use Rattle.lsp_log.specs.declared.record.Side.TheVariants.{Client, Server}
+use Rattle.lsp_log.specs.declared.record.Head.{Head}
+use Rattle.lsp_log.specs.Log.{Record}
 
 -- The server that a log is run on; the log's version, which its first record tells; the id of the accepted `initialize`, as long as a log
 -- of version 2 has not told the result; how many records came, how many bodies were handled, and how many of those were refused.

@@ -8,14 +8,15 @@ ghost use Rattle.lsp_replay.specs.Engines.{checking, course_in, check_line, code
 ghost use Rattle.lsp_replay.specs.Verdicts.{verdict_view};
 
 use crate::handler::{Given, Handler, Output};
-use crate::outcome::{EngineFault, Outcome};
-use crate::record::Head;
+use crate::outcome::Outcome;
 use crate::session::{Session, Verdict};
 use itoa::Buffer;
 use lsp_edit::EditFault;
+use lsp_log::Head;
 use lsp_message::ErrorCode;
 use lsp_server::{Answer, Config, Refusal};
 use lsp_store::StoreFault;
+use lsp_stream::EngineFault;
 use std::alloc::{AllocError, Global};
 
 /// Writes a line for each record.

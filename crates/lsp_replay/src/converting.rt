@@ -6,10 +6,11 @@ ghost use Rattle.lsp_replay.specs.Engines.{converting, course_in, line_before, r
 ghost use Rattle.lsp_replay.specs.Verdicts.{verdict_view};
 
 use crate::handler::{Given, Handler, Output};
-use crate::outcome::{EngineFault, Outcome};
-use crate::record::{Head, VERSION_LINE};
+use crate::outcome::Outcome;
 use crate::session::{Session, Verdict};
+use lsp_log::{Head, VERSION_LINE};
 use lsp_server::{Answer, Config};
+use lsp_stream::EngineFault;
 use std::alloc::{AllocError, Global};
 
 /// Writes each record with its mark, and behind it the reply.

@@ -3,22 +3,20 @@
 ghost use Rattle.std.specs.Prelude.{◌≡◌, ◌≢◌, ◌++◌, ◌∷◌, [], ℕ, List, Option, true, OnOk, OnErr, IfOk, IfErr, MatchOption};
 ghost use Rattle.std.specs.Io.KnownBytes.{Appends};
 ghost use Rattle.lsp_frame.specs.Frame.{Spells};
-ghost use Rattle.lsp_replay.specs.Ports.{Rose};
-ghost use Rattle.lsp_replay.specs.Turns.{Spends, AppendsFront, StaysWell};
-ghost use Rattle.lsp_replay.specs.Log.{Reading, Record};
-ghost use Rattle.lsp_replay.specs.Splitting.{IsReady, IsFed};
+ghost use Rattle.lsp_stream.specs.Ports.{Rose};
+ghost use Rattle.lsp_stream.specs.Turns.{Spends, AppendsFront, StaysWell};
+ghost use Rattle.lsp_log.specs.Log.{Reading, Record};
+ghost use Rattle.lsp_log.specs.Splitting.{IsReady, IsFed};
+ghost use Rattle.lsp_log.specs.Laws.{VersionLaw, FirstLaw};
 ghost use Rattle.lsp_replay.specs.Course.{Course};
 ghost use Rattle.lsp_replay.specs.Engine.{Stopped, AtEnd, IsPieceFault, Ran, Called, NonePassedOver};
 ghost use Rattle.lsp_replay.specs.Progress.{IsHandled, IsHandleFault, IsLastFault, IsEndFault, Went};
 
 use crate::handler::{Handler, Output};
-use crate::opening::read_opening;
-use crate::outcome::{EngineFault, Outcome};
-use crate::port::{Sink, Source};
-use crate::record::{Head, Version};
-use crate::splitter::Splitter;
-use crate::turns::{Turns, read_piece, write_given};
+use crate::outcome::Outcome;
 use lsp_frame::Limits;
+use lsp_log::{Head, Splitter, Version, read_opening, reading_laws};
+use lsp_stream::{EngineFault, Sink, Source, Turns, read_piece, write_given};
 use std::alloc::Global;
 
 /// How many bytes one read may give.
@@ -102,6 +100,7 @@ fn take_record<W: Sink, H: Handler>(
     ensures none_left { IfErr result (λ fault. fault ≡ EngineFault.TooManyTurns → turns.new.left ≡ 0) }
     ensures spent { Spends (W.count writer.old) (W.count writer.new) turns.old.left turns.new.left }
 {
+    reading_laws();
     let head = splitter.head();
     match splitter.frame() {
         Some((spelling, body)) => {
@@ -204,6 +203,7 @@ fn finish_run<W: Sink, H: Handler>(
     ensures none_left { IfErr result (λ fault. fault ≡ EngineFault.TooManyTurns → turns.new.left ≡ 0) }
     ensures spent { Spends (W.count writer.old) (W.count writer.new) turns.old.left turns.new.left }
 {
+    reading_laws();
     if !splitter.at_rest() {
         return Err(EngineFault::Truncated { place });
     }
@@ -225,7 +225,11 @@ pub fn run_engine<R: Source, W: Sink, H: Handler>(
     ensures called { Called (R.count reader.old) (R.count reader.new) (W.count writer.old) (W.count writer.new) max_turns
         (R.has_failed reader.new) (W.has_failed writer.new) (R.has_ended reader.new) (R.left reader.new) result }
     ensures none_passed_over { NonePassedOver (R.has_failed reader.old) (R.has_failed reader.new) (W.has_failed writer.old) (W.has_failed writer.new) result }
+    // What its callers take from `lsp_log`.
+    ensures version { VersionLaw }
+    ensures first { FirstLaw }
 {
+    reading_laws();
     let mut turns = Turns::new(max_turns);
     let mut buf = [0u8; PIECE];
     let mut made = Vec::new(alloc);
@@ -257,8 +261,3 @@ pub fn run_engine<R: Source, W: Sink, H: Handler>(
         ended = to == 0;
     }
 }
-
-#[cfg(test)]
-mod copier;
-#[cfg(test)]
-mod tests;

@@ -12,12 +12,12 @@ use crate::checking::Check;
 use crate::converting::Convert;
 use crate::engine::{InputRules, run_engine};
 use crate::normalising::Normalise;
-use crate::outcome::{EngineFault, Outcome};
-use crate::port::{Sink, Source};
+use crate::outcome::Outcome;
 use crate::replaying::Replay;
 use crate::serving::Serve;
 use lsp_frame::Limits;
 use lsp_server::{Config, EncodingChoice, Sync};
+use lsp_stream::{EngineFault, Sink, Source};
 use lsp_text::Encoding;
 use std::alloc::Global;
 
@@ -193,6 +193,3 @@ pub fn normalise<R: Source, W: Sink>(
     let mut normalise = Normalise::new(alloc, settings.config());
     run_engine(alloc, reader, writer, &mut normalise, rules, max_turns)
 }
-
-#[cfg(test)]
-mod tests;

@@ -2,11 +2,12 @@
 
 ghost use Rattle.std.specs.Prelude.{◌≡◌, ◌<◌, ◌++◌, ◌∷◌, ◌⊎◌, [], ℕ, List, None, false, IfOk, IfErr, MatchOption};
 ghost use Rattle.lsp_frame.specs.Frame.{Spells};
-ghost use Rattle.lsp_replay.specs.Log.{Record};
+ghost use Rattle.lsp_log.specs.Log.{Record};
 ghost use Rattle.lsp_replay.specs.Course.{Course, after, stopped, output_of, IsRecordFault};
 
-use crate::outcome::{EngineFault, Outcome};
-use crate::record::Head;
+use crate::outcome::Outcome;
+use lsp_log::Head;
+use lsp_stream::EngineFault;
 
 /// Which bytes a record's output is.
 #[derive(Clone, Copy, Debug, PartialEq, Eq)]

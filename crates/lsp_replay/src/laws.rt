@@ -1,6 +1,9 @@
 //! Laws over the definitions alone, that no call of this crate makes by itself.
 
-ghost use Rattle.lsp_replay.specs.Laws.{UniqueLaw, ReportLaw, NormalLaw, ConvertedLaw};
+ghost use Rattle.lsp_log.specs.Laws.{UniqueLaw};
+ghost use Rattle.lsp_replay.specs.Laws.{ReportLaw, NormalLaw, ConvertedLaw};
+
+use lsp_log::reading_laws;
 
 /// What holds of every log, whatever its version and whoever wrote it. It does nothing: its contract says that an input has one list of
 /// whole records, and one rest behind them; that `replay` writes nothing before the end of the input; that what `normalise` writes of a log
@@ -11,4 +14,6 @@ pub fn log_laws()
     ensures report { ReportLaw }
     ensures normal { NormalLaw }
     ensures converted { ConvertedLaw }
-{}
+{
+    reading_laws();
+}

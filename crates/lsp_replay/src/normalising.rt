@@ -1,17 +1,18 @@
 //! `normalise`: a log in which each accepted change is its one canonical message.
 
 ghost use Rattle.std.specs.Prelude.{ℕ, ◌≡◌, ◌⊎◌, ◌++◌, List, [], Option, false, refl, IfOk, IfErr, OnOk, None, Err};
-ghost use Rattle.lsp_replay.specs.Log.{mark_of};
+ghost use Rattle.lsp_log.specs.Log.{mark_of};
 ghost use Rattle.lsp_replay.specs.Course.{output_of};
 ghost use Rattle.lsp_replay.specs.Session.{opened};
 ghost use Rattle.lsp_replay.specs.Engines.{normalising, course_in, line_if, written, gives, ends};
 ghost use Rattle.lsp_replay.specs.Verdicts.{IsTold};
 
 use crate::handler::{Given, Handler, Output};
-use crate::outcome::{EngineFault, Outcome};
-use crate::record::{Head, Side, VERSION_LINE, Version};
+use crate::outcome::Outcome;
 use crate::session::{Canonical, Session, Verdict};
+use lsp_log::{Head, Side, VERSION_LINE, Version};
 use lsp_server::Config;
+use lsp_stream::EngineFault;
 use std::alloc::{AllocError, Global};
 
 /// Writes each record as it stands, and an accepted change in its one canonical message.

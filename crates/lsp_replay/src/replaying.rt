@@ -8,12 +8,13 @@ ghost use Rattle.lsp_replay.specs.Session.{opened};
 ghost use Rattle.lsp_replay.specs.Engines.{replaying, replaying_from, course_in, document_line, document_value};
 
 use crate::handler::{Given, Handler, Output};
-use crate::outcome::{EngineFault, Outcome};
-use crate::record::Head;
+use crate::outcome::Outcome;
 use crate::session::{Session, Verdict};
 use json::Writer;
+use lsp_log::Head;
 use lsp_server::Config;
 use lsp_store::Document;
+use lsp_stream::EngineFault;
 use std::alloc::{AllocError, Global};
 use std::mem::replace;
 

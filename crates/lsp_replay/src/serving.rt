@@ -5,10 +5,11 @@ ghost use Rattle.lsp_replay.specs.Session.{opened};
 ghost use Rattle.lsp_replay.specs.Engines.{serving, course_in};
 
 use crate::handler::{Given, Handler, Output};
-use crate::outcome::{EngineFault, Outcome};
-use crate::record::Head;
+use crate::outcome::Outcome;
 use crate::session::{Session, Verdict};
+use lsp_log::Head;
 use lsp_server::{Answer, Config};
+use lsp_stream::EngineFault;
 use std::alloc::Global;
 
 /// Writes each reply as it comes, up to `exit`.

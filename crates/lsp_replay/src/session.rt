@@ -10,14 +10,14 @@ ghost use Rattle.lsp_edit.specs.Edited.{edit_of};
 ghost use Rattle.lsp_store.specs.Table.{change_refusal};
 ghost use Rattle.lsp_server.specs.Step.{encoding_of};
 ghost use Rattle.lsp_server.specs.Seen.{incoming_view, answer_view};
-ghost use Rattle.lsp_replay.specs.Ports.{one_more};
+ghost use Rattle.lsp_stream.specs.Ports.{one_more};
 ghost use Rattle.lsp_replay.specs.Session.{answered, opened, judge_at, judge_from, judge_incoming, is_early, is_change, is_refused, is_refusing, expected_after, hear_for, settle_by, result_for, result_in, same_id, versioned, outcome_of};
 ghost use Rattle.lsp_replay.specs.Engines.{change_in, normal_body, normal_if, normal_of};
 ghost use Rattle.lsp_replay.specs.Verdicts.{IsTold, verdict_view};
 ghost use Rattle.lsp_server.specs.Answer.{changed};
 
 use crate::outcome::Outcome as Ending;
-use crate::record::{Head, Side, Version};
+use lsp_log::{Head, Side, Version};
 use lsp_message::{
     ChangeParams, ErrorCode, Id, Message, Outcome, ParamsFault, ReadFault, read, result_initialize,
 };

@@ -1,13 +1,13 @@
 use Rattle.std.proofs.Common.{◌≡◌, [], true, false, refl, sym, ◌∙◌, subst}
 use Rattle.std.specs.Io.KnownBytes.{Appends}
-use Rattle.lsp_replay.specs.Turns.{AppendsFront}
+use Rattle.lsp_stream.specs.Turns.{AppendsFront}
 use Rattle.lsp_replay.proofs.EngineLemmas.{went_cut, went_at_end, last_fault, ok_and, err_and}
 use Rattle.lsp_replay.proofs.engine.finish_run.Goals as goal
 
 pub returns-then-not-at_rest-clause-fault : goal.returns-then-not-at_rest-clause-fault
 returns-then-not-at_rest-clause-fault g c = λ reading course held input w. (
   refl,
-  went_cut reading course held input c.args.splitter.now (g.H.Handler.course c.args.handler.now) (g.W.Sink.held c.args.writer.now) c.requires
+  went_cut reading course held input c.reading_laws.ensures.rest c.args.splitter.now (g.H.Handler.course c.args.handler.now) (g.W.Sink.held c.args.writer.now) c.requires
       (record { silent = g.met.H.Handler.silent c.args.handler.now; unstopped = g.met.H.Handler.unstopped c.args.handler.now })
       (λ nothing. let two : false ≡ true = sym c.if-not-at_rest.true ∙ c.at_rest.ensures.1 nothing in cc) w,
 )

@@ -75,7 +75,7 @@ returns-in_err-to-clause-ran g c =
     let p = err_from_is_err_and c.from_residual-in_err-to.result c.from_residual-in_err-to.ensures.1 in
     rw (p.1, p.2) (ran_unread (record { max_body = c.args.rules.limits.max_body; versions = c.args.rules.versions; only_one = c.args.rules.only_one }) (g.H.Handler.course c.args.handler.now) (g.R.Source.left c.args.reader.now) (g.W.Sink.held c.args.writer.now)
     (g.R.Source.left c.pieces.reader) (g.R.Source.left c.read_piece.new.reader) c.pieces.ended _ c.pieces.place c.take_piece.new.splitter (g.H.Handler.course c.take_piece.new.handler) (g.W.Sink.held c.take_piece.new.writer) _
-    c.in_ok-end.ensures.ready (record { silent = g.met.H.Handler.silent c.take_piece.new.handler; unstopped = g.met.H.Handler.unstopped c.take_piece.new.handler }) c.in_err-to.ensures.kept c.in_err-to.ensures.fault
+    c.reading_laws.ensures.rest c.in_ok-end.ensures.ready (record { silent = g.met.H.Handler.silent c.take_piece.new.handler; unstopped = g.met.H.Handler.unstopped c.take_piece.new.handler }) c.in_err-to.ensures.kept c.in_err-to.ensures.fault
     (runs_on (record { max_body = c.args.rules.limits.max_body; versions = c.args.rules.versions; only_one = c.args.rules.only_one }) (g.H.Handler.course c.args.handler.now) (g.R.Source.left c.args.reader.now) (g.W.Sink.held c.args.writer.now) (g.R.Source.left c.pieces.reader) c.pieces.ended c.pieces.place _ c.pieces.splitter c.take_piece.new.splitter
     (g.H.Handler.course c.pieces.handler) (g.H.Handler.course c.take_piece.new.handler) (g.W.Sink.held c.pieces.writer) (g.W.Sink.held c.take_piece.new.writer) c.in_ok-end.ensures.version
     (λ input w. rw c.in_default.is at (c.in_ok-end.ensures.went (record { max_body = c.args.rules.limits.max_body; versions = c.args.rules.versions; only_one = c.args.rules.only_one }) (g.H.Handler.course c.args.handler.now) (g.W.Sink.held c.args.writer.now) input w)) c.pieces.invariant.runs))

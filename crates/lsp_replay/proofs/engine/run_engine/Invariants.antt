@@ -1,8 +1,8 @@
 use Rattle.std.specs.Prelude.{◌≡◌, ◌≤◌, ◌↔◌, ◌-◌, true, length, take, drop}
 use Rattle.std.specs.Io.KnownBytes.{IsAtEnd}
-use Rattle.lsp_replay.specs.Ports.{Rose}
-use Rattle.lsp_replay.specs.Splitting.{IsReady}
-use Rattle.lsp_replay.specs.Turns.{StaysWell}
+use Rattle.lsp_stream.specs.Ports.{Rose}
+use Rattle.lsp_log.specs.Splitting.{IsReady}
+use Rattle.lsp_stream.specs.Turns.{StaysWell}
 use Rattle.lsp_replay.specs.Progress.{Runs, BothSpend}
 use Rattle.lsp_replay.proofs.engine.run_engine.Given as goal
 

@@ -2,7 +2,7 @@ use Rattle.std.proofs.Common.{ℕ, ◌+◌, drop, refl, ◌∙◌, subst, arith}
 use Rattle.std.proofs.lemmas.Result.{err_from_is_err_and}
 use Rattle.std.proofs.lemmas.List.{length-take, length-drop}
 use Rattle.std.proofs.KnownBytes.{Appends-nil}
-use Rattle.lsp_replay.specs.Faults.{IsSplitterFault}
+use Rattle.lsp_log.specs.Splitting.{IsSplitterFault}
 use Rattle.lsp_replay.proofs.EngineLemmas.{went_fed, fed_fault}
 use Rattle.lsp_replay.proofs.engine.take_piece.Goals as goal
 

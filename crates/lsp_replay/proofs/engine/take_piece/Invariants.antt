@@ -1,7 +1,7 @@
 use Rattle.std.specs.Prelude.{ℕ, ◌≡◌, ◌≤◌, ◌-◌, List, Option, length, drop}
-use Rattle.lsp_replay.specs.Turns.{Spends, StaysWell}
-use Rattle.lsp_replay.specs.Log.{Reading, Record}
-use Rattle.lsp_replay.specs.Splitting.{IsReady}
+use Rattle.lsp_stream.specs.Turns.{Spends, StaysWell}
+use Rattle.lsp_log.specs.Log.{Reading, Record}
+use Rattle.lsp_log.specs.Splitting.{IsReady}
 use Rattle.lsp_replay.specs.Course.{Course}
 use Rattle.lsp_replay.specs.Progress.{Went}
 use Rattle.lsp_replay.proofs.engine.take_piece.Given as goal

@@ -2,7 +2,7 @@ use Rattle.std.proofs.Common.{List, ℕ, [], ◌++◌, sym, ◌∙◌, ap, subst
 use Rattle.std.proofs.lemmas.Result.{err_from_is_err_and}
 use Rattle.std.specs.Io.KnownBytes.{Appends}
 use Rattle.std.proofs.KnownBytes.{Appends-trans}
-use Rattle.lsp_replay.specs.Turns.{AppendsFront}
+use Rattle.lsp_stream.specs.Turns.{AppendsFront}
 use Rattle.lsp_replay.proofs.EngineLemmas.{part_cut, part_is}
 use Rattle.lsp_replay.proofs.engine.write_last.Goals as goal
 

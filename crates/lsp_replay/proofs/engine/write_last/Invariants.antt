@@ -1,6 +1,6 @@
 use Rattle.std.specs.Prelude.{◌≡◌, List, ℕ, [], ◌++◌}
 use Rattle.std.specs.Io.KnownBytes.{Appends}
-use Rattle.lsp_replay.specs.Turns.{Spends, StaysWell}
+use Rattle.lsp_stream.specs.Turns.{Spends, StaysWell}
 use Rattle.lsp_replay.proofs.engine.write_last.Given as goal
 
 abbrev pub invariant-parts : goal.invariant-parts

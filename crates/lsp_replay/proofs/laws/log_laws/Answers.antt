@@ -1,8 +1,7 @@
-use Rattle.lsp_replay.proofs.UniqueLemmas.{unique_law}
 use Rattle.lsp_replay.proofs.QuietLemmas.{report_law}
 use Rattle.lsp_replay.proofs.NormalisedLemmas.{normal_law}
 use Rattle.lsp_replay.proofs.ConvertedLogLemmas.{converted_law}
 use Rattle.lsp_replay.proofs.laws.log_laws.Goals as goal
 
 pub returns : goal.returns
-returns c = record { unique = unique_law; report = report_law; normal = normal_law; converted = converted_law }
+returns c = record { unique = c.reading_laws.ensures.unique; report = report_law; normal = normal_law; converted = converted_law }

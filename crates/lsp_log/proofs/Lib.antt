@@ -1,0 +1,5 @@
+pub mod LogLemmas
+pub mod SplitLemmas
+pub mod OpeningLemmas
+pub mod UniqueLemmas
+pub mod RestLemmas

@@ -1,0 +1,31 @@
+use Rattle.std.proofs.Common.{ℕ, ◌≡◌, ◌≤◌, ◌-◌, length, arith}
+use Rattle.std.proofs.lemmas.List.{length-take, length-drop}
+use Rattle.lsp_log.proofs.OpeningLemmas.{next_read, next_len, stays}
+use Rattle.lsp_log.proofs.opening.read_opening.Goals as goal
+
+pub returns-then-not-is_undecided-clause-read : goal.returns-then-not-is_undecided-clause-read
+returns-then-not-is_undecided-clause-read g c =
+    next_read _ _ _ c.opening.len c.in_ok-n.n c.opening.buf c.read_piece.new.buf (omega arith) (omega (arith, c.read_piece.auto.buf, length-take {A = ℕ}, length-drop {A = ℕ})) c.in_ok-n.ensures.bound
+    c.opening.invariant.read c.in_ok-n.ensures.read
+
+pub returns-then-not-is_undecided-clause-known : goal.returns-then-not-is_undecided-clause-known
+returns-then-not-is_undecided-clause-known g c = λ more last.
+    stays c.args.versions c.version_of-version.result _ more (λ looks front. last (c.is_undecided.ensures.no c.if-not-is_undecided.true looks front)) c.version_of-version.ensures
+
+pub opening-preserved : goal.opening-preserved
+opening-preserved g c =
+    let within : c.opening.len ≤ length c.opening.buf = omega arith in
+    let long : length c.read_piece.new.buf ≡ length c.opening.buf - c.opening.len = omega (arith, c.read_piece.auto.buf, length-take {A = ℕ}, length-drop {A = ℕ}) in
+    let front = c.is_undecided.ensures.yes c.if-not-is_undecided.false in
+    record {
+      within = omega (arith, front.0, next_len c.opening.len c.in_ok-n.n c.opening.buf c.read_piece.new.buf within long c.in_ok-n.ensures.bound);
+      front = front;
+      read = next_read _ _ _ c.opening.len c.in_ok-n.n c.opening.buf c.read_piece.new.buf within long c.in_ok-n.ensures.bound c.opening.invariant.read c.in_ok-n.ensures.read;
+      well = λ before. c.in_ok-n.ensures.well (c.opening.invariant.well before);
+      spent = record {
+        within = omega (arith, c.opening.invariant.spent.within, c.in_ok-n.ensures.spent.within);
+        least = omega (arith, c.opening.invariant.spent.least, c.in_ok-n.ensures.spent.least);
+        most = omega (arith, c.opening.invariant.spent.most, c.in_ok-n.ensures.spent.most);
+        exact = λ h. omega (arith, h, c.opening.invariant.spent.exact, c.in_ok-n.ensures.spent.exact, c.in_ok-n.ensures.spent.least);
+      };
+    }

@@ -1,0 +1,17 @@
+use Rattle.std.specs.Prelude.{◌<◌, take}
+use Rattle.std.specs.Io.KnownBytes.{Consumes}
+use Rattle.lsp_stream.specs.Turns.{Spends, StaysWell}
+use Rattle.lsp_log.specs.Opening.{IsLineFront}
+use Rattle.lsp_log.proofs.opening.read_opening.Given as goal
+
+abbrev pub invariant-opening : goal.invariant-opening
+invariant-opening g l = record {
+  within : l.len < 18;
+  front : IsLineFront (take l.len l.buf);
+  read : Consumes (g.R.Source.left l.fn.reader) (g.R.Source.left l.reader) (take l.len l.buf);
+  well : StaysWell (g.R.Source.has_failed l.fn.reader) (g.R.Source.has_failed l.reader);
+  spent : Spends (g.R.Source.count l.fn.reader) (g.R.Source.count l.reader) l.fn.turns.left l.turns.left;
+}
+
+abbrev pub decreases-opening : goal.decreases-opening
+decreases-opening g l = l.turns.left

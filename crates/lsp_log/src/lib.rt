@@ -1,0 +1,17 @@
+//! What a log is: its version, its records, and how it is taken apart however it comes.
+//!
+//! - `record`: the versions of a log, and what is known of a record beside its frame.
+//! - `opening`: the first bytes of an input, as many as show its version.
+//! - `splitter`: the records of a log that comes in pieces.
+//! - `laws`: what holds of every log.
+#![tactic(auto)]
+
+mod laws;
+mod opening;
+mod record;
+mod splitter;
+
+pub use laws::reading_laws;
+pub use opening::{Opening, read_opening};
+pub use record::{Head, Side, VERSION_LINE, Version};
+pub use splitter::Splitter;

@@ -1,0 +1,91 @@
+//! The first bytes of an input, as many as tell its version.
+
+ghost use Rattle.std.specs.Prelude.{◌≡◌, ◌≢◌, ◌<◌, ◌≤◌, ◌^◌, ◌++◌, ◌↔◌, ◌⊎◌, [], ℕ, List, true, false, IfOk, IfErr, OnOk, length, take, drop};
+ghost use Rattle.std.specs.Io.KnownBytes.{Consumes, IsAtEnd};
+ghost use Rattle.lsp_stream.specs.Ports.{Rose};
+ghost use Rattle.lsp_stream.specs.Turns.{Spends, StaysWell};
+ghost use Rattle.lsp_log.specs.Log.{IsVersion, line_of, version_line};
+ghost use Rattle.lsp_log.specs.Opening.{IsLineFront, IsBelowLine};
+
+use crate::record::{VERSION_LINE, Version};
+use lsp_stream::{EngineFault, Source, Turns, read_piece};
+
+/// The first bytes of an input: its version, how many bytes were read, and whether the end came.
+#[derive(Clone, Copy)]
+pub struct Opening {
+    pub version: Version,
+    pub len: usize,
+    pub ended: bool,
+}
+
+/// Reads into `buf` until the version is known. Where versions are not looked for that is one read.
+pub fn read_opening<R: Source>(
+    reader: &mut R,
+    buf: &mut [u8],
+    versions: bool,
+    turns: &mut Turns,
+) -> Result<Opening, EngineFault>
+    requires { 18 ≤ length buf.old }
+    ensures bound { IfOk result (λ opening. opening.len ≤ length buf.new) }
+    ensures fits { IfOk result (λ opening. opening.len < 2 ^ 64) }
+    ensures read { IfOk result (λ opening. Consumes (R.left reader.old) (R.left reader.new) (take opening.len buf.new)) }
+    ensures known { IfOk result (λ opening. (more : List ℕ) → (opening.ended ≡ true → more ≡ []) →
+        IsVersion versions opening.version (take opening.len buf.new ++ more)) }
+    ensures line { IfOk result (λ opening. length (line_of opening.version) ≤ opening.len) }
+    ensures front { IfOk result (λ opening. take opening.len buf.new ≡
+        line_of opening.version ++ drop (length (line_of opening.version)) (take opening.len buf.new)) }
+    ensures ended { IfOk result (λ opening. R.has_ended reader.new ≡ true ↔ opening.ended ≡ true) }
+    ensures at_end { IfOk result (λ opening. opening.ended ≡ true → IsAtEnd (R.left reader.new)) }
+    ensures rose { OnOk result (Rose (R.count reader.old) (R.count reader.new)) }
+    ensures below { IfErr result (λ _. IsBelowLine (R.left reader.old) (R.left reader.new)) }
+    ensures fault { IfErr result (λ fault. (fault ≡ EngineFault.Read) ⊎ (fault ≡ EngineFault.TooManyTurns)) }
+    ensures failed { IfErr result (λ fault. fault ≡ EngineFault.Read →
+        (R.has_failed reader.new ≡ true) × (R.has_ended reader.new ≡ false) × Rose (R.count reader.old) (R.count reader.new)) }
+    ensures well { OnOk result (StaysWell (R.has_failed reader.old) (R.has_failed reader.new)) }
+    ensures told { IfErr result (λ fault. fault ≢ EngineFault.Read → StaysWell (R.has_failed reader.old) (R.has_failed reader.new)) }
+    ensures none_left { IfErr result (λ fault. fault ≡ EngineFault.TooManyTurns → turns.new.left ≡ 0) }
+    ensures spent { Spends (R.count reader.old) (R.count reader.new) turns.old.left turns.new.left }
+{
+    let mut len = 0;
+    'opening: loop {
+        let n = read_piece(reader, &mut buf[len..], turns)?;
+        len += n;
+        let ended = n == 0;
+        let bytes = &buf[..len];
+        if !is_undecided(bytes, versions, ended) {
+            let version = version_of(bytes, versions);
+            return Ok(Opening {
+                version,
+                len,
+                ended,
+            });
+        }
+    }
+}
+
+/// May an input that begins with these bytes be of either version?
+fn is_undecided(bytes: &[u8], versions: bool, ended: bool) -> bool
+    ensures yes { result ≡ true → IsLineFront bytes.now }
+    ensures no { result ≡ false → versions ≡ true → IsLineFront bytes.now → ended ≡ true }
+    ensures not_ended { result ≡ true → ended ≡ false }
+{
+    versions && !ended && may_be_line(bytes)
+}
+
+/// Are these some first bytes of the line of version 2, and not all?
+fn may_be_line(bytes: &[u8]) -> bool
+    ensures { result ≡ true ↔ IsLineFront bytes.now }
+{
+    bytes.len() < VERSION_LINE.len() && VERSION_LINE.starts_with(bytes)
+}
+
+/// The version of an input that begins with these bytes, as far as they tell.
+fn version_of(bytes: &[u8], versions: bool) -> Version
+    ensures { IsVersion versions result bytes.now }
+{
+    if versions && bytes.starts_with(VERSION_LINE) {
+        Version::Two
+    } else {
+        Version::One
+    }
+}

@@ -1,9 +1,0 @@
-use Rattle.std.proofs.Common.{drop}
-use Rattle.lsp_replay.proofs.LogLemmas.{first_is}
-use Rattle.lsp_replay.proofs.SplitLemmas.{marked_stands}
-use Rattle.lsp_replay.proofs.splitter.Splitter.take_mark.Goals as goal
-
-pub returns-in-Some-of_mark-clause-stands : goal.returns-in-Some-of_mark-clause-stands
-returns-in-Some-of_mark-clause-stands c = λ reading input records at.
-    marked_stands reading input c.args.piece.now (drop 1 c.args.piece.now) c.in-Some.mark.now records c.args.self.now c.in-Some-of_mark.side c.skip.new.self c.requires.between
-    (c.requires.ready.fed.between c.requires.between) (first_is c.args.piece.now c.in-Some.mark.now c.in-Some.ensures.value) c.in-Some-of_mark.ensures c.skip.ensures at

@@ -1,0 +1,222 @@
+//! Runs in which memory runs out once, and that are made again.
+
+use super::*;
+
+/// The first body of a session, with few parts.
+const SHORT: &str = r#"{"id":1,"jsonrpc":"2.0","method":"initialize","params":{}}"#;
+
+const HEADER_OF_SHORT: &str = "Content-Length: 58\r\n\r\n";
+
+const HEADER_OF_REPLY: &str = "Content-Length: 129\r\n\r\n";
+
+/// An empty document.
+const EMPTY: &str =
+    r#"{"jsonrpc":"2.0","method":"textDocument/didOpen","params":{"textDocument":{"languageId":"plaintext","text":"","uri":"file:///a","version":1}}}"#;
+
+/// Its text is taken away, and it had none.
+const NOTHING: &str =
+    r#"{"jsonrpc":"2.0","method":"textDocument/didChange","params":{"contentChanges":[{"text":""}],"textDocument":{"uri":"file:///a","version":2}}}"#;
+
+const NO_CHANGE: &str =
+    r#"{"jsonrpc":"2.0","method":"textDocument/didChange","params":{"contentChanges":[],"textDocument":{"uri":"file:///a","version":2}}}"#;
+
+/// A run: what is written, in parts, and how many bytes that is after each record.
+struct Wanted {
+    command: Command,
+    input: Bytes,
+    parts: &'static [&'static str],
+    lengths: &'static [usize],
+    end: End,
+}
+
+impl Wanted {
+    /// Is it what some first records give?
+    fn begins_with(&self, output: &[u8]) -> bool {
+        let mut rest = output;
+        for part in self.parts {
+            rest = rest.strip_prefix(part.as_bytes()).unwrap_or(rest);
+        }
+        rest.is_empty() && (output.is_empty() || self.lengths.contains(&output.len()))
+    }
+
+    fn is_met(&self, run: &Report) -> bool {
+        run.answer == self.end.answer()
+            && self.begins_with(&run.output)
+            && self.lengths.last() == Some(&run.output.len())
+    }
+
+    /// Did memory run out after some records? The writer takes memory too, and fails where it gets none.
+    fn ran_out(&self, run: &Report) -> bool {
+        let fault = run.answer.err();
+        (fault == Some(EngineFault::NoMemory) || fault == Some(EngineFault::Write))
+            && self.begins_with(&run.output)
+    }
+
+    /// The input, and how often memory ran out until it was built.
+    fn input(&self, alloc: Global) -> Result<(Vec<u8>, u32), AllocError> {
+        match self.input.get(alloc) {
+            Ok(input) => Ok((input, 0)),
+            Err(_) => Ok((self.input.get(alloc)?, 1)),
+        }
+    }
+
+    /// Runs the engine, and again where memory ran out. Answers how often it ran out, and nothing where a run was wrong.
+    fn runs_again(&self, alloc: Global) -> Result<Option<u32>, Fail> {
+        let (input, refused) = self.input(alloc)?;
+        let settings = settings()?;
+        if let Ok(run) = run_with(alloc, self.command, &input, settings, SMOOTH) {
+            if self.is_met(&run) {
+                return Ok(Some(refused));
+            }
+            if !self.ran_out(&run) {
+                return Ok(None);
+            }
+        }
+        let run = run_with(alloc, self.command, &input, settings, SMOOTH)?;
+        Ok(if self.is_met(&run) {
+            Some(refused.saturating_add(1))
+        } else {
+            None
+        })
+    }
+}
+
+static SERVED: Wanted = Wanted {
+    command: Command::Serve,
+    input: Bytes::Frames(&[SHORT]),
+    parts: &[HEADER_OF_REPLY, REPLY],
+    lengths: &[152],
+    end: Ended(1, 1, 0),
+};
+
+#[test]
+fn refused_serve(rt: HostRuntime) -> Result<(), Fail> {
+    let refused = SERVED.runs_again(rt.alloc())?;
+    assert!(rt; refused.is_some());
+    println!(rt; "refused {}", refused.unwrap_or(0))?;
+    Ok(())
+}
+
+static CHECKED: Wanted = Wanted {
+    command: Command::Check,
+    input: Bytes::Frames(&[SHORT]),
+    parts: &["1 reply\n"],
+    lengths: &[8],
+    end: Ended(0, 1, 0),
+};
+
+#[test]
+fn refused_check(rt: HostRuntime) -> Result<(), Fail> {
+    let refused = CHECKED.runs_again(rt.alloc())?;
+    assert!(rt; refused.is_some());
+    println!(rt; "refused {}", refused.unwrap_or(0))?;
+    Ok(())
+}
+
+static REPLIED: Wanted = Wanted {
+    command: Command::Convert,
+    input: Bytes::Frames(&[SHORT]),
+    parts: &[
+        "lsp-session-log 2\n>",
+        HEADER_OF_SHORT,
+        SHORT,
+        "<",
+        HEADER_OF_REPLY,
+        REPLY,
+    ],
+    lengths: &[252],
+    end: Ended(0, 1, 0),
+};
+
+#[test]
+fn refused_convert(rt: HostRuntime) -> Result<(), Fail> {
+    let refused = REPLIED.runs_again(rt.alloc())?;
+    assert!(rt; refused.is_some());
+    println!(rt; "refused {}", refused.unwrap_or(0))?;
+    Ok(())
+}
+
+static REPORTED: Wanted = Wanted {
+    command: Command::Replay,
+    input: Bytes::Frames(&[SHORT, OPEN]),
+    parts: &[
+        "{\"languageId\":\"plaintext\",\"text\":\"abc\",\"uri\":\"file:///a\",\"version\":1}\n",
+    ],
+    lengths: &[70],
+    end: Ended(0, 2, 0),
+};
+
+#[test]
+fn refused_replay(rt: HostRuntime) -> Result<(), Fail> {
+    let refused = REPORTED.runs_again(rt.alloc())?;
+    assert!(rt; refused.is_some());
+    println!(rt; "refused {}", refused.unwrap_or(0))?;
+    Ok(())
+}
+
+/// The whole of an empty text is replaced by nothing, which is no change.
+static NORMALISED: Wanted = Wanted {
+    command: Command::Normalise,
+    input: Bytes::Frames(&[SHORT, EMPTY, NOTHING]),
+    parts: &[
+        HEADER_OF_SHORT,
+        SHORT,
+        "Content-Length: 142\r\n\r\n",
+        EMPTY,
+        "Content-Length: 129\r\n\r\n",
+        NO_CHANGE,
+    ],
+    lengths: &[80, 245, 397],
+    end: Ended(0, 3, 0),
+};
+
+#[test]
+fn refused_normalise(rt: HostRuntime) -> Result<(), Fail> {
+    let refused = NORMALISED.runs_again(rt.alloc())?;
+    assert!(rt; refused.is_some());
+    println!(rt; "refused {}", refused.unwrap_or(0))?;
+    Ok(())
+}
+
+/// Two frames, and two records of version 2.
+static COPIED: [Wanted; 2] = [
+    Wanted {
+        command: Command::Normalise,
+        input: Bytes::Plain(b"Content-Length: 2\r\n\r\n[]content-length:3\r\n\r\n[1]"),
+        parts: &["Content-Length: 2\r\n\r\n[]", "content-length:3\r\n\r\n[1]"],
+        lengths: &[23, 46],
+        end: Ended(1, 2, 2),
+    },
+    Wanted {
+        command: Command::Normalise,
+        input: Bytes::Plain(
+            b"lsp-session-log 2\n>Content-Length: 2\r\n\r\n[]<Content-Length: 2\r\n\r\n{}",
+        ),
+        parts: &[
+            "lsp-session-log 2\n>Content-Length: 2\r\n\r\n[]",
+            "<Content-Length: 2\r\n\r\n{}",
+        ],
+        lengths: &[42, 66],
+        end: Ended(1, 1, 1),
+    },
+];
+
+/// How often memory ran out in all the runs; nothing where one was wrong.
+fn run_all_again(alloc: Global, runs: &[Wanted]) -> Result<Option<u32>, Fail> {
+    let mut refused: u32 = 0;
+    for wanted in runs {
+        match wanted.runs_again(alloc)? {
+            Some(more) => refused = refused.saturating_add(more),
+            None => return Ok(None),
+        }
+    }
+    Ok(Some(refused))
+}
+
+#[test]
+fn refused_run(rt: HostRuntime) -> Result<(), Fail> {
+    let refused = run_all_again(rt.alloc(), &COPIED)?;
+    assert!(rt; refused.is_some());
+    println!(rt; "refused {}", refused.unwrap_or(0))?;
+    Ok(())
+}

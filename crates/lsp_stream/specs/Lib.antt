@@ -1,0 +1,4 @@
+pub mod Ports
+pub mod Turns
+pub mod Scripts
+pub mod Faults

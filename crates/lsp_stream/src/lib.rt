@@ -1,0 +1,22 @@
+//! Readers and writers whose calls can be looked back on, and calls in a bounded number.
+//!
+//! - `port`: a reader and a writer that say how their last call went; `told` makes them of those of std.
+//! - `stop`: a reader and a writer over memory that fail, are interrupted or take few bytes at chosen calls.
+//! - `turns`: reads, writes and flushes in a bounded number of calls.
+//! - `fault`: why a run from a reader to a writer ends early.
+#![tactic(auto)]
+
+mod fault;
+mod port;
+mod stop;
+mod told;
+mod turns;
+
+pub use fault::EngineFault;
+pub use port::{Sink, Source};
+pub use stop::{Call, StopReader, StopWriter};
+pub use told::Told;
+pub use turns::{Turns, read_piece, write_given};
+
+#[cfg(test)]
+mod tests;

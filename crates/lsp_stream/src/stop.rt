@@ -1,0 +1,167 @@
+//! A reader and a writer over memory whose calls go as a script says.
+
+ghost use Rattle.std.specs.Prelude.{◌≡◌, [], Some, min, length};
+ghost use Rattle.std.specs.Io.{ReadsAtMost, WritesAtMost};
+ghost use Rattle.std.specs.Io.KnownBytes.{ReadConsumes, WriteAppends, Keeps};
+ghost use Rattle.lsp_stream.specs.Scripts.{call_of, rest_of, IsStop, ReadGoes, WriteGoes, FlushGoes};
+
+use std::alloc::Global;
+use std::io::{self, ErrorKind, Read, Write};
+
+/// How a call goes.
+#[derive(Clone, Copy, Debug, PartialEq, Eq)]
+pub enum Call {
+    /// It moves so many bytes, or fewer where there are fewer. A read moves at least one, a flush succeeds.
+    Take(usize),
+    /// It is interrupted, and may be made again.
+    Interrupt,
+    /// It fails.
+    Fail,
+}
+
+/// The next call of a script, or how the calls behind its end go.
+fn next_call(script: &mut &[Call], others: Call) -> Call
+    ensures call { result ≡ call_of script.old.now others }
+    ensures rest { script.new.now ≡ rest_of script.old.now }
+{
+    match script.split_first() {
+        Some((call, rest)) => {
+            *script = rest;
+            *call
+        }
+        None => others,
+    }
+}
+
+/// Why a call moves no byte: it is interrupted or fails.
+fn stopped(call: Call) -> io::Error
+    ensures { IsStop call result }
+{
+    match call {
+        Call::Interrupt => io::Error::from(ErrorKind::Interrupted),
+        _ => io::Error::other("a call that was to fail"),
+    }
+}
+
+/// Reads from memory: its nth call goes as the nth of the script says, and all later ones as `others`.
+#[derive(Debug, Drop)]
+pub struct StopReader<'a> {
+    rest: &'a [u8],
+    script: &'a [Call],
+    others: Call,
+}
+
+impl<'a> StopReader<'a> {
+    pub fn new(bytes: &'a [u8], script: &'a [Call], others: Call) -> StopReader<'a>
+        ensures bytes { result.rest.now ≡ bytes.now }
+        ensures script { result.script.now ≡ script.now }
+        ensures others { result.others ≡ others }
+    {
+        StopReader {
+            rest: bytes,
+            script,
+            others,
+        }
+    }
+}
+
+impl Read for StopReader<'_> {
+    ghost remaining = { λ reader. Some reader.rest.now };
+
+    fn read(&mut self, buf: &mut [u8]) -> io::Result<usize>
+        ensures bound { ReadsAtMost result buf.new }
+        ensures bytes { ReadConsumes (Some self.old.rest.now) (Some self.new.rest.now) result buf.new }
+        ensures goes { ReadGoes (call_of self.old.script.now self.old.others) (min (length buf.old) (length self.old.rest.now)) result }
+        ensures script { self.new.script.now ≡ rest_of self.old.script.now }
+        ensures others { self.new.others ≡ self.old.others }
+    {
+        match next_call(&mut self.script, self.others) {
+            Call::Take(most) => {
+                let n = most.max(1).min(buf.len()).min(self.rest.len());
+                let (front, rest) = self.rest.split_at(n);
+                buf[..n].copy_from_slice(front);
+                self.rest = rest;
+                Ok(n)
+            }
+            call => Err(stopped(call)),
+        }
+    }
+}
+
+/// Writes to memory: its nth call goes as the nth of the script says, and all later ones as `others`. Writes and
+/// flushes are calls alike.
+#[derive(Debug, Drop)]
+pub struct StopWriter<'a> {
+    bytes: Vec<u8>,
+    flushes: usize,
+    script: &'a [Call],
+    others: Call,
+}
+
+impl<'a> StopWriter<'a> {
+    /// Holds nothing yet.
+    pub fn new(alloc: Global, script: &'a [Call], others: Call) -> StopWriter<'a>
+        ensures bytes { result.bytes.items ≡ [] }
+        ensures flushes { result.flushes ≡ 0 }
+        ensures script { result.script.now ≡ script.now }
+        ensures others { result.others ≡ others }
+    {
+        StopWriter {
+            bytes: Vec::new(alloc),
+            flushes: 0,
+            script,
+            others,
+        }
+    }
+
+    /// The bytes that it holds.
+    pub fn bytes(&self) -> &[u8]
+        ensures { result.now ≡ self.now.bytes.items }
+    {
+        &self.bytes
+    }
+
+    /// How many flushes succeeded. It stays at the greatest value of a `usize`.
+    pub fn flushes(&self) -> usize
+        ensures { result ≡ self.now.flushes }
+    {
+        self.flushes
+    }
+}
+
+impl Write for StopWriter<'_> {
+    ghost contents = { λ writer. Some writer.bytes.items };
+
+    fn write(&mut self, buf: &[u8]) -> io::Result<usize>
+        ensures bound { WritesAtMost result buf.now }
+        ensures bytes { WriteAppends (Some self.old.bytes.items) (Some self.new.bytes.items) result buf.now }
+        ensures goes { WriteGoes (call_of self.old.script.now self.old.others) (length buf.now) result }
+        ensures script { self.new.script.now ≡ rest_of self.old.script.now }
+        ensures others { self.new.others ≡ self.old.others }
+        ensures flushes { self.new.flushes ≡ self.old.flushes }
+    {
+        match next_call(&mut self.script, self.others) {
+            Call::Take(most) => {
+                let n = most.min(buf.len());
+                self.bytes.extend_from_slice(&buf[..n])?;
+                Ok(n)
+            }
+            call => Err(stopped(call)),
+        }
+    }
+
+    fn flush(&mut self) -> io::Result<()>
+        ensures bytes { Keeps (Some self.old.bytes.items) (Some self.new.bytes.items) }
+        ensures goes { FlushGoes (call_of self.old.script.now self.old.others) self.old.flushes self.new.flushes result }
+        ensures script { self.new.script.now ≡ rest_of self.old.script.now }
+        ensures others { self.new.others ≡ self.old.others }
+    {
+        match next_call(&mut self.script, self.others) {
+            Call::Take(_) => {
+                self.flushes = self.flushes.saturating_add(1);
+                Ok(())
+            }
+            call => Err(stopped(call)),
+        }
+    }
+}
