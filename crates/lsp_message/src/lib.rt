@@ -17,8 +17,6 @@ mod members;
 mod message;
 mod outgoing;
 mod params;
-#[cfg(test)]
-mod tests;
 mod writer;
 
 pub use agreement::{Announced, Offers, SyncKind, params_initialize, result_initialize};

@@ -1,6 +1,6 @@
 //! What the parameters of the three document messages are read as, printed by `Debug`.
 
-use crate::{ParamsFault, params_change, params_close, params_open};
+use lsp_message::{ParamsFault, params_change, params_close, params_open};
 use serde_json::Value;
 use std::alloc::Global;
 use std::test::Fail;
@@ -12,7 +12,7 @@ fn opened(alloc: Global, params: &str) -> Result<String, Fail> {
     Ok(format!(in alloc; "{outcome:?}")?)
 }
 
-const OPENED: [(&str, &str); 3] = [
+static OPENED: [(&str, &str); 3] = [
     (
         r#"{"textDocument":{"uri":"u","languageId":"l","version":2147483647,"text":"t\u0000","x":1},"y":[]}"#,
         r#"OpenParams { uri: "u", language: "l", version: 2147483647, text: "t\0" }"#,
@@ -27,17 +27,20 @@ const OPENED: [(&str, &str); 3] = [
     ),
 ];
 
+fn is_opened(alloc: Global, params: &str, record: &str) -> Result<bool, Fail> {
+    let wanted = format!(in alloc; "Ok({record})")?;
+    Ok(opened(alloc, params)?.as_str() == wanted.as_str())
+}
+
 #[test]
 fn params_of_open(rt: HostRuntime) -> Result<(), Fail> {
-    for (params, record) in OPENED {
-        let wanted = format!(in rt.alloc(); "Ok({record})")?;
-        let opened = opened(rt.alloc(), params)?;
-        assert_eq!(rt; opened.as_str(), wanted.as_str(), "{params}");
+    for (params, record) in &OPENED {
+        assert!(rt; is_opened(rt.alloc(), params, record)?, "{params}");
     }
     Ok(())
 }
 
-const NOT_OPENED: [&str; 19] = [
+static NOT_OPENED: [&str; 19] = [
     r#"{"textDocument":{"uri":"u","languageId":"l","version":2147483648,"text":"t"}}"#,
     r#"{"textDocument":{"uri":"u","languageId":"l","version":-2147483649,"text":"t"}}"#,
     r#"{"textDocument":{"uri":"u","languageId":"l","version":9223372036854775808,"text":"t"}}"#,
@@ -59,16 +62,24 @@ const NOT_OPENED: [&str; 19] = [
     "null",
 ];
 
+fn opens_nothing(alloc: Global, params: &str) -> Result<bool, Fail> {
+    Ok(opened(alloc, params)?.as_str() == INVALID)
+}
+
+fn no_params_open_nothing(alloc: Global) -> bool {
+    params_open(alloc, None) == Err(ParamsFault::InvalidParams)
+}
+
 #[test]
 fn params_of_no_open(rt: HostRuntime) -> Result<(), Fail> {
-    for params in NOT_OPENED {
-        assert_eq!(rt; opened(rt.alloc(), params)?.as_str(), INVALID, "{params}");
+    for params in &NOT_OPENED {
+        assert!(rt; opens_nothing(rt.alloc(), params)?, "{params}");
     }
-    assert!(rt; params_open(rt.alloc(), None) == Err(ParamsFault::InvalidParams));
+    assert!(rt; no_params_open_nothing(rt.alloc()));
     Ok(())
 }
 
-const CLOSED: [(&str, &str); 9] = [
+static CLOSED: [(&str, &str); 9] = [
     (
         r#"{"textDocument":{"uri":"u"}}"#,
         r#"Ok(CloseParams { uri: "u" })"#,
@@ -86,15 +97,25 @@ const CLOSED: [(&str, &str); 9] = [
     ("null", INVALID),
 ];
 
+fn closed(alloc: Global, params: &str) -> Result<String, Fail> {
+    let outcome = params_close(alloc, Some(Value::from_str(alloc, params)?));
+    Ok(format!(in alloc; "{outcome:?}")?)
+}
+
+fn is_closed(alloc: Global, params: &str, wanted: &str) -> Result<bool, Fail> {
+    Ok(closed(alloc, params)?.as_str() == wanted)
+}
+
+fn no_params_close_nothing(alloc: Global) -> bool {
+    params_close(alloc, None) == Err(ParamsFault::InvalidParams)
+}
+
 #[test]
 fn params_of_close(rt: HostRuntime) -> Result<(), Fail> {
-    for (params, wanted) in CLOSED {
-        let value = Value::from_str(rt.alloc(), params)?;
-        let closed = params_close(rt.alloc(), Some(value));
-        let shown = format!(in rt.alloc(); "{closed:?}")?;
-        assert_eq!(rt; shown.as_str(), wanted, "{params}");
+    for (params, wanted) in &CLOSED {
+        assert!(rt; is_closed(rt.alloc(), params, wanted)?, "{params}");
     }
-    assert!(rt; params_close(rt.alloc(), None) == Err(ParamsFault::InvalidParams));
+    assert!(rt; no_params_close_nothing(rt.alloc()));
     Ok(())
 }
 
@@ -108,7 +129,7 @@ fn changed(alloc: Global, changes: &str) -> Result<String, Fail> {
     Ok(format!(in alloc; "{outcome:?}")?)
 }
 
-const CHANGED: [(&str, &str); 6] = [
+static CHANGED: [(&str, &str); 6] = [
     ("[]", "[]"),
     (
         r#"[{"text":"a"}]"#,
@@ -141,17 +162,20 @@ const CHANGED: [(&str, &str); 6] = [
     ),
 ];
 
+fn is_changed(alloc: Global, given: &str, list: &str) -> Result<bool, Fail> {
+    let wanted = format!(in alloc; "Ok({list})")?;
+    Ok(changed(alloc, given)?.as_str() == wanted.as_str())
+}
+
 #[test]
 fn params_of_change(rt: HostRuntime) -> Result<(), Fail> {
-    for (given, list) in CHANGED {
-        let wanted = format!(in rt.alloc(); "Ok({list})")?;
-        let changed = changed(rt.alloc(), given)?;
-        assert_eq!(rt; changed.as_str(), wanted.as_str(), "{given}");
+    for (given, list) in &CHANGED {
+        assert!(rt; is_changed(rt.alloc(), given, list)?, "{given}");
     }
     Ok(())
 }
 
-const NOT_CHANGES: [&str; 12] = [
+static NOT_CHANGES: [&str; 12] = [
     // No array.
     "{}",
     r#"{"text":"a"}"#,
@@ -168,15 +192,19 @@ const NOT_CHANGES: [&str; 12] = [
     r#"[{"text":null}]"#,
 ];
 
+fn changes_nothing(alloc: Global, given: &str) -> Result<bool, Fail> {
+    Ok(changed(alloc, given)?.as_str() == INVALID)
+}
+
 #[test]
 fn params_of_no_change(rt: HostRuntime) -> Result<(), Fail> {
-    for given in NOT_CHANGES {
-        assert_eq!(rt; changed(rt.alloc(), given)?.as_str(), INVALID, "{given}");
+    for given in &NOT_CHANGES {
+        assert!(rt; changes_nothing(rt.alloc(), given)?, "{given}");
     }
     Ok(())
 }
 
-const NOT_RANGES: [&str; 21] = [
+static NOT_RANGES: [&str; 21] = [
     "[]",
     "0",
     r#""""#,
@@ -200,20 +228,20 @@ const NOT_RANGES: [&str; 21] = [
     r#"{"start":{"line":"0","character":0},"end":{"line":0,"character":0}}"#,
 ];
 
+fn is_no_range(alloc: Global, range: &str) -> Result<bool, Fail> {
+    let given = format!(in alloc; "[{{\"range\":{range},\"text\":\"\"}}]")?;
+    changes_nothing(alloc, &given)
+}
+
 #[test]
 fn params_with_no_range(rt: HostRuntime) -> Result<(), Fail> {
-    for range in NOT_RANGES {
-        let given = format!(in rt.alloc(); "[{{\"range\":{range},\"text\":\"\"}}]")?;
-        assert_eq!(rt;
-            changed(rt.alloc(), given.as_str())?.as_str(),
-            INVALID,
-            "{range}"
-        );
+    for range in &NOT_RANGES {
+        assert!(rt; is_no_range(rt.alloc(), range)?, "{range}");
     }
     Ok(())
 }
 
-const NOT_CHANGED: [&str; 10] = [
+static NOT_CHANGED: [&str; 10] = [
     r#"{"textDocument":{"uri":"u","version":2}}"#,
     r#"{"contentChanges":[],"textDocument":{"uri":"u"}}"#,
     r#"{"contentChanges":[],"textDocument":{"uri":"u","version":2147483648}}"#,
@@ -226,13 +254,20 @@ const NOT_CHANGED: [&str; 10] = [
     "null",
 ];
 
+fn changes_no_document(alloc: Global, params: &str) -> Result<bool, Fail> {
+    let value = Value::from_str(alloc, params)?;
+    Ok(params_change(alloc, Some(value)) == Err(ParamsFault::InvalidParams))
+}
+
+fn no_params_change_nothing(alloc: Global) -> bool {
+    params_change(alloc, None) == Err(ParamsFault::InvalidParams)
+}
+
 #[test]
 fn params_of_no_changed_document(rt: HostRuntime) -> Result<(), Fail> {
-    for params in NOT_CHANGED {
-        let value = Value::from_str(rt.alloc(), params)?;
-        let changed = params_change(rt.alloc(), Some(value));
-        assert!(rt; changed == Err(ParamsFault::InvalidParams), "{params}");
+    for params in &NOT_CHANGED {
+        assert!(rt; changes_no_document(rt.alloc(), params)?, "{params}");
     }
-    assert!(rt; params_change(rt.alloc(), None) == Err(ParamsFault::InvalidParams));
+    assert!(rt; no_params_change_nothing(rt.alloc()));
     Ok(())
 }

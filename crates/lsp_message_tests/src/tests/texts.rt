@@ -1,32 +1,28 @@
 //! The text of each message, and what it is read as.
 
 use super::{changed, closed, error_reply, initialized, opened, text, unchanged};
-use crate::{
-    ErrorCode, Id, Message, Offers, Outcome, Outgoing, SyncKind, params_change, params_close,
-    params_initialize, params_open, read, result_initialize, write,
+use lsp_message::{
+    ChangeParams, ErrorCode, Id, Message, Offers, Outcome, Outgoing, SyncKind, params_change,
+    params_close, params_initialize, params_open, read, result_initialize, write,
 };
 use lsp_text::Encoding;
 use serde_json::Value;
 use std::alloc::Global;
-use std::process::Abort;
 use std::test::Fail;
 
-/// Fails where a message has another text. The text's length is told beside it.
-fn shows(
-    rt: &impl Abort,
+/// Is a message written as this text, of so many bytes?
+fn is_written(
     alloc: Global,
     message: &Outgoing,
     length: usize,
     wanted: &str,
-) -> Result<(), Fail> {
-    let body = String::from_utf8(write(alloc, message)?)?;
-    assert_eq!(rt; body.as_str(), wanted);
-    assert_eq!(rt; body.len(), length, "{wanted}");
-    Ok(())
+) -> Result<bool, Fail> {
+    let body = write(alloc, message)?;
+    Ok(body.as_slice() == wanted.as_bytes() && body.len() == length)
 }
 
 /// What an `initialize` offers, its length and its text.
-const INITIALIZE: [(bool, bool, usize, &str); 4] = [
+static INITIALIZE: [(bool, bool, usize, &str); 4] = [
     (
         false,
         false,
@@ -67,15 +63,12 @@ const INITIALIZE: [(bool, bool, usize, &str); 4] = [
 
 #[test]
 fn initialize_has_its_text(rt: HostRuntime) -> Result<(), Fail> {
-    for (utf8, utf32, length, wanted) in INITIALIZE {
-        let offers = Offers::new(utf8, utf32);
-        shows(
-            &rt,
-            rt.alloc(),
-            &Outgoing::Initialize(offers),
-            length,
-            wanted,
-        )?;
+    for (utf8, utf32, length, wanted) in &INITIALIZE {
+        let message = Outgoing::Initialize(Offers::new(*utf8, *utf32));
+        assert!(rt;
+            is_written(rt.alloc(), &message, *length, wanted)?,
+            "{wanted}"
+        );
     }
     Ok(())
 }
@@ -88,9 +81,11 @@ const EXIT: &str = r#"{"jsonrpc":"2.0","method":"exit"}"#;
 
 #[test]
 fn the_lifecycle_has_its_texts(rt: HostRuntime) -> Result<(), Fail> {
-    shows(&rt, rt.alloc(), &Outgoing::Initialized, 52, INITIALIZED)?;
-    shows(&rt, rt.alloc(), &Outgoing::Shutdown, 44, SHUTDOWN)?;
-    shows(&rt, rt.alloc(), &Outgoing::Exit, 33, EXIT)
+    let alloc = rt.alloc();
+    assert!(rt; is_written(alloc, &Outgoing::Initialized, 52, INITIALIZED)?);
+    assert!(rt; is_written(alloc, &Outgoing::Shutdown, 44, SHUTDOWN)?);
+    assert!(rt; is_written(alloc, &Outgoing::Exit, 33, EXIT)?);
+    Ok(())
 }
 
 const DID_OPEN: &str = concat!(
@@ -104,20 +99,11 @@ const DID_CLOSE: &str = concat!(
 
 #[test]
 fn opening_and_closing_have_their_texts(rt: HostRuntime) -> Result<(), Fail> {
-    shows(
-        &rt,
-        rt.alloc(),
-        &Outgoing::DidOpen(opened(rt.alloc())?),
-        145,
-        DID_OPEN,
-    )?;
-    shows(
-        &rt,
-        rt.alloc(),
-        &Outgoing::DidClose(closed(rt.alloc())?),
-        96,
-        DID_CLOSE,
-    )
+    let open = Outgoing::DidOpen(opened(rt.alloc())?);
+    assert!(rt; is_written(rt.alloc(), &open, 145, DID_OPEN)?);
+    let close = Outgoing::DidClose(closed(rt.alloc())?);
+    assert!(rt; is_written(rt.alloc(), &close, 96, DID_CLOSE)?);
+    Ok(())
 }
 
 const DID_CHANGE: &str = concat!(
@@ -136,49 +122,48 @@ const DID_CHANGE_NOTHING: &str = concat!(
     r#""textDocument":{"uri":"file:///a","version":2}}}"#,
 );
 
+/// Is the message of this change written as this text?
+fn change_is_written(
+    alloc: Global,
+    params: ChangeParams,
+    length: usize,
+    wanted: &str,
+) -> Result<bool, Fail> {
+    is_written(alloc, &Outgoing::DidChange(params), length, wanted)
+}
+
 #[test]
 fn changes_have_their_texts(rt: HostRuntime) -> Result<(), Fail> {
-    let ranged = changed(rt.alloc(), Some((1, 2)), "X")?;
-    shows(
-        &rt,
-        rt.alloc(),
-        &Outgoing::DidChange(ranged),
-        215,
-        DID_CHANGE,
-    )?;
-    let whole = changed(rt.alloc(), None, "aXc")?;
-    shows(
-        &rt,
-        rt.alloc(),
-        &Outgoing::DidChange(whole),
-        143,
-        DID_CHANGE_WHOLE,
-    )?;
-    let nothing = unchanged(rt.alloc())?;
-    shows(
-        &rt,
-        rt.alloc(),
-        &Outgoing::DidChange(nothing),
-        129,
-        DID_CHANGE_NOTHING,
-    )
+    let alloc = rt.alloc();
+    let ranged = changed(alloc, Some((1, 2)), "X")?;
+    assert!(rt; change_is_written(alloc, ranged, 215, DID_CHANGE)?);
+    let whole = changed(alloc, None, "aXc")?;
+    assert!(rt; change_is_written(alloc, whole, 143, DID_CHANGE_WHOLE)?);
+    let nothing = unchanged(alloc)?;
+    assert!(rt; change_is_written(alloc, nothing, 129, DID_CHANGE_NOTHING)?);
+    Ok(())
 }
 
 /// What a changed text holds, and how it is written. Only quotes, backslashes and bytes below 32 are escaped.
-const ESCAPES: [(&str, &str); 4] = [
+static ESCAPES: [(&str, &str); 4] = [
     ("\"\\/", r#"\"\\/"#),
     ("\u{8}\t\n\u{c}\r", r"\b\t\n\f\r"),
     ("\0\u{b}\u{1f} \u{7f}", "\\u0000\\u000b\\u001f \u{7f}"),
     ("\u{e9}\u{2028}\u{1f600}", "\u{e9}\u{2028}\u{1f600}"),
 ];
 
+/// Does the message of a changed text hold this?
+fn is_escaped(alloc: Global, given: &str, wanted: &str) -> Result<bool, Fail> {
+    let message = Outgoing::DidChange(changed(alloc, None, given)?);
+    let body = String::from_utf8(write(alloc, &message)?)?;
+    let member = format!(in alloc; "{{\"text\":\"{wanted}\"}}")?;
+    Ok(body.as_str().contains(member.as_str()))
+}
+
 #[test]
 fn texts_are_escaped(rt: HostRuntime) -> Result<(), Fail> {
-    for (given, wanted) in ESCAPES {
-        let message = Outgoing::DidChange(changed(rt.alloc(), None, given)?);
-        let body = String::from_utf8(write(rt.alloc(), &message)?)?;
-        let member = format!(in rt.alloc(); "{{\"text\":\"{wanted}\"}}")?;
-        assert!(rt; body.as_str().contains(member.as_str()), "{body}");
+    for (given, wanted) in &ESCAPES {
+        assert!(rt; is_escaped(rt.alloc(), given, wanted)?, "{wanted}");
     }
     Ok(())
 }
@@ -197,16 +182,20 @@ const RESULT_OF_SHUTDOWN: &str = r#"{"id":2,"jsonrpc":"2.0","result":null}"#;
 
 #[test]
 fn results_have_their_texts(rt: HostRuntime) -> Result<(), Fail> {
+    let alloc = rt.alloc();
     let usual = initialized(Encoding::Utf16, SyncKind::Incremental);
-    shows(&rt, rt.alloc(), &usual, 129, RESULT)?;
+    assert!(rt; is_written(alloc, &usual, 129, RESULT)?);
     let other = initialized(Encoding::Utf8, SyncKind::Full);
-    shows(&rt, rt.alloc(), &other, 128, RESULT_UTF8_FULL)?;
+    assert!(rt; is_written(alloc, &other, 128, RESULT_UTF8_FULL)?);
     let shutdown = Outgoing::ShutdownResult { id: Id::Whole(2) };
-    shows(&rt, rt.alloc(), &shutdown, 38, RESULT_OF_SHUTDOWN)
+    assert!(rt; is_written(alloc, &shutdown, 38, RESULT_OF_SHUTDOWN)?);
+    Ok(())
 }
 
 /// An error, the number of the request, and the reply.
-const ERRORS: [(ErrorCode, Option<i64>, usize, &str); 5] = [
+type Refusal = (ErrorCode, Option<i64>, usize, &'static str);
+
+static ERRORS: [Refusal; 5] = [
     (
         ErrorCode::ParseError,
         None,
@@ -239,25 +228,32 @@ const ERRORS: [(ErrorCode, Option<i64>, usize, &str); 5] = [
     ),
 ];
 
+fn error_is_written(alloc: Global, row: &Refusal) -> Result<bool, Fail> {
+    let (error, id, length, wanted) = *row;
+    is_written(
+        alloc,
+        &error_reply(id.map(Id::Whole), error),
+        length,
+        wanted,
+    )
+}
+
 #[test]
 fn errors_have_their_texts(rt: HostRuntime) -> Result<(), Fail> {
-    for (error, id, length, wanted) in ERRORS {
-        shows(
-            &rt,
-            rt.alloc(),
-            &error_reply(id.map(Id::Whole), error),
-            length,
-            wanted,
-        )?;
+    for row in &ERRORS {
+        assert!(rt; error_is_written(rt.alloc(), row)?, "{}", row.3);
     }
     let id = Id::Text(text(rt.alloc(), "q")?);
-    shows(
-        &rt,
-        rt.alloc(),
-        &error_reply(Some(id), ErrorCode::ServerNotInitialized),
-        85,
-        r#"{"error":{"code":-32002,"message":"server not initialized"},"id":"q","jsonrpc":"2.0"}"#,
-    )
+    let reply = error_reply(Some(id), ErrorCode::ServerNotInitialized);
+    assert!(rt;
+        is_written(
+            rt.alloc(),
+            &reply,
+            85,
+            r#"{"error":{"code":-32002,"message":"server not initialized"},"id":"q","jsonrpc":"2.0"}"#,
+        )?
+    );
+    Ok(())
 }
 
 /// The params of the call that a written message is read as.
@@ -270,19 +266,34 @@ fn params_read(alloc: Global, message: &Outgoing) -> Result<Option<Value>, Fail>
     }
 }
 
+fn open_is_read(alloc: Global) -> Result<bool, Fail> {
+    let params = params_read(alloc, &Outgoing::DidOpen(opened(alloc)?))?;
+    Ok(params_open(alloc, params)? == opened(alloc)?)
+}
+
+fn change_is_read(alloc: Global) -> Result<bool, Fail> {
+    let message = Outgoing::DidChange(changed(alloc, Some((1, 2)), "X")?);
+    let params = params_read(alloc, &message)?;
+    Ok(params_change(alloc, params)? == changed(alloc, Some((1, 2)), "X")?)
+}
+
+fn close_is_read(alloc: Global) -> Result<bool, Fail> {
+    let params = params_read(alloc, &Outgoing::DidClose(closed(alloc)?))?;
+    Ok(params_close(alloc, params)? == closed(alloc)?)
+}
+
+fn offers_are_read(alloc: Global) -> Result<bool, Fail> {
+    let offers = Offers::new(true, false);
+    let params = params_read(alloc, &Outgoing::Initialize(offers))?;
+    Ok(params_initialize(alloc, params)? == offers)
+}
+
 #[test]
 fn written_params_are_read(rt: HostRuntime) -> Result<(), Fail> {
-    let alloc = rt.alloc();
-    let open = params_read(alloc, &Outgoing::DidOpen(opened(alloc)?))?;
-    assert!(rt; params_open(alloc, open)? == opened(alloc)?);
-    let change = Outgoing::DidChange(changed(alloc, Some((1, 2)), "X")?);
-    let change = params_read(alloc, &change)?;
-    assert!(rt; params_change(alloc, change)? == changed(alloc, Some((1, 2)), "X")?);
-    let close = params_read(alloc, &Outgoing::DidClose(closed(alloc)?))?;
-    assert!(rt; params_close(alloc, close)? == closed(alloc)?);
-    let offers = Offers::new(true, false);
-    let asked = params_read(alloc, &Outgoing::Initialize(offers))?;
-    assert!(rt; params_initialize(alloc, asked)? == offers);
+    assert!(rt; open_is_read(rt.alloc())?);
+    assert!(rt; change_is_read(rt.alloc())?);
+    assert!(rt; close_is_read(rt.alloc())?);
+    assert!(rt; offers_are_read(rt.alloc())?);
     Ok(())
 }
 
@@ -309,15 +320,20 @@ fn a_written_result_is_read(rt: HostRuntime) -> Result<(), Fail> {
     Ok(())
 }
 
+fn error_is_read(alloc: Global, row: &Refusal) -> Result<bool, Fail> {
+    let (error, id, _length, _text) = *row;
+    let body = write(alloc, &error_reply(id.map(Id::Whole), error))?;
+    let wanted = Message::Response {
+        id: id.map(Id::Whole),
+        outcome: Outcome::Failed,
+    };
+    Ok(read(alloc, &body)? == wanted)
+}
+
 #[test]
 fn a_written_error_is_read(rt: HostRuntime) -> Result<(), Fail> {
-    for (error, id, _length, _text) in ERRORS {
-        let body = write(rt.alloc(), &error_reply(id.map(Id::Whole), error))?;
-        let read_as = Message::Response {
-            id: id.map(Id::Whole),
-            outcome: Outcome::Failed,
-        };
-        assert!(rt; read(rt.alloc(), &body)? == read_as);
+    for row in &ERRORS {
+        assert!(rt; error_is_read(rt.alloc(), row)?, "{}", row.3);
     }
     Ok(())
 }

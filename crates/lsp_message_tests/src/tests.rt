@@ -6,8 +6,8 @@ mod params;
 mod refused;
 mod texts;
 
-use crate::{ChangeParams, CloseParams, ErrorCode, Id, OpenParams, Outgoing, SyncKind};
 use lsp_edit::Change;
+use lsp_message::{ChangeParams, CloseParams, ErrorCode, Id, OpenParams, Outgoing, SyncKind};
 use lsp_text::{Encoding, Position, Range};
 use std::alloc::{AllocError, Global};
 
@@ -36,7 +36,7 @@ pub(super) fn opened(alloc: Global) -> Result<OpenParams, AllocError> {
     })
 }
 
-// A change to version 2, of a range of line 0 or of the whole text.
+/// A change to version 2, of a range of line 0 or of the whole text.
 pub(super) fn changed(
     alloc: Global,
     range: Option<(u32, u32)>,

@@ -1,6 +1,6 @@
 //! What each body is read as, printed by `Debug`.
 
-use crate::{Message, ParamsFault, ReadFault, read};
+use lsp_message::{Message, ParamsFault, ReadFault, read};
 use std::alloc::{AllocError, Global};
 use std::test::Fail;
 
@@ -9,7 +9,12 @@ fn shown(alloc: Global, body: &str) -> Result<String, AllocError> {
     format!(in alloc; "{outcome:?}")
 }
 
-const NOT_JSON: [&str; 14] = [
+/// Is a body read as this?
+fn is_read_as(alloc: Global, body: &str, wanted: &str) -> Result<bool, AllocError> {
+    Ok(shown(alloc, body)?.as_str() == wanted)
+}
+
+static NOT_JSON: [&str; 14] = [
     "",
     " ",
     "[",
@@ -28,14 +33,14 @@ const NOT_JSON: [&str; 14] = [
 ];
 
 #[test]
-fn what_is_no_json_is_told(rt: HostRuntime) -> Result<(), Fail> {
-    for body in NOT_JSON {
-        assert_eq!(rt; shown(rt.alloc(), body)?.as_str(), "Err(NotJson)", "{body}");
+fn what_is_no_json_is_refused(rt: HostRuntime) -> Result<(), Fail> {
+    for body in &NOT_JSON {
+        assert!(rt; is_read_as(rt.alloc(), body, "Err(NotJson)")?, "{body}");
     }
     Ok(())
 }
 
-const WITHOUT_ID: [&str; 27] = [
+static WITHOUT_ID: [&str; 27] = [
     // No objects.
     "[]",
     r#"[{"id":1,"jsonrpc":"2.0","method":"x"}]"#,
@@ -44,7 +49,7 @@ const WITHOUT_ID: [&str; 27] = [
     "-0",
     "true",
     "null",
-    // The version is looked at first.
+    // The version is read first.
     "{}",
     r#"{"id":null,"jsonrpc":"1.0","result":1}"#,
     r#"{"id":{},"method":"x"}"#,
@@ -71,17 +76,16 @@ const WITHOUT_ID: [&str; 27] = [
 
 #[test]
 fn no_message_and_no_id(rt: HostRuntime) -> Result<(), Fail> {
-    for body in WITHOUT_ID {
-        assert_eq!(rt;
-            shown(rt.alloc(), body)?.as_str(),
-            "Err(NotAMessage { id: None })",
+    for body in &WITHOUT_ID {
+        assert!(rt;
+            is_read_as(rt.alloc(), body, "Err(NotAMessage { id: None })")?,
             "{body}"
         );
     }
     Ok(())
 }
 
-const WITH_ID: [(&str, &str); 9] = [
+static WITH_ID: [(&str, &str); 9] = [
     (r#"{"id":9,"method":"x"}"#, "Whole(9)"),
     (r#"{"id":9,"jsonrpc":2.0,"method":"x"}"#, "Whole(9)"),
     (r#"{"id":9,"jsonrpc":null,"result":1}"#, "Whole(9)"),
@@ -98,17 +102,21 @@ const WITH_ID: [(&str, &str); 9] = [
     (r#"{"error":null,"id":1,"jsonrpc":"2.0"}"#, "Whole(1)"),
 ];
 
+/// Is a body no message, and is this its id?
+fn has_id(alloc: Global, body: &str, id: &str) -> Result<bool, AllocError> {
+    let wanted = format!(in alloc; "Err(NotAMessage {{ id: Some({id}) }})")?;
+    is_read_as(alloc, body, &wanted)
+}
+
 #[test]
 fn no_message_with_an_id(rt: HostRuntime) -> Result<(), Fail> {
-    for (body, id) in WITH_ID {
-        let wanted = format!(in rt.alloc(); "Err(NotAMessage {{ id: Some({id}) }})")?;
-        let shown = shown(rt.alloc(), body)?;
-        assert_eq!(rt; shown.as_str(), wanted.as_str(), "{body}");
+    for (body, id) in &WITH_ID {
+        assert!(rt; has_id(rt.alloc(), body, id)?, "{body}");
     }
     Ok(())
 }
 
-const CALLS: [(&str, &str); 12] = [
+static CALLS: [(&str, &str); 12] = [
     (
         r#"{"jsonrpc":"2.0","method":"$/x"}"#,
         r#"Notification { method: "$/x", params: None }"#,
@@ -159,17 +167,20 @@ const CALLS: [(&str, &str); 12] = [
     ),
 ];
 
+fn is_call(alloc: Global, body: &str, message: &str) -> Result<bool, AllocError> {
+    let wanted = format!(in alloc; "Ok({message})")?;
+    is_read_as(alloc, body, &wanted)
+}
+
 #[test]
 fn calls_are_read(rt: HostRuntime) -> Result<(), Fail> {
-    for (body, message) in CALLS {
-        let wanted = format!(in rt.alloc(); "Ok({message})")?;
-        let shown = shown(rt.alloc(), body)?;
-        assert_eq!(rt; shown.as_str(), wanted.as_str(), "{body}");
+    for (body, message) in &CALLS {
+        assert!(rt; is_call(rt.alloc(), body, message)?, "{body}");
     }
     Ok(())
 }
 
-const ANSWERS: [(&str, &str); 7] = [
+static ANSWERS: [(&str, &str); 7] = [
     (
         r#"{"id":1,"jsonrpc":"2.0","result":null}"#,
         "id: Some(Whole(1)), outcome: Given(Null)",
@@ -200,12 +211,15 @@ const ANSWERS: [(&str, &str); 7] = [
     ),
 ];
 
+fn is_answer(alloc: Global, body: &str, members: &str) -> Result<bool, AllocError> {
+    let wanted = format!(in alloc; "Ok(Response {{ {members} }})")?;
+    is_read_as(alloc, body, &wanted)
+}
+
 #[test]
 fn answers_are_read(rt: HostRuntime) -> Result<(), Fail> {
-    for (body, members) in ANSWERS {
-        let wanted = format!(in rt.alloc(); "Ok(Response {{ {members} }})")?;
-        let shown = shown(rt.alloc(), body)?;
-        assert_eq!(rt; shown.as_str(), wanted.as_str(), "{body}");
+    for (body, members) in &ANSWERS {
+        assert!(rt; is_answer(rt.alloc(), body, members)?, "{body}");
     }
     Ok(())
 }
@@ -226,8 +240,8 @@ fn texts_are_unescaped(rt: HostRuntime) -> Result<(), Fail> {
     Ok(())
 }
 
-// A cut character, one that is too long, a surrogate, and bytes that no character has.
-const NOT_UTF8: [&[u8]; 5] = [
+/// A cut character, one that is too long, a surrogate, and bytes that no character has.
+static NOT_UTF8: [&[u8]; 5] = [
     b"\xff",
     b"\"\xc3\"",
     b"\"\xc0\xaf\"",
@@ -235,15 +249,18 @@ const NOT_UTF8: [&[u8]; 5] = [
     b"{\"jsonrpc\":\"2.0\",\"method\":\"\xff\"}",
 ];
 
+fn is_no_json(alloc: Global, body: &[u8]) -> bool {
+    read(alloc, body) == Err(ReadFault::NotJson)
+}
+
 #[test]
 fn bytes_are_utf8(rt: HostRuntime) {
-    for body in NOT_UTF8 {
-        let outcome = read(rt.alloc(), body);
-        assert!(rt; outcome == Err(ReadFault::NotJson), "{body:?}");
+    for body in &NOT_UTF8 {
+        assert!(rt; is_no_json(rt.alloc(), body), "{body:?}");
     }
 }
 
-// An array in arrays, this deep in all.
+/// An array in arrays, this deep in all.
 fn nested(alloc: Global, depth: usize) -> Result<String, AllocError> {
     let mut text = String::new(alloc);
     for _ in 0..depth {
@@ -255,55 +272,60 @@ fn nested(alloc: Global, depth: usize) -> Result<String, AllocError> {
     Ok(text)
 }
 
+/// Is a body of arrays, this deep, JSON? It is no message.
+fn is_json(alloc: Global, depth: usize) -> Result<bool, Fail> {
+    let arrays = nested(alloc, depth)?;
+    match read(alloc, arrays.as_bytes()) {
+        Err(ReadFault::NotAMessage { id: None }) => Ok(true),
+        Err(ReadFault::NotJson) => Ok(false),
+        _other => Err(Fail::from("no message")),
+    }
+}
+
 #[test]
 fn a_body_nests_127_deep(rt: HostRuntime) -> Result<(), Fail> {
-    for depth in [127, 128, 200] {
-        let arrays = nested(rt.alloc(), depth)?;
-        let outcome = read(rt.alloc(), arrays.as_bytes());
-        let is_json = outcome == Err(ReadFault::NotAMessage { id: None });
-        assert_eq!(rt; is_json, depth == 127, "{depth}");
-        assert_eq!(rt; outcome == Err(ReadFault::NotJson), !is_json, "{depth}");
+    for (depth, fits) in [(127, true), (128, false), (200, false)] {
+        assert!(rt; is_json(rt.alloc(), depth)? == fits, "{depth}");
     }
     Ok(())
+}
+
+/// Is a message read whose params are arrays, this deep?
+fn is_message(alloc: Global, depth: usize) -> Result<bool, Fail> {
+    let arrays = nested(alloc, depth)?;
+    let body = format!(in alloc; "{{\"jsonrpc\":\"2.0\",\"method\":\"x\",\"params\":{arrays}}}")?;
+    match read(alloc, body.as_bytes()) {
+        Ok(_) => Ok(true),
+        Err(ReadFault::NotJson) => Ok(false),
+        Err(_) => Err(Fail::from("no JSON")),
+    }
 }
 
 #[test]
 fn a_message_nests_127_deep(rt: HostRuntime) -> Result<(), Fail> {
     for (depth, fits) in [(126, true), (127, false), (200, false)] {
-        let arrays = nested(rt.alloc(), depth)?;
-        let body = format!(in rt.alloc();
-            "{{\"jsonrpc\":\"2.0\",\"method\":\"x\",\"params\":{arrays}}}"
-        )?;
-        let outcome = read(rt.alloc(), body.as_bytes());
-        assert_eq!(rt; outcome.is_ok(), fits, "{depth}");
-        assert_eq!(rt; outcome == Err(ReadFault::NotJson), !fits, "{depth}");
+        assert!(rt; is_message(rt.alloc(), depth)? == fits, "{depth}");
     }
     Ok(())
+}
+
+fn is_text(text: Result<String, AllocError>, wanted: &str) -> Result<bool, AllocError> {
+    Ok(text?.as_str() == wanted)
 }
 
 #[test]
 fn faults_have_their_texts(rt: HostRuntime) -> Result<(), Fail> {
     let alloc = rt.alloc();
     let no_message = ReadFault::NotAMessage { id: None };
-    assert_eq!(rt;
-        ReadFault::NotJson.to_string(alloc)?.as_str(),
-        "the body is no JSON"
+    assert!(rt; is_text(ReadFault::NotJson.to_string(alloc), "the body is no JSON")?);
+    assert!(rt; is_text(no_message.to_string(alloc), "the body is no message")?);
+    assert!(rt; is_text(ReadFault::NoMemory.to_string(alloc), "out of memory")?);
+    assert!(rt;
+        is_text(
+            ParamsFault::InvalidParams.to_string(alloc),
+            "invalid params"
+        )?
     );
-    assert_eq!(rt;
-        no_message.to_string(alloc)?.as_str(),
-        "the body is no message"
-    );
-    assert_eq!(rt;
-        ReadFault::NoMemory.to_string(alloc)?.as_str(),
-        "out of memory"
-    );
-    assert_eq!(rt;
-        ParamsFault::InvalidParams.to_string(alloc)?.as_str(),
-        "invalid params"
-    );
-    assert_eq!(rt;
-        ParamsFault::NoMemory.to_string(alloc)?.as_str(),
-        "out of memory"
-    );
+    assert!(rt; is_text(ParamsFault::NoMemory.to_string(alloc), "out of memory")?);
     Ok(())
 }

@@ -1,6 +1,6 @@
 //! What the params and the result of `initialize` are read as, printed by `Debug`.
 
-use crate::{Offers, ParamsFault, params_initialize, result_initialize};
+use lsp_message::{Offers, ParamsFault, params_initialize, result_initialize};
 use lsp_text::Encoding;
 use serde_json::Value;
 use std::alloc::Global;
@@ -13,7 +13,7 @@ fn offered(alloc: Global, params: &str) -> Result<String, Fail> {
     Ok(format!(in alloc; "{outcome:?}")?)
 }
 
-const OFFERED: [(&str, bool, bool); 12] = [
+static OFFERED: [(&str, bool, bool); 12] = [
     ("{}", false, false),
     (r#"{"capabilities":null}"#, false, false),
     (r#"{"capabilities":{}}"#, false, false),
@@ -60,17 +60,20 @@ const OFFERED: [(&str, bool, bool); 12] = [
     ),
 ];
 
+fn is_offered(alloc: Global, params: &str, utf8: bool, utf32: bool) -> Result<bool, Fail> {
+    let wanted = format!(in alloc; "Ok(Offers {{ utf8: {utf8}, utf32: {utf32} }})")?;
+    Ok(offered(alloc, params)?.as_str() == wanted.as_str())
+}
+
 #[test]
 fn offers_of_initialize(rt: HostRuntime) -> Result<(), Fail> {
-    for (params, utf8, utf32) in OFFERED {
-        let wanted = format!(in rt.alloc(); "Ok(Offers {{ utf8: {utf8}, utf32: {utf32} }})")?;
-        let offered = offered(rt.alloc(), params)?;
-        assert_eq!(rt; offered.as_str(), wanted.as_str(), "{params}");
+    for (params, utf8, utf32) in &OFFERED {
+        assert!(rt; is_offered(rt.alloc(), params, *utf8, *utf32)?, "{params}");
     }
     Ok(())
 }
 
-const NO_OFFERS: [&str; 8] = [
+static NO_OFFERS: [&str; 8] = [
     r#"{"capabilities":{"general":{"positionEncodings":["utf-8",7]}}}"#,
     r#"{"capabilities":{"general":{"positionEncodings":[null]}}}"#,
     r#"{"capabilities":{"general":{"positionEncodings":"utf-8"}}}"#,
@@ -81,12 +84,20 @@ const NO_OFFERS: [&str; 8] = [
     "null",
 ];
 
+fn offers_nothing(alloc: Global, params: &str) -> Result<bool, Fail> {
+    Ok(offered(alloc, params)?.as_str() == INVALID)
+}
+
+fn no_params_are_invalid(alloc: Global) -> bool {
+    params_initialize(alloc, None) == Err(ParamsFault::InvalidParams)
+}
+
 #[test]
 fn params_of_no_initialize(rt: HostRuntime) -> Result<(), Fail> {
-    for params in NO_OFFERS {
-        assert_eq!(rt; offered(rt.alloc(), params)?.as_str(), INVALID, "{params}");
+    for params in &NO_OFFERS {
+        assert!(rt; offers_nothing(rt.alloc(), params)?, "{params}");
     }
-    assert!(rt; params_initialize(rt.alloc(), None) == Err(ParamsFault::InvalidParams));
+    assert!(rt; no_params_are_invalid(rt.alloc()));
     Ok(())
 }
 
@@ -104,7 +115,7 @@ fn announced(alloc: Global, given: &str) -> Result<String, Fail> {
     Ok(format!(in alloc; "{outcome:?}")?)
 }
 
-const ANNOUNCED: [(&str, &str); 11] = [
+static ANNOUNCED: [(&str, &str); 11] = [
     ("", "open_close: false, kind: Off, encoding: Some(Utf16)"),
     (
         r#""textDocumentSync":null,"positionEncoding":null"#,
@@ -148,18 +159,22 @@ const ANNOUNCED: [(&str, &str); 11] = [
     ),
 ];
 
+fn is_announced(alloc: Global, members: &str, record: &str) -> Result<bool, Fail> {
+    let given = format!(in alloc; "{{\"capabilities\":{{{members}}},\"serverInfo\":7}}")?;
+    let shown = announced(alloc, &given)?;
+    let wanted = format!(in alloc; "Ok(Announced {{ {record} }})")?;
+    Ok(shown.as_str() == wanted.as_str())
+}
+
 #[test]
 fn result_of_initialize(rt: HostRuntime) -> Result<(), Fail> {
-    for (members, record) in ANNOUNCED {
-        let given = format!(in rt.alloc(); "{{\"capabilities\":{{{members}}},\"serverInfo\":7}}")?;
-        let wanted = format!(in rt.alloc(); "Ok(Announced {{ {record} }})")?;
-        let announced = announced(rt.alloc(), given.as_str())?;
-        assert_eq!(rt; announced.as_str(), wanted.as_str(), "{given}");
+    for (members, record) in &ANNOUNCED {
+        assert!(rt; is_announced(rt.alloc(), members, record)?, "{members}");
     }
     Ok(())
 }
 
-const NOT_ANNOUNCED: [&str; 16] = [
+static NOT_ANNOUNCED: [&str; 16] = [
     r#"{"capabilities":{"textDocumentSync":3}}"#,
     r#"{"capabilities":{"textDocumentSync":-1}}"#,
     r#"{"capabilities":{"textDocumentSync":-0}}"#,
@@ -178,10 +193,14 @@ const NOT_ANNOUNCED: [&str; 16] = [
     "null",
 ];
 
+fn announces_nothing(alloc: Global, given: &str) -> Result<bool, Fail> {
+    Ok(announced(alloc, given)?.as_str() == INVALID)
+}
+
 #[test]
 fn results_that_announce_nothing(rt: HostRuntime) -> Result<(), Fail> {
-    for given in NOT_ANNOUNCED {
-        assert_eq!(rt; announced(rt.alloc(), given)?.as_str(), INVALID, "{given}");
+    for given in &NOT_ANNOUNCED {
+        assert!(rt; announces_nothing(rt.alloc(), given)?, "{given}");
     }
     Ok(())
 }
