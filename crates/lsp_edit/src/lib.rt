@@ -5,7 +5,7 @@
 //! - `spans`, `row`, `replace`, `through`: what became of the old text, in runs of it and of the changes' texts.
 //! - `current`: the text that changes meet, made late and changed in place.
 //! - `laws`: what holds of every batch and of its canonical batch.
-//! - `plain`: the definitions as a plain program, one item for each character, with the same contracts.
+//! - `plain`: the definitions as a plain program, one item for each character, with the same clauses, save on memory.
 #![tactic(auto)]
 
 mod canonical;

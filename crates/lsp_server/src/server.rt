@@ -1,6 +1,6 @@
 //! A session's server end: one body in, one answer out.
 
-ghost use Rattle.std.specs.Prelude.{◌≡◌, ◌≢◌, ◌↔◌, ℕ, List, Option, None, Some, Ok, Err, IfOk, IfErr, OnOk, OnErr, IsSome, IsErrOf, option_map};
+ghost use Rattle.std.specs.Prelude.{◌≡◌, ◌≢◌, ◌↔◌, ℕ, List, Option, None, Some, Ok, Err, IfOk, IfErr, OnOk, OnErr, IsOk, IsSome, IsErrOf, option_map};
 ghost use Rattle.serde_json.specs.Data.{Data};
 ghost use Rattle.lsp_frame.specs.Frame.{frame};
 ghost use Rattle.lsp_message.specs.Message.{reading};
@@ -8,7 +8,7 @@ ghost use Rattle.lsp_message.specs.Outgoing.{error_reply, body_of};
 ghost use Rattle.lsp_message.specs.Seen.{id_view, outgoing_view, open_view, change_view, close_view};
 ghost use Rattle.lsp_store.specs.declared.fault.StoreFault.TheVariants.{NoMemory};
 ghost use Rattle.lsp_server.specs.declared.phase.Phase.TheVariants.{Running, Down, Ended};
-ghost use Rattle.lsp_server.specs.Answer.{reply, sent, as_sent};
+ghost use Rattle.lsp_server.specs.Answer.{IsQuiet, reply, sent, as_sent};
 ghost use Rattle.lsp_server.specs.Step.{start, settled, step, step_on, begins, obeys, open_command, change_command, close_command};
 ghost use Rattle.lsp_server.specs.Incoming.{initialize, shutdown, other_request, exit, did_open, did_change, did_close, other_notification};
 ghost use Rattle.lsp_server.specs.Seen.{incoming_view, answer_view};
@@ -139,6 +139,8 @@ impl Server {
         ensures answer { IfOk result (λ a. answer_view a ≡ as_sent (step_on self.old (incoming_view incoming)).answer) }
         ensures state { OnOk result (self.new ≡ (step_on self.old (incoming_view incoming)).state) }
         ensures same { OnErr result (self.new ≡ self.old) }
+        // Only a reply, and a document that is opened or changed, take memory.
+        ensures quiet { IsQuiet (step_on self.old (incoming_view incoming)).answer → IsOk result }
         ensures ended { IsErrOf result ServerFault.AlreadyEnded ↔ (self.old.phase ≡ Ended) }
     {
         if self.phase == Phase::Ended {
@@ -152,6 +154,7 @@ impl Server {
         ensures answer { IfOk result (λ a. answer_view a ≡ as_sent (step_on self.old (incoming_view incoming)).answer) }
         ensures state { OnOk result (self.new ≡ (step_on self.old (incoming_view incoming)).state) }
         ensures same { OnErr result (self.new ≡ self.old) }
+        ensures quiet { OnErr result (IsQuiet (step_on self.old (incoming_view incoming)).answer → ⊥) }
     {
         match incoming {
             Incoming::NotJson => self.fail(None, ErrorCode::ParseError),
@@ -184,6 +187,7 @@ impl Server {
         ensures answer { IfOk result (λ a. answer_view a ≡ as_sent (step_on self.old (initialize (id_view id) offers)).answer) }
         ensures state { OnOk result (self.new ≡ (step_on self.old (initialize (id_view id) offers)).state) }
         ensures same { OnErr result (self.new ≡ self.old) }
+        ensures quiet { OnErr result (IsQuiet (step_on self.old (initialize (id_view id) offers)).answer → ⊥) }
     {
         match self.phase {
             Phase::New => match offers {
@@ -216,6 +220,7 @@ impl Server {
         ensures answer { IfOk result (λ a. answer_view a ≡ as_sent (step_on self.old (shutdown (id_view id))).answer) }
         ensures state { OnOk result (self.new ≡ (step_on self.old (shutdown (id_view id))).state) }
         ensures same { OnErr result (self.new ≡ self.old) }
+        ensures quiet { OnErr result (IsQuiet (step_on self.old (shutdown (id_view id))).answer → ⊥) }
     {
         match self.phase {
             Phase::New => self.fail(Some(id), ErrorCode::ServerNotInitialized),
@@ -234,6 +239,8 @@ impl Server {
             → IfOk result (λ a. answer_view a ≡ as_sent (step_on self.now (other_request (id_view id) method params)).answer) }
         ensures state { (method : List ℕ) (params : Option Data)
             → (step_on self.now (other_request (id_view id) method params)).state ≡ self.now }
+        ensures quiet { (method : List ℕ) (params : Option Data)
+            → IsQuiet (step_on self.now (other_request (id_view id) method params)).answer → ⊥ }
     {
         let error = match self.phase {
             Phase::New => ErrorCode::ServerNotInitialized,
@@ -261,6 +268,7 @@ impl Server {
         ensures answer { IfOk result (λ a. answer_view a ≡ as_sent (step_on self.old (did_open (option_map open_view params))).answer) }
         ensures state { OnOk result (self.new ≡ (step_on self.old (did_open (option_map open_view params))).state) }
         ensures same { OnErr result (self.new ≡ self.old) }
+        ensures quiet { OnErr result (IsQuiet (step_on self.old (did_open (option_map open_view params))).answer → ⊥) }
     {
         if self.phase != Phase::Running {
             return Ok(Answer::Dropped);
@@ -290,6 +298,7 @@ impl Server {
         ensures answer { IfOk result (λ a. answer_view a ≡ as_sent (step_on self.old (did_change (option_map change_view params))).answer) }
         ensures state { OnOk result (self.new ≡ (step_on self.old (did_change (option_map change_view params))).state) }
         ensures same { OnErr result (self.new ≡ self.old) }
+        ensures quiet { OnErr result (IsQuiet (step_on self.old (did_change (option_map change_view params))).answer → ⊥) }
     {
         if self.phase != Phase::Running {
             return Ok(Answer::Dropped);
@@ -319,6 +328,7 @@ impl Server {
         ensures answer { IfOk result (λ a. answer_view a ≡ as_sent (step_on self.old (did_close (option_map close_view params))).answer) }
         ensures state { OnOk result (self.new ≡ (step_on self.old (did_close (option_map close_view params))).state) }
         ensures same { OnErr result (self.new ≡ self.old) }
+        ensures quiet { OnErr result (IsQuiet (step_on self.old (did_close (option_map close_view params))).answer → ⊥) }
     {
         if self.phase != Phase::Running {
             return Ok(Answer::Dropped);
