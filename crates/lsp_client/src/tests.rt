@@ -95,12 +95,12 @@ pub(super) enum Ask {
 }
 
 /// Makes one call; what it answers is the body that is to be sent, or a word.
-pub(super) fn ask(
+pub(super) fn answer_to(
     alloc: Global,
     client: &mut Client,
-    ask: Ask,
+    asked: Ask,
 ) -> Result<Result<Delivered, ClientFault>, AllocError> {
-    let sent = match ask {
+    let sent = match asked {
         Ask::Start => client.start(),
         Ask::Open(text) => open_as(alloc, client, URI, text),
         Ask::Edit(version, start, stop, text) => {

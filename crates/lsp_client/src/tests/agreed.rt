@@ -1,6 +1,6 @@
 //! What the answer to `initialize` settles, and what edits send then.
 
-use super::{Ask, CHANGE, INITIALIZED, OPEN, URI, ask, client_with, is_answer};
+use super::{Ask, CHANGE, INITIALIZED, OPEN, URI, answer_to, client_with, is_answer};
 use crate::Client;
 use lsp_message::Offers;
 use lsp_text::Encoding;
@@ -109,7 +109,7 @@ fn is_offered(alloc: Global, offers: Offers, names: &str) -> Result<bool, Fail> 
     let body = format!(in alloc;
         r#"{{"id":1,"jsonrpc":"2.0","method":"initialize","params":{{"capabilities":{{"general":{{"positionEncodings":{names}}}}},"processId":null,"rootUri":null}}}}"#
     )?;
-    let given = ask(alloc, &mut client, Ask::Start)?;
+    let given = answer_to(alloc, &mut client, Ask::Start)?;
     Ok(is_answer(alloc, &given, &body)?)
 }
 
@@ -199,8 +199,8 @@ fn is_edited(
     wanted: &str,
 ) -> Result<bool, Fail> {
     let mut client = ready(alloc, capabilities)?;
-    let _open = ask(alloc, &mut client, Ask::Open(text))??;
-    let given = ask(alloc, &mut client, edit)?;
+    let _open = answer_to(alloc, &mut client, Ask::Open(text))??;
+    let given = answer_to(alloc, &mut client, edit)?;
     let version = client.store().get(URI).map(|document| document.version());
     let kept = Some(if given.is_ok() { 2 } else { 1 });
     Ok(is_answer(alloc, &given, wanted)? && version == kept)
@@ -221,8 +221,14 @@ fn what_an_edit_sends(rt: HostRuntime) -> Result<(), Fail> {
 fn the_text_after_an_edit_under_full(rt: HostRuntime) -> Result<(), Fail> {
     let alloc = rt.alloc();
     let mut client = ready(alloc, r#"{"textDocumentSync":1}"#)?;
-    assert!(rt; is_answer(alloc, &ask(alloc, &mut client, Ask::Open("abc"))?, OPEN)?);
-    let _edit = ask(alloc, &mut client, Ask::Edit(2, 1, 2, "X"))??;
+    assert!(rt;
+        is_answer(
+            alloc,
+            &answer_to(alloc, &mut client, Ask::Open("abc"))?,
+            OPEN
+        )?
+    );
+    let _edit = answer_to(alloc, &mut client, Ask::Edit(2, 1, 2, "X"))??;
     let text = client.store().get(URI).map(|document| document.text());
     assert_eq!(rt; text, Some("aXc"));
     Ok(())

@@ -1,7 +1,7 @@
 //! Every pair of phase and call, and of phase and kind of body.
 
 use super::{
-    ACCEPTED, Ask, CHANGE, CLOSE, EXIT, INITIALIZE, INITIALIZED, SHUT_DOWN, SHUTDOWN, ask,
+    ACCEPTED, Ask, CHANGE, CLOSE, EXIT, INITIALIZE, INITIALIZED, SHUT_DOWN, SHUTDOWN, answer_to,
     is_answer, new_client,
 };
 use crate::{Client, Phase, Reason};
@@ -196,7 +196,7 @@ static TABLE: [(Ask, [&str; 7]); 25] = [
 fn client_after(alloc: Global, way: &[Ask]) -> Result<Client, Fail> {
     let mut client = new_client(alloc)?;
     for step in way {
-        let _answer = ask(alloc, &mut client, *step)??;
+        let _answer = answer_to(alloc, &mut client, *step)??;
     }
     Ok(client)
 }
@@ -205,7 +205,7 @@ fn client_after(alloc: Global, way: &[Ask]) -> Result<Client, Fail> {
 fn is_row(alloc: Global, way: &[Ask], row: Ask, wanted: &str) -> Result<bool, Fail> {
     let mut client = client_after(alloc, way)?;
     let open = client.store().len();
-    let given = ask(alloc, &mut client, row)?;
+    let given = answer_to(alloc, &mut client, row)?;
     let kept = wanted == CLOSE || client.store().len() == open;
     let failed = wanted != BAD || client.phase() == FAILED;
     Ok(is_answer(alloc, &given, wanted)? && kept && failed)

@@ -1,6 +1,6 @@
 //! Calls that run out of memory once, and are made again.
 
-use super::{ACCEPTED, Ask, SHUT_DOWN, URI, ask, new_client};
+use super::{ACCEPTED, Ask, SHUT_DOWN, URI, answer_to, new_client};
 use crate::{Client, ClientFault, Delivered, Phase};
 use std::alloc::Global;
 use std::process::Abort;
@@ -26,13 +26,13 @@ struct Session {
 
 impl Session {
     /// Makes a call. Where memory ran out the client is as before, and the same call is made then.
-    fn ask(&mut self, rt: &impl Abort, alloc: Global, asked: Ask) -> bool {
+    fn call(&mut self, rt: &impl Abort, alloc: Global, asked: Ask) -> bool {
         let before = seen(&self.client);
-        match ask(alloc, &mut self.client, asked) {
+        match answer_to(alloc, &mut self.client, asked) {
             Ok(Err(ClientFault::NoMemory)) | Err(_) => {
                 self.refused = self.refused.saturating_add(1);
                 assert!(rt; seen(&self.client) == before);
-                matches!(ask(alloc, &mut self.client, asked), Ok(Ok(_)))
+                matches!(answer_to(alloc, &mut self.client, asked), Ok(Ok(_)))
             }
             Ok(answer) => answer.is_ok(),
         }
@@ -50,7 +50,7 @@ fn is_done(
         refused: 0,
     };
     for asked in calls {
-        assert!(rt; session.ask(rt, alloc, *asked), "{asked:?}");
+        assert!(rt; session.call(rt, alloc, *asked), "{asked:?}");
     }
     *refused = session.refused;
     Ok(session.client.phase())

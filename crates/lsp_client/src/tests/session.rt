@@ -2,7 +2,7 @@
 
 use super::{
     ACCEPTED, Ask, CHANGE, CLOSE, EXIT, INITIALIZE, INITIALIZED, OPEN, SHUT_DOWN, SHUTDOWN, URI,
-    ask, change, client_with, is_answer, new_client, open_as,
+    answer_to, change, client_with, is_answer, new_client, open_as,
 };
 use crate::{Client, ClientFault, Delivered, Phase};
 use lsp_edit::Change;
@@ -29,7 +29,7 @@ static SESSION: [(Ask, &str, Phase); 9] = [
 
 fn is_step(alloc: Global, client: &mut Client, step: &(Ask, &str, Phase)) -> Result<bool, Fail> {
     let (asked, wanted, phase) = step;
-    let given = ask(alloc, client, *asked)?;
+    let given = answer_to(alloc, client, *asked)?;
     Ok(is_answer(alloc, &given, wanted)? && client.phase() == *phase)
 }
 
