@@ -42,6 +42,16 @@ canonical_body units table uri version batch = change_body uri version (canonica
 abbrev pub canonical_frame : (ℕ → ℕ) → List Entry → List ℕ → ℤ → List Edit → List ℕ
 canonical_frame units table uri version batch = frame (canonical_body units table uri version batch)
 
+-- One change without a range, which holds the whole text of a document (TextDocumentSyncKind.Full).
+abbrev pub whole_text : Option Entry → List Edit
+whole_text (Some entry) = record { range = None; text = chars entry.text } ∷ []
+whole_text None = []
+
+-- The batch of that one change, with the text that a batch leaves.
+abbrev pub whole_batch : (ℕ → ℕ) → List Entry → List ℕ → ℤ → List Edit → List Edit
+whole_batch units table uri version batch =
+    whole_text (entry_at (after_change units table uri version batch) uri)
+
 -- It is refused as the change is, and then where the body is too long.
 abbrev pub body_refusal : Bounds → List ℕ → Option Refusal
 body_refusal limits body = if nat_lt limits.max_body (length body) then Some (body_too_long (length body)) else None

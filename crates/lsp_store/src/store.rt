@@ -75,8 +75,9 @@ impl Store {
         Some(Document::new(uri, held))
     }
 
-    /// Whether a document may be opened.
-    fn may_open(&self, uri: &str, text: &str) -> Result<(), StoreFault>
+    /// Whether [`Store::open`] would take a document of this URI and text, whatever its language and version; refuses as it does, in the
+    /// same order. Takes no memory. Costs one hash look-up.
+    pub fn may_open(&self, uri: &str, text: &str) -> Result<(), StoreFault>
         ensures may { OnOk result ((language : List ℕ) (version : ℤ) →
             open_refusal self.now.limits self.now.table (record { uri = uri.now; language = language; version = version; text = text.now }) ≡ None) }
         ensures told { IfErr result (λ fault. (language : List ℕ) (version : ℤ) →
