@@ -1,0 +1,76 @@
+-- What the calls of a client answer, by the tables of its steps.
+use Rattle.std.specs.Prelude.{ℕ, ℤ, ◌≡◌, ◌⊎◌, List, map, String, string_bytes, Result, Ok, Err}
+use Rattle.std.specs.declared.alloc.Global.{Global}
+use Rattle.lsp_frame.specs.Frame.{frame}
+use Rattle.lsp_edit.specs.declared.change.Change.{Change}
+use Rattle.lsp_edit.specs.Edited.{edit_of}
+use Rattle.lsp_message.specs.Outgoing.{OutgoingData, body_of}
+use Rattle.lsp_store.specs.Faults as documents
+use Rattle.lsp_store.specs.declared.fault.StoreFault as documents_fault
+use Rattle.lsp_store.specs.declared.fault.StoreFault.TheVariants as faults
+use Rattle.lsp_client.specs.declared.fault.ClientFault.{ClientFault}
+use Rattle.lsp_client.specs.declared.fault.ClientFault.TheVariants.{WrongPhase, Store, NoMemory}
+use Rattle.lsp_client.specs.declared.delivered.Delivered.{Delivered}
+use Rattle.lsp_client.specs.declared.delivered.Delivered.TheVariants.{Send, Noted, Ignored, BadServer}
+use Rattle.lsp_client.specs.Step.{State, Sending, Refusal, wrong_phase, store, Order, opens, edits, closes, Delivery, DeliveredData, sends, noted, ignored, bad_server}
+
+-- ---- what is asked
+
+-- The order of a call of `open`, of `edit`, and of `close`.
+abbrev pub open_order : String Global → String Global → ℤ → String Global → Order
+open_order uri language version text =
+    opens (record {
+      uri = string_bytes uri;
+      language = string_bytes language;
+      version = version;
+      text = string_bytes text;
+    })
+
+abbrev pub edit_order : List ℕ → ℤ → List Change → Order
+edit_order uri version changes = edits uri version (map edit_of changes)
+
+-- ---- what is refused
+
+-- the fault of a refusal
+abbrev pub fault_of : Refusal → ClientFault
+fault_of (wrong_phase phase) = WrongPhase phase
+fault_of (store refusal) = Store (documents.fault_of refusal)
+
+-- the client's fault of a fault of the store
+abbrev pub client_fault : documents_fault.StoreFault → ClientFault
+client_fault faults.NoMemory = NoMemory
+client_fault fault = Store fault
+
+-- This is the fault of a step that is refused, or the client ran out of memory. A call in a wrong
+-- phase takes no memory.
+abbrev pub IsFaultOf : {A : Type 0} → Result A Refusal → ClientFault → Type 0
+IsFaultOf (Ok a) fault = fault ≡ NoMemory
+IsFaultOf (Err (wrong_phase phase)) fault = fault ≡ WrongPhase phase
+IsFaultOf (Err (store refusal)) fault = (fault ≡ NoMemory) ⊎ (fault ≡ fault_of (store refusal))
+
+-- ---- what is accepted
+
+-- A call is accepted: this frame is to be sent, and this is the client then.
+abbrev pub IsSent : Result Sending Refusal → List ℕ → State → Type 0
+IsSent (Ok sending) bytes new =
+    (bytes ≡ frame (body_of sending.message)) × (new ≡ sending.state)
+IsSent (Err refusal) bytes new = ⊥
+
+-- what a delivery gives, with what is to be sent as a frame
+abbrev pub delivered_view : Delivered → DeliveredData (List ℕ)
+delivered_view (Send frame) = sends frame.items
+delivered_view Noted = noted
+delivered_view Ignored = ignored
+delivered_view (BadServer reason) = bad_server reason
+
+abbrev pub as_sent : DeliveredData OutgoingData → DeliveredData (List ℕ)
+as_sent (sends m) = sends (frame (body_of m))
+as_sent noted = noted
+as_sent ignored = ignored
+as_sent (bad_server reason) = bad_server reason
+
+-- A body is accepted: this is what it gives, and this is the client then.
+abbrev pub IsDelivered : Result Delivery Refusal → DeliveredData (List ℕ) → State → Type 0
+IsDelivered (Ok delivery) delivered new =
+    (delivered ≡ as_sent delivery.delivered) × (new ≡ delivery.state)
+IsDelivered (Err refusal) delivered new = ⊥

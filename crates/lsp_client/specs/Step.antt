@@ -1,0 +1,238 @@
+-- One step of a session's client end (LSP 3.17, Lifecycle Messages, Text Document Synchronization):
+-- which calls it accepts, which message each sends, and what it makes of what the server sends.
+use Rattle.std.specs.Prelude.{ℕ, ℤ, Bool, true, false, ◌==◌, if◌then◌else◌, List, [], Option, Some, None, unwrap_or, Result, Ok, Err, pos, negsuc}
+use Rattle.lsp_frame.specs.Limits.{Bounds}
+use Rattle.lsp_text.specs.declared.encoding.Encoding.{Encoding}
+use Rattle.lsp_text.specs.declared.encoding.Encoding.TheVariants.{Utf16}
+use Rattle.lsp_text.specs.Units.{units_in}
+use Rattle.lsp_edit.specs.Batch.{Edit}
+use Rattle.lsp_message.specs.declared.agreement.Announced.{Announced}
+use Rattle.lsp_message.specs.declared.agreement.Offers.{Offers}
+use Rattle.lsp_message.specs.declared.agreement.SyncKind.{SyncKind}
+use Rattle.lsp_message.specs.declared.agreement.SyncKind.TheVariants.{Off, Full, Incremental}
+use Rattle.lsp_message.specs.declared.outgoing.ErrorCode.TheVariants.{MethodNotFound}
+use Rattle.lsp_message.specs.Agreement.{is_offered, announced_of}
+use Rattle.lsp_message.specs.Message.{IdData, whole, text, OutcomeData, given, failed, Reading, not_json, not_a_message, message, request, notification, response}
+use Rattle.lsp_message.specs.Outgoing.{OutgoingData, initialize, initialized, did_open, did_close, shutdown, exit, error_reply, body_of}
+use Rattle.lsp_store.specs.Table as documents
+use Rattle.lsp_store.specs.Table.{Entry, Command, command_refusal, table_after}
+use Rattle.lsp_store.specs.Message.{canonical_batch, whole_batch, change_message, body_refusal, else_refused}
+use Rattle.lsp_client.specs.declared.agreed.Agreed.{Agreed}
+use Rattle.lsp_client.specs.declared.phase.Phase.{Phase}
+use Rattle.lsp_client.specs.declared.phase.Phase.TheVariants.{New, Asked, Ready, Closing, Closed, Done, Failed}
+use Rattle.lsp_client.specs.declared.phase.Reason.{Reason}
+use Rattle.lsp_client.specs.declared.phase.Reason.TheVariants.{NotAnAnswer, ErrorAnswer, NoSync, BadEncoding}
+
+-- A client: its limits, the encodings that it offers, the phase of its session, what was agreed on,
+-- if anything was, and the open documents.
+pub record State : Type 0 where
+  pub limits : Bounds
+  pub offers : Offers
+  pub phase : Phase
+  pub agreed : Option Agreed
+  pub table : List Entry
+
+-- A new client.
+abbrev pub start : Bounds → Offers → State
+start limits offers =
+    record { limits = limits; offers = offers; phase = New; agreed = None; table = [] }
+
+-- ---- calls
+
+-- What is asked of the open documents: to open one, to edit one by a batch that leads to a version,
+-- and to close one.
+pub data Order : Type 0 where
+  opens : Entry → Order
+  edits : List ℕ → ℤ → List Edit → Order
+  closes : List ℕ → Order
+
+-- What is asked of a client.
+pub data Call : Type 0 where
+  starts shuts_down exits : Call
+  orders : Order → Call
+
+-- Why a call is refused.
+pub data Refusal : Type 0 where
+  wrong_phase : Phase → Refusal
+  store : documents.Refusal → Refusal
+
+-- What an accepted call sends, and what the client is then.
+pub record Sending : Type 0 where
+  pub message : OutgoingData
+  pub state : State
+
+-- What was agreed on. Before that there are no orders; UTF-16 is the protocol's default.
+abbrev pub agreement : State → Agreed
+agreement s = unwrap_or s.agreed (record { encoding = Utf16; kind = Incremental })
+
+-- An order is a command, whose changes count in the encoding that was agreed on.
+abbrev pub command_of : Encoding → Order → Command
+command_of encoding (opens entry) = documents.opens entry
+command_of encoding (edits uri version batch) = documents.changes uri version encoding batch
+command_of encoding (closes uri) = documents.closes uri
+
+-- The batch that is sent for a batch: the canonical one, or under Full the text that it leaves.
+abbrev pub sent_batch : SyncKind → (ℕ → ℕ) → List Entry → List ℕ → ℤ → List Edit → List Edit
+sent_batch Full units table uri version batch = whole_batch units table uri version batch
+sent_batch Incremental units table uri version batch = canonical_batch units table uri batch
+sent_batch Off units table uri version batch = canonical_batch units table uri batch
+
+-- The message of a command on a table (DidOpen-, DidChange-, DidCloseTextDocument).
+abbrev pub message_of : SyncKind → List Entry → Command → OutgoingData
+message_of kind table (documents.opens entry) =
+    did_open (record {
+      uri = entry.uri;
+      language = entry.language;
+      version = entry.version;
+      text = entry.text;
+    })
+message_of kind table (documents.changes uri version encoding batch) =
+    change_message uri version (sent_batch kind (units_in encoding) table uri version batch)
+message_of kind table (documents.closes uri) = did_close (record { uri = uri })
+
+unfoldable pub sent_body : SyncKind → List Entry → Command → List ℕ
+sent_body kind table command = body_of (message_of kind table command)
+
+-- A command is refused as the store does, and then where the body to send is too long.
+abbrev pub order_refusal : Bounds → SyncKind → List Entry → Command → Option documents.Refusal
+order_refusal limits kind table command =
+    else_refused
+    (command_refusal limits table command)
+    (body_refusal limits (sent_body kind table command))
+
+abbrev pub unless_refused : Option documents.Refusal → Sending → Result Sending Refusal
+unless_refused (Some refusal) sending = Err (store refusal)
+unless_refused None sending = Ok sending
+
+abbrev pub command_result : State → SyncKind → Command → Result Sending Refusal
+command_result s kind command =
+    unless_refused
+    (order_refusal s.limits kind s.table command)
+    (record {
+      message = message_of kind s.table command;
+      state = record s { table = table_after s.table command };
+    })
+
+abbrev pub order_result : State → Order → Result Sending Refusal
+order_result s order =
+    command_result s (agreement s).kind (command_of (agreement s).encoding order)
+
+-- A message of the session's lifecycle is sent, and leads to a phase.
+abbrev pub lifecycle_result : State → Phase → OutgoingData → Result Sending Refusal
+lifecycle_result s phase m = Ok (record { message = m; state = record s { phase = phase } })
+
+-- ---- the table of calls: the first row that fits decides
+
+abbrev pub call_result_in : Phase → State → Call → Result Sending Refusal
+call_result_in New s starts = lifecycle_result s Asked (initialize s.offers)
+call_result_in Ready s (orders order) = order_result s order
+call_result_in Ready s shuts_down = lifecycle_result s Closing shutdown
+call_result_in Closed s exits = lifecycle_result s Done exit
+call_result_in phase s call = Err (wrong_phase phase)
+
+-- What a call sends and leaves, or why it is refused; what is refused changes nothing.
+abbrev pub call_result : State → Call → Result Sending Refusal
+call_result s call = call_result_in s.phase s call
+
+-- ---- what the server sends
+
+-- What a client makes of a body: it sends a message, notes an answer, ignores a notification, or
+-- can't go on with this server.
+pub data DeliveredData (Reply : Type 0) : Type 0 where
+  sends : Reply → DeliveredData Reply
+  noted ignored : DeliveredData Reply
+  bad_server : Reason → DeliveredData Reply
+
+-- What a delivery gives, and what the client is then.
+pub record Delivery : Type 0 where
+  pub delivered : DeliveredData OutgoingData
+  pub state : State
+
+abbrev pub same_state : State → DeliveredData OutgoingData → Delivery
+same_state s delivered = record { delivered = delivered; state = s }
+
+-- The session can't go on; the documents stay.
+abbrev pub failure : State → Reason → Delivery
+failure s reason =
+    record { delivered = bad_server reason; state = record s { phase = Failed reason } }
+
+-- The session begins (Initialized Notification).
+abbrev pub begin_in : State → Encoding → SyncKind → Delivery
+begin_in s encoding kind =
+    record {
+      delivered = sends initialized;
+      state = record s {
+        phase = Ready;
+        agreed = Some (record { encoding = encoding; kind = kind });
+      };
+    }
+
+-- The server's encoding is one that was offered (PositionEncodingKind).
+abbrev pub begin_if_offered : State → SyncKind → Option Encoding → Delivery
+begin_if_offered s kind None = failure s BadEncoding
+begin_if_offered s kind (Some encoding) =
+    if is_offered s.offers encoding then begin_in s encoding kind else failure s BadEncoding
+
+-- The server wants to know which documents are open, and how they change (TextDocumentSyncOptions).
+abbrev pub begin_if_synced : State → Bool → SyncKind → Option Encoding → Delivery
+begin_if_synced s false kind encoding = failure s NoSync
+begin_if_synced s true Off encoding = failure s NoSync
+begin_if_synced s true kind encoding = begin_if_offered s kind encoding
+
+abbrev pub begin_as_announced : State → Option Announced → Delivery
+begin_as_announced s None = failure s NotAnAnswer
+begin_as_announced s (Some announced) =
+    begin_if_synced s announced.open_close announced.kind announced.encoding
+
+-- The answers to `initialize` and to `shutdown`.
+abbrev pub initialize_delivery : State → OutcomeData → Delivery
+initialize_delivery s failed = failure s ErrorAnswer
+initialize_delivery s (given result) = begin_as_announced s (announced_of result)
+
+abbrev pub shutdown_delivery : State → OutcomeData → Delivery
+shutdown_delivery s failed = failure s ErrorAnswer
+shutdown_delivery s (given result) =
+    record { delivered = noted; state = record s { phase = Closed } }
+
+-- whether an id is this number
+abbrev pub is_id : ℕ → Option IdData → Bool
+is_id n None = false
+is_id n (Some (whole (pos k))) = k == n
+is_id n (Some (whole (negsuc k))) = false
+is_id n (Some (text t)) = false
+
+-- `initialize` has the id 1 and `shutdown` the id 2; nothing else is asked.
+abbrev pub response_delivery : Phase → State → Option IdData → OutcomeData → Delivery
+response_delivery Asked s id outcome =
+    if is_id 1 id then initialize_delivery s outcome else failure s NotAnAnswer
+response_delivery Closing s id outcome =
+    if is_id 2 id then shutdown_delivery s outcome else failure s NotAnAnswer
+response_delivery phase s id outcome = failure s NotAnAnswer
+
+-- ---- the table of deliveries: the first row that fits decides
+
+abbrev pub delivery_of : State → Reading → Delivery
+delivery_of s not_json = failure s NotAnAnswer
+delivery_of s (not_a_message id) = failure s NotAnAnswer
+delivery_of s (message (notification method params)) = same_state s ignored
+delivery_of s (message (request id method params)) =
+    same_state s (sends (error_reply (Some id) MethodNotFound))
+delivery_of s (message (response id outcome)) = response_delivery s.phase s id outcome
+
+-- A client listens from `initialize` to `exit`.
+abbrev pub is_listening : Phase → Bool
+is_listening New = false
+is_listening Asked = true
+is_listening Ready = true
+is_listening Closing = true
+is_listening Closed = true
+is_listening Done = false
+is_listening (Failed reason) = false
+
+abbrev pub if_listening : Bool → State → Reading → Result Delivery Refusal
+if_listening true s body = Ok (delivery_of s body)
+if_listening false s body = Err (wrong_phase s.phase)
+
+-- What a body that the server sent gives and leaves, or why it is refused.
+abbrev pub delivery_result : State → Reading → Result Delivery Refusal
+delivery_result s body = if_listening (is_listening s.phase) s body

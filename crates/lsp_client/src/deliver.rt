@@ -1,0 +1,190 @@
+//! What the client makes of a body that the server sent.
+
+ghost use Rattle.std.specs.Prelude.{◌≡◌, IfErr, IfOk, Ok, OnErr, Some, option_map};
+ghost use Rattle.lsp_message.specs.Message.{reading, message as read_as};
+ghost use Rattle.lsp_message.specs.Seen.{message_view, id_view, outcome_view};
+ghost use Rattle.lsp_client.specs.Step as spec;
+ghost use Rattle.lsp_client.specs.Step.{delivery_result, delivery_of, response_delivery, initialize_delivery, shutdown_delivery, begin_as_announced, failure};
+ghost use Rattle.lsp_client.specs.Seen.{IsDelivered, IsFaultOf, delivered_view};
+
+use crate::agreed::Agreed;
+use crate::client::Client;
+use crate::delivered::Delivered;
+use crate::fault::ClientFault;
+use crate::framed::framed;
+use crate::phase::{Phase, Reason};
+use lsp_message::{
+    Announced, ErrorCode, Id, Message, Outcome, Outgoing, ReadFault, SyncKind, read,
+    result_initialize,
+};
+use std::alloc::AllocError;
+
+impl Client {
+    /// Takes a body that the server sent (LSP 3.17, Base Protocol). In the phases Asked, Ready, Closing and Closed; else
+    /// [`ClientFault::WrongPhase`]. The first row that fits decides:
+    ///
+    /// | Phase | Body | Delivered |
+    /// |---|---|---|
+    /// | any of the four | no JSON, or no message | `BadServer(NotAnAnswer)` |
+    /// | any of the four | a notification | `Ignored` |
+    /// | any of the four | a request | `Send` of the error -32601 with its id |
+    /// | Asked | the response 1 with an error | `BadServer(ErrorAnswer)` |
+    /// | Asked | the response 1 with a faulty result | `BadServer(NotAnAnswer)` |
+    /// | Asked | the same, without `openClose` or with kind 0 | `BadServer(NoSync)` |
+    /// | Asked | the same, the encoding unknown or not offered | `BadServer(BadEncoding)` |
+    /// | Asked | the same, else | `Send` of `initialized`; now Ready |
+    /// | Closing | the response 2 with an error | `BadServer(ErrorAnswer)` |
+    /// | Closing | the response 2 with a result | `Noted`; now Closed |
+    /// | any of the four | another response | `BadServer(NotAnAnswer)` |
+    ///
+    /// After `BadServer` the phase is Failed, and the documents are as before. Nothing else changes. After [`ClientFault::NoMemory`] the
+    /// client is as it was, and the same body can be delivered again. Costs one parse of the body, and the bytes of what is to be sent.
+    pub fn deliver(&mut self, body: &[u8]) -> Result<Delivered, ClientFault>
+        ensures ok { IfOk result (λ delivered.
+            IsDelivered (delivery_result self.old (reading body.now))
+            (delivered_view delivered) self.new) }
+        ensures unchanged { OnErr result (self.new ≡ self.old) }
+        ensures error { IfErr result (IsFaultOf (delivery_result self.old (reading body.now))) }
+    {
+        match self.phase {
+            Phase::Asked | Phase::Ready | Phase::Closing | Phase::Closed => {
+                Ok(self.deliver_body(body)?)
+            }
+            phase => Err(ClientFault::WrongPhase { phase }),
+        }
+    }
+
+    fn deliver_body(&mut self, body: &[u8]) -> Result<Delivered, AllocError>
+        ensures ok { IfOk result (λ delivered.
+            IsDelivered (Ok (delivery_of self.old (reading body.now)))
+            (delivered_view delivered) self.new) }
+        ensures unchanged { OnErr result (self.new ≡ self.old) }
+    {
+        match read(self.alloc, body) {
+            Ok(message) => self.deliver_message(message),
+            Err(ReadFault::NoMemory) => Err(AllocError),
+            Err(_) => Ok(self.fail(Reason::NotAnAnswer)),
+        }
+    }
+
+    fn deliver_message(&mut self, message: Message) -> Result<Delivered, AllocError>
+        ensures ok { IfOk result (λ delivered.
+            IsDelivered (Ok (delivery_of self.old (read_as (message_view message))))
+            (delivered_view delivered) self.new) }
+        ensures unchanged { OnErr result (self.new ≡ self.old) }
+    {
+        match message {
+            Message::Notification { .. } => Ok(Delivered::Ignored),
+            Message::Request { id, .. } => {
+                let reply = Outgoing::ErrorReply {
+                    id: Some(id),
+                    error: ErrorCode::MethodNotFound,
+                };
+                Ok(Delivered::Send(framed(self.alloc, &reply)?))
+            }
+            Message::Response { id, outcome } => self.deliver_response(id, outcome),
+        }
+    }
+
+    fn deliver_response(
+        &mut self,
+        id: Option<Id>,
+        outcome: Outcome,
+    ) -> Result<Delivered, AllocError>
+        ensures ok { IfOk result (λ delivered.
+            IsDelivered (Ok (response_delivery self.old.phase self.old
+            (option_map id_view id) (outcome_view outcome)))
+            (delivered_view delivered) self.new) }
+        ensures unchanged { OnErr result (self.new ≡ self.old) }
+    {
+        match self.phase {
+            Phase::Asked => {
+                if is_id(1, &id) {
+                    self.begin(outcome)
+                } else {
+                    Ok(self.fail(Reason::NotAnAnswer))
+                }
+            }
+            Phase::Closing => {
+                if is_id(2, &id) {
+                    Ok(self.close_down(outcome))
+                } else {
+                    Ok(self.fail(Reason::NotAnAnswer))
+                }
+            }
+            _ => Ok(self.fail(Reason::NotAnAnswer)),
+        }
+    }
+
+    /// The answer to `initialize`.
+    fn begin(&mut self, outcome: Outcome) -> Result<Delivered, AllocError>
+        ensures ok { IfOk result (λ delivered.
+            IsDelivered (Ok (initialize_delivery self.old (outcome_view outcome)))
+            (delivered_view delivered) self.new) }
+        ensures unchanged { OnErr result (self.new ≡ self.old) }
+    {
+        match outcome {
+            Outcome::Failed => Ok(self.fail(Reason::ErrorAnswer)),
+            Outcome::Given(result) => match result_initialize(self.alloc, result) {
+                Ok(announced) => self.begin_as(announced),
+                Err(_) => Ok(self.fail(Reason::NotAnAnswer)),
+            },
+        }
+    }
+
+    fn begin_as(&mut self, announced: Announced) -> Result<Delivered, AllocError>
+        ensures ok { IfOk result (λ delivered.
+            IsDelivered (Ok (begin_as_announced self.old (Some announced)))
+            (delivered_view delivered) self.new) }
+        ensures unchanged { OnErr result (self.new ≡ self.old) }
+    {
+        let kind = announced.kind;
+        if !announced.open_close {
+            return Ok(self.fail(Reason::NoSync));
+        }
+        match kind {
+            SyncKind::Off => Ok(self.fail(Reason::NoSync)),
+            SyncKind::Full | SyncKind::Incremental => match announced.encoding {
+                Some(encoding) if self.offers.includes(encoding) => {
+                    let frame = framed(self.alloc, &Outgoing::Initialized)?;
+                    self.phase = Phase::Ready;
+                    self.agreed = Some(Agreed { encoding, kind });
+                    Ok(Delivered::Send(frame))
+                }
+                _ => Ok(self.fail(Reason::BadEncoding)),
+            },
+        }
+    }
+
+    /// The answer to `shutdown`.
+    fn close_down(&mut self, outcome: Outcome) -> Delivered
+        ensures { IsDelivered (Ok (shutdown_delivery self.old (outcome_view outcome)))
+            (delivered_view result) self.new }
+    {
+        match outcome {
+            Outcome::Failed => self.fail(Reason::ErrorAnswer),
+            Outcome::Given(_) => {
+                self.phase = Phase::Closed;
+                Delivered::Noted
+            }
+        }
+    }
+
+    /// The session can't go on. The documents stay.
+    fn fail(&mut self, reason: Reason) -> Delivered
+        ensures { IsDelivered (Ok (failure self.old reason)) (delivered_view result) self.new }
+    {
+        self.phase = Phase::Failed(reason);
+        Delivered::BadServer(reason)
+    }
+}
+
+/// Is an id this number?
+fn is_id(number: u32, id: &Option<Id>) -> bool
+    ensures { result ≡ spec.is_id number (option_map id_view id.now) }
+{
+    match id {
+        Some(Id::Whole(other)) => *other == i64::from(number),
+        _ => false,
+    }
+}

@@ -1,0 +1,37 @@
+//! The frames of messages.
+
+ghost use Rattle.std.specs.Prelude.{◌≡◌, IfErr, IfOk, None, OnOk};
+ghost use Rattle.lsp_frame.specs.Frame.{frame};
+ghost use Rattle.lsp_message.specs.Outgoing.{body_of};
+ghost use Rattle.lsp_message.specs.Seen.{outgoing_view};
+ghost use Rattle.lsp_store.specs.Faults.{IsRefusal};
+ghost use Rattle.lsp_store.specs.Message.{body_refusal};
+
+use lsp_frame::{Limits, encode, frame};
+use lsp_message::{Outgoing, write};
+use lsp_store::StoreFault;
+use std::alloc::{AllocError, Global};
+
+/// The frame of a message, however long.
+pub(crate) fn framed(alloc: Global, message: &Outgoing) -> Result<Vec<u8>, AllocError>
+    ensures { IfOk result (λ bytes. bytes.items ≡ frame (body_of (outgoing_view message.now))) }
+{
+    let body = write(alloc, message)?;
+    frame(alloc, &body)
+}
+
+/// The frame of a message whose body is within the limit.
+pub(crate) fn framed_within(
+    alloc: Global,
+    limits: &Limits,
+    message: &Outgoing,
+) -> Result<Vec<u8>, StoreFault>
+    ensures ok { IfOk result (λ bytes. bytes.items ≡ frame (body_of (outgoing_view message.now))) }
+    ensures within { OnOk result
+        (body_refusal limits.now (body_of (outgoing_view message.now)) ≡ None) }
+    ensures error { IfErr result
+        (IsRefusal (body_refusal limits.now (body_of (outgoing_view message.now)))) }
+{
+    let body = write(alloc, message)?;
+    Ok(encode(alloc, limits, &body)?)
+}
