@@ -26,9 +26,9 @@ use Rattle.lsp_pair.proofs.SaidLemmas as lemmas
 use Rattle.lsp_pair.proofs.SaidLemmas.{IsSaid, sent_short, done_by, IsServedAs}
 use Rattle.lsp_pair.proofs.LifeLemmas.{last_result, short_initialize, short_initialized, short_shutdown, short_exit}
 use Rattle.lsp_pair.proofs.ListLemmas.{next_is, length_more}
-use Rattle.lsp_pair.proofs.Shapes.{the_encoding, the_kind, AreSaid, said_there, said_front, said_held, Shape, fresh, asking, answered, down, closed, leaving, left, working, closing, client_at, server_at, agreed_at, encoding_at, there_at, here_at, IsBusy, IsBusyShape, AtShape, WorldSound}
+use Rattle.lsp_pair.proofs.Shapes.{the_encoding, the_kind, AreSaid, said_there, said_front, said_within, Shape, fresh, asking, answered, down, closed, leaving, left, working, closing, client_at, server_at, agreed_at, encoding_at, there_at, here_at, IsBusy, IsBusyShape, AtShape, WorldSound}
 
--- the body in which a message is written, where the client held this table when it said it
+-- the body in which a message is written, where the client kept this table when it said it
 abbrev pub body_on : SyncKind → List Entry → ClientMessage → List ℕ
 body_on kind table (commands command) = sent_body kind table command
 body_on kind table (lifecycle m) = body_of m
@@ -98,9 +98,9 @@ module _ (setting : Setting) (sound : IsSound setting) (w : World) where
       → IsServedAs (server_of setting w) (the_kind setting) command
   command_done shape command rest at e running counts =
       let front : AreSaid setting [] (take w.out_delivered w.out) = said_front setting [] w.out_delivered w.out at.said in
-      let held : AllWithin setting.limits (server_of setting w).table = said_held setting (take w.out_delivered w.out) front in
+      let kept : AllWithin setting.limits (server_of setting w).table = said_within setting (take w.out_delivered w.out) front in
       let all : AreSaid setting (server_of setting w).table (commands command ∷ rest) = subst (AreSaid setting (server_of setting w).table) e (said_there setting [] w.out_delivered w.out at.said) in
-      lemmas.command_served setting.limits setting.config.limits (the_encoding setting) (the_kind setting) (server_of setting w) sound.ranges sound.within refl (at.server_is ∙ running) (at.encoding_is ∙ counts) held command all.0
+      lemmas.command_served setting.limits setting.config.limits (the_encoding setting) (the_kind setting) (server_of setting w) sound.ranges sound.within refl (at.server_is ∙ running) (at.encoding_is ∙ counts) kept command all.0
 
   command_short : (shape : Shape) (command : Command) (rest : List ClientMessage) → AtShape setting w shape → waiting_out w ≡ commands command ∷ rest
       → length (sent_body (the_kind setting) (server_of setting w).table command) ≤ setting.limits.max_body
@@ -108,7 +108,7 @@ module _ (setting : Setting) (sound : IsSound setting) (w : World) where
       let all : AreSaid setting (server_of setting w).table (commands command ∷ rest) = subst (AreSaid setting (server_of setting w).table) e (said_there setting [] w.out_delivered w.out at.said) in
       sent_short setting.limits (the_kind setting) (server_of setting w).table command all.0.may
 
-  -- what waits while documents are told
+  -- what waits while documents are sent
   busy_arrives : (shape next : Shape) (said : ClientMessage) (rest : List ClientMessage) → AtShape setting w shape → IsBusy said → there_at setting shape ≡ said ∷ rest
       → server_at shape ≡ Running → encoding_at setting shape ≡ Some (the_encoding setting)
       → IsBusyShape next → client_at shape ≡ client_at next → agreed_at setting shape ≡ agreed_at setting next

@@ -1,4 +1,4 @@
--- A whole frame that is fed is held whole.
+-- A whole frame that is fed is buffered whole.
 use Rattle.std.proofs.Common.{ℕ, zero, suc, ◌≡◌, get_or, ◌≤◌, ◌<◌, List, [], ◌∷◌, length, take, drop, refl, sym, ap, subst, arith, ⊎_elim}
 use Rattle.std.proofs.lemmas.Bool.{cases_lt}
 use Rattle.std.proofs.lemmas.List.{take-append-drop, length-drop}

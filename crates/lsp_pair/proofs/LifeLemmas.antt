@@ -1,4 +1,4 @@
--- What both ends make of the messages that tell no command, and how long these are.
+-- What both ends make of the messages of the lifecycle, and how long these are.
 use Rattle.std.proofs.Common.{ℕ, ◌≡◌, ◌≤◌, Bool, true, false, List, [], ◌++◌, length, refl, sym, ◌∙◌, subst, arith, pos}
 use Rattle.std.proofs.lemmas.List.{append-nil}
 use Rattle.json.specs.Print.{escape_byte}
@@ -61,9 +61,9 @@ short_last = let e : length (body_of last_result) ≡ 38 = refl in omega (arith,
 
 -- ---- frames
 
--- A written frame within the limit spells one body, its own.
-pub spelled_one : (max_body : ℕ) (bytes body other : List ℕ) → bytes ≡ frame body → length body ≤ max_body → max_body ≤ 1073741824 → Spells max_body bytes other → other ≡ body
-spelled_one max_body bytes body other is short small spells =
+-- A written frame within the limit has one body, its own.
+pub one_body : (max_body : ℕ) (bytes body other : List ℕ) → bytes ≡ frame body → length body ≤ max_body → max_body ≤ 1073741824 → Spells max_body bytes other → other ≡ body
+one_body max_body bytes body other is short small spells =
     let own : Spells max_body (frame body) body = written_spells max_body body short (omega (arith, short, small)) in
     let here : Spells max_body (frame body ++ []) other = subst (λ (b : List ℕ). Spells max_body b other) (is ∙ sym (append-nil (frame body))) spells in
     sym (spelling_law max_body (frame body) [] body other own here).1

@@ -1,4 +1,4 @@
--- Messages that wait, and the tables before and behind them.
+-- Messages that wait, and the tables before and after them.
 use Rattle.std.proofs.Common.{ℕ, zero, suc, ◌≡◌, ◌≤◌, ◌<◌, ◌+◌, List, [], ◌∷◌, ◌++◌, length, map, take, drop, add-one, Some, None, refl, sym, ap, ◌∙◌, arith}
 use Rattle.std.specs.Prelude.{slice_get}
 use Rattle.std.proofs.lemmas.List.{length-append, take-append-drop}
@@ -8,7 +8,7 @@ use Rattle.lsp_store.specs.Table.{Entry, Command, table_after, table_from}
 use Rattle.lsp_pair.specs.World.{ClientMessage, commands, lifecycle, commands_in}
 use Rattle.lsp_pair.specs.Pair.{message_frame, frame_of, table_with, frames_from}
 
--- ---- what stands at a place of a list
+-- ---- what is at an index of a list
 
 -- the first of what is dropped to
 pub record IsNext {X : Type 0} (xs : List X) (n : ℕ) (x : X) (rest : List X) : Type 0 where
@@ -56,31 +56,31 @@ pub from-append : (table : List Entry) (xs ys : List Command) → table_from tab
 from-append table [] ys = refl
 from-append table (command ∷ xs) ys = from-append (table_after table command) xs ys
 
--- the table behind what was said, on a table
+-- the table after messages, on a table
 abbrev pub table_after_all : List Entry → List ClientMessage → List Entry
 table_after_all table said = table_from table (commands_in said)
 
-pub behind-append : (table : List Entry) (xs ys : List ClientMessage) → table_after_all table (xs ++ ys) ≡ table_after_all (table_after_all table xs) ys
-behind-append table xs ys = ap (table_from table) (commands-append xs ys) ∙ from-append table (commands_in xs) (commands_in ys)
+pub after-append : (table : List Entry) (xs ys : List ClientMessage) → table_after_all table (xs ++ ys) ≡ table_after_all (table_after_all table xs) ys
+after-append table xs ys = ap (table_from table) (commands-append xs ys) ∙ from-append table (commands_in xs) (commands_in ys)
 
-pub behind_past : (table : List Entry) (said : ClientMessage) → table_after_all table (said ∷ []) ≡ table_with table said
-behind_past table (commands command) = refl
-behind_past table (lifecycle m) = refl
+pub after_one : (table : List Entry) (said : ClientMessage) → table_after_all table (said ∷ []) ≡ table_with table said
+after_one table (commands command) = refl
+after_one table (lifecycle m) = refl
 
 pub after-last : (table : List Entry) (xs : List ClientMessage) (said : ClientMessage) → table_after_all table (xs ++ said ∷ []) ≡ table_with (table_after_all table xs) said
-after-last table xs said = behind-append table xs (said ∷ []) ∙ behind_past (table_after_all table xs) said
+after-last table xs said = after-append table xs (said ∷ []) ∙ after_one (table_after_all table xs) said
 
--- what is said beside commands changes no table
+-- messages of the lifecycle change no table
 pub quiet : (table : List Entry) (xs : List ClientMessage) (ms : List OutgoingData) → table_after_all table (xs ++ map lifecycle ms) ≡ table_after_all table xs
-quiet table xs ms = behind-append table xs (map lifecycle ms) ∙ none (table_after_all table xs) ms
+quiet table xs ms = after-append table xs (map lifecycle ms) ∙ none (table_after_all table xs) ms
   where
     none : (table : List Entry) (ms : List OutgoingData) → table_after_all table (map lifecycle ms) ≡ table
     none table [] = refl
     none table (m ∷ ms) = none table ms
 
--- the table behind what arrived, and behind what waits
+-- the table after what was delivered, and after what waits
 pub whole_after : (table : List Entry) (n : ℕ) (xs : List ClientMessage) → table_after_all (table_after_all table (take n xs)) (drop n xs) ≡ table_after_all table xs
-whole_after table n xs = sym (behind-append table (take n xs) (drop n xs)) ∙ ap (table_after_all table) (take-append-drop n xs)
+whole_after table n xs = sym (after-append table (take n xs) (drop n xs)) ∙ ap (table_after_all table) (take-append-drop n xs)
 
 -- ---- frames
 

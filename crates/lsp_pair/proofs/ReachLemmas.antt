@@ -78,7 +78,7 @@ reached_hears pair r =
     subst (λ (p : PairData). HoldsOfFirst p.to_client (λ first. IsFrame p.client.limits.max_body first × (is_listening p.client.phase ≡ true))) (sym r.at.is)
     (first_heard r.setting r.sound w ok (waiting_back w) (here_returns r.setting r.sound w ok))
 
--- ---- a step that may want memory
+-- ---- a step that may run out of memory
 
 pub reach_or_same : {A E : Type 0} (view : A → HappenedData) (old new : PairData) (event : EventData) (result : Result A E) → IsProperEvent event → IsReached old
     → IfOk result (λ a. IsStep old event (view a) new) → OnErr result (new ≡ old) → IsReached new
@@ -96,7 +96,7 @@ pub at_if : {A E : Type 0} (view : A → HappenedData) (old new : PairData) (eve
 at_if view old new event (Ok a) proper steps = λ setting events sound at. steps_at setting sound old new events event (view a) proper at steps
 at_if view old new event (Err e) proper steps = tt
 
--- what is left of a delivery that wants memory
+-- what is left of a delivery that ran out of memory
 pub same_at_server : {A E : Type 0} (c : client.State) (s t : server.State) (q p b d : List (List ℕ)) (result : Result A E) → OnErr result ((t ≡ s) × (p ≡ q) × (d ≡ b))
     → OnErr result (both_ends c t p d ≡ both_ends c s q b)
 same_at_server c s t q p b d (Ok a) same = tt

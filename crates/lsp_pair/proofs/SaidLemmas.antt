@@ -1,4 +1,4 @@
--- What a server makes of the messages that tell commands.
+-- What a server makes of the messages of commands.
 use Rattle.std.proofs.Common.{ℕ, ℤ, ◌≡◌, ◌≤◌, true, false, List, [], ◌∷◌, length, map, FitsSigned, IsUtf8, encode_utf8_all, Option, Some, None, Ok, refl, sym, ap, ◌∙◌, subst, arith, ⊎_elim, nat_lt, w32}
 use Rattle.std.specs.Str.{chars}
 use Rattle.std.proofs.lemmas.Bool.{cases_Bool, ltb-false}
@@ -75,13 +75,13 @@ pub sent_short : (limits : Bounds) (kind : SyncKind) (table : List Entry) (comma
 sent_short limits kind table command e =
     body_short limits (sent_body kind table command) (later_none (command_refusal limits table command) (body_refusal limits (sent_body kind table command)) e)
 
--- ---- the batch that is told
+-- ---- the batch that is sent
 
--- what holds of the batch that is told in place of one that was accepted
-pub record IsSentBatch (small great : Bounds) (encoding : Encoding) (table : List Entry) (uri : List ℕ) (version : ℤ) (batch told : List Edit) : Type 0 where
-  pub done : IsReplacedBy great (units_in encoding) table uri version batch told
-  pub texts : AreTexts told
-  pub proper_message : IsProper (change_message uri version told)
+-- what is true of the batch that is sent in place of one that was accepted
+pub record IsSentBatch (small great : Bounds) (encoding : Encoding) (table : List Entry) (uri : List ℕ) (version : ℤ) (batch other_batch : List Edit) : Type 0 where
+  pub done : IsReplacedBy great (units_in encoding) table uri version batch other_batch
+  pub texts : AreTexts other_batch
+  pub proper_message : IsProper (change_message uri version other_batch)
 
 whole_proper : (uri : List ℕ) (version : ℤ) (bytes : List ℕ) → IsUtf8 uri → FitsSigned w32 version → IsUtf8 bytes → IsProper (change_message uri version (record { range = None; text = chars bytes } ∷ []))
 whole_proper uri version bytes u v b =
@@ -91,12 +91,12 @@ whole_proper uri version bytes u v b =
     }
 
 module _ (small great : Bounds) (encoding : Encoding) (table : List Entry) (uri : List ℕ) (version : ℤ) (batch : List Edit) (ranges : AreInRange small) (within : AreWithin small great)
-    (held : AllWithin small table) (edits : IsProperEdits uri version batch) (may : change_refusal small (units_in encoding) table uri version batch ≡ None) where
+    (kept : AllWithin small table) (edits : IsProperEdits uri version batch) (may : change_refusal small (units_in encoding) table uri version batch ≡ None) where
   parts : MayChange small (units_in encoding) table uri version batch
   parts = change_parts small (units_in encoding) table uri version batch may
 
-  entry_held : IsWithin small parts.entry
-  entry_held = within_at small table uri parts.entry held parts.is_open
+  entry_within : IsWithin small parts.entry
+  entry_within = within_at small table uri parts.entry kept parts.is_open
 
   laws : (some : List Edit) (items : List Item) → meaning (units_in encoding) (chars parts.entry.text) some ≡ Ok items → IsCanonical (units_in encoding) (chars parts.entry.text) some items
   laws some items means = canonical_law (units_in encoding) (units_some encoding) (chars parts.entry.text) some items means
@@ -112,21 +112,21 @@ module _ (small great : Bounds) (encoding : Encoding) (table : List Entry) (uri 
     done = canonical_batch_law small great encoding table uri version batch ranges within may;
     texts =
         subst AreTexts (sym canonical_is)
-        (canonical_texts (units_in encoding) (chars parts.entry.text) batch parts_accepts.items (laws batch parts_accepts.items parts_accepts.means) (scalars-chars parts.entry.text entry_held.utf8) edits.texts parts_accepts.means);
+        (canonical_texts (units_in encoding) (chars parts.entry.text) batch parts_accepts.items (laws batch parts_accepts.items parts_accepts.means) (scalars-chars parts.entry.text entry_within.utf8) edits.texts parts_accepts.means);
     proper_message =
         subst (λ (b : List Edit). IsProper (change_message uri version b)) (sym canonical_is)
-        (proper small encoding table uri version parts.entry parts.is_open laws edits.name edits.fits entry_held.utf8 (omega (arith, entry_held.short, ranges.greatest_text)) body_of-unique batch parts_accepts.items edits.texts parts_accepts.means);
+        (proper small encoding table uri version parts.entry parts.is_open laws edits.name edits.fits entry_within.utf8 (omega (arith, entry_within.short, ranges.greatest_text)) body_of-unique batch parts_accepts.items edits.texts parts_accepts.means);
   }
 
   left : IsWithin small (changed (units_in encoding) parts.entry version batch)
-  left = within_changed small (units_in encoding) parts.entry version batch edits.texts entry_held parts.may
+  left = within_changed small (units_in encoding) parts.entry version batch edits.texts entry_within parts.may
 
   whole_is : whole_batch (units_in encoding) table uri version batch ≡ record { range = None; text = chars (changed (units_in encoding) parts.entry version batch).text } ∷ []
   whole_is = ap whole_text (found_changed (units_in encoding) table uri version batch parts.entry parts.is_open)
 
   whole_sent : IsSentBatch small great encoding table uri version batch (whole_batch (units_in encoding) table uri version batch)
   whole_sent = record {
-    done = whole_text_law small great encoding table uri version batch ranges within held edits.texts may;
+    done = whole_text_law small great encoding table uri version batch ranges within kept edits.texts may;
     texts = subst AreTexts (sym whole_is) (scalars-chars (changed (units_in encoding) parts.entry version batch).text left.utf8, tt);
     proper_message =
         subst (λ (b : List Edit). IsProper (change_message uri version b)) (sym whole_is)
@@ -182,7 +182,7 @@ pub record IsServedAs (s : State) (kind : SyncKind) (command : Command) : Type 0
   pub given : step_on s (incoming_of (commands command)) ≡ done_by s (table_after s.table command)
 
 module _ (small great : Bounds) (encoding : Encoding) (kind : SyncKind) (s : State) (ranges : AreInRange small) (within : AreWithin small great)
-    (limits_are : s.config.limits ≡ great) (running : s.phase ≡ Running) (counts : s.encoding ≡ Some encoding) (held : AllWithin small s.table) where
+    (limits_are : s.config.limits ≡ great) (running : s.phase ≡ Running) (counts : s.encoding ≡ Some encoding) (kept : AllWithin small s.table) where
   accepted_here : (command : Command) → command_refusal great s.table command ≡ None → command_refusal s.config.limits s.table command ≡ None
   accepted_here command e = ap (λ (limits : Bounds). command_refusal limits s.table command) limits_are ∙ e
 
@@ -223,10 +223,10 @@ module _ (small great : Bounds) (encoding : Encoding) (kind : SyncKind) (s : Sta
   unfolding sent_body
   change_served uri version batch is may =
       let accepted : change_refusal small (units_in encoding) s.table uri version batch ≡ None = may_command small kind s.table (changes uri version encoding batch) may in
-      let t = batch_sent small great encoding s.table uri version batch ranges within held is accepted kind in
-      let told : List Edit = sent_batch kind (units_in encoding) s.table uri version batch in
+      let t = batch_sent small great encoding s.table uri version batch ranges within kept is accepted kind in
+      let other_batch : List Edit = sent_batch kind (units_in encoding) s.table uri version batch in
       record {
-        written = ap (step_on s) (read_change (record { uri = uri; version = version; changes = map written_edit told }) t.proper_message) ∙ change_done uri version batch told t.texts t.done;
+        written = ap (step_on s) (read_change (record { uri = uri; version = version; changes = map written_edit other_batch }) t.proper_message) ∙ change_done uri version batch other_batch t.texts t.done;
         given =
             change_done uri version batch batch is.texts
             (record { accepted = greater_limits_law small great s.table (changes uri version encoding batch) within accepted; leaves = refl });

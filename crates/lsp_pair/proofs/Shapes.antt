@@ -1,4 +1,4 @@
--- Where both ends of a session stand, and which messages wait then.
+-- The shapes of a session: the phases of both ends, and which messages wait.
 use Rattle.std.proofs.Common.{ℕ, ◌≡◌, ◌≤◌, List, [], ◌∷◌, ◌++◌, length, map, take, drop, Option, Some, None, sym, subst, arith}
 use Rattle.std.specs.Prelude.{⊤}
 use Rattle.std.proofs.lemmas.List.{take-append-drop}
@@ -68,21 +68,21 @@ has_texts encoding (opens entry) p = p.text
 has_texts encoding (changes uri version other batch) p = p.0.texts
 has_texts encoding (closes uri) p = tt
 
--- the documents behind what was said are texts within the limit
+-- the documents after what was said are texts within the limit
 said_kept : (setting : Setting) (table : List Entry) (xs : List ClientMessage) → AllWithin setting.limits table → length table ≤ setting.limits.max_docs → AreSaid setting table xs
     → AllWithin setting.limits (table_after_all table xs)
-said_kept setting table [] held many p = held
-said_kept setting table (commands command ∷ xs) held many p =
-    let next = within_law setting.limits table command held many (has_texts (the_encoding setting) command p.0.proper) (may_command setting.limits (the_kind setting) table command p.0.may) in
+said_kept setting table [] kept many p = kept
+said_kept setting table (commands command ∷ xs) kept many p =
+    let next = within_law setting.limits table command kept many (has_texts (the_encoding setting) command p.0.proper) (may_command setting.limits (the_kind setting) table command p.0.may) in
     said_kept setting (table_after table command) xs next.0 next.1 p.1
-said_kept setting table (lifecycle m ∷ xs) held many p = said_kept setting table xs held many p.1
+said_kept setting table (lifecycle m ∷ xs) kept many p = said_kept setting table xs kept many p.1
 
-pub said_held : (setting : Setting) (xs : List ClientMessage) → AreSaid setting [] xs → AllWithin setting.limits (table_after_all [] xs)
-said_held setting xs p = said_kept setting [] xs tt (omega arith) p
+pub said_within : (setting : Setting) (xs : List ClientMessage) → AreSaid setting [] xs → AllWithin setting.limits (table_after_all [] xs)
+said_within setting xs p = said_kept setting [] xs tt (omega arith) p
 
--- ---- where both ends stand
+-- ---- the phases of both ends
 
--- Nothing was said; `initialize` waits; its result waits; documents are told; `shutdown` waits behind them; its result waits; it came;
+-- Nothing was said; `initialize` waits; its result waits; documents are sent; `shutdown` waits after them; its result waits; it came;
 -- `exit` waits; it came.
 pub data Shape : Type 0 where
   fresh asking answered down closed leaving left : Shape

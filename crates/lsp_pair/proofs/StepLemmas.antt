@@ -1,4 +1,4 @@
--- A step of a pair at a world leaves it at the world behind the event.
+-- A step of a pair at a world leaves it at the world after the event.
 use Rattle.std.proofs.Common.{ℕ, ◌≡◌, List, [], ◌∷◌, ◌++◌, map, take, drop, Result, Ok, Err, refl, sym, ap, ◌∙◌, subst, arith}
 use Rattle.std.proofs.lemmas.List.{drop-append-le, take-append-le, map-append}
 use Rattle.lsp_frame.specs.Frame.{frame}
@@ -13,7 +13,7 @@ use Rattle.lsp_pair.specs.World.{Setting, ClientMessage, commands, lifecycle, Wo
 use Rattle.lsp_pair.specs.Pair.{PairData, new_pair, message_frame, frame_of, table_with, frames_from, IsSound, waiting_out, waiting_back, pair_of, IsAt, IsReached, IsCallStep, IsServerStep, IsClientStep, IsDeliveryStep, IsStep}
 use Rattle.lsp_pair.specs.Usual.{IsUsualTurn, HaveOneEncoding}
 use Rattle.lsp_pair.specs.At.{IsStepAt}
-use Rattle.lsp_pair.proofs.LifeLemmas.{spelled_one}
+use Rattle.lsp_pair.proofs.LifeLemmas.{one_body}
 use Rattle.lsp_pair.proofs.ListLemmas.{table_after_all, after-last, quiet, whole_after, frames-append, frames_said, next_is}
 use Rattle.lsp_pair.proofs.Shapes.{the_kind, WorldSound}
 use Rattle.lsp_pair.proofs.ArriveLemmas.{Arrives, Arrivals, body_on}
@@ -26,7 +26,7 @@ unfolding sent_body
 frame_on kind table (commands command) = refl
 frame_on kind table (lifecycle m) = refl
 
--- what happens is what a turn says, and the pair is that of its world
+-- what happens is what a turn has, and the pair is that of its world
 pub record AsTurn (setting : Setting) (t : Turn) (happened : HappenedData) (new : PairData) : Type 0 where
   pub happens : happened ≡ t.happened
   pub leaves : new ≡ pair_of setting t.world
@@ -93,7 +93,7 @@ module _ (setting : Setting) (sound : IsSound setting) (w : World) (ok : WorldSo
   server_step (said ∷ rest) e a happened new steps =
       let within = sound.within.body in
       let body : steps.body ≡ body_on kind (server_of setting w).table said =
-      spelled_one setting.config.limits.max_body (frame_of kind (server_of setting w).table said) (body_on kind (server_of setting w).table said) steps.body
+      one_body setting.config.limits.max_body (frame_of kind (server_of setting w).table said) (body_on kind (server_of setting w).table said) steps.body
       (frame_on kind (server_of setting w).table said) (omega (arith, a.short, within)) sound.great.greatest_body steps.framed in
       let does : server.step (server_of setting w) (reading steps.body) ≡ a.step_is = ap (λ (b : List ℕ). server.step (server_of setting w) (reading b)) body ∙ a.written in
       subst (λ (t : Turn). AsTurn setting t happened new) (sym (served_turn setting sound w ok said rest e a)) (record {
@@ -128,7 +128,7 @@ module _ (setting : Setting) (sound : IsSound setting) (w : World) (ok : WorldSo
       → AsTurn setting (turn setting w to_client) happened new
   client_step [] e r happened new steps = subst (λ (t : Turn). AsTurn setting t happened new) (sym (quiet_here setting sound w ok e)) (record { happens = steps.0; leaves = steps.1 })
   client_step (m ∷ rest) e r happened new steps =
-      let body : steps.body ≡ body_of m = spelled_one setting.limits.max_body (message_frame m) (body_of m) steps.body refl r.short sound.ranges.greatest_body steps.framed in
+      let body : steps.body ≡ body_of m = one_body setting.limits.max_body (message_frame m) (body_of m) steps.body refl r.short sound.ranges.greatest_body steps.framed in
       let does : delivery_of (client_of setting w) (reading steps.body) ≡ r.delivery_is = ap (λ (b : List ℕ). delivery_of (client_of setting w) (reading b)) body ∙ r.written in
       subst (λ (t : Turn). AsTurn setting t happened new) (sym (heard_turn setting sound w ok m rest e r)) (record {
         happens = steps.happens ∙ ap (λ (h : Delivery). client_heard (without_message h.delivered)) does;

@@ -45,7 +45,7 @@ abbrev pub frames_in_answer : AnswerData Sent → List (List ℕ)
 frames_in_answer (reply r) = r.frame ∷ []
 frames_in_answer a = []
 
--- what a delivery gives to the client with its frame taken out, and that frame
+-- what a delivery is to the client with its frame taken out, and that frame
 abbrev pub without_bytes : DeliveredData (List ℕ) → DeliveredData (Unit {0})
 without_bytes (client.sends bytes) = client.sends tt
 without_bytes client.noted = client.noted

@@ -1,4 +1,4 @@
--- What the types of `src/` stand for.
+-- What the types of `src/` are in the definitions.
 use Rattle.std.specs.Prelude.{ℕ, List, map, string_bytes}
 use Rattle.std.specs.declared.alloc.Global.{Global}
 use Rattle.std.specs.Prelude.{Vec}

@@ -121,7 +121,7 @@ abbrev pub replies_in : AnswerData OutgoingData → List OutgoingData
 replies_in (answer.reply m) = m ∷ []
 replies_in a = []
 
--- what a delivery gives to the client, and the message in it
+-- what a delivery is to the client, and the message in it
 abbrev pub without_message : DeliveredData OutgoingData → DeliveredData (Unit {0})
 without_message (client.sends m) = client.sends tt
 without_message client.noted = client.noted

@@ -16,10 +16,10 @@ pub unreachable-requires : goal.unreachable-requires
 unreachable-requires c =
     let whole = first_there (λ first. IsFrame c.args.server.now.config.limits.max_body first × (c.args.server.now.phase ≢ Ended)) c.args.queue.now.items c.in-Some.first.now c.in-Some.ensures.item.3.0 c.in-Some.ensures.lookup c.requires in
     let limits : c.in_ok-framer.framer.limits ≡ c.args.server.now.config.limits = c.in_ok-framer.ensures.2 ∙ (c.limits.ensures ∙ ap (λ (d : StoreData). d.limits) c.store.ensures) in
-    let held = c.in_ok-framer.ensures.0 ∙ c.deref.ensures.value in
+    let kept = c.in_ok-framer.ensures.0 ∙ c.deref.ensures.value in
     c.in_default-body.ensures c.in_ok-framer.ensures.1 whole.0.body
     (subst (λ (l : Bounds). Spells l.max_body c.in_ok-framer.framer.held whole.0.body) (sym limits)
-    (subst (λ (b : List ℕ). Spells c.args.server.now.config.limits.max_body b whole.0.body) (sym held) whole.0.spells))
+    (subst (λ (b : List ℕ). Spells c.args.server.now.config.limits.max_body b whole.0.body) (sym kept) whole.0.spells))
 
 pub returns-clause-step : goal.returns-clause-step
 returns-clause-step c client =
