@@ -1,17 +1,70 @@
 -- What is sent for a command, and why a command is refused.
-use Rattle.std.proofs.Common.{◌≡◌, List, ℕ, Option, Some, None, Result, Ok, Err, option_map, refl, sym, ap, subst, ⊎_elim, inl, inr}
+use Rattle.std.proofs.Common.{◌≡◌, ◌≢◌, ℕ, ℤ, List, Option, Some, None, Result, Ok, Err, refl, sym, ap, ◌∙◌, subst, ⊎_elim, inl, inr}
 use Rattle.lsp_frame.specs.Frame.{frame}
+use Rattle.lsp_frame.specs.Limits.{Bounds}
+use Rattle.lsp_text.specs.declared.encoding.Encoding.{Encoding}
+use Rattle.lsp_text.specs.Units.{units_in}
+use Rattle.lsp_edit.specs.Batch.{Edit}
+use Rattle.lsp_message.specs.declared.agreement.SyncKind.{SyncKind}
+use Rattle.lsp_message.specs.declared.agreement.SyncKind.TheVariants.{Off, Full, Incremental}
 use Rattle.lsp_message.specs.Outgoing.{body_of}
 use Rattle.lsp_store.specs.declared.fault.StoreFault.{StoreFault}
 use Rattle.lsp_store.specs.declared.fault.StoreFault.TheVariants as faults
 use Rattle.lsp_store.specs.Faults as documents
 use Rattle.lsp_store.specs.Faults.{IsRefusal}
-use Rattle.lsp_store.specs.Table as table
+use Rattle.lsp_store.specs.Message.{else_refused, body_refusal, change_body, canonical_batch, canonical_body}
+use Rattle.lsp_store.specs.Table as documents_table
+use Rattle.lsp_store.specs.Table.{Entry, already_open, too_many_documents, text_too_long, not_open, too_many_changes, stale_version, edit, body_too_long, changes, command_refusal, table_after}
+use Rattle.lsp_client.specs.declared.fault.ClientFault.{ClientFault}
 use Rattle.lsp_client.specs.declared.fault.ClientFault.TheVariants.{NoMemory, Store}
-use Rattle.lsp_client.specs.Step.{State, Sending, Refusal, store, unless_refused}
+use Rattle.lsp_client.specs.Step.{State, Sending, Refusal, store, message_of, sent_body, order_refusal, unless_refused, command_result}
 use Rattle.lsp_client.specs.Seen.{IsFaultOf, IsSent, client_fault, fault_of}
 
--- A command can always run out of memory.
-pub no_memory : (refusal : Option table.Refusal) (sending : Sending) → IsFaultOf (unless_refused refusal sending) NoMemory
-no_memory None sending = refl
-no_memory (Some refusal) sending = inl refl
+-- ---- refusals
+
+-- A refusal of the store is a refusal of the client, with the store's fault.
+fault_kept : (refusal : documents_table.Refusal) → client_fault (documents.fault_of refusal) ≡ fault_of (store refusal)
+fault_kept already_open = refl
+fault_kept too_many_documents = refl
+fault_kept text_too_long = refl
+fault_kept not_open = refl
+fault_kept too_many_changes = refl
+fault_kept (stale_version current) = refl
+fault_kept (edit number why) = refl
+fault_kept (body_too_long len) = refl
+
+some_same : {A : Type 0} (a b : A) → Some a ≡ Some b → a ≡ b
+some_same a b e = cc
+
+-- The client's fault for what the store refuses.
+pub refused : (refusal : Option documents_table.Refusal) (sending : Sending) (fault : StoreFault) → IsRefusal refusal fault → IsFaultOf (unless_refused refusal sending) (client_fault fault)
+refused None sending fault why = ⊎_elim (λ (e : fault ≡ faults.NoMemory). rw e refl) (λ (e : None ≡ Some fault). absurd (cc)) why
+refused (Some refusal) sending fault why =
+    ⊎_elim (λ (e : fault ≡ faults.NoMemory). inl (rw e refl))
+    (λ (e : Some (documents.fault_of refusal) ≡ Some fault). inr (ap client_fault (sym (some_same (documents.fault_of refusal) fault e)) ∙ fault_kept refusal)) why
+
+-- What is refused first is refused.
+pub refused_first : (first later : Option documents_table.Refusal) (fault : StoreFault) → IsRefusal first fault → IsRefusal (else_refused first later) fault
+refused_first (Some refusal) later fault why = why
+refused_first None later fault why = ⊎_elim (λ (e : fault ≡ faults.NoMemory). inl e) (λ (e : None ≡ Some fault). absurd (cc)) why
+
+pub refused_later : (first later : Option documents_table.Refusal) (fault : StoreFault) → first ≡ None → IsRefusal later fault → IsRefusal (else_refused first later) fault
+refused_later first later fault none why = rw none why
+
+-- ---- what is sent
+
+-- A command that is not refused sends its message.
+pub sent_if : (s : State) (kind : SyncKind) (command : documents_table.Command) (bytes : List ℕ) (new : State)
+    → command_refusal s.limits s.table command ≡ None → body_refusal s.limits (sent_body kind s.table command) ≡ None
+    → bytes ≡ frame (sent_body kind s.table command) → new ≡ record s { table = table_after s.table command }
+    → IsSent (command_result s kind command) bytes new
+unfolding sent_body
+sent_if s kind command bytes new may within framed state = rw (may, within) (framed, state)
+
+-- Under any kind but Full the canonical batch is sent.
+pub canonical_sent : (kind : SyncKind) (table : List Entry) (uri : List ℕ) (version : ℤ) (encoding : Encoding) (batch : List Edit) → kind ≢ Full
+    → sent_body kind table (changes uri version encoding batch) ≡ canonical_body (units_in encoding) table uri version batch
+unfolding change_body sent_body
+canonical_sent Full table uri version encoding batch not = absurd (not refl)
+canonical_sent Incremental table uri version encoding batch not = refl
+canonical_sent Off table uri version encoding batch not = refl

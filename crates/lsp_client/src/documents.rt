@@ -1,18 +1,21 @@
 //! The calls on the open documents.
 
-ghost use Rattle.std.specs.Prelude.{◌≡◌, ◌≢◌, IfErr, IfOk, OnErr, map};
-ghost use Rattle.lsp_edit.specs.Edited.{edit_of};
+ghost use Rattle.std.specs.Prelude.{◌≡◌, ◌≢◌, IfErr, IfOk, OnErr, Some};
 ghost use Rattle.lsp_message.specs.declared.agreement.SyncKind.TheVariants.{Full};
-ghost use Rattle.lsp_store.specs.Table.{changes as changing};
-ghost use Rattle.lsp_client.specs.Step.{call_result, command_result, order_result, orders, closes};
+ghost use Rattle.lsp_message.specs.declared.outgoing.Outgoing.TheVariants.{DidOpen};
+ghost use Rattle.lsp_message.specs.declared.params.OpenParams.{OpenParams};
+ghost use Rattle.lsp_client.specs.Step.{agreement, call_result, order_result, orders, closes};
 ghost use Rattle.lsp_client.specs.Seen.{IsSent, IsFaultOf, open_order, edit_order};
+ghost use Rattle.lsp_client.specs.inside.Orders.{IsOrderFault};
 
 use crate::agreed::Agreed;
 use crate::client::Client;
 use crate::fault::ClientFault;
+use crate::framed::framed_within;
 use crate::phase::Phase;
 use lsp_edit::Change;
-use lsp_message::SyncKind;
+use lsp_message::{CloseParams, OpenParams, Outgoing, SyncKind};
+use lsp_store::StoreFault;
 use lsp_text::Encoding;
 
 impl Client {
@@ -35,7 +38,7 @@ impl Client {
             (IsFaultOf (call_result self.old (orders (open_order uri language version text)))) }
     {
         match self.phase {
-            Phase::Ready => self.send_open(uri, language, version, text),
+            Phase::Ready => Ok(self.send_open(uri, language, version, text)?),
             phase => Err(ClientFault::WrongPhase { phase }),
         }
     }
@@ -46,15 +49,28 @@ impl Client {
         language: String,
         version: i32,
         text: String,
-    ) -> Result<Vec<u8>, ClientFault>
+    ) -> Result<Vec<u8>, StoreFault>
         ensures ok { IfOk result (λ frame.
             IsSent (order_result self.old (open_order uri language version text))
             frame.items self.new) }
         ensures unchanged { OnErr result (self.new ≡ self.old) }
         ensures error { IfErr result
-            (IsFaultOf (order_result self.old (open_order uri language version text))) }
+            (IsOrderFault self.old (open_order uri language version text)) }
     {
-        Err(ClientFault::NoMemory)
+        self.store.may_open(&uri, &text)?;
+        let message = Outgoing::DidOpen(OpenParams {
+            uri,
+            language,
+            version,
+            text,
+        });
+        let frame = framed_within(self.alloc, &self.store.limits(), &message)?;
+        let Some(params) = open_params(message) else {
+            unreachable!()
+        };
+        self.store
+            .open(params.uri, params.language, params.version, params.text)?;
+        Ok(frame)
     }
 
     /// Changes a document (LSP 3.17, DidChangeTextDocument): the frame of one `textDocument/didChange`, which carries the canonical batch,
@@ -75,14 +91,10 @@ impl Client {
         ensures error { IfErr result
             (IsFaultOf (call_result self.old (orders (edit_order uri.now version changes.now)))) }
     {
-        let agreed = self.agreed.unwrap_or(Agreed {
-            encoding: Encoding::Utf16,
-            kind: SyncKind::Incremental,
-        });
         match self.phase {
-            Phase::Ready => match agreed.kind {
-                SyncKind::Full => self.send_whole(agreed.encoding, uri, version, changes),
-                kind => self.send_change(kind, agreed.encoding, uri, version, changes),
+            Phase::Ready => match self.agreement().kind {
+                SyncKind::Full => Ok(self.send_whole(uri, version, changes)?),
+                _ => Ok(self.send_change(uri, version, changes)?),
             },
             phase => Err(ClientFault::WrongPhase { phase }),
         }
@@ -91,43 +103,42 @@ impl Client {
     /// Changes a document, and sends the canonical batch.
     fn send_change(
         &mut self,
-        kind: SyncKind,
-        encoding: Encoding,
         uri: &str,
         version: i32,
         changes: &[Change],
-    ) -> Result<Vec<u8>, ClientFault>
-        requires { kind ≢ Full }
+    ) -> Result<Vec<u8>, StoreFault>
+        requires { (agreement self.old).kind ≢ Full }
         ensures ok { IfOk result (λ frame.
-            IsSent (command_result self.old kind
-            (changing uri.now version encoding (map edit_of changes.now)))
+            IsSent (order_result self.old (edit_order uri.now version changes.now))
             frame.items self.new) }
         ensures unchanged { OnErr result (self.new ≡ self.old) }
         ensures error { IfErr result
-            (IsFaultOf (command_result self.old kind
-            (changing uri.now version encoding (map edit_of changes.now)))) }
+            (IsOrderFault self.old (edit_order uri.now version changes.now)) }
     {
-        Err(ClientFault::NoMemory)
+        let encoding = self.agreement().encoding;
+        let frame = self
+            .store
+            .canonical_message(uri, version, encoding, changes)?;
+        self.store.change(uri, version, encoding, changes)?;
+        Ok(frame)
     }
 
     /// Changes a document, and sends the text that it has then.
     fn send_whole(
         &mut self,
-        encoding: Encoding,
         uri: &str,
         version: i32,
         changes: &[Change],
-    ) -> Result<Vec<u8>, ClientFault>
+    ) -> Result<Vec<u8>, StoreFault>
+        requires { (agreement self.old).kind ≡ Full }
         ensures ok { IfOk result (λ frame.
-            IsSent (command_result self.old Full
-            (changing uri.now version encoding (map edit_of changes.now)))
+            IsSent (order_result self.old (edit_order uri.now version changes.now))
             frame.items self.new) }
         ensures unchanged { OnErr result (self.new ≡ self.old) }
         ensures error { IfErr result
-            (IsFaultOf (command_result self.old Full
-            (changing uri.now version encoding (map edit_of changes.now)))) }
+            (IsOrderFault self.old (edit_order uri.now version changes.now)) }
     {
-        Err(ClientFault::NoMemory)
+        Err(StoreFault::NoMemory)
     }
 
     /// Closes a document (LSP 3.17, DidCloseTextDocument): the frame of `textDocument/didClose`. In phase Ready; else
@@ -141,17 +152,45 @@ impl Client {
         ensures error { IfErr result (IsFaultOf (call_result self.old (orders (closes uri.now)))) }
     {
         match self.phase {
-            Phase::Ready => self.send_close(uri),
+            Phase::Ready => Ok(self.send_close(uri)?),
             phase => Err(ClientFault::WrongPhase { phase }),
         }
     }
 
-    fn send_close(&mut self, uri: &str) -> Result<Vec<u8>, ClientFault>
+    fn send_close(&mut self, uri: &str) -> Result<Vec<u8>, StoreFault>
         ensures ok { IfOk result (λ frame.
             IsSent (order_result self.old (closes uri.now)) frame.items self.new) }
         ensures unchanged { OnErr result (self.new ≡ self.old) }
-        ensures error { IfErr result (IsFaultOf (order_result self.old (closes uri.now))) }
+        ensures error { IfErr result (IsOrderFault self.old (closes uri.now)) }
     {
-        Err(ClientFault::NoMemory)
+        let Some(_) = self.store.get(uri) else {
+            return Err(StoreFault::NotOpen);
+        };
+        let message = Outgoing::DidClose(CloseParams {
+            uri: String::from_str(self.alloc, uri)?,
+        });
+        let frame = framed_within(self.alloc, &self.store.limits(), &message)?;
+        self.store.close(uri)?;
+        Ok(frame)
+    }
+
+    /// What was agreed on; before phase Ready the protocol's default.
+    fn agreement(&self) -> Agreed
+        ensures { result ≡ agreement self.now }
+    {
+        self.agreed.unwrap_or(Agreed {
+            encoding: Encoding::Utf16,
+            kind: SyncKind::Incremental,
+        })
+    }
+}
+
+/// The params of a message that opens a document.
+fn open_params(message: Outgoing) -> Option<OpenParams>
+    ensures { (params : OpenParams) → message ≡ DidOpen params → result ≡ Some params }
+{
+    match message {
+        Outgoing::DidOpen(params) => Some(params),
+        _ => None,
     }
 }

@@ -1,0 +1,31 @@
+use Rattle.std.proofs.Common.{◌≡◌, ◌∙◌, ap, map, rules, w32, to_z, of_z}
+use Rattle.std.proofs.lemmas.Int.{to_z-of_z}
+use Rattle.std.proofs.lemmas.Result.{err_from_is_err_and}
+use Rattle.lsp_edit.specs.Edited.{edit_of}
+use Rattle.lsp_store.specs.Table as documents
+use Rattle.lsp_client.specs.Step.{State, agreement}
+use Rattle.lsp_client.proofs.SentLemmas.{order_sent, change_refused, change_within, change_framed}
+use Rattle.lsp_client.proofs.client.Client.send_change.Goals as goal
+
+pub returns-in_err-frame-clause-error : goal.returns-in_err-frame-clause-error
+returns-in_err-frame-clause-error c =
+    let s : State = c.args.self.now in
+    let version : to_z w32 (of_z w32 c.args.version) ≡ c.args.version = to_z-of_z w32 c.args.version (search rules) in
+    let p = err_from_is_err_and c.from_residual.result c.from_residual.ensures.1 in
+    rw (p.1, p.2)
+    (change_refused c.self.inside.store.limits c.self.inside.store.table s c.agreement-encoding.result c.args.uri.now c.args.version (map edit_of c.args.changes.now) c.in_err-frame.field-0.0
+    (ap (λ (x : State). x.limits) c.self.view_is) (ap (λ (x : State). x.table) c.self.view_is) c.agreement-encoding.ensures c.requires
+    (rw version at c.in_err-frame.ensures.told))
+
+pub returns-clause-ok : goal.returns-clause-ok
+returns-clause-ok c =
+    let s : State = c.args.self.now in
+    let version : to_z w32 (of_z w32 c.args.version) ≡ c.args.version = to_z-of_z w32 c.args.version (search rules) in
+    let limits = ap (λ (x : State). x.limits) c.self.view_is in
+    let table = ap (λ (x : State). x.table) c.self.view_is in
+    order_sent c.self.inside.offers c.self.inside.phase c.self.inside.agreed c.self.inside.store c.change.new.self s (agreement s).kind (documents.changes c.args.uri.now c.args.version (agreement s).encoding (map edit_of c.args.changes.now)) _
+    c.self.view_is (rw (version, c.agreement-encoding.ensures) at c.in_ok-change.ensures.taken)
+    (change_within c.self.inside.store.limits c.self.inside.store.table s c.agreement-encoding.result c.args.uri.now c.args.version (map edit_of c.args.changes.now) limits table c.agreement-encoding.ensures c.requires
+    (rw version at c.in_ok-frame.ensures.accepted))
+    (change_framed c.self.inside.store.table s c.agreement-encoding.result c.args.uri.now c.args.version (map edit_of c.args.changes.now) _ table c.agreement-encoding.ensures c.requires
+    (rw version at c.in_ok-frame.ensures.framed))

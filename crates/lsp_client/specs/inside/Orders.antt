@@ -1,0 +1,12 @@
+-- Why an order is refused, as the store says it.
+use Rattle.lsp_store.specs.declared.fault.StoreFault.{StoreFault}
+use Rattle.lsp_store.specs.Faults.{IsRefusal}
+use Rattle.lsp_client.specs.Step.{State, Order, agreement, command_of, order_refusal}
+
+-- This is the fault of an order that is refused, or the client ran out of memory.
+abbrev pub IsOrderFault : State → Order → StoreFault → Type 0
+IsOrderFault s order fault =
+    let agreed = agreement s in
+    IsRefusal
+    (order_refusal s.limits agreed.kind s.table (command_of agreed.encoding order))
+    fault
