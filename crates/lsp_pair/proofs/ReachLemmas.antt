@@ -49,14 +49,16 @@ module _ (setting : Setting) (sound : IsSound setting) (w : World) (ok : WorldSo
   first_served [] a = tt
   first_served (said ∷ rest) a =
       let within = sound.within.body in
-      let great = sound.great.greatest_body in
-      (record {
-        body = body_on (the_kind setting) (server_of setting w).table said;
-        spells =
-            subst (λ (b : List ℕ). Spells setting.config.limits.max_body b (body_on (the_kind setting) (server_of setting w).table said))
-            (sym (frame_on (the_kind setting) (server_of setting w).table said))
-            (written_spells setting.config.limits.max_body (body_on (the_kind setting) (server_of setting w).table said) (omega (arith, a.short, within)) (omega (arith, a.short, within, great)));
-      }, not_ended said rest a)
+      let great = sound.great.greatest_body in (
+        record {
+          body = body_on (the_kind setting) (server_of setting w).table said;
+          spells =
+              subst (λ (b : List ℕ). Spells setting.config.limits.max_body b (body_on (the_kind setting) (server_of setting w).table said))
+              (sym (frame_on (the_kind setting) (server_of setting w).table said))
+              (written_spells setting.config.limits.max_body (body_on (the_kind setting) (server_of setting w).table said) (omega (arith, a.short, within)) (omega (arith, a.short, within, great)));
+        },
+        not_ended said rest a,
+      )
 
   first_heard : (q : List OutgoingData) → Returning setting w q → HoldsOfFirst (map message_frame q) (λ first. IsFrame setting.limits.max_body first × (is_listening w.client_phase ≡ true))
   first_heard [] r = tt

@@ -86,7 +86,8 @@ pub record IsSentBatch (small great : Bounds) (encoding : Encoding) (table : Lis
 whole_proper : (uri : List ℕ) (version : ℤ) (bytes : List ℕ) → IsUtf8 uri → FitsSigned w32 version → IsUtf8 bytes → IsProper (change_message uri version (record { range = None; text = chars bytes } ∷ []))
 whole_proper uri version bytes u v b =
     record {
-      uri = u; version = v;
+      uri = u;
+      version = v;
       changes = All-cons IsProperEdit (record { range = None; text = encode_utf8_all (chars bytes) }) [] (record { range = tt; text = subst IsUtf8 (sym (encodes-chars bytes b)) b }) (All-nil IsProperEdit);
     }
 

@@ -50,7 +50,9 @@ serve_is c s new limits items rest back next first body buffered given result ou
       framed = subst (λ (l : Bounds). Spells l.max_body first.items body) same (subst (λ (b : List ℕ). Spells limits.max_body b body) is spells);
       happens = ap server_did (did ∙ (ap without_frame answers ∙ did_same (server.step s (reading body)).answer));
       leaves = λ i. record {
-        client = c; server = state i; to_server = frames rest;
+        client = c;
+        server = state i;
+        to_server = frames rest;
         to_client = (pushed ∙ ap (λ (fs : List (List ℕ)). back ++ fs) (ap frames_in_answer answers ∙ frames_same (server.step s (reading body)).answer)) i;
       };
     })
@@ -88,7 +90,9 @@ hear_is s c new limits items rest there next first body buffered given result ou
       is_listening = is_listening;
       happens = ap client_heard (did ∙ (ap without_bytes h.0 ∙ heard_same (client.delivery_of c (reading body)).delivered));
       leaves = λ i. record {
-        client = h.1 i; server = s; to_client = frames rest;
+        client = h.1 i;
+        server = s;
+        to_client = frames rest;
         to_server = (pushed ∙ ap (λ (fs : List (List ℕ)). there ++ fs) (ap frames_in_delivery h.0 ∙ bytes_same (client.delivery_of c (reading body)).delivered)) i;
       };
     })

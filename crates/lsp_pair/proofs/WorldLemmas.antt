@@ -20,8 +20,16 @@ beginning_sound setting =
     record {
       shape = fresh;
       at = record {
-        busy = tt; client_is = refl; agreed_is = refl; server_is = refl; encoding_is = refl; there = refl; here = refl;
-        arrived = omega arith; returned = omega arith; said = tt;
+        busy = tt;
+        client_is = refl;
+        agreed_is = refl;
+        server_is = refl;
+        encoding_is = refl;
+        there = refl;
+        here = refl;
+        arrived = omega arith;
+        returned = omega arith;
+        said = tt;
       };
     }
 

@@ -37,21 +37,21 @@ fn framer_of(alloc: Global, limits: Limits, bytes: &[u8]) -> Result<Framer, Allo
 pub(crate) fn serve_first(
     alloc: Global,
     server: &mut Server,
-    queue: &mut VecDeque<Vec<u8>>,
+    sent: &mut VecDeque<Vec<u8>>,
     replies: &mut VecDeque<Vec<u8>>,
 ) -> Result<Happened, AllocError>
-    requires { HoldsOfFirst (frames queue.old.items) (λ first.
+    requires { HoldsOfFirst (frames sent.old.items) (λ first.
         IsFrame server.old.config.limits.max_body first × (server.old.phase ≢ Ended)) }
     ensures step { (client : State) → IfOk result (λ happened.
         IsStep
-        (both_ends client server.old (frames queue.old.items) (frames replies.old.items))
+        (both_ends client server.old (frames sent.old.items) (frames replies.old.items))
         to_server (happened_view happened)
-        (both_ends client server.new (frames queue.new.items) (frames replies.new.items))) }
+        (both_ends client server.new (frames sent.new.items) (frames replies.new.items))) }
     ensures unchanged { OnErr result ((server.new ≡ server.old)
-        × (frames queue.new.items ≡ frames queue.old.items)
+        × (frames sent.new.items ≡ frames sent.old.items)
         × (frames replies.new.items ≡ frames replies.old.items)) }
 {
-    let Some(first) = queue.front() else {
+    let Some(first) = sent.front() else {
         return Ok(Happened::Nothing);
     };
     replies.reserve(1)?;
@@ -63,7 +63,7 @@ pub(crate) fn serve_first(
         Ok(answer) => answer,
         Err(_) => return Err(AllocError),
     };
-    let _ = queue.pop_front();
+    let _ = sent.pop_front();
     Ok(Happened::Server(push_reply(replies, answer)))
 }
 
@@ -71,8 +71,8 @@ pub(crate) fn serve_first(
 fn push_reply(replies: &mut VecDeque<Vec<u8>>, answer: Answer) -> Did
     requires { deque_len replies.old < deque_capacity replies.old }
     ensures did { did_view result ≡ without_frame (answer_view answer) }
-    ensures pushed {
-        frames replies.new.items ≡ frames replies.old.items ++ frames_in_answer (answer_view answer) }
+    ensures pushed { frames replies.new.items
+        ≡ frames replies.old.items ++ frames_in_answer (answer_view answer) }
 {
     match answer {
         Answer::Reply { frame, code } => {
@@ -91,21 +91,21 @@ fn push_reply(replies: &mut VecDeque<Vec<u8>>, answer: Answer) -> Did
 pub(crate) fn hear_first(
     alloc: Global,
     client: &mut Client,
-    queue: &mut VecDeque<Vec<u8>>,
+    replies: &mut VecDeque<Vec<u8>>,
     sent: &mut VecDeque<Vec<u8>>,
 ) -> Result<Happened, AllocError>
-    requires { HoldsOfFirst (frames queue.old.items) (λ first.
+    requires { HoldsOfFirst (frames replies.old.items) (λ first.
         IsFrame client.old.limits.max_body first × (is_listening client.old.phase ≡ true)) }
     ensures step { (other : server.State) → IfOk result (λ happened.
         IsStep
-        (both_ends client.old other (frames sent.old.items) (frames queue.old.items))
+        (both_ends client.old other (frames sent.old.items) (frames replies.old.items))
         to_client (happened_view happened)
-        (both_ends client.new other (frames sent.new.items) (frames queue.new.items))) }
+        (both_ends client.new other (frames sent.new.items) (frames replies.new.items))) }
     ensures unchanged { OnErr result ((client.new ≡ client.old)
-        × (frames queue.new.items ≡ frames queue.old.items)
+        × (frames replies.new.items ≡ frames replies.old.items)
         × (frames sent.new.items ≡ frames sent.old.items)) }
 {
-    let Some(first) = queue.front() else {
+    let Some(first) = replies.front() else {
         return Ok(Happened::Nothing);
     };
     sent.reserve(1)?;
@@ -117,7 +117,7 @@ pub(crate) fn hear_first(
         Ok(delivered) => delivered,
         Err(_) => return Err(AllocError),
     };
-    let _ = queue.pop_front();
+    let _ = replies.pop_front();
     Ok(Happened::Client(push_sent(sent, delivered)))
 }
 

@@ -24,7 +24,9 @@ pub enum Event {
         changes: Vec<Change>,
     },
     /// [`Client::close`](lsp_client::Client::close).
-    Close { uri: String },
+    Close {
+        uri: String,
+    },
     /// [`Client::shutdown`](lsp_client::Client::shutdown).
     Shutdown,
     /// [`Client::exit`](lsp_client::Client::exit).

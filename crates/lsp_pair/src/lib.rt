@@ -24,6 +24,8 @@ mod event;
 mod pair;
 mod run;
 mod setting;
+#[cfg(test)]
+mod tests;
 
 pub use event::{Did, Event, Happened, Heard};
 pub use pair::Pair;
