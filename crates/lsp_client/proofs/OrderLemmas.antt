@@ -33,7 +33,7 @@ fault_kept (stale_version current) = refl
 fault_kept (edit number why) = refl
 fault_kept (body_too_long len) = refl
 
-some_same : {A : Type 0} (a b : A) → Some a ≡ Some b → a ≡ b
+pub some_same : {A : Type 0} (a b : A) → Some a ≡ Some b → a ≡ b
 some_same a b e = cc
 
 -- The client's fault for what the store refuses.

@@ -92,11 +92,27 @@ impl Client {
             (IsFaultOf (call_result self.old (orders (edit_order uri.now version changes.now)))) }
     {
         match self.phase {
-            Phase::Ready => match self.agreement().kind {
-                SyncKind::Full => Ok(self.send_whole(uri, version, changes)?),
-                _ => Ok(self.send_change(uri, version, changes)?),
-            },
+            Phase::Ready => Ok(self.send_edit(uri, version, changes)?),
             phase => Err(ClientFault::WrongPhase { phase }),
+        }
+    }
+
+    fn send_edit(
+        &mut self,
+        uri: &str,
+        version: i32,
+        changes: &[Change],
+    ) -> Result<Vec<u8>, StoreFault>
+        ensures ok { IfOk result (λ frame.
+            IsSent (order_result self.old (edit_order uri.now version changes.now))
+            frame.items self.new) }
+        ensures unchanged { OnErr result (self.new ≡ self.old) }
+        ensures error { IfErr result
+            (IsOrderFault self.old (edit_order uri.now version changes.now)) }
+    {
+        match self.agreement().kind {
+            SyncKind::Full => self.send_whole(uri, version, changes),
+            SyncKind::Incremental | SyncKind::Off => self.send_change(uri, version, changes),
         }
     }
 

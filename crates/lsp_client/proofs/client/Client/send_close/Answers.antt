@@ -11,7 +11,7 @@ pub returns-in_err-frame-clause-error : goal.returns-in_err-frame-clause-error
 returns-in_err-frame-clause-error c =
     let s : State = c.args.self.now in
     let limits : c.limits.result ≡ s.limits = c.limits.ensures ∙ ap (λ (x : State). x.limits) c.self.view_is in
-    let may : command_refusal s.limits s.table (documents.closes c.args.uri.now) ≡ None = 
+    let may : command_refusal s.limits s.table (documents.closes c.args.uri.now) ≡ None =
     may_close s.limits s.table c.args.uri.now c.in-Some.field-0 (sym c.in-Some.is ∙ c.get.ensures ∙ ap (λ (x : State). entry_at x.table c.args.uri.now) c.self.view_is) in
     let p = err_from_is_err_and c.from_residual-in_err-frame.result c.from_residual-in_err-frame.ensures.1 in
     rw (p.1, p.2)

@@ -1,0 +1,14 @@
+use Rattle.std.proofs.Common.{◌≡◌, ◌∙◌, ap, sym, rules, w32, to_z, of_z}
+use Rattle.std.proofs.lemmas.Int.{to_z-of_z}
+use Rattle.std.proofs.lemmas.Result.{err_from_is_err_and}
+use Rattle.lsp_client.specs.Step.{State}
+use Rattle.lsp_client.specs.Seen.{open_order, edit_order}
+use Rattle.lsp_client.proofs.SentLemmas.{order_fault}
+use Rattle.lsp_client.proofs.client.Client.edit.Goals as goal
+
+pub returns-in_err-send_edit-in-Ready-clause-error : goal.returns-in_err-send_edit-in-Ready-clause-error
+returns-in_err-send_edit-in-Ready-clause-error c =
+    let version : to_z w32 (of_z w32 c.args.version) ≡ c.args.version = to_z-of_z w32 c.args.version (search rules) in
+    let p = err_from_is_err_and c.from_residual.result c.from_residual.ensures.1 in
+    rw (p.1, p.2)
+    (order_fault c.args.self.now (edit_order c.args.uri.now c.args.version c.args.changes.now) c.in_err-send_edit-in-Ready.field-0.0 (sym (ap (λ (x : State). x.phase) c.self.view_is) ∙ c.in-Ready.is) (rw version at c.in_err-send_edit-in-Ready.ensures.error))
