@@ -154,8 +154,8 @@ fn read_fault(kind: ErrorKind) -> RunFault {
     }
 }
 
-fn written(result: io::Result<()>) -> Result<(), RunFault> {
-    result.map_err(|_| RunFault::Write)
+fn written(written: io::Result<()>) -> Result<(), RunFault> {
+    written.map_err(|_| RunFault::Write)
 }
 
 /// Prints what `clap` says of the words: help to the output, and a usage fault to the errors. Returns the status.
@@ -178,11 +178,7 @@ fn explain<W: Write, E: Write>(
     }
 }
 
-fn print_help<W: Write>(
-    alloc: Global,
-    help: &clap::Error,
-    output: &mut W,
-) -> Result<(), RunFault> {
+fn print_help<W: Write>(alloc: Global, help: &clap::Error, output: &mut W) -> Result<(), RunFault> {
     let text = format!(in alloc; "{help}")?;
     written(output.write_all(text.as_bytes()))?;
     written(output.flush())

@@ -33,7 +33,7 @@ impl From<ParamsFault> for ScriptFault {
 pub fn event_of(alloc: Global, line: &[u8]) -> Result<Event, ScriptFault> {
     let value = match Value::from_slice(alloc, line) {
         Ok(value) => value,
-        Err(error) if error.is_out_of_memory() => return Err(ScriptFault::NoMemory),
+        Err(error) if error.is_memory() => return Err(ScriptFault::NoMemory),
         Err(_) => return Err(ScriptFault::BadEvent),
     };
     let kind = kind_of(&value).ok_or(ScriptFault::BadEvent)?;
