@@ -2,7 +2,7 @@
 
 mod help;
 
-use crate::command_line::help::Limit;
+use crate::command_line::help::{Limit, Offer};
 use clap::builder::ValueParser;
 use clap::{Arg, ArgAction, ArgMatches, Command, Error};
 use lsp_frame::Limits;
@@ -89,11 +89,12 @@ fn program<'a>(alloc: Global) -> Result<Command<'a>, AllocError> {
     let mut program = Command::new(alloc, "lsp_simulate")
         .about(help::about())
         .after_help(help::notes())
-        .arg(flag(alloc, "utf-8", help::utf8()))?
-        .arg(flag(alloc, "utf-32", help::utf32()))?
         .arg(prefer(alloc))?
-        .arg(fixed(alloc)?)?
+        .arg(fixed(alloc))?
         .arg(sync(alloc))?;
+    for offer in help::offers() {
+        program = program.arg(flag(alloc, offer))?;
+    }
     for limit in help::client_limits() {
         program = program.arg(number(alloc, limit).default_value(limit.default))?;
     }
@@ -103,11 +104,11 @@ fn program<'a>(alloc: Global) -> Result<Command<'a>, AllocError> {
     Ok(program)
 }
 
-fn flag<'a>(alloc: Global, name: &'a str, text: &'a str) -> Arg<'a> {
-    Arg::new(alloc, name)
-        .long(name)
+fn flag<'a>(alloc: Global, offer: Offer) -> Arg<'a> {
+    Arg::new(alloc, offer.name)
+        .long(offer.name)
         .action(ArgAction::SetTrue)
-        .help(text)
+        .help(offer.help)
 }
 
 fn prefer<'a>(alloc: Global) -> Arg<'a> {

@@ -10,6 +10,13 @@ pub struct Limit {
     pub help: &'static str,
 }
 
+/// An option without a value: the client offers an encoding.
+#[derive(Clone, Copy, Debug)]
+pub struct Offer {
+    pub name: &'static str,
+    pub help: &'static str,
+}
+
 pub fn about() -> &'static str {
     PROGRAM
 }
@@ -18,12 +25,18 @@ pub fn notes() -> &'static str {
     NOTES
 }
 
-pub fn utf8() -> &'static str {
-    UTF8
-}
-
-pub fn utf32() -> &'static str {
-    UTF32
+/// The encodings that a client may offer beside UTF-16.
+pub fn offers() -> [Offer; 2] {
+    [
+        Offer {
+            name: "utf-8",
+            help: UTF8,
+        },
+        Offer {
+            name: "utf-32",
+            help: UTF32,
+        },
+    ]
 }
 
 pub fn prefer() -> &'static str {
