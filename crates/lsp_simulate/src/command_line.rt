@@ -120,14 +120,12 @@ fn prefer<'a>(alloc: Global) -> Arg<'a> {
         .help(help::prefer())
 }
 
-fn fixed<'a>(alloc: Global) -> Result<Arg<'a>, AllocError> {
-    Ok(
-        Arg::new(alloc, "fixed")
-            .long("fixed")
-            .value_name("NAME")
-            .value_parser(ENCODINGS.as_slice())
-            .help(help::fixed()),
-    )
+fn fixed<'a>(alloc: Global) -> Arg<'a> {
+    Arg::new(alloc, "fixed")
+        .long("fixed")
+        .value_name("NAME")
+        .value_parser(ENCODINGS.as_slice())
+        .help(help::fixed())
 }
 
 fn sync<'a>(alloc: Global) -> Arg<'a> {
