@@ -1,5 +1,5 @@
 -- What an order sends, and what it leaves.
-use Rattle.std.proofs.Common.{◌≡◌, ◌≢◌, ℕ, ℤ, List, Option, Some, None, Result, Ok, Err, refl, sym, ap, ◌∙◌, subst}
+use Rattle.std.proofs.Common.{◌≡◌, ◌≢◌, ℕ, ℤ, List, [], ◌∷◌, Option, Some, None, Result, Ok, Err, refl, sym, ap, ◌∙◌, subst}
 use Rattle.lsp_frame.specs.Frame.{frame}
 use Rattle.lsp_frame.specs.Limits.{Bounds}
 use Rattle.lsp_message.specs.declared.agreement.Offers.{Offers}
@@ -12,7 +12,7 @@ use Rattle.lsp_message.specs.Outgoing.{OutgoingData, did_open, did_close, body_o
 use Rattle.lsp_message.specs.Params.{OpenData}
 use Rattle.lsp_store.specs.declared.fault.StoreFault.{StoreFault}
 use Rattle.lsp_store.specs.Faults.{IsRefusal}
-use Rattle.lsp_store.specs.Message.{body_refusal, else_refused, message_refusal, canonical_frame}
+use Rattle.lsp_store.specs.Message.{body_refusal, change_body, whole_batch, else_refused, message_refusal, canonical_frame}
 use Rattle.lsp_store.specs.Opened.{StoreData, Takes}
 use Rattle.lsp_store.specs.Table as documents
 use Rattle.lsp_store.specs.Table.{Entry, Command, entry_at, command_refusal, table_after}
@@ -33,7 +33,7 @@ unless_ok None table new is = (refl, cc)
 unless_ok (Some refusal) table new is = absurd (cc)
 
 -- What the store took is not refused, and leaves the next table.
-taken_parts : (old new : StoreData) (command : Command) → Takes old command new → (command_refusal old.limits old.table command ≡ None) × (new.table ≡ table_after old.table command)
+pub taken_parts : (old new : StoreData) (command : Command) → Takes old command new → (command_refusal old.limits old.table command ≡ None) × (new.table ≡ table_after old.table command)
 taken_parts old new command takes = unless_ok (command_refusal old.limits old.table command) (table_after old.table command) new.table takes.table
 
 -- A command that the store took, and whose message is short enough, is sent.
@@ -117,3 +117,15 @@ change_framed table s agreed uri version batch bytes there is not framed =
 -- An order that is refused in phase Ready.
 pub order_fault : (s : State) (order : Order) (fault : StoreFault) → s.phase ≡ Ready → IsOrderFault s order fault → IsFaultOf (call_result s (orders order)) (client_fault fault)
 order_fault s order fault ready why = rw ready (refused _ _ fault why)
+
+-- ---- whole texts
+
+-- Under Full the body is that of the text that the batch leaves.
+pub whole_sent : (table : List Entry) (s : State) (agreed : Agreed) (uri : List ℕ) (version : ℤ) (batch : List Edit) (whole : Edit)
+    → table ≡ s.table → agreed ≡ agreement s → (agreement s).kind ≡ Full
+    → whole_batch (units_in agreed.encoding) table uri version batch ≡ whole ∷ []
+    → change_body uri version (whole ∷ []) ≡ sent_body (agreement s).kind s.table (documents.changes uri version (agreement s).encoding batch)
+unfolding sent_body change_body
+whole_sent table s agreed uri version batch whole there is full leaves =
+    let same : whole_batch (units_in (agreement s).encoding) s.table uri version batch ≡ whole ∷ [] = rw (there, is) at leaves in
+    rw (full, same) refl

@@ -1,12 +1,18 @@
 //! The calls on the open documents.
 
-ghost use Rattle.std.specs.Prelude.{◌≡◌, ◌≢◌, IfErr, IfOk, OnErr, Some};
+ghost use Rattle.std.specs.Prelude.{◌≡◌, ◌≢◌, ◌∷◌, [], IfErr, IfOk, None, OnErr, OnOk, Some, map, string_bytes};
+ghost use Rattle.lsp_frame.specs.Frame.{frame};
+ghost use Rattle.lsp_text.specs.Units.{units_in};
+ghost use Rattle.lsp_edit.specs.Edited.{edit_of};
 ghost use Rattle.lsp_message.specs.declared.agreement.SyncKind.TheVariants.{Full};
 ghost use Rattle.lsp_message.specs.declared.outgoing.Outgoing.TheVariants.{DidOpen};
 ghost use Rattle.lsp_message.specs.declared.params.OpenParams.{OpenParams};
+ghost use Rattle.lsp_store.specs.Faults.{IsRefusal};
+ghost use Rattle.lsp_store.specs.Message.{body_refusal, change_body, whole_batch};
+ghost use Rattle.lsp_store.specs.Table.{change_refusal};
 ghost use Rattle.lsp_client.specs.Step.{agreement, call_result, order_result, orders, closes};
 ghost use Rattle.lsp_client.specs.Seen.{IsSent, IsFaultOf, open_order, edit_order};
-ghost use Rattle.lsp_client.specs.inside.Orders.{IsOrderFault};
+ghost use Rattle.lsp_client.specs.inside.Orders.{IsOrderFault, whole_change};
 
 use crate::agreed::Agreed;
 use crate::client::Client;
@@ -14,9 +20,11 @@ use crate::fault::ClientFault;
 use crate::framed::framed_within;
 use crate::phase::Phase;
 use lsp_edit::Change;
-use lsp_message::{CloseParams, OpenParams, Outgoing, SyncKind};
-use lsp_store::StoreFault;
+use lsp_frame::Limits;
+use lsp_message::{ChangeParams, CloseParams, OpenParams, Outgoing, SyncKind};
+use lsp_store::{Store, StoreFault};
 use lsp_text::Encoding;
+use std::alloc::Global;
 
 impl Client {
     /// Opens a document (LSP 3.17, DidOpenTextDocument): the frame of `textDocument/didOpen`. In phase Ready; else
@@ -154,7 +162,11 @@ impl Client {
         ensures error { IfErr result
             (IsOrderFault self.old (edit_order uri.now version changes.now)) }
     {
-        Err(StoreFault::NoMemory)
+        let encoding = self.agreement().encoding;
+        let text = text_after(self.alloc, &self.store, encoding, uri, version, changes)?;
+        let frame = whole_frame(self.alloc, &self.store.limits(), uri, version, text)?;
+        self.store.change(uri, version, encoding, changes)?;
+        Ok(frame)
     }
 
     /// Closes a document (LSP 3.17, DidCloseTextDocument): the frame of `textDocument/didClose`. In phase Ready; else
@@ -209,4 +221,61 @@ fn open_params(message: Outgoing) -> Option<OpenParams>
         Outgoing::DidOpen(params) => Some(params),
         _ => None,
     }
+}
+
+/// The text that a batch leaves of an open document. A second store, with a copy of that document alone, finds it.
+fn text_after(
+    alloc: Global,
+    store: &Store,
+    encoding: Encoding,
+    uri: &str,
+    version: i32,
+    changes: &[Change],
+) -> Result<String, StoreFault>
+    ensures ok { IfOk result (λ text. whole_batch (units_in encoding) store.now.table uri.now version
+        (map edit_of changes.now) ≡ whole_change (string_bytes text) ∷ []) }
+    ensures accepted { OnOk result (change_refusal store.now.limits (units_in encoding)
+        store.now.table uri.now version (map edit_of changes.now) ≡ None) }
+    ensures error { IfErr result (IsRefusal (change_refusal store.now.limits (units_in encoding)
+        store.now.table uri.now version (map edit_of changes.now))) }
+{
+    let Some(document) = store.get(uri) else {
+        return Err(StoreFault::NotOpen);
+    };
+    let copy = String::from_str(alloc, document.text())?;
+    let key = String::from_str(alloc, uri)?;
+    let mut alone = Store::new(alloc, store.limits());
+    // An open document is within the limits, so that only memory can run out here.
+    let Ok(()) = alone.open(key, String::new(alloc), document.version(), copy) else {
+        return Err(StoreFault::NoMemory);
+    };
+    alone.change(uri, version, encoding, changes)?;
+    let Some(document) = alone.get(uri) else {
+        unreachable!()
+    };
+    Ok(String::from_str(alloc, document.text())?)
+}
+
+/// The frame of the `textDocument/didChange` of one change without a range.
+fn whole_frame(
+    alloc: Global,
+    limits: &Limits,
+    uri: &str,
+    version: i32,
+    text: String,
+) -> Result<Vec<u8>, StoreFault>
+    ensures ok { IfOk result (λ bytes.
+        bytes.items ≡ frame (change_body uri.now version (whole_change (string_bytes text) ∷ []))) }
+    ensures within { OnOk result (body_refusal limits.now
+        (change_body uri.now version (whole_change (string_bytes text) ∷ [])) ≡ None) }
+    ensures error { IfErr result (IsRefusal (body_refusal limits.now
+        (change_body uri.now version (whole_change (string_bytes text) ∷ [])))) }
+{
+    let change = Change { range: None, text };
+    let message = Outgoing::DidChange(ChangeParams {
+        uri: String::from_str(alloc, uri)?,
+        version,
+        changes: vec![in alloc; change]?,
+    });
+    framed_within(alloc, limits, &message)
 }

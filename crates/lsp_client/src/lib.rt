@@ -9,6 +9,8 @@ mod documents;
 mod fault;
 mod framed;
 mod phase;
+#[cfg(test)]
+mod tests;
 
 pub use client::Client;
 pub use delivered::Delivered;

@@ -1,4 +1,7 @@
 -- Why an order is refused, as the store says it.
+use Rattle.std.specs.Prelude.{ℕ, List, None}
+use Rattle.std.specs.Str.{chars}
+use Rattle.lsp_edit.specs.Batch.{Edit}
 use Rattle.lsp_store.specs.declared.fault.StoreFault.{StoreFault}
 use Rattle.lsp_store.specs.Faults.{IsRefusal}
 use Rattle.lsp_client.specs.Step.{State, Order, agreement, command_of, order_refusal}
@@ -10,3 +13,7 @@ IsOrderFault s order fault =
     IsRefusal
     (order_refusal s.limits agreed.kind s.table (command_of agreed.encoding order))
     fault
+
+-- the change that puts a text of these bytes in place of the whole text
+abbrev pub whole_change : List ℕ → Edit
+whole_change text = record { range = None; text = chars text }

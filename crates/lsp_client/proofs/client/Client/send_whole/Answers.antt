@@ -1,0 +1,38 @@
+use Rattle.std.proofs.Common.{◌≡◌, ◌∙◌, ap, sym, map, rules, w32, to_z, of_z, string_bytes, None}
+use Rattle.std.proofs.lemmas.Int.{to_z-of_z}
+use Rattle.std.proofs.lemmas.Result.{err_from_is_err_and}
+use Rattle.lsp_frame.specs.Frame.{frame}
+use Rattle.lsp_edit.specs.Edited.{edit_of}
+use Rattle.lsp_store.specs.Table as documents
+use Rattle.lsp_store.specs.Table.{Command, command_refusal}
+use Rattle.lsp_client.specs.Step.{State, agreement}
+use Rattle.lsp_client.specs.inside.Orders.{whole_change}
+use Rattle.lsp_client.proofs.SentLemmas.{order_sent, long_refused, body_within, whole_sent}
+use Rattle.lsp_client.proofs.client.Client.send_whole.Goals as goal
+
+pub returns-in_err-frame-clause-error : goal.returns-in_err-frame-clause-error
+returns-in_err-frame-clause-error c =
+    let s : State = c.args.self.now in
+    let version : to_z w32 (of_z w32 c.args.version) ≡ c.args.version = to_z-of_z w32 c.args.version (search rules) in
+    let limits = ap (λ (x : State). x.limits) c.self.view_is in
+    let table = ap (λ (x : State). x.table) c.self.view_is in
+    let command : Command = documents.changes c.args.uri.now c.args.version (agreement s).encoding (map edit_of c.args.changes.now) in
+    let may : command_refusal s.limits s.table command ≡ None = rw (version, c.agreement-encoding.ensures, limits, table) at c.in_ok-text.ensures.accepted in
+    let body = whole_sent c.self.inside.store.table s c.agreement-encoding.result c.args.uri.now c.args.version (map edit_of c.args.changes.now) (whole_change (string_bytes c.in_ok-text.text)) table c.agreement-encoding.ensures c.requires
+    (rw version at c.in_ok-text.ensures.ok) in
+    let p = err_from_is_err_and c.from_residual-in_err-frame.result c.from_residual-in_err-frame.ensures.1 in
+    rw (p.1, p.2) (long_refused c.limits.result s (agreement s).kind command _ c.in_err-frame.field-0.0 (c.limits.ensures ∙ limits) may body (rw version at c.in_err-frame.ensures.error))
+
+pub returns-clause-ok : goal.returns-clause-ok
+returns-clause-ok c =
+    let s : State = c.args.self.now in
+    let version : to_z w32 (of_z w32 c.args.version) ≡ c.args.version = to_z-of_z w32 c.args.version (search rules) in
+    let limits = ap (λ (x : State). x.limits) c.self.view_is in
+    let table = ap (λ (x : State). x.table) c.self.view_is in
+    let command : Command = documents.changes c.args.uri.now c.args.version (agreement s).encoding (map edit_of c.args.changes.now) in
+    let body = whole_sent c.self.inside.store.table s c.agreement-encoding.result c.args.uri.now c.args.version (map edit_of c.args.changes.now) (whole_change (string_bytes c.in_ok-text.text)) table c.agreement-encoding.ensures c.requires
+    (rw version at c.in_ok-text.ensures.ok) in
+    order_sent c.self.inside.offers c.self.inside.phase c.self.inside.agreed c.self.inside.store c.change.new.self s (agreement s).kind command _
+    c.self.view_is (rw (version, c.agreement-encoding.ensures) at c.in_ok-change.ensures.taken)
+    (body_within c.limits.result s.limits _ _ (c.limits.ensures ∙ limits) body (rw version at c.in_ok-frame.ensures.within))
+    ((rw version at c.in_ok-frame.ensures.ok) ∙ ap frame body)

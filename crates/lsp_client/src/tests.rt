@@ -1,0 +1,173 @@
+//! Sessions of a client: calls and bodies, each with what is wanted of its answer.
+
+mod agreed;
+mod phases;
+mod refused;
+mod session;
+
+use crate::{Client, ClientFault, Delivered, Phase, Reason};
+use lsp_edit::{Change, EditFault};
+use lsp_frame::{Limits, frame};
+use lsp_message::Offers;
+use lsp_store::StoreFault;
+use lsp_text::{Position, Range};
+use std::alloc::{AllocError, Global};
+use std::test::Fail;
+
+pub(super) const URI: &str = "file:///a";
+
+pub(super) const INITIALIZE: &str =
+    r#"{"id":1,"jsonrpc":"2.0","method":"initialize","params":{"capabilities":{"general":{"positionEncodings":["utf-16"]}},"processId":null,"rootUri":null}}"#;
+
+pub(super) const ACCEPTED: &str =
+    r#"{"id":1,"jsonrpc":"2.0","result":{"capabilities":{"positionEncoding":"utf-16","textDocumentSync":{"change":2,"openClose":true}}}}"#;
+
+pub(super) const INITIALIZED: &str = r#"{"jsonrpc":"2.0","method":"initialized","params":{}}"#;
+
+pub(super) const OPEN: &str =
+    r#"{"jsonrpc":"2.0","method":"textDocument/didOpen","params":{"textDocument":{"languageId":"plaintext","text":"abc","uri":"file:///a","version":1}}}"#;
+
+pub(super) const CHANGE: &str =
+    r#"{"jsonrpc":"2.0","method":"textDocument/didChange","params":{"contentChanges":[{"range":{"end":{"character":2,"line":0},"start":{"character":1,"line":0}},"text":"X"}],"textDocument":{"uri":"file:///a","version":2}}}"#;
+
+pub(super) const CLOSE: &str =
+    r#"{"jsonrpc":"2.0","method":"textDocument/didClose","params":{"textDocument":{"uri":"file:///a"}}}"#;
+
+pub(super) const SHUTDOWN: &str = r#"{"id":2,"jsonrpc":"2.0","method":"shutdown"}"#;
+
+pub(super) const SHUT_DOWN: &str = r#"{"id":2,"jsonrpc":"2.0","result":null}"#;
+
+pub(super) const EXIT: &str = r#"{"jsonrpc":"2.0","method":"exit"}"#;
+
+/// A client that offers UTF-16 alone, with wide limits.
+pub(super) fn new_client(alloc: Global) -> Result<Client, Fail> {
+    client_with(alloc, Offers::new(false, false))
+}
+
+pub(super) fn client_with(alloc: Global, offers: Offers) -> Result<Client, Fail> {
+    let limits = Limits::new(16_777_216, 16_777_216, 1_024, 65_536)?;
+    Ok(Client::new(alloc, limits, offers))
+}
+
+/// A change of characters on line 0.
+pub(super) fn change(
+    alloc: Global,
+    start: u32,
+    stop: u32,
+    text: &str,
+) -> Result<Change, AllocError> {
+    let on = |character| Position { line: 0, character };
+    Ok(Change {
+        range: Some(Range {
+            start: on(start),
+            stop: on(stop),
+        }),
+        text: String::from_str(alloc, text)?,
+    })
+}
+
+pub(super) fn open_as(
+    alloc: Global,
+    client: &mut Client,
+    uri: &str,
+    text: &str,
+) -> Result<Vec<u8>, ClientFault> {
+    client.open(
+        String::from_str(alloc, uri)?,
+        String::from_str(alloc, "plaintext")?,
+        1,
+        String::from_str(alloc, text)?,
+    )
+}
+
+/// What is asked of a client.
+#[derive(Clone, Copy, Debug)]
+pub(super) enum Ask {
+    Start,
+    /// Opens the document with this text, in version 1.
+    Open(&'static str),
+    /// Puts a text in place of characters on line 0, under a version.
+    Edit(i32, u32, u32, &'static str),
+    Close,
+    Shutdown,
+    Exit,
+    Deliver(&'static str),
+}
+
+/// Makes one call; what it answers is the body that is to be sent, or a word.
+pub(super) fn ask(
+    alloc: Global,
+    client: &mut Client,
+    ask: Ask,
+) -> Result<Result<Delivered, ClientFault>, AllocError> {
+    let sent = match ask {
+        Ask::Start => client.start(),
+        Ask::Open(text) => open_as(alloc, client, URI, text),
+        Ask::Edit(version, start, stop, text) => {
+            client.edit(URI, version, &[change(alloc, start, stop, text)?])
+        }
+        Ask::Close => client.close(URI),
+        Ask::Shutdown => client.shutdown(),
+        Ask::Exit => client.exit(),
+        Ask::Deliver(body) => return Ok(client.deliver(body.as_bytes())),
+    };
+    Ok(sent.map(Delivered::Send))
+}
+
+/// Is this the answer that is wanted: the frame of this body, or what this word names?
+pub(super) fn is_answer(
+    alloc: Global,
+    given: &Result<Delivered, ClientFault>,
+    wanted: &str,
+) -> Result<bool, AllocError> {
+    match given {
+        Ok(Delivered::Send(given)) => Ok(*given == frame(alloc, wanted.as_bytes())?),
+        Ok(other) => Ok(word_of(other) == wanted),
+        Err(fault) => Ok(word_of_fault(*fault) == wanted),
+    }
+}
+
+fn word_of(delivered: &Delivered) -> &'static str {
+    match delivered {
+        Delivered::Send(_) => "send",
+        Delivered::Noted => "noted",
+        Delivered::Ignored => "ignored",
+        Delivered::BadServer(Reason::NotAnAnswer) => "not an answer",
+        Delivered::BadServer(Reason::ErrorAnswer) => "error answer",
+        Delivered::BadServer(Reason::NoSync) => "no sync",
+        Delivered::BadServer(Reason::BadEncoding) => "bad encoding",
+    }
+}
+
+fn word_of_fault(fault: ClientFault) -> &'static str {
+    match fault {
+        ClientFault::WrongPhase { phase } => word_of_phase(phase),
+        ClientFault::Store(StoreFault::AlreadyOpen) => "S1",
+        ClientFault::Store(StoreFault::TooManyDocuments) => "S2",
+        ClientFault::Store(StoreFault::TextTooLong) => "S3",
+        ClientFault::Store(StoreFault::NotOpen) => "S4",
+        ClientFault::Store(StoreFault::StaleVersion { .. }) => "S5",
+        ClientFault::Store(StoreFault::TooManyChanges) => "S6",
+        ClientFault::Store(StoreFault::Edit(EditFault::InsideCharacter { .. })) => "E1",
+        ClientFault::Store(StoreFault::Edit(_)) => "S7",
+        ClientFault::Store(StoreFault::BodyTooLong { .. }) => "S8",
+        ClientFault::Store(StoreFault::NoMemory) => "S9",
+        ClientFault::NoMemory => "C3",
+    }
+}
+
+/// The word of a call in a wrong phase, which names the phase.
+fn word_of_phase(phase: Phase) -> &'static str {
+    match phase {
+        Phase::New => "C1 New",
+        Phase::Asked => "C1 Asked",
+        Phase::Ready => "C1 Ready",
+        Phase::Closing => "C1 Closing",
+        Phase::Closed => "C1 Closed",
+        Phase::Done => "C1 Done",
+        Phase::Failed(Reason::NotAnAnswer) => "C1 Failed(NotAnAnswer)",
+        Phase::Failed(Reason::ErrorAnswer) => "C1 Failed(ErrorAnswer)",
+        Phase::Failed(Reason::NoSync) => "C1 Failed(NoSync)",
+        Phase::Failed(Reason::BadEncoding) => "C1 Failed(BadEncoding)",
+    }
+}

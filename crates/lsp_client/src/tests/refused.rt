@@ -1,0 +1,133 @@
+//! Calls that run out of memory once, and are made again.
+
+use super::{ACCEPTED, Ask, SHUT_DOWN, URI, ask, new_client};
+use crate::{Client, ClientFault, Delivered, Phase};
+use std::alloc::Global;
+use std::process::Abort;
+use std::test::Fail;
+
+/// What a caller sees of a client.
+fn seen(client: &Client) -> (Phase, bool, usize, Option<i32>) {
+    let version = client.store().get(URI).map(|document| document.version());
+    (
+        client.phase(),
+        client.encoding().is_some(),
+        client.store().len(),
+        version,
+    )
+}
+
+/// A session in which a call is made twice where memory runs out.
+#[derive(Drop)]
+struct Session {
+    client: Client,
+    refused: u32,
+}
+
+impl Session {
+    /// Makes a call. Where memory ran out the client is as before, and the same call is made then.
+    fn ask(&mut self, rt: &impl Abort, alloc: Global, asked: Ask) -> bool {
+        let before = seen(&self.client);
+        match ask(alloc, &mut self.client, asked) {
+            Ok(Err(ClientFault::NoMemory)) | Err(_) => {
+                self.refused = self.refused.saturating_add(1);
+                assert!(rt; seen(&self.client) == before);
+                matches!(ask(alloc, &mut self.client, asked), Ok(Ok(_)))
+            }
+            Ok(answer) => answer.is_ok(),
+        }
+    }
+}
+
+fn is_done(
+    rt: &impl Abort,
+    alloc: Global,
+    calls: &[Ask],
+    refused: &mut u32,
+) -> Result<Phase, Fail> {
+    let mut session = Session {
+        client: new_client(alloc)?,
+        refused: 0,
+    };
+    for asked in calls {
+        assert!(rt; session.ask(rt, alloc, *asked), "{asked:?}");
+    }
+    *refused = session.refused;
+    Ok(session.client.phase())
+}
+
+/// The answer that asks for whole texts.
+const FULL: &str = r#"{"id":1,"jsonrpc":"2.0","result":{"capabilities":{"textDocumentSync":1}}}"#;
+
+static LIFECYCLE: [Ask; 5] = [
+    Ask::Start,
+    Ask::Deliver(ACCEPTED),
+    Ask::Shutdown,
+    Ask::Deliver(SHUT_DOWN),
+    Ask::Exit,
+];
+
+static DOCUMENTS: [Ask; 5] = [
+    Ask::Start,
+    Ask::Deliver(ACCEPTED),
+    Ask::Open("abc"),
+    Ask::Edit(2, 1, 2, "X"),
+    Ask::Close,
+];
+
+static WHOLE: [Ask; 4] = [
+    Ask::Start,
+    Ask::Deliver(FULL),
+    Ask::Open("abc"),
+    Ask::Edit(2, 1, 2, "X"),
+];
+
+#[test]
+fn refused_lifecycle(rt: HostRuntime) -> Result<(), Fail> {
+    let mut refused = 0;
+    assert_eq!(rt;
+        is_done(&rt, rt.alloc(), &LIFECYCLE, &mut refused)?,
+        Phase::Done
+    );
+    println!(rt; "refused {refused}")?;
+    Ok(())
+}
+
+#[test]
+fn refused_documents(rt: HostRuntime) -> Result<(), Fail> {
+    let mut refused = 0;
+    assert_eq!(rt;
+        is_done(&rt, rt.alloc(), &DOCUMENTS, &mut refused)?,
+        Phase::Ready
+    );
+    println!(rt; "refused {refused}")?;
+    Ok(())
+}
+
+#[test]
+fn refused_whole_texts(rt: HostRuntime) -> Result<(), Fail> {
+    let mut refused = 0;
+    assert_eq!(rt;
+        is_done(&rt, rt.alloc(), &WHOLE, &mut refused)?,
+        Phase::Ready
+    );
+    println!(rt; "refused {refused}")?;
+    Ok(())
+}
+
+#[test]
+fn refused_requests_of_the_server(rt: HostRuntime) -> Result<(), Fail> {
+    let mut client = new_client(rt.alloc())?;
+    let _initialize = client.start()?;
+    let body = r#"{"id":5,"jsonrpc":"2.0","method":"x"}"#;
+    let mut refused = 0;
+    let mut given = client.deliver(body.as_bytes());
+    if given == Err(ClientFault::NoMemory) {
+        refused = 1;
+        assert_eq!(rt; client.phase(), Phase::Asked);
+        given = client.deliver(body.as_bytes());
+    }
+    assert!(rt; matches!(given, Ok(Delivered::Send(_))));
+    println!(rt; "refused {refused}")?;
+    Ok(())
+}
