@@ -131,13 +131,13 @@ accepted_parts limits units entry version batch e =
         })
         (cases_Bool (nat_lt limits.max_changes (length batch) || nat_lt greatest_batch (batch_bytes batch)))
 
-accepted_from : (limits : Bounds) (units : ℕ → ℕ) (entry : Entry) (version : ℤ) (batch : List Edit) → Accepts limits units entry version batch → entry_refusal limits units entry version batch ≡ None
+pub accepted_from : (limits : Bounds) (units : ℕ → ℕ) (entry : Entry) (version : ℤ) (batch : List Edit) → Accepts limits units entry version batch → entry_refusal limits units entry version batch ≡ None
 accepted_from limits units entry version batch a =
     let few : (nat_lt limits.max_changes (length batch) || nat_lt greatest_batch (batch_bytes batch)) ≡ false = or_from _ _ (le-ltb limits.max_changes (length batch) a.few) (le-ltb greatest_batch (batch_bytes batch) a.fits) in
     rw (a.newer, few, a.means, le-ltb limits.max_text (length (bytes_after entry.text a.items)) a.short) refl
 
 -- what a batch leaves is told by what it makes of the document
-leaves_same : (units : ℕ → ℕ) (table : List Entry) (uri : List ℕ) (version : ℤ) (batch other : List Edit) (entry : Entry) → entry_at table uri ≡ Some entry → changed units entry version batch ≡ changed units entry version other
+pub leaves_same : (units : ℕ → ℕ) (table : List Entry) (uri : List ℕ) (version : ℤ) (batch other : List Edit) (entry : Entry) → entry_at table uri ≡ Some entry → changed units entry version batch ≡ changed units entry version other
     → after_change units table uri version batch ≡ after_change units table uri version other
 leaves_same units [] uri version batch other entry found same = refl
 leaves_same units (first ∷ table) uri version batch other entry found same =
@@ -152,14 +152,14 @@ leaves_same units (first ∷ table) uri version batch other entry found same =
 
 module _ (limits : Bounds) (encoding : Encoding) (table : List Entry) (uri : List ℕ) (version : ℤ) (entry : Entry) (is_open : entry_at table uri ≡ Some entry)
     (laws : (batch : List Edit) (items : List Item) → meaning (units_in encoding) (chars entry.text) batch ≡ Ok items → IsCanonical (units_in encoding) (chars entry.text) batch items) where
-  batch_at : (batch : List Edit) (items : List Item) → meaning (units_in encoding) (chars entry.text) batch ≡ Ok items → canonical_batch (units_in encoding) table uri batch ≡ canonical (units_in encoding) (chars entry.text) items
+  pub batch_at : (batch : List Edit) (items : List Item) → meaning (units_in encoding) (chars entry.text) batch ≡ Ok items → canonical_batch (units_in encoding) table uri batch ≡ canonical (units_in encoding) (chars entry.text) items
   batch_at batch items means = rw (is_open, means) refl
 
   refusal_at : (batch : List Edit) → change_refusal limits (units_in encoding) table uri version batch ≡ entry_refusal limits (units_in encoding) entry version batch
   refusal_at batch = rw is_open refl
 
   module _ (batch : List Edit) (may : entry_refusal limits (units_in encoding) entry version batch ≡ None) where
-    accepts : Accepts limits (units_in encoding) entry version batch
+    pub accepts : Accepts limits (units_in encoding) entry version batch
     accepts = accepted_parts limits (units_in encoding) entry version batch may
 
     law : IsCanonical (units_in encoding) (chars entry.text) batch accepts.items
@@ -183,7 +183,7 @@ module _ (limits : Bounds) (encoding : Encoding) (table : List Entry) (uri : Lis
         = sum_by-le-sum_by (λ (e : Edit). length (encode_utf8_all e.text)) (λ (e : Edit). sum_by len_utf8 e.text) (canonical (units_in encoding) (chars entry.text) accepts.items) (λ (e : Edit). omega (arith, bytes_sum e.text)) in
         omega (arith, weigh, law.short len_utf8, bytes_sum (text_of (chars entry.text) accepts.items), accepts.short, small)
 
-    settled_accepted : limits.max_text ≤ 1073741824 → entry_refusal limits (units_in encoding) entry version (canonical (units_in encoding) (chars entry.text) accepts.items) ≡ None
+    pub settled_accepted : limits.max_text ≤ 1073741824 → entry_refusal limits (units_in encoding) entry version (canonical (units_in encoding) (chars entry.text) accepts.items) ≡ None
     settled_accepted small =
         accepted_from limits (units_in encoding) entry version (canonical (units_in encoding) (chars entry.text) accepts.items) (record {
           newer = accepts.newer;
@@ -197,7 +197,7 @@ module _ (limits : Bounds) (encoding : Encoding) (table : List Entry) (uri : Lis
     settled_batch : canonical_batch (units_in encoding) table uri (canonical (units_in encoding) (chars entry.text) accepts.items) ≡ canonical_batch (units_in encoding) table uri batch
     settled_batch = batch_at (canonical (units_in encoding) (chars entry.text) accepts.items) accepts.items law.means ∙ sym (batch_at batch accepts.items accepts.means)
 
-    settled_leaves : after_change (units_in encoding) table uri version (canonical (units_in encoding) (chars entry.text) accepts.items) ≡ after_change (units_in encoding) table uri version batch
+    pub settled_leaves : after_change (units_in encoding) table uri version (canonical (units_in encoding) (chars entry.text) accepts.items) ≡ after_change (units_in encoding) table uri version batch
     settled_leaves = leaves_same (units_in encoding) table uri version (canonical (units_in encoding) (chars entry.text) accepts.items) batch entry is_open (rw (law.means, accepts.means) refl)
 
     settled_of : limits.max_text ≤ 1073741824 → body_refusal limits (canonical_body (units_in encoding) table uri version batch) ≡ None

@@ -5,14 +5,17 @@
 //! - `held`: what is kept of a document, and how a batch of changes is put into it.
 //! - `canonical`: the one message in which an accepted batch of changes is written.
 //! - `fault`: why a call is refused.
+//! - `laws`: what is true of the table of documents, whatever commands come.
 #![tactic(auto)]
 
 mod canonical;
 mod document;
 mod fault;
 mod held;
+mod laws;
 mod store;
 
 pub use document::Document;
 pub use fault::StoreFault;
+pub use laws::store_laws;
 pub use store::Store;

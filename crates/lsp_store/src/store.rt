@@ -52,7 +52,8 @@ impl Store {
         self.limits
     }
 
-    /// How many documents are open; at most `max_docs`. Costs one step.
+    /// How many documents are open. Costs one step. There are never more than `max_docs`: [`store_laws`](crate::store_laws) says it of the
+    /// table of every list of accepted commands, and a store's table is one.
     pub fn len(&self) -> usize
         ensures { result ≡ length self.now.table }
     {

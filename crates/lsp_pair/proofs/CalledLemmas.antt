@@ -1,0 +1,60 @@
+-- A call of a pair's client, over plain values.
+use Rattle.std.proofs.Common.{ℕ, ◌≡◌, ◌≢◌, ◌⊎◌, List, [], ◌∷◌, ◌++◌, Result, Ok, Err, IfOk, IfErr, OnErr, Vec, refl, sym, ap, ◌∙◌, subst, ⊎_elim}
+use Rattle.std.specs.declared.alloc.Global.{Global}
+use Rattle.std.specs.declared.alloc.AllocError.{AllocError}
+use Rattle.std.proofs.lemmas.List.{map-append}
+use Rattle.lsp_server.specs.Step as server
+use Rattle.lsp_client.specs.declared.fault.ClientFault.{ClientFault}
+use Rattle.lsp_client.specs.declared.fault.ClientFault.TheVariants.{NoMemory}
+use Rattle.lsp_client.specs.Step as client
+use Rattle.lsp_client.specs.Step.{Call, Sending, call_result}
+use Rattle.lsp_client.specs.Seen.{IsSent, IsFaultOf, fault_of}
+use Rattle.lsp_pair.specs.declared.event.Event.{Event}
+use Rattle.lsp_pair.specs.declared.event.Event.TheVariants.{Start, Open, Edit, Close, Shutdown, Exit, ToServer, ToClient}
+use Rattle.lsp_pair.specs.declared.event.Happened.{Happened}
+use Rattle.lsp_pair.specs.declared.event.Happened.TheVariants.{Sent, Refused}
+use Rattle.lsp_pair.specs.World.{EventData, calls, to_server, to_client, call_sent, call_refused}
+use Rattle.lsp_pair.specs.Pair.{IsCallStep, IsStep}
+use Rattle.lsp_pair.specs.Seen.{event_view, happened_view, frames}
+use Rattle.lsp_pair.specs.Inside.{IsCall, HoldsOnCall, both_ends}
+
+pub is_call : (e : Event) → (e ≡ ToServer → ⊥) → (e ≡ ToClient → ⊥) → IsCall (event_view e)
+is_call Start p q = tt
+is_call (Open uri language version text) p q = tt
+is_call (Edit uri version changes) p q = tt
+is_call (Close uri) p q = tt
+is_call Shutdown p q = tt
+is_call Exit p q = tt
+is_call ToServer p q = absurd (p refl)
+is_call ToClient p q = absurd (q refl)
+
+module _ (s : server.State) (c new : client.State) (q next : List (Vec ℕ Global)) (b : List (List ℕ)) where
+  sent_is : (r : Result Sending client.Refusal) (bytes : Vec ℕ Global) → IsSent r bytes.items new → next ≡ q ++ bytes ∷ [] → IsCallStep (both_ends c s (frames q) b) r call_sent (both_ends new s (frames next) b)
+  sent_is (Ok sending) bytes sends pushed =
+      (refl, λ i. both_ends (sends.1 i) s ((ap frames pushed ∙ (map-append (λ (f : Vec ℕ Global). f.items) q (bytes ∷ []) ∙ ap (λ (f : List ℕ). frames q ++ f ∷ []) sends.0)) i) b)
+  sent_is (Err refusal) bytes sends pushed = absurd sends
+
+  refused_is : (r : Result Sending client.Refusal) (fault : ClientFault) → IsFaultOf r fault → fault ≢ NoMemory → new ≡ c → next ≡ q → IsCallStep (both_ends c s (frames q) b) r (call_refused fault) (both_ends new s (frames next) b)
+  refused_is (Ok sending) fault error other same stays = absurd (other error)
+  refused_is (Err (client.wrong_phase phase)) fault error other same stays = (ap call_refused error, λ i. both_ends (same i) s (frames (stays i)) b)
+  refused_is (Err (client.store refusal)) fault error other same stays =
+      (⊎_elim (λ (e : fault ≡ NoMemory). absurd (other e)) (λ (e : fault ≡ fault_of (client.store refusal)). ap call_refused e) error, λ i. both_ends (same i) s (frames (stays i)) b)
+
+  pub call_is : (e : EventData) (sent : Result (Vec ℕ Global) ClientFault) (result : Result Happened AllocError) → IsCall e
+      → IfOk sent (λ bytes. HoldsOnCall e (λ k. IsSent (call_result c k) bytes.items new)) → OnErr sent (new ≡ c) → IfErr sent (λ fault. (fault ≡ NoMemory) ⊎ HoldsOnCall e (λ k. IsFaultOf (call_result c k) fault))
+      → IfOk sent (λ bytes. (result ≡ Ok Sent) × (next ≡ q ++ bytes ∷ [])) → IfErr sent (λ fault. (next ≡ q) × IfOk result (λ h. (fault ≢ NoMemory) × (h ≡ Refused fault)))
+      → IfOk result (λ h. IsStep (both_ends c s (frames q) b) e (happened_view h) (both_ends new s (frames next) b))
+  call_is (calls k) (Ok bytes) result is sends same error pushed refused =
+      subst (λ (r : Result Happened AllocError). IfOk r (λ h. IsStep (both_ends c s (frames q) b) (calls k) (happened_view h) (both_ends new s (frames next) b))) (sym pushed.0) (sent_is (call_result c k) bytes sends pushed.1)
+  call_is (calls k) (Err fault) (Ok h) is sends same error pushed refused =
+      subst (λ (x : Happened). IsStep (both_ends c s (frames q) b) (calls k) (happened_view x) (both_ends new s (frames next) b)) (sym refused.1.1) (⊎_elim (λ (out : fault ≡ NoMemory). absurd (refused.1.0 out)) (λ (error : IsFaultOf (call_result c k) fault). refused_is (call_result c k) fault error refused.1.0 same refused.0) error)
+  call_is (calls k) (Err fault) (Err e) is sends same error pushed refused = tt
+  call_is to_server sent result is sends same error pushed refused = absurd is
+  call_is to_client sent result is sends same error pushed refused = absurd is
+
+  pub call_same : (sent : Result (Vec ℕ Global) ClientFault) (result : Result Happened AllocError)
+      → OnErr sent (new ≡ c) → IfOk sent (λ bytes. (result ≡ Ok Sent) × (next ≡ q ++ bytes ∷ [])) → IfErr sent (λ fault. (next ≡ q) × IfOk result (λ h. (fault ≢ NoMemory) × (h ≡ Refused fault)))
+      → OnErr result (both_ends new s (frames next) b ≡ both_ends c s (frames q) b)
+  call_same (Ok bytes) result same pushed refused = subst (λ (r : Result Happened AllocError). OnErr r (both_ends new s (frames next) b ≡ both_ends c s (frames q) b)) (sym pushed.0) tt
+  call_same (Err fault) (Ok h) same pushed refused = tt
+  call_same (Err fault) (Err e) same pushed refused = λ i. both_ends (same i) s (frames (refused.0 i)) b

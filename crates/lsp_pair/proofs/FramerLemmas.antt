@@ -1,0 +1,29 @@
+-- A whole frame that is fed is buffered whole.
+use Rattle.std.proofs.Common.{ℕ, zero, suc, ◌≡◌, get_or, ◌≤◌, ◌<◌, List, [], ◌∷◌, length, take, drop, refl, sym, ap, subst, arith, ⊎_elim}
+use Rattle.std.proofs.lemmas.Bool.{cases_lt}
+use Rattle.std.proofs.lemmas.List.{take-append-drop, length-drop}
+use Rattle.lsp_frame.specs.Frame.{Spells}
+use Rattle.lsp_frame.specs.Stream.{IsFrame}
+use Rattle.lsp_frame.proofs.LawLemmas.{spelling_law}
+
+take_whole : {X : Type 0} (k : ℕ) (xs : List X) → length xs ≤ k → take k xs ≡ xs
+take_whole zero [] h = refl
+take_whole zero (x ∷ xs) h = absurd (omega arith)
+take_whole (suc k) [] h = refl
+take_whole (suc k) (x ∷ xs) h = ap (λ ys. x ∷ ys) (take_whole k xs (omega arith))
+
+-- the first of a queue, and what is after it
+pub first_out : {X : Type 0} (items rest : List X) (first : X) → 0 < length items → first ≡ get_or items 0 first → rest ≡ drop 1 items → items ≡ first ∷ rest
+first_out [] rest first some is after = absurd (omega arith)
+first_out (x ∷ xs) rest first some is after = λ i. sym is i ∷ sym after i
+
+pub whole_taken : (max_body : ℕ) (bytes : List ℕ) (k : ℕ) → IsFrame max_body bytes → k ≤ length bytes → (k < length bytes → IsFrame max_body (take k bytes)) → take k bytes ≡ bytes
+whole_taken max_body bytes k whole within stops =
+    ⊎_elim
+    (λ (less : k < length bytes).
+    let front : IsFrame max_body (take k bytes) = stops less in
+    let nothing : drop k bytes ≡ [] =
+    (spelling_law max_body (take k bytes) (drop k bytes) front.body whole.body front.spells (subst (λ (b : List ℕ). Spells max_body b whole.body) (sym (take-append-drop k bytes)) whole.spells)).0 in
+    absurd (omega (arith, less, length-drop k bytes, ap length nothing)))
+    (λ (all : length bytes ≤ k). take_whole k bytes all)
+    (cases_lt k (length bytes))

@@ -1,0 +1,17 @@
+pub mod SaidLemmas
+pub mod LifeLemmas
+pub mod ListLemmas
+pub mod Shapes
+pub mod ArriveLemmas
+pub mod ReturnLemmas
+pub mod CallLemmas
+pub mod WorldLemmas
+pub mod StepLemmas
+pub mod NewLemmas
+pub mod RunLemmas
+pub mod FramerLemmas
+pub mod ServeLemmas
+pub mod ReachLemmas
+pub mod CalledLemmas
+pub mod EventLemmas
+pub mod DocumentLemmas

@@ -1,0 +1,69 @@
+-- What both ends make of the messages of the lifecycle, and how long these are.
+use Rattle.std.proofs.Common.{ℕ, ◌≡◌, ◌≤◌, Bool, true, false, List, [], ◌++◌, length, refl, sym, ◌∙◌, subst, arith, pos}
+use Rattle.std.proofs.lemmas.List.{append-nil}
+use Rattle.json.specs.Print.{escape_byte}
+use Rattle.std.specs.Fmt.{digits}
+use Rattle.lsp_frame.specs.Frame.{frame, Spells}
+use Rattle.lsp_frame.proofs.LawLemmas.{spelling_law}
+use Rattle.lsp_frame.proofs.WrittenLemmas.{written_spells}
+use Rattle.lsp_text.specs.declared.encoding.Encoding.{Encoding}
+use Rattle.lsp_text.specs.declared.encoding.Encoding.TheVariants.{Utf8, Utf16, Utf32}
+use Rattle.lsp_message.specs.declared.agreement.Offers.{Offers}
+use Rattle.lsp_message.specs.declared.agreement.SyncKind.{SyncKind}
+use Rattle.lsp_message.specs.declared.agreement.SyncKind.TheVariants.{Off, Full, Incremental}
+use Rattle.lsp_message.specs.Message.{whole}
+use Rattle.lsp_message.specs.Outgoing.{OutgoingData, initialize, initialized, shutdown, exit, initialize_result, shutdown_result, body_of}
+
+initialize_len : (utf8 utf32 : Bool) → length (body_of (initialize (record { utf8 = utf8; utf32 = utf32 }))) ≤ 4096
+unfolding escape_byte digits
+initialize_len true true = let e : length (body_of (initialize (record { utf8 = true; utf32 = true }))) ≡ 166 = refl in omega (arith, e)
+initialize_len true false = let e : length (body_of (initialize (record { utf8 = true; utf32 = false }))) ≡ 157 = refl in omega (arith, e)
+initialize_len false true = let e : length (body_of (initialize (record { utf8 = false; utf32 = true }))) ≡ 158 = refl in omega (arith, e)
+initialize_len false false = let e : length (body_of (initialize (record { utf8 = false; utf32 = false }))) ≡ 149 = refl in omega (arith, e)
+
+pub short_initialize : (offers : Offers) → length (body_of (initialize offers)) ≤ 4096
+short_initialize offers = initialize_len offers.utf8 offers.utf32
+
+pub short_initialized : length (body_of initialized) ≤ 4096
+unfolding escape_byte digits
+short_initialized = let e : length (body_of initialized) ≡ 52 = refl in omega (arith, e)
+
+pub short_shutdown : length (body_of shutdown) ≤ 4096
+unfolding escape_byte digits
+short_shutdown = let e : length (body_of shutdown) ≡ 44 = refl in omega (arith, e)
+
+pub short_exit : length (body_of exit) ≤ 4096
+unfolding escape_byte digits
+short_exit = let e : length (body_of exit) ≡ 33 = refl in omega (arith, e)
+
+-- the id that `initialize` has, and the one that `shutdown` has
+abbrev pub first_result : Encoding → SyncKind → OutgoingData
+first_result encoding kind = initialize_result (whole (pos 1)) encoding kind
+
+abbrev pub last_result : OutgoingData
+last_result = shutdown_result (whole (pos 2))
+
+pub short_first : (encoding : Encoding) (kind : SyncKind) → length (body_of (first_result encoding kind)) ≤ 4096
+unfolding escape_byte digits
+short_first Utf8 Off = let e : length (body_of (first_result Utf8 Off)) ≡ 128 = refl in omega (arith, e)
+short_first Utf8 Full = let e : length (body_of (first_result Utf8 Full)) ≡ 128 = refl in omega (arith, e)
+short_first Utf8 Incremental = let e : length (body_of (first_result Utf8 Incremental)) ≡ 128 = refl in omega (arith, e)
+short_first Utf16 Off = let e : length (body_of (first_result Utf16 Off)) ≡ 129 = refl in omega (arith, e)
+short_first Utf16 Full = let e : length (body_of (first_result Utf16 Full)) ≡ 129 = refl in omega (arith, e)
+short_first Utf16 Incremental = let e : length (body_of (first_result Utf16 Incremental)) ≡ 129 = refl in omega (arith, e)
+short_first Utf32 Off = let e : length (body_of (first_result Utf32 Off)) ≡ 129 = refl in omega (arith, e)
+short_first Utf32 Full = let e : length (body_of (first_result Utf32 Full)) ≡ 129 = refl in omega (arith, e)
+short_first Utf32 Incremental = let e : length (body_of (first_result Utf32 Incremental)) ≡ 129 = refl in omega (arith, e)
+
+pub short_last : length (body_of last_result) ≤ 4096
+unfolding escape_byte digits
+short_last = let e : length (body_of last_result) ≡ 38 = refl in omega (arith, e)
+
+-- ---- frames
+
+-- A written frame within the limit has one body, its own.
+pub one_body : (max_body : ℕ) (bytes body other : List ℕ) → bytes ≡ frame body → length body ≤ max_body → max_body ≤ 1073741824 → Spells max_body bytes other → other ≡ body
+one_body max_body bytes body other is short small spells =
+    let own : Spells max_body (frame body) body = written_spells max_body body short (omega (arith, short, small)) in
+    let here : Spells max_body (frame body ++ []) other = subst (λ (b : List ℕ). Spells max_body b other) (is ∙ sym (append-nil (frame body))) spells in
+    sym (spelling_law max_body (frame body) [] body other own here).1

@@ -1,0 +1,30 @@
+-- A new pair.
+use Rattle.std.proofs.Common.{◌≡◌, true, [], nat_le}
+use Rattle.std.specs.Prelude.{◌&&◌}
+use Rattle.std.proofs.lemmas.Bool.{and_parts, leb-true}
+use Rattle.lsp_frame.specs.Limits.{Bounds, AreInRange}
+use Rattle.lsp_message.specs.declared.agreement.Offers.{Offers}
+use Rattle.lsp_server.specs.declared.config.Config.{Config}
+use Rattle.lsp_store.specs.Laws.{AreWithin}
+use Rattle.lsp_pair.specs.World.{Setting}
+use Rattle.lsp_pair.specs.Pair.{IsSound, is_utf16, are_within, IsReached, new_pair}
+use Rattle.lsp_pair.proofs.StepLemmas.{new_at}
+
+pub within_from : (small great : Bounds) → are_within small great ≡ true → AreWithin small great
+within_from small great e =
+    let a = and_parts (nat_le small.max_body great.max_body && nat_le small.max_text great.max_text && nat_le small.max_docs great.max_docs) (nat_le small.max_changes great.max_changes) e in
+    let b = and_parts (nat_le small.max_body great.max_body && nat_le small.max_text great.max_text) (nat_le small.max_docs great.max_docs) a.0 in
+    let c = and_parts (nat_le small.max_body great.max_body) (nat_le small.max_text great.max_text) b.0 in
+    record {
+      body = leb-true small.max_body great.max_body c.0;
+      text = leb-true small.max_text great.max_text c.1;
+      docs = leb-true small.max_docs great.max_docs b.1;
+      changes = leb-true small.max_changes great.max_changes a.1;
+    }
+
+pub sound_from : (limits : Bounds) (offers : Offers) (config : Config) → AreInRange limits → AreInRange config.limits → are_within limits config.limits ≡ true → is_utf16 config.choice ≡ true
+    → IsSound (record { limits = limits; offers = offers; config = config })
+sound_from limits offers config ranges great within choice = record { ranges = ranges; great = great; within = within_from limits config.limits within; choice = choice }
+
+pub new_reached : (setting : Setting) → IsSound setting → IsReached (new_pair setting)
+new_reached setting sound = record { setting = setting; sound = sound; events = []; at = new_at setting }

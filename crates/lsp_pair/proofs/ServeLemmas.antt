@@ -1,0 +1,98 @@
+-- A delivery to the server, over plain values.
+use Rattle.std.proofs.Common.{ℕ, ◌≡◌, ◌<◌, Bool, true, false, List, [], ◌∷◌, ◌++◌, length, map, get_or, Option, Vec, refl, sym, ap, ◌∙◌, subst, arith}
+use Rattle.std.specs.declared.alloc.Global.{Global}
+use Rattle.lsp_frame.specs.Limits.{Bounds}
+use Rattle.lsp_frame.specs.Frame.{Spells}
+use Rattle.lsp_message.specs.Message.{reading}
+use Rattle.lsp_message.specs.Outgoing.{OutgoingData}
+use Rattle.lsp_message.specs.declared.outgoing.ErrorCode.{ErrorCode}
+use Rattle.lsp_server.specs.Answer as answer
+use Rattle.lsp_server.specs.Answer.{AnswerData, Sent, as_sent}
+use Rattle.lsp_server.specs.Step as server
+use Rattle.lsp_client.specs.Step as client
+use Rattle.lsp_client.specs.Seen as seen
+use Rattle.lsp_pair.specs.World.{to_server, to_client, server_did, client_heard, without_reply, replies_in, without_message, messages_in}
+use Rattle.lsp_pair.specs.Pair.{message_frame, IsStep}
+use Rattle.lsp_pair.specs.Seen.{frames}
+use Rattle.lsp_pair.specs.Inside.{HoldsOfFirst, without_frame, frames_in_answer, without_bytes, frames_in_delivery}
+
+did_same : (a : AnswerData OutgoingData) → without_frame (as_sent a) ≡ without_reply a
+did_same (answer.reply m) = refl
+did_same answer.changed = refl
+did_same answer.dropped = refl
+did_same answer.ignored = refl
+did_same answer.already_ended = refl
+did_same (answer.refused refusal) = refl
+did_same (answer.exits status) = refl
+
+frames_same : (a : AnswerData OutgoingData) → frames_in_answer (as_sent a) ≡ map message_frame (replies_in a)
+frames_same (answer.reply m) = refl
+frames_same answer.changed = refl
+frames_same answer.dropped = refl
+frames_same answer.ignored = refl
+frames_same answer.already_ended = refl
+frames_same (answer.refused refusal) = refl
+frames_same (answer.exits status) = refl
+
+pub first_there : (P : List ℕ → Type 0) (items : List (Vec ℕ Global)) (first : Vec ℕ Global) → 0 < length items → first ≡ get_or items 0 first → HoldsOfFirst (frames items) P → P first.items
+first_there P [] first some is holds = absurd (omega arith)
+first_there P (x ∷ xs) first some is holds = subst (λ (v : Vec ℕ Global). P v.items) (sym is) holds
+
+pub serve_is : (c : client.State) (s new : server.State) (limits : Bounds) (items rest : List (Vec ℕ Global)) (back next : List (List ℕ)) (first : Vec ℕ Global) (body buffered : List ℕ)
+    (given : AnswerData Sent) (result : AnswerData (Option ErrorCode))
+    → items ≡ first ∷ rest → Spells limits.max_body buffered body → buffered ≡ first.items → limits ≡ s.config.limits
+    → given ≡ as_sent (server.step s (reading body)).answer → new ≡ (server.step s (reading body)).state
+    → result ≡ without_frame given → next ≡ back ++ frames_in_answer given
+    → IsStep (record { client = c; server = s; to_server = frames items; to_client = back }) to_server (server_did result) (record { client = c; server = new; to_server = frames rest; to_client = next })
+serve_is c s new limits items rest back next first body buffered given result out spells is same answers state did pushed =
+    rw out (record {
+      body = body;
+      framed = subst (λ (l : Bounds). Spells l.max_body first.items body) same (subst (λ (b : List ℕ). Spells limits.max_body b body) is spells);
+      happens = ap server_did (did ∙ (ap without_frame answers ∙ did_same (server.step s (reading body)).answer));
+      leaves = λ i. record {
+        client = c;
+        server = state i;
+        to_server = frames rest;
+        to_client = (pushed ∙ ap (λ (fs : List (List ℕ)). back ++ fs) (ap frames_in_answer answers ∙ frames_same (server.step s (reading body)).answer)) i;
+      };
+    })
+
+-- ---- a delivery to the client
+
+heard_same : (d : client.DeliveredData OutgoingData) → without_bytes (seen.as_sent d) ≡ without_message d
+heard_same (client.sends m) = refl
+heard_same client.noted = refl
+heard_same client.ignored = refl
+heard_same (client.bad_server reason) = refl
+
+bytes_same : (d : client.DeliveredData OutgoingData) → frames_in_delivery (seen.as_sent d) ≡ map message_frame (messages_in d)
+bytes_same (client.sends m) = refl
+bytes_same client.noted = refl
+bytes_same client.ignored = refl
+bytes_same (client.bad_server reason) = refl
+
+listening : (b : Bool) → b ≡ true → (s : client.State) (body : List ℕ) (given : client.DeliveredData (List ℕ)) (new : client.State) → seen.IsDelivered (client.if_listening b s (reading body)) given new
+    → (given ≡ seen.as_sent (client.delivery_of s (reading body)).delivered) × (new ≡ (client.delivery_of s (reading body)).state)
+listening true e s body given new h = h
+listening false e s body given new h = absurd h
+
+pub hear_is : (s : server.State) (c new : client.State) (limits : Bounds) (items rest : List (Vec ℕ Global)) (there next : List (List ℕ)) (first : Vec ℕ Global) (body buffered : List ℕ)
+    (given : client.DeliveredData (List ℕ)) (result : client.DeliveredData (Unit {0}))
+    → items ≡ first ∷ rest → Spells limits.max_body buffered body → buffered ≡ first.items → limits ≡ c.limits → client.is_listening c.phase ≡ true
+    → seen.IsDelivered (client.delivery_result c (reading body)) given new
+    → result ≡ without_bytes given → next ≡ there ++ frames_in_delivery given
+    → IsStep (record { client = c; server = s; to_server = there; to_client = frames items }) to_client (client_heard result) (record { client = new; server = s; to_server = next; to_client = frames rest })
+hear_is s c new limits items rest there next first body buffered given result out spells is same is_listening hears did pushed =
+    let h = listening (client.is_listening c.phase) is_listening c body given new hears in
+    rw out (record {
+      body = body;
+      framed = subst (λ (l : Bounds). Spells l.max_body first.items body) same (subst (λ (b : List ℕ). Spells limits.max_body b body) is spells);
+      is_listening = is_listening;
+      happens = ap client_heard (did ∙ (ap without_bytes h.0 ∙ heard_same (client.delivery_of c (reading body)).delivered));
+      leaves = λ i. record {
+        client = h.1 i;
+        server = s;
+        to_client = frames rest;
+        to_server = (pushed ∙ ap (λ (fs : List (List ℕ)). there ++ fs) (ap frames_in_delivery h.0 ∙ bytes_same (client.delivery_of c (reading body)).delivered)) i;
+      };
+    })

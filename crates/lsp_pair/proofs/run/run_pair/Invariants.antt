@@ -1,0 +1,12 @@
+use Rattle.std.proofs.Common.{◌≡◌, ◌++◌, List, map, take}
+use Rattle.lsp_pair.specs.World.{Setting, EventData}
+use Rattle.lsp_pair.specs.Pair.{IsSound, IsAt, IsRun}
+use Rattle.lsp_pair.specs.Seen.{event_view}
+use Rattle.lsp_pair.proofs.run.run_pair.Given as goal
+
+abbrev pub invariant-loop-event : goal.invariant-loop-event
+invariant-loop-event l = record {
+  counted : l.stepped ≡ l.event-index;
+  steps : IsRun l.fn.pair (take l.event-index (map event_view l.events)) l.pair;
+  at : (setting : Setting) (before : List EventData) → IsSound setting → IsAt setting l.fn.pair before → IsAt setting l.pair (before ++ take l.event-index (map event_view l.events));
+}

@@ -1,0 +1,32 @@
+-- The documents of both ends, in plain terms.
+use Rattle.std.specs.Prelude.{◌≡◌, List, [], ◌++◌, take}
+use Rattle.lsp_store.specs.Table.{table_of}
+use Rattle.lsp_pair.specs.World.{Setting, ClientMessage, commands_in, EventData, world_of, client_of}
+use Rattle.lsp_pair.specs.Pair.{PairData}
+
+-- the messages that the client sent, and those of them that were delivered
+abbrev pub sent_messages : Setting → List EventData → List ClientMessage
+sent_messages setting events = (world_of setting events).out
+
+abbrev pub delivered_messages : Setting → List EventData → List ClientMessage
+delivered_messages setting events =
+    take (world_of setting events).out_delivered (sent_messages setting events)
+
+-- After some first part of the events the client had sent the messages that are delivered now, and no
+-- other. The server's documents are what the client's were then.
+pub record IsWhatTheClientHad (setting : Setting) (events : List EventData) (pair : PairData)
+    : Type 0 where
+  pub before : List EventData
+  pub later : List EventData
+  pub parts : before ++ later ≡ events
+  pub sent : sent_messages setting before ≡ delivered_messages setting events
+  pub same : pair.server.table ≡ (client_of setting (world_of setting before)).table
+
+-- The client's documents are the table of the document commands that it sent, the server's the table
+-- of those that were delivered. Where no message waits for the server, both are equal.
+pub record HaveDocuments (setting : Setting) (events : List EventData) (pair : PairData)
+    : Type 0 where
+  pub client : pair.client.table ≡ table_of (commands_in (sent_messages setting events))
+  pub server : pair.server.table ≡ table_of (commands_in (delivered_messages setting events))
+  pub equal : pair.to_server ≡ [] → pair.server.table ≡ pair.client.table
+  pub earlier : IsWhatTheClientHad setting events pair

@@ -1,0 +1,176 @@
+-- Both ends of a session and the frames between them, and when a pair is at the world of a list of events.
+use Rattle.std.specs.Prelude.{ℕ, ◌≡◌, Bool, true, false, nat_le, ◌&&◌, List, [], ◌∷◌, ◌++◌, drop, map, Result, Ok, Err}
+use Rattle.lsp_frame.specs.Frame.{frame, Spells}
+use Rattle.lsp_frame.specs.Limits.{Bounds, AreInRange}
+use Rattle.lsp_text.specs.declared.encoding.Encoding.TheVariants.{Utf8, Utf16, Utf32}
+use Rattle.lsp_message.specs.declared.agreement.SyncKind.{SyncKind}
+use Rattle.lsp_message.specs.Message.{reading}
+use Rattle.lsp_message.specs.Outgoing.{OutgoingData, body_of}
+use Rattle.lsp_store.specs.Table.{Entry, table_after}
+use Rattle.lsp_store.specs.Laws.{AreWithin}
+use Rattle.lsp_server.specs.declared.config.EncodingChoice.{EncodingChoice}
+use Rattle.lsp_server.specs.declared.config.EncodingChoice.TheVariants.{Fixed, Negotiated}
+use Rattle.lsp_server.specs.Choice.{kind_of}
+use Rattle.lsp_server.specs.Step as server
+use Rattle.lsp_client.specs.Seen.{fault_of}
+use Rattle.lsp_client.specs.Step as client
+use Rattle.lsp_pair.specs.World.{Setting, ClientMessage, commands, lifecycle, World, client_of, server_of, EventData, calls, to_server, to_client, HappenedData, call_sent, call_refused, nothing, server_did, client_heard, without_reply, replies_in, without_message, messages_in, AreProperEvents, world_of}
+
+-- both ends, and the frames on the way to each, oldest first
+pub record PairData : Type 0 where
+  pub client : client.State
+  pub server : server.State
+  pub to_server : List (List ℕ)
+  pub to_client : List (List ℕ)
+
+-- A new pair.
+abbrev pub new_pair : Setting → PairData
+new_pair setting =
+    record {
+      client = client.start setting.limits setting.offers;
+      server = server.start setting.config;
+      to_server = [];
+      to_client = [];
+    }
+
+-- ---- one step, on the pair's own ends
+
+abbrev pub message_frame : OutgoingData → List ℕ
+message_frame m = frame (body_of m)
+
+-- A client's call: the frame of an accepted one goes last into the queue to the server, and a refused
+-- one changes nothing.
+abbrev pub IsCallStep : PairData → Result client.Sending client.Refusal → HappenedData → PairData → Type 0
+IsCallStep old (Ok sending) happened new =
+    (happened ≡ call_sent)
+    × (new ≡ record old {
+      client = sending.state;
+      to_server = old.to_server ++ message_frame sending.message ∷ [];
+    })
+IsCallStep old (Err refusal) happened new =
+    (happened ≡ call_refused (fault_of refusal)) × (new ≡ old)
+
+-- The server takes the first frame of its queue, and its reply goes last into the other.
+pub record IsServerStep (old : PairData) (first : List ℕ) (rest : List (List ℕ))
+    (happened : HappenedData) (new : PairData) : Type 0 where
+  pub body : List ℕ
+  pub framed : Spells old.server.config.limits.max_body first body
+  pub happens :
+      happened ≡ server_did (without_reply (server.step old.server (reading body)).answer)
+  pub leaves : new ≡ record old {
+    server = (server.step old.server (reading body)).state;
+    to_server = rest;
+    to_client =
+        old.to_client ++ map message_frame (replies_in (server.step old.server (reading body)).answer);
+  }
+
+-- The client, which listens, takes the first frame of its queue, and what it sends goes last into the
+-- other.
+pub record IsClientStep (old : PairData) (first : List ℕ) (rest : List (List ℕ))
+    (happened : HappenedData) (new : PairData) : Type 0 where
+  pub body : List ℕ
+  pub framed : Spells old.client.limits.max_body first body
+  pub is_listening : client.is_listening old.client.phase ≡ true
+  pub happens :
+      happened
+      ≡ client_heard (without_message (client.delivery_of old.client (reading body)).delivered)
+  pub leaves : new ≡ record old {
+    client = (client.delivery_of old.client (reading body)).state;
+    to_client = rest;
+    to_server =
+        old.to_server
+        ++ map message_frame (messages_in (client.delivery_of old.client (reading body)).delivered);
+  }
+
+-- A delivery from a queue; where it is empty nothing changes.
+abbrev pub IsDeliveryStep : (List ℕ → List (List ℕ) → Type 0) → PairData → List (List ℕ) → HappenedData
+    → PairData → Type 0
+IsDeliveryStep taken old [] happened new = (happened ≡ nothing) × (new ≡ old)
+IsDeliveryStep taken old (first ∷ rest) happened new = taken first rest
+
+-- One step of a pair: what happens, and what the pair is then.
+abbrev pub IsStep : PairData → EventData → HappenedData → PairData → Type 0
+IsStep old (calls call) happened new =
+    IsCallStep old (client.call_result old.client call) happened new
+IsStep old to_server happened new =
+    IsDeliveryStep (λ first rest. IsServerStep old first rest happened new)
+    old old.to_server happened new
+IsStep old to_client happened new =
+    IsDeliveryStep (λ first rest. IsClientStep old first rest happened new)
+    old old.to_client happened new
+
+-- The steps of a list of events, in order.
+abbrev pub IsRun : PairData → List EventData → PairData → Type 0
+IsRun old [] new = new ≡ old
+IsRun old (event ∷ events) new =
+    (happened : HappenedData) × (mid : PairData) × IsStep old event happened mid
+    × IsRun mid events new
+
+-- ---- a pair at a world
+
+-- The frame of a message, where the client had this table when it sent it.
+abbrev pub frame_of : SyncKind → List Entry → ClientMessage → List ℕ
+frame_of kind table (commands command) = message_frame (client.message_of kind table command)
+frame_of kind table (lifecycle m) = message_frame m
+
+-- The table after a message.
+abbrev pub table_with : List Entry → ClientMessage → List Entry
+table_with table (commands command) = table_after table command
+table_with table (lifecycle m) = table
+
+-- The frames of messages, where the client had this table when it sent the first.
+abbrev pub frames_from : SyncKind → List Entry → List ClientMessage → List (List ℕ)
+frames_from kind table [] = []
+frames_from kind table (sent ∷ rest) =
+    frame_of kind table sent ∷ frames_from kind (table_with table sent) rest
+
+-- the messages that wait for the server, and for the client
+abbrev pub waiting_out : World → List ClientMessage
+waiting_out w = drop w.out_delivered w.out
+
+abbrev pub waiting_back : World → List OutgoingData
+waiting_back w = drop w.back_delivered w.back
+
+-- The pair of a world: its ends, and in its queues the frames of the messages that wait.
+abbrev pub pair_of : Setting → World → PairData
+pair_of setting w =
+    record {
+      client = client_of setting w;
+      server = server_of setting w;
+      to_server =
+          frames_from (kind_of setting.config.sync) (server_of setting w).table (waiting_out w);
+      to_client = map message_frame (waiting_back w);
+    }
+
+-- A pair is at the world of a list of events.
+pub record IsAt (setting : Setting) (pair : PairData) (events : List EventData) : Type 0 where
+  pub proper : AreProperEvents events
+  pub is : pair ≡ pair_of setting (world_of setting events)
+
+-- ---- which settings a pair takes
+
+-- A client counts in UTF-16 where nothing else was agreed on, so a server must admit it.
+abbrev pub is_utf16 : EncodingChoice → Bool
+is_utf16 (Fixed Utf8) = false
+is_utf16 (Fixed Utf16) = true
+is_utf16 (Fixed Utf32) = false
+is_utf16 (Negotiated prefer) = true
+
+abbrev pub are_within : Bounds → Bounds → Bool
+are_within small great =
+    nat_le small.max_body great.max_body && nat_le small.max_text great.max_text
+    && nat_le small.max_docs great.max_docs && nat_le small.max_changes great.max_changes
+
+-- A setting that a pair takes.
+pub record IsSound (setting : Setting) : Type 0 where
+  pub ranges : AreInRange setting.limits
+  pub great : AreInRange setting.config.limits
+  pub within : AreWithin setting.limits setting.config.limits
+  pub choice : is_utf16 setting.config.choice ≡ true
+
+-- A pair that comes from a new one by steps: it is at the world of some list of events.
+pub record IsReached (pair : PairData) : Type 0 where
+  pub setting : Setting
+  pub sound : IsSound setting
+  pub events : List EventData
+  pub at : IsAt setting pair events

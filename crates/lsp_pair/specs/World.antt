@@ -1,0 +1,269 @@
+-- The world of a list of events: what the two ends of a session sent, how much of it was delivered, and
+-- what each end has then. There are no bytes here, and one function gives the documents of both ends.
+use Rattle.std.specs.Prelude.{ℕ, ℤ, ◌+◌, List, [], ◌∷◌, ◌++◌, take, map, slice_get, FitsSigned, IsUtf8, Option, Some, None, Result, Ok, Err, ⊤}
+use Rattle.std.specs.Int.{w32}
+use Rattle.lsp_frame.specs.Limits.{Bounds}
+use Rattle.lsp_text.specs.declared.encoding.Encoding.{Encoding}
+use Rattle.lsp_edit.specs.Batch.{Edit}
+use Rattle.lsp_message.specs.declared.agreement.Offers.{Offers}
+use Rattle.lsp_message.specs.declared.outgoing.ErrorCode.{ErrorCode}
+use Rattle.lsp_message.specs.Message.{message}
+use Rattle.lsp_message.specs.Outgoing as outgoing
+use Rattle.lsp_message.specs.Outgoing.{OutgoingData}
+use Rattle.lsp_message.specs.Sent.{sent}
+use Rattle.lsp_store.specs.Table.{Entry, Command, opens, changes, closes, table_of}
+use Rattle.lsp_store.specs.Message.{AreTexts, written_edit}
+use Rattle.lsp_server.specs.declared.config.Config.{Config}
+use Rattle.lsp_server.specs.declared.phase.Phase as server_phase
+use Rattle.lsp_server.specs.declared.phase.Phase.TheVariants as server_phases
+use Rattle.lsp_server.specs.Answer as answer
+use Rattle.lsp_server.specs.Answer.{AnswerData, code_of}
+use Rattle.lsp_server.specs.Incoming as incoming
+use Rattle.lsp_server.specs.Incoming.{IncomingData}
+use Rattle.lsp_server.specs.Step as server
+use Rattle.lsp_client.specs.declared.agreed.Agreed.{Agreed}
+use Rattle.lsp_client.specs.declared.phase.Phase as client_phase
+use Rattle.lsp_client.specs.declared.phase.Phase.TheVariants as client_phases
+use Rattle.lsp_client.specs.declared.fault.ClientFault.{ClientFault}
+use Rattle.lsp_client.specs.Seen.{fault_of}
+use Rattle.lsp_client.specs.Step as client
+use Rattle.lsp_client.specs.Step.{Call, starts, shuts_down, exits, orders, Order, DeliveredData}
+
+-- how both ends are set up
+pub record Setting : Type 0 where
+  pub limits : Bounds
+  pub offers : Offers
+  pub config : Config
+
+-- What the client sends: a document command, with the batch that the caller gave, or a message of the
+-- session's lifecycle.
+pub data ClientMessage : Type 0 where
+  commands : Command → ClientMessage
+  lifecycle : OutgoingData → ClientMessage
+
+-- the document commands among messages
+abbrev pub commands_in : List ClientMessage → List Command
+commands_in [] = []
+commands_in (commands command ∷ sent) = command ∷ commands_in sent
+commands_in (lifecycle m ∷ sent) = commands_in sent
+
+-- What the client sent, oldest first, and how many of it were delivered; what the server sent,
+-- likewise; and the phase and the agreement of each end.
+pub record World : Type 0 where
+  pub out : List ClientMessage
+  pub out_delivered : ℕ
+  pub back : List OutgoingData
+  pub back_delivered : ℕ
+  pub client_phase : client_phase.Phase
+  pub agreed : Option Agreed
+  pub server_phase : server_phase.Phase
+  pub encoding : Option Encoding
+
+-- before the first event
+abbrev pub beginning : World
+beginning =
+    record {
+      out = [];
+      out_delivered = 0;
+      back = [];
+      back_delivered = 0;
+      client_phase = client_phases.New;
+      agreed = None;
+      server_phase = server_phases.New;
+      encoding = None;
+    }
+
+-- The client has the table of the commands that it sent.
+abbrev pub client_of : Setting → World → client.State
+client_of setting w =
+    record {
+      limits = setting.limits;
+      offers = setting.offers;
+      phase = w.client_phase;
+      agreed = w.agreed;
+      table = table_of (commands_in w.out);
+    }
+
+-- The server has the table of those that were delivered.
+abbrev pub server_of : Setting → World → server.State
+server_of setting w =
+    record {
+      config = setting.config;
+      phase = w.server_phase;
+      encoding = w.encoding;
+      table = table_of (commands_in (take w.out_delivered w.out));
+    }
+
+-- ---- events
+
+pub data EventData : Type 0 where
+  calls : Call → EventData
+  to_server to_client : EventData
+
+-- What happens: a client's call is accepted or refused, an end handles a message, or none waits.
+pub data HappenedData : Type 0 where
+  call_sent nothing : HappenedData
+  call_refused : ClientFault → HappenedData
+  server_did : AnswerData (Option ErrorCode) → HappenedData
+  client_heard : DeliveredData (Unit {0}) → HappenedData
+
+-- an answer of the server, and the message in it
+abbrev pub without_reply : AnswerData OutgoingData → AnswerData (Option ErrorCode)
+without_reply (answer.reply m) = answer.reply (code_of m)
+without_reply answer.changed = answer.changed
+without_reply answer.dropped = answer.dropped
+without_reply answer.ignored = answer.ignored
+without_reply answer.already_ended = answer.already_ended
+without_reply (answer.refused refusal) = answer.refused refusal
+without_reply (answer.exits status) = answer.exits status
+
+abbrev pub replies_in : AnswerData OutgoingData → List OutgoingData
+replies_in (answer.reply m) = m ∷ []
+replies_in a = []
+
+-- what a delivery is to the client, and the message in it
+abbrev pub without_message : DeliveredData OutgoingData → DeliveredData (Unit {0})
+without_message (client.sends m) = client.sends tt
+without_message client.noted = client.noted
+without_message client.ignored = client.ignored
+without_message (client.bad_server reason) = client.bad_server reason
+
+abbrev pub messages_in : DeliveredData OutgoingData → List OutgoingData
+messages_in (client.sends m) = m ∷ []
+messages_in d = []
+
+-- what happens, and the world then
+pub record Turn : Type 0 where
+  pub happened : HappenedData
+  pub world : World
+
+-- An accepted call's message goes last into `out`; a refused call changes nothing.
+abbrev pub turn_of_call : World → ClientMessage → Result client.Sending client.Refusal → Turn
+turn_of_call w sent (Ok sending) =
+    record {
+      happened = call_sent;
+      world = record w {
+        out = w.out ++ sent ∷ [];
+        client_phase = sending.state.phase;
+        agreed = sending.state.agreed;
+      };
+    }
+turn_of_call w sent (Err refusal) =
+    record { happened = call_refused (fault_of refusal); world = w }
+
+-- what an accepted call sends
+abbrev pub message_by : client.State → Call → OutgoingData → ClientMessage
+message_by s (orders order) m =
+    commands (client.command_of (client.agreement s).encoding order)
+message_by s call m = lifecycle m
+
+abbrev pub message_in : Result client.Sending client.Refusal → OutgoingData
+message_in (Ok sending) = sending.message
+message_in (Err refusal) = outgoing.exit
+
+-- A call is the client's step on what the client is in this world.
+abbrev pub call_event : Setting → World → Call → Turn
+call_event setting w call =
+    let result = client.call_result (client_of setting w) call in
+    turn_of_call w (message_by (client_of setting w) call (message_in result)) result
+
+-- What a message of the client's is to a server.
+abbrev pub incoming_of : ClientMessage → IncomingData
+incoming_of (commands (opens entry)) =
+    incoming.did_open (Some (record {
+      uri = entry.uri;
+      language = entry.language;
+      version = entry.version;
+      text = entry.text;
+    }))
+incoming_of (commands (changes uri version encoding batch)) =
+    incoming.did_change (Some (record {
+      uri = uri;
+      version = version;
+      changes = map written_edit batch;
+    }))
+incoming_of (commands (closes uri)) = incoming.did_close (Some (record { uri = uri }))
+incoming_of (lifecycle m) = incoming.asked (message (sent m))
+
+-- One more message of `out` is delivered, and a reply goes last into `back`.
+abbrev pub turn_of_step : World → server.Step → Turn
+turn_of_step w step =
+    record {
+      happened = server_did (without_reply step.answer);
+      world = record w {
+        out_delivered = w.out_delivered + 1;
+        back = w.back ++ replies_in step.answer;
+        server_phase = step.state.phase;
+        encoding = step.state.encoding;
+      };
+    }
+
+-- The first message that waits for the server is the server's step on what it is in this world.
+abbrev pub to_server_event : Setting → World → Option ClientMessage → Turn
+to_server_event setting w None = record { happened = nothing; world = w }
+to_server_event setting w (Some sent) =
+    turn_of_step w (server.step_on (server_of setting w) (incoming_of sent))
+
+-- One more message of `back` is delivered, and what the client sends goes last into `out`.
+abbrev pub turn_of_delivery : World → client.Delivery → Turn
+turn_of_delivery w delivery =
+    record {
+      happened = client_heard (without_message delivery.delivered);
+      world = record w {
+        back_delivered = w.back_delivered + 1;
+        out = w.out ++ map lifecycle (messages_in delivery.delivered);
+        client_phase = delivery.state.phase;
+        agreed = delivery.state.agreed;
+      };
+    }
+
+abbrev pub turn_of_result : World → Result client.Delivery client.Refusal → Turn
+turn_of_result w (Ok delivery) = turn_of_delivery w delivery
+turn_of_result w (Err refusal) =
+    record { happened = call_refused (fault_of refusal); world = w }
+
+-- The first message that waits for the client is the client's step on what it is in this world.
+abbrev pub to_client_event : Setting → World → Option OutgoingData → Turn
+to_client_event setting w None = record { happened = nothing; world = w }
+to_client_event setting w (Some m) =
+    turn_of_result w (client.delivery_result (client_of setting w) (message (sent m)))
+
+-- One event: what happens, and the world after it.
+abbrev pub turn : Setting → World → EventData → Turn
+turn setting w (calls call) = call_event setting w call
+turn setting w to_server = to_server_event setting w (slice_get w.out w.out_delivered)
+turn setting w to_client = to_client_event setting w (slice_get w.back w.back_delivered)
+
+abbrev pub world_from : Setting → World → List EventData → World
+world_from setting w [] = w
+world_from setting w (event ∷ events) = world_from setting (turn setting w event).world events
+
+-- The world of a list of events.
+abbrev pub world_of : Setting → List EventData → World
+world_of setting events = world_from setting beginning events
+
+-- ---- events as their types have them: versions in 32 bits, texts in UTF-8
+
+pub record IsProperEntry (entry : Entry) : Type 0 where
+  pub uri : IsUtf8 entry.uri
+  pub language : IsUtf8 entry.language
+  pub version : FitsSigned w32 entry.version
+  pub text : IsUtf8 entry.text
+
+pub record IsProperEdits (uri : List ℕ) (version : ℤ) (batch : List Edit) : Type 0 where
+  pub name : IsUtf8 uri
+  pub fits : FitsSigned w32 version
+  pub texts : AreTexts batch
+
+abbrev pub IsProperOrder : Order → Type 0
+IsProperOrder (client.opens entry) = IsProperEntry entry
+IsProperOrder (client.edits uri version batch) = IsProperEdits uri version batch
+IsProperOrder (client.closes uri) = IsUtf8 uri
+
+abbrev pub IsProperEvent : EventData → Type 0
+IsProperEvent (calls (orders order)) = IsProperOrder order
+IsProperEvent event = ⊤
+
+abbrev pub AreProperEvents : List EventData → Type 0
+AreProperEvents [] = ⊤
+AreProperEvents (event ∷ events) = IsProperEvent event × AreProperEvents events

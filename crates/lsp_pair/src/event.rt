@@ -1,0 +1,73 @@
+//! What may happen to a pair, and what happened.
+
+use lsp_client::{ClientFault, Reason};
+use lsp_edit::Change;
+use lsp_message::ErrorCode;
+use lsp_server::Refusal;
+
+/// What may happen: a call of the client, or the delivery of the first frame that waits for an end.
+#[derive(Debug, Drop)]
+pub enum Event {
+    /// [`Client::start`](lsp_client::Client::start).
+    Start,
+    /// [`Client::open`](lsp_client::Client::open).
+    Open {
+        uri: String,
+        language: String,
+        version: i32,
+        text: String,
+    },
+    /// [`Client::edit`](lsp_client::Client::edit).
+    Edit {
+        uri: String,
+        version: i32,
+        changes: Vec<Change>,
+    },
+    /// [`Client::close`](lsp_client::Client::close).
+    Close {
+        uri: String,
+    },
+    /// [`Client::shutdown`](lsp_client::Client::shutdown).
+    Shutdown,
+    /// [`Client::exit`](lsp_client::Client::exit).
+    Exit,
+    /// The first frame that waits for the server is delivered.
+    ToServer,
+    /// The first frame that waits for the client is delivered.
+    ToClient,
+}
+
+/// What happened.
+#[derive(Clone, Copy, Debug, PartialEq, Eq)]
+pub enum Happened {
+    /// The client's call was accepted, and its frame waits for the server.
+    Sent,
+    /// The client's call was refused.
+    Refused(ClientFault),
+    /// What the server answered to a message.
+    Server(Did),
+    /// What the client made of a message.
+    Client(Heard),
+    /// No message waited.
+    Nothing,
+}
+
+/// An answer of the server ([`Answer`](lsp_server::Answer)) without its frame, which waits for the client.
+#[derive(Clone, Copy, Debug, PartialEq, Eq)]
+pub enum Did {
+    Reply(Option<ErrorCode>),
+    Changed,
+    Dropped,
+    Ignored,
+    Refused(Refusal),
+    Exit(u8),
+}
+
+/// What the client made of a message ([`Delivered`](lsp_client::Delivered)), without its frame, which waits for the server.
+#[derive(Clone, Copy, Debug, PartialEq, Eq)]
+pub enum Heard {
+    Send,
+    Noted,
+    Ignored,
+    BadServer(Reason),
+}

@@ -1,0 +1,224 @@
+//! Both ends of a session, and the frames on the way to each.
+
+ghost use Rattle.std.specs.Prelude.{◌≡◌, ◌≢◌, ◌⊎◌, ◌↔◌, ◌<◌, ◌++◌, ◌∷◌, [], List, true, false, Ok, Err, IfOk, IfErr, OnOk, OnErr, length};
+ghost use Rattle.std.specs.VecDeque.{deque_len, deque_capacity};
+ghost use Rattle.lsp_client.specs.declared.fault.ClientFault.TheVariants.{NoMemory};
+ghost use Rattle.lsp_client.specs.Seen.{IsSent, IsFaultOf};
+ghost use Rattle.lsp_client.specs.Step.{call_result};
+ghost use Rattle.lsp_pair.specs.World.{Setting, EventData, IsProperEvent};
+ghost use Rattle.lsp_pair.specs.Inside.{IsCall, HoldsOnCall};
+ghost use Rattle.lsp_pair.specs.Pair.{new_pair, IsSound, IsAt, IsStep, is_utf16, are_within};
+ghost use Rattle.lsp_pair.specs.At.{IsStepAt};
+ghost use Rattle.lsp_pair.specs.Documents.{HaveDocuments};
+ghost use Rattle.lsp_pair.specs.Seen.{event_view, happened_view};
+
+use crate::delivery::{hear_first, serve_first};
+use crate::event::{Event, Happened};
+use crate::setting::{PairFault, are_within, is_utf16, known_limits};
+use lsp_client::{Client, ClientFault};
+use lsp_frame::Limits;
+use lsp_message::Offers;
+use lsp_server::{Config, Server};
+use std::alloc::{AllocError, Global};
+use std::collections::VecDeque;
+use std::marker::Model;
+
+/// Both ends of a session, and the frames on the way to each, oldest first. Clauses see the ends and the frames. Each pair is at the world
+/// of a list of events: it comes from a new one by steps.
+#[derive(Drop)]
+pub struct Pair {
+    alloc: Global,
+    client: Client,
+    server: Server,
+    to_server: VecDeque<Vec<u8>>,
+    to_client: VecDeque<Vec<u8>>,
+}
+
+impl Model for Pair {
+    ghost use Rattle.lsp_pair.specs.Pair.{PairData, IsReached};
+    ghost use Rattle.lsp_pair.specs.Seen.{frames};
+
+    ghost Value = { PairData };
+
+    ghost view = { λ p. record {
+      client = p.client;
+      server = p.server;
+      to_server = frames p.to_server.items;
+      to_client = frames p.to_client.items;
+    } };
+
+    ghost invariant = { λ p. IsReached (record {
+      client = p.client;
+      server = p.server;
+      to_server = frames p.to_server.items;
+      to_client = frames p.to_client.items;
+    }) };
+}
+
+impl Pair {
+    /// Two new ends, with nothing on the way. Refuses [`PairFault::NotUtf16`], then [`PairFault::LimitsTooSmall`]. Takes no memory.
+    pub fn new(
+        alloc: Global,
+        limits: Limits,
+        offers: Offers,
+        config: Config,
+    ) -> Result<Pair, PairFault>
+        ensures new { IfOk result (λ pair.
+            pair ≡ new_pair (record { limits = limits; offers = offers; config = config })) }
+        // It is at the world of no events.
+        ensures at { IfOk result (λ pair.
+            IsAt (record { limits = limits; offers = offers; config = config }) pair []) }
+        ensures sound { OnOk result
+            (IsSound (record { limits = limits; offers = offers; config = config })) }
+        ensures encoding { (result ≡ Err PairFault.NotUtf16) ↔ (is_utf16 config.choice ≡ false) }
+        ensures limits { (result ≡ Err PairFault.LimitsTooSmall)
+            ↔ ((is_utf16 config.choice ≡ true) × (are_within limits config.limits ≡ false)) }
+    {
+        if !is_utf16(config.choice) {
+            return Err(PairFault::NotUtf16);
+        }
+        if !are_within(&limits, &config.limits) {
+            return Err(PairFault::LimitsTooSmall);
+        }
+        known_limits(&limits);
+        known_limits(&config.limits);
+        Ok(Pair {
+            alloc,
+            client: Client::new(alloc, limits, offers),
+            server: Server::new(alloc, config),
+            to_server: VecDeque::new(alloc),
+            to_client: VecDeque::new(alloc),
+        })
+    }
+
+    /// The client's end.
+    pub fn client(&self) -> &Client
+        ensures { result.now ≡ self.now.client }
+    {
+        &self.client
+    }
+
+    /// The server's end.
+    pub fn server(&self) -> &Server
+        ensures { result.now ≡ self.now.server }
+    {
+        &self.server
+    }
+
+    /// How many messages wait for the server, and for the client.
+    pub fn waiting(&self) -> (usize, usize)
+        ensures { result ≡ (length self.now.to_server, length self.now.to_client) }
+    {
+        (self.to_server.len(), self.to_client.len())
+    }
+
+    /// One step: a call of the client, or the delivery of the first frame that waits for an end. What an end sends goes last into its
+    /// queue. After [`AllocError`] the pair is as it was, the frame is still first, and the same step can be made again. Costs what the
+    /// client's call costs, or the server's or the client's step on the message, and a copy of its frame; a queue gives its first frame
+    /// in constant time.
+    pub fn step(&mut self, event: &Event) -> Result<Happened, AllocError>
+        ensures step { IfOk result (λ happened.
+            IsStep self.old (event_view event.now) (happened_view happened) self.new) }
+        ensures unchanged { OnErr result (self.new ≡ self.old) }
+        // From the world of a list of events it leads to the world of the list with this one added.
+        ensures at { IfOk result (λ happened. (setting : Setting) (events : List EventData)
+            → IsSound setting → IsAt setting self.old events
+            → IsStepAt setting events (event_view event.now) (happened_view happened) self.new) }
+        // Each end has the documents of the commands that it should have.
+        ensures documents { OnOk result ((setting : Setting) (events : List EventData)
+            → IsSound setting → IsAt setting self.old events
+            → HaveDocuments setting (events ++ event_view event.now ∷ []) self.new) }
+    {
+        match event {
+            Event::ToServer => serve_first(
+                self.alloc,
+                &mut self.server,
+                &mut self.to_server,
+                &mut self.to_client,
+            ),
+            Event::ToClient => hear_first(
+                self.alloc,
+                &mut self.client,
+                &mut self.to_client,
+                &mut self.to_server,
+            ),
+            _ => {
+                known_event(event);
+                self.to_server.reserve(1)?;
+                let sent = call(self.alloc, &mut self.client, event);
+                push_call(&mut self.to_server, sent)
+            }
+        }
+    }
+}
+
+/// Makes the call that an event is.
+fn call(alloc: Global, client: &mut Client, event: &Event) -> Result<Vec<u8>, ClientFault>
+    requires { IsCall (event_view event.now) }
+    ensures ok { IfOk result (λ bytes. HoldsOnCall (event_view event.now)
+        (λ c. IsSent (call_result client.old c) bytes.items client.new)) }
+    ensures unchanged { OnErr result (client.new ≡ client.old) }
+    ensures error { IfErr result (λ fault. (fault ≡ NoMemory)
+        ⊎ HoldsOnCall (event_view event.now) (λ c. IsFaultOf (call_result client.old c) fault)) }
+{
+    match event {
+        Event::Start => client.start(),
+        Event::Open {
+            uri,
+            language,
+            version,
+            text,
+        } => client.open(uri.clone()?, language.clone()?, *version, text.clone()?),
+        Event::Edit {
+            uri,
+            version,
+            changes,
+        } => client.edit(uri, *version, changes),
+        Event::Close { uri } => client.close(uri),
+        Event::Shutdown => client.shutdown(),
+        Event::Exit => client.exit(),
+        Event::ToServer | Event::ToClient => unreachable!(),
+    }
+}
+
+/// The frame of an accepted call goes last into a queue with room.
+fn push_call(
+    queue: &mut VecDeque<Vec<u8>>,
+    sent: Result<Vec<u8>, ClientFault>,
+) -> Result<Happened, AllocError>
+    requires { deque_len queue.old < deque_capacity queue.old }
+    ensures sent { IfOk sent (λ bytes.
+        (result ≡ Ok Happened.Sent) × (queue.new.items ≡ queue.old.items ++ bytes ∷ [])) }
+    ensures refused { IfErr sent (λ fault. (queue.new.items ≡ queue.old.items)
+        × IfOk result (λ h. (fault ≢ NoMemory) × (h ≡ Happened.Refused fault))) }
+    ensures memory { OnErr result (sent ≡ Err ClientFault.NoMemory) }
+{
+    match sent {
+        Ok(frame) => {
+            queue.push_back_reserved(frame);
+            Ok(Happened::Sent)
+        }
+        Err(ClientFault::NoMemory) => Err(AllocError),
+        Err(fault) => Ok(Happened::Refused(fault)),
+    }
+}
+
+/// The numbers of an event are in their ranges, and its texts are UTF-8.
+fn known_event(event: &Event)
+    ensures { IsProperEvent (event_view event.now) }
+{
+    match event {
+        Event::Open { version, .. } => {
+            let _version = *version;
+        }
+        Event::Edit { version, .. } => {
+            let _version = *version;
+        }
+        Event::Close { .. } => {}
+        Event::Start => {}
+        Event::Shutdown => {}
+        Event::Exit => {}
+        Event::ToServer => {}
+        Event::ToClient => {}
+    }
+}

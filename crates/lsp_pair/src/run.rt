@@ -1,0 +1,51 @@
+//! Many steps of a pair.
+
+ghost use Rattle.std.specs.Prelude.{◌↔◌, ◌≤◌, ◌<◌, ◌++◌, List, IsTrue, length, map, take};
+ghost use Rattle.lsp_pair.specs.World.{Setting, EventData};
+ghost use Rattle.lsp_pair.specs.Pair.{IsSound, IsAt, IsRun};
+ghost use Rattle.lsp_pair.specs.Documents.{HaveDocuments};
+ghost use Rattle.lsp_pair.specs.Seen.{event_view};
+
+use crate::event::Event;
+use crate::pair::Pair;
+
+/// How far a run came.
+#[derive(Clone, Copy, Debug, PartialEq, Eq)]
+pub struct Ran {
+    /// How many events were made.
+    pub stepped: usize,
+    /// Whether the next one ran out of memory.
+    pub out_of_memory: bool,
+}
+
+/// Makes the steps of events in order ([`Pair::step`]), until one runs out of memory. The pair is then as the steps before left it, and the
+/// rest of the events can be run again. Costs what the steps cost.
+pub fn run_pair(pair: &mut Pair, events: &[Event]) -> Ran
+    ensures within { result.stepped ≤ length events.now }
+    ensures all { (IsTrue result.out_of_memory) ↔ (result.stepped < length events.now) }
+    // It makes the steps of the first `stepped` events, and no other.
+    ensures steps { IsRun pair.old (take result.stepped (map event_view events.now)) pair.new }
+    // From the world of a list of events it leads to the world of the list with these added.
+    ensures at { (setting : Setting) (before : List EventData) → IsSound setting
+        → IsAt setting pair.old before
+        → IsAt setting pair.new (before ++ take result.stepped (map event_view events.now)) }
+    // Each end has the documents of the commands that it should have.
+    ensures documents { (setting : Setting) (before : List EventData) → IsSound setting
+        → IsAt setting pair.old before → HaveDocuments setting
+        (before ++ take result.stepped (map event_view events.now)) pair.new }
+{
+    let mut stepped = 0;
+    for event in events {
+        let Ok(_) = pair.step(event) else {
+            return Ran {
+                stepped,
+                out_of_memory: true,
+            };
+        };
+        stepped += 1;
+    }
+    Ran {
+        stepped,
+        out_of_memory: false,
+    }
+}

@@ -1,0 +1,51 @@
+//! Which ends fit together.
+
+ghost use Rattle.std.specs.Prelude.{◌≡◌};
+ghost use Rattle.lsp_frame.specs.Limits.{AreInRange};
+ghost use Rattle.lsp_pair.specs.Pair.{is_utf16, are_within};
+
+use lsp_frame::Limits;
+use lsp_server::EncodingChoice;
+use lsp_text::Encoding;
+use thiserror::Error;
+
+/// Why two ends don't fit together.
+#[derive(Clone, Copy, Debug, PartialEq, Eq, Error)]
+pub enum PairFault {
+    /// Q1: the server's encoding is fixed, and is not UTF-16.
+    #[error("the server's encoding is fixed, and is not utf-16")]
+    NotUtf16,
+    /// Q2: one of the server's limits is below the client's.
+    #[error("one of the server's limits is below the client's")]
+    LimitsTooSmall,
+}
+
+/// Does a server of this choice admit UTF-16?
+pub(crate) fn is_utf16(choice: EncodingChoice) -> bool
+    ensures { result ≡ is_utf16 choice }
+{
+    match choice {
+        EncodingChoice::Fixed(Encoding::Utf16) | EncodingChoice::Negotiated { .. } => true,
+        EncodingChoice::Fixed(_) => false,
+    }
+}
+
+/// Is each of the limits at most the other's?
+pub(crate) fn are_within(small: &Limits, great: &Limits) -> bool
+    ensures { result ≡ are_within small.now great.now }
+{
+    small.max_body() <= great.max_body()
+        && small.max_text() <= great.max_text()
+        && small.max_docs() <= great.max_docs()
+        && small.max_changes() <= great.max_changes()
+}
+
+/// Limits are in their ranges.
+pub(crate) fn known_limits(limits: &Limits)
+    ensures { AreInRange limits.now }
+{
+    let _ = limits.max_body();
+    let _ = limits.max_text();
+    let _ = limits.max_docs();
+    let _ = limits.max_changes();
+}

@@ -1,0 +1,119 @@
+//! The encoding that both ends agree on, and what it does to an edit.
+
+use super::{Row, Script, is_row, new_pair};
+use crate::{Did, Happened, Heard, Pair};
+use lsp_client::ClientFault;
+use lsp_edit::{EditFault, Side};
+use lsp_message::Offers;
+use lsp_server::{EncodingChoice, Sync};
+use lsp_store::StoreFault;
+use lsp_text::Encoding;
+use std::alloc::{AllocError, Global};
+use std::test::Fail;
+
+/// One character of four bytes, two units of UTF-16 and one of UTF-32.
+const FACE: &str = "\u{1F600}";
+
+const CHANGED: Happened = Happened::Server(Did::Changed);
+
+/// The beginning of a session, with that document open on both ends.
+static OPENED: &[Row] = &[
+    (Script::Start, Happened::Sent, None, None),
+    (
+        Script::ToServer,
+        Happened::Server(Did::Reply(None)),
+        None,
+        None,
+    ),
+    (Script::ToClient, Happened::Client(Heard::Send), None, None),
+    (Script::ToServer, Happened::Server(Did::Ignored), None, None),
+    (Script::Open(FACE), Happened::Sent, Some((1, FACE)), None),
+    (Script::ToServer, CHANGED, Some((1, FACE)), Some((1, FACE))),
+];
+
+/// An edit inside the character, and one after it, in UTF-8.
+static IN_UTF8: &[Row] = &[
+    (
+        Script::Edit(2, 1, 1, "b"),
+        Happened::Refused(ClientFault::Store(StoreFault::Edit(EditFault::InsideCharacter {
+            change: 0,
+            side: Side::Start,
+        }))),
+        Some((1, FACE)),
+        Some((1, FACE)),
+    ),
+    (
+        Script::Edit(2, 4, 4, "b"),
+        Happened::Sent,
+        Some((2, "\u{1F600}b")),
+        Some((1, FACE)),
+    ),
+    (
+        Script::ToServer,
+        CHANGED,
+        Some((2, "\u{1F600}b")),
+        Some((2, "\u{1F600}b")),
+    ),
+];
+
+/// An edit after the character, in UTF-32.
+static IN_UTF32: &[Row] = &[
+    (
+        Script::Edit(2, 1, 1, "b"),
+        Happened::Sent,
+        Some((2, "\u{1F600}b")),
+        Some((1, FACE)),
+    ),
+    (
+        Script::ToServer,
+        CHANGED,
+        Some((2, "\u{1F600}b")),
+        Some((2, "\u{1F600}b")),
+    ),
+];
+
+/// The encoding that the server prefers, whether the client offers UTF-32 beside UTF-8, and what both count in.
+static PREFERRED: &[(Encoding, bool, Encoding)] = &[
+    (Encoding::Utf8, true, Encoding::Utf8),
+    (Encoding::Utf32, true, Encoding::Utf32),
+    (Encoding::Utf8, false, Encoding::Utf8),
+    (Encoding::Utf32, false, Encoding::Utf16),
+];
+
+fn is_agreed(alloc: Global, row: &(Encoding, bool, Encoding)) -> Result<bool, Fail> {
+    let offers = Offers {
+        utf8: true,
+        utf32: row.1,
+    };
+    let choice = EncodingChoice::Negotiated { prefer: row.0 };
+    let mut pair = new_pair(alloc, offers, choice, Sync::Incremental)?;
+    if !are_rows(&mut pair, alloc, OPENED)? {
+        return Ok(false);
+    }
+    let wanted = Some(row.2);
+    if pair.client().encoding() != wanted || pair.server().encoding() != wanted {
+        return Ok(false);
+    }
+    match row.2 {
+        Encoding::Utf8 => Ok(are_rows(&mut pair, alloc, IN_UTF8)?),
+        Encoding::Utf16 => Ok(true),
+        Encoding::Utf32 => Ok(are_rows(&mut pair, alloc, IN_UTF32)?),
+    }
+}
+
+fn are_rows(pair: &mut Pair, alloc: Global, rows: &[Row]) -> Result<bool, AllocError> {
+    for row in rows {
+        if !is_row(pair, alloc, row)? {
+            return Ok(false);
+        }
+    }
+    Ok(true)
+}
+
+#[test]
+fn what_the_server_prefers(rt: HostRuntime) -> Result<(), Fail> {
+    for row in PREFERRED {
+        assert!(rt; is_agreed(rt.alloc(), row)?, "{:?}", row.0);
+    }
+    Ok(())
+}

@@ -1,0 +1,65 @@
+//! Which ends fit together.
+
+use super::{NO_OFFERS, UTF16};
+use crate::{Pair, PairFault};
+use lsp_frame::{BadLimits, Limits};
+use lsp_server::{Config, EncodingChoice, Sync};
+use lsp_text::Encoding;
+use std::alloc::Global;
+use std::test::Fail;
+
+const UTF8: EncodingChoice = EncodingChoice::Fixed(Encoding::Utf8);
+
+const PREFERS_UTF32: EncodingChoice = EncodingChoice::Negotiated {
+    prefer: Encoding::Utf32,
+};
+
+type Four = (usize, usize, usize, usize);
+
+/// The server's choice, its limits, and why no pair comes of it. The client's limits are 4,097, 8, 2 and 2.
+static SETTINGS: &[(EncodingChoice, Four, Option<PairFault>)] = &[
+    (UTF8, (4_097, 8, 2, 2), Some(PairFault::NotUtf16)),
+    (UTF16, (4_097, 7, 2, 2), Some(PairFault::LimitsTooSmall)),
+    (UTF8, (4_097, 7, 2, 2), Some(PairFault::NotUtf16)),
+    (UTF16, (4_096, 8, 2, 2), Some(PairFault::LimitsTooSmall)),
+    (UTF16, (4_097, 8, 1, 2), Some(PairFault::LimitsTooSmall)),
+    (UTF16, (4_097, 8, 2, 1), Some(PairFault::LimitsTooSmall)),
+    (UTF16, (4_097, 8, 2, 2), None),
+    (PREFERS_UTF32, (4_098, 9, 3, 3), None),
+];
+
+fn fault(
+    alloc: Global,
+    choice: EncodingChoice,
+    limits: Four,
+) -> Result<Option<PairFault>, BadLimits> {
+    let config = Config {
+        limits: Limits::new(limits.0, limits.1, limits.2, limits.3)?,
+        choice,
+        sync: Sync::Incremental,
+    };
+    Ok(Pair::new(alloc, Limits::new(4_097, 8, 2, 2)?, NO_OFFERS, config).err())
+}
+
+#[test]
+fn which_ends_fit(rt: HostRuntime) -> Result<(), Fail> {
+    for (choice, limits, wanted) in SETTINGS {
+        assert_eq!(rt; fault(rt.alloc(), *choice, *limits)?, *wanted);
+    }
+    Ok(())
+}
+
+#[test]
+fn why_they_do_not(rt: HostRuntime) -> Result<(), Fail> {
+    let encoding = format!(in rt.alloc(); "{}", PairFault::NotUtf16)?;
+    assert_eq!(rt;
+        encoding.as_str(),
+        "the server's encoding is fixed, and is not utf-16"
+    );
+    let limits = format!(in rt.alloc(); "{}", PairFault::LimitsTooSmall)?;
+    assert_eq!(rt;
+        limits.as_str(),
+        "one of the server's limits is below the client's"
+    );
+    Ok(())
+}

@@ -1,0 +1,147 @@
+//! The words that the program is called with.
+
+mod help;
+
+use crate::command_line::help::{Limit, Offer};
+use clap::builder::ValueParser;
+use clap::{Arg, ArgAction, ArgMatches, Command, Error};
+use lsp_frame::Limits;
+use lsp_message::Offers;
+use lsp_server::{Config, EncodingChoice, Sync};
+use lsp_text::Encoding;
+use std::alloc::{AllocError, Global};
+
+/// How both ends are set up.
+#[derive(Clone, Copy, Debug, PartialEq, Eq)]
+pub struct Setting {
+    pub limits: Limits,
+    pub offers: Offers,
+    pub config: Config,
+}
+
+/// What the words ask for, or the usage fault or the text of help that they are. There is always a setting, since `clap` has checked each
+/// value.
+pub fn parse<'a>(alloc: Global, words: &'a [&'a str]) -> Result<Option<Setting>, Error> {
+    let matches = program(alloc)?.try_get_matches_from(words)?;
+    Ok(setting_of(&matches))
+}
+
+fn setting_of(options: &ArgMatches<'_>) -> Option<Setting> {
+    let sync = match options.get_str("sync")? {
+        "full" => Sync::Full,
+        _ => Sync::Incremental,
+    };
+    Some(Setting {
+        limits: client_limits(options)?,
+        offers: Offers {
+            utf8: options.get_flag("utf-8"),
+            utf32: options.get_flag("utf-32"),
+        },
+        config: Config {
+            limits: server_limits(options)?,
+            choice: choice_of(options)?,
+            sync,
+        },
+    })
+}
+
+fn choice_of(options: &ArgMatches<'_>) -> Option<EncodingChoice> {
+    if let Some(name) = options.get_str("fixed") {
+        return Encoding::of_name(name).map(EncodingChoice::Fixed);
+    }
+    let prefer = Encoding::of_name(options.get_str("prefer")?)?;
+    Some(EncodingChoice::Negotiated { prefer })
+}
+
+fn client_limits(options: &ArgMatches<'_>) -> Option<Limits> {
+    Limits::new(
+        options.get_one::<usize>("max-body")?,
+        options.get_one::<usize>("max-text")?,
+        options.get_one::<usize>("max-docs")?,
+        options.get_one::<usize>("max-changes")?,
+    )
+    .ok()
+}
+
+/// The server's limits are the client's where nothing else is asked for.
+fn server_limits(options: &ArgMatches<'_>) -> Option<Limits> {
+    Limits::new(
+        either(options, "server-max-body", "max-body")?,
+        either(options, "server-max-text", "max-text")?,
+        either(options, "server-max-docs", "max-docs")?,
+        either(options, "server-max-changes", "max-changes")?,
+    )
+    .ok()
+}
+
+fn either(options: &ArgMatches<'_>, first: &str, second: &str) -> Option<usize> {
+    match options.get_one::<usize>(first) {
+        Some(number) => Some(number),
+        None => options.get_one::<usize>(second),
+    }
+}
+
+static ENCODINGS: [&str; 3] = ["utf-8", "utf-16", "utf-32"];
+
+static KINDS: [&str; 2] = ["full", "incremental"];
+
+fn program<'a>(alloc: Global) -> Result<Command<'a>, AllocError> {
+    let mut program = Command::new(alloc, "lsp_simulate")
+        .about(help::about())
+        .after_help(help::notes())
+        .arg(prefer(alloc))?
+        .arg(fixed(alloc))?
+        .arg(sync(alloc))?;
+    for offer in help::offers() {
+        program = program.arg(flag(alloc, offer))?;
+    }
+    for limit in help::client_limits() {
+        program = program.arg(number(alloc, limit).default_value(limit.default))?;
+    }
+    for limit in help::server_limits() {
+        program = program.arg(number(alloc, limit))?;
+    }
+    Ok(program)
+}
+
+fn flag<'a>(alloc: Global, offer: Offer) -> Arg<'a> {
+    Arg::new(alloc, offer.name)
+        .long(offer.name)
+        .action(ArgAction::SetTrue)
+        .help(offer.help)
+}
+
+fn prefer<'a>(alloc: Global) -> Arg<'a> {
+    Arg::new(alloc, "prefer")
+        .long("prefer")
+        .value_name("NAME")
+        .value_parser(ENCODINGS.as_slice())
+        .default_value("utf-16")
+        .help(help::prefer())
+}
+
+fn fixed<'a>(alloc: Global) -> Arg<'a> {
+    Arg::new(alloc, "fixed")
+        .long("fixed")
+        .value_name("NAME")
+        .value_parser(ENCODINGS.as_slice())
+        .help(help::fixed())
+}
+
+fn sync<'a>(alloc: Global) -> Arg<'a> {
+    Arg::new(alloc, "sync")
+        .long("sync")
+        .value_name("NAME")
+        .value_parser(KINDS.as_slice())
+        .default_value("incremental")
+        .help(help::sync())
+}
+
+/// An option with a number in a range.
+fn number<'a>(alloc: Global, limit: Limit) -> Arg<'a> {
+    Arg::new(alloc, limit.name)
+        .long(limit.name)
+        .value_name("N")
+        .value_parser(ValueParser::unsigned(limit.least, limit.greatest))
+        .help(limit.help)
+}

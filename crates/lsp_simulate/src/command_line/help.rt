@@ -1,0 +1,155 @@
+//! The texts of help. They are returned by functions, so that proofs don't look into them.
+
+/// An option that bounds what an end takes.
+#[derive(Clone, Copy, Debug)]
+pub struct Limit {
+    pub name: &'static str,
+    pub least: u64,
+    pub greatest: u64,
+    pub default: &'static str,
+    pub help: &'static str,
+}
+
+/// An option without a value: the client offers an encoding.
+#[derive(Clone, Copy, Debug)]
+pub struct Offer {
+    pub name: &'static str,
+    pub help: &'static str,
+}
+
+pub fn about() -> &'static str {
+    PROGRAM
+}
+
+pub fn notes() -> &'static str {
+    NOTES
+}
+
+/// The encodings that a client may offer beside UTF-16.
+pub fn offers() -> [Offer; 2] {
+    [
+        Offer {
+            name: "utf-8",
+            help: UTF8,
+        },
+        Offer {
+            name: "utf-32",
+            help: UTF32,
+        },
+    ]
+}
+
+pub fn prefer() -> &'static str {
+    PREFER
+}
+
+pub fn fixed() -> &'static str {
+    FIXED
+}
+
+pub fn sync() -> &'static str {
+    SYNC
+}
+
+pub fn client_limits() -> [Limit; 4] {
+    [
+        body("max-body", MAX_BODY),
+        text("max-text", MAX_TEXT),
+        documents("max-docs", MAX_DOCS),
+        changes("max-changes", MAX_CHANGES),
+    ]
+}
+
+pub fn server_limits() -> [Limit; 4] {
+    [
+        body("server-max-body", SERVER_MAX_BODY),
+        text("server-max-text", SERVER_MAX_TEXT),
+        documents("server-max-docs", SERVER_MAX_DOCS),
+        changes("server-max-changes", SERVER_MAX_CHANGES),
+    ]
+}
+
+fn body(name: &'static str, help: &'static str) -> Limit {
+    Limit {
+        name,
+        least: 4_096,
+        greatest: 1_073_741_824,
+        default: "16777216",
+        help,
+    }
+}
+
+fn text(name: &'static str, help: &'static str) -> Limit {
+    Limit {
+        name,
+        least: 0,
+        greatest: 1_073_741_824,
+        default: "16777216",
+        help,
+    }
+}
+
+fn documents(name: &'static str, help: &'static str) -> Limit {
+    Limit {
+        name,
+        least: 1,
+        greatest: 65_536,
+        default: "1024",
+        help,
+    }
+}
+
+fn changes(name: &'static str, help: &'static str) -> Limit {
+    Limit {
+        name,
+        least: 1,
+        greatest: 1_048_576,
+        default: "65536",
+        help,
+    }
+}
+
+static PROGRAM: &str =
+    "Runs both ends of a session of the Language Server Protocol 3.17, by events from standard input";
+
+static NOTES: &str = "Each line of standard input is an event, a JSON object:
+  {\"event\":\"start\"}, \"shutdown\", \"exit\"     a call of the client
+  {\"event\":\"open\",\"textDocument\":{..}}      with the members of textDocument/didOpen
+  {\"event\":\"edit\",\"textDocument\":{..},\"contentChanges\":[..]}
+  {\"event\":\"close\",\"textDocument\":{..}}
+  {\"event\":\"toServer\"}, \"toClient\"         the first message that waits is delivered
+
+For each a line is written, with its number and what happened. At the end come the number of
+messages that wait for the server and for the client, and the documents of both ends.
+
+Exit status: 0 all events were made, 2 the command line is wrong or the ends don't fit together,
+3 reading or writing failed, 4 out of memory, 5 a line is no event.
+
+Example, messages that arrive late:
+  ./lsp_simulate < examples/late-delivery.events";
+
+static UTF8: &str = "The client offers to count characters in UTF-8";
+
+static UTF32: &str = "The client offers to count characters in UTF-32";
+
+static PREFER: &str = "What the server prefers to count in, if the client offers it; else utf-16";
+
+static FIXED: &str = "What the server counts in, whatever the client offers";
+
+static SYNC: &str = "How the client is asked to send changes: as whole texts or as ranges";
+
+static MAX_BODY: &str = "Greatest length of a message of the client, in bytes";
+
+static MAX_TEXT: &str = "Greatest length of a document of the client, in bytes";
+
+static MAX_DOCS: &str = "Greatest number of open documents of the client";
+
+static MAX_CHANGES: &str = "Greatest number of changes in one edit of the client";
+
+static SERVER_MAX_BODY: &str = "The same of the server; the client's where it isn't given";
+
+static SERVER_MAX_TEXT: &str = "The same of the server; the client's where it isn't given";
+
+static SERVER_MAX_DOCS: &str = "The same of the server; the client's where it isn't given";
+
+static SERVER_MAX_CHANGES: &str = "The same of the server; the client's where it isn't given";

@@ -1,0 +1,37 @@
+//! `lsp_simulate`: both ends of a session of the Language Server Protocol, driven by lines of JSON.
+//!
+//! - `command_line`: the words that the program is called with.
+//! - `script`: the event of a line.
+//! - `word`: what is written of what happened.
+//! - `run`: the program over any reader and writers.
+#![tactic(auto)]
+
+mod command_line;
+mod run;
+mod script;
+#[cfg(test)]
+mod tests;
+mod word;
+
+use crate::run::{refuse, report, run};
+use std::io::{BufReader, BufWriter};
+use std::process::ExitCode;
+use std::{env, io};
+
+fn main(rt: HostRuntime) -> ExitCode {
+    let status = match answer(&rt) {
+        Ok(status) => status,
+        Err(error) => refuse(error.kind(), &mut rt.stderr()),
+    };
+    ExitCode::from(status)
+}
+
+/// Runs the program over the process's own streams. Fails only where its words or its buffers could not be had.
+fn answer(rt: &HostRuntime) -> io::Result<u8> {
+    let alloc = rt.alloc();
+    let given: Vec<String> = env::args(rt)?.collect(alloc)?;
+    let words: Vec<&str> = given.iter().map(|word| word.as_str()).collect(alloc)?;
+    let input = BufReader::new(alloc, rt.stdin())?;
+    let mut output = BufWriter::new(alloc, rt.stdout())?;
+    Ok(run(alloc, &words, input, &mut output, &mut rt.stderr()))
+}

@@ -1,0 +1,205 @@
+//! The program over any reader and writers.
+
+use crate::command_line::{Setting, parse};
+use crate::script::{ScriptFault, event_of};
+use crate::word::write_happened;
+use clap::error as clap_error;
+use json::Writer;
+use lsp_pair::{Pair, PairFault};
+use lsp_store::{Document, Store};
+use std::alloc::{AllocError, Global};
+use std::io::{self, BufRead, ErrorKind, Write};
+use thiserror::Error;
+
+/// The words, or the ends that they ask for, are not what a session can have.
+const USAGE: u8 = 2;
+
+const STREAM_FAULT: u8 = 3;
+
+const OUT_OF_MEMORY: u8 = 4;
+
+const BAD_EVENT: u8 = 5;
+
+/// Why a run ended before its input did.
+#[derive(Clone, Copy, Debug, PartialEq, Eq, Error)]
+pub enum RunFault {
+    #[error("{0}")]
+    Pair(PairFault),
+    #[error("read fault")]
+    Read,
+    #[error("write fault")]
+    Write,
+    #[error("out of memory")]
+    NoMemory,
+    #[error("bad event at line {line}")]
+    BadEvent { line: u64 },
+}
+
+impl From<AllocError> for RunFault {
+    fn from(_: AllocError) -> RunFault {
+        RunFault::NoMemory
+    }
+}
+
+/// Runs the program: `words` is its command line, the program's name first. Returns the exit status; a fault's line goes to `errors`.
+pub fn run<R: BufRead + Drop, W: Write, E: Write>(
+    alloc: Global,
+    words: &[&str],
+    input: R,
+    output: &mut W,
+    errors: &mut E,
+) -> u8 {
+    let setting = match parse(alloc, words) {
+        Ok(Some(setting)) => setting,
+        Ok(None) => return USAGE,
+        Err(error) => return explain(alloc, &error, output, errors),
+    };
+    let ran = simulate(alloc, setting, input, output);
+    let flushed = output.flush();
+    match (ran, flushed) {
+        (Err(fault), _) => report(fault, errors),
+        (Ok(()), Err(_)) => report(RunFault::Write, errors),
+        (Ok(()), Ok(())) => 0,
+    }
+}
+
+/// Steps a pair by the events of the lines, and writes what happens, then what waits and the documents of both ends.
+pub fn simulate<R: BufRead + Drop, W: Write>(
+    alloc: Global,
+    setting: Setting,
+    input: R,
+    output: &mut W,
+) -> Result<(), RunFault> {
+    let made = Pair::new(alloc, setting.limits, setting.offers, setting.config);
+    let mut pair = match made {
+        Ok(pair) => pair,
+        Err(fault) => return Err(RunFault::Pair(fault)),
+    };
+    let mut number = 0u64;
+    for line in input.split(alloc, b'\n') {
+        number = number.saturating_add(1);
+        match line {
+            Ok(bytes) => step(alloc, &mut pair, number, &bytes, output)?,
+            Err(error) => return Err(read_fault(error.kind())),
+        }
+    }
+    write_end(alloc, &pair, output)
+}
+
+/// Makes the step of one line, and writes its line.
+fn step<W: Write>(
+    alloc: Global,
+    pair: &mut Pair,
+    number: u64,
+    line: &[u8],
+    output: &mut W,
+) -> Result<(), RunFault> {
+    let event = match event_of(alloc, line) {
+        Ok(event) => event,
+        Err(ScriptFault::BadEvent) => return Err(RunFault::BadEvent { line: number }),
+        Err(ScriptFault::NoMemory) => return Err(RunFault::NoMemory),
+    };
+    let happened = pair.step(&event)?;
+    written(write!(output, "{number} "))?;
+    written(write_happened(output, happened))?;
+    written(writeln!(output))
+}
+
+fn write_end<W: Write>(alloc: Global, pair: &Pair, output: &mut W) -> Result<(), RunFault> {
+    let (to_server, to_client) = pair.waiting();
+    written(writeln!(output, "waiting {to_server} {to_client}"))?;
+    write_documents(alloc, "client", pair.client().store(), output)?;
+    write_documents(alloc, "server", pair.server().store(), output)
+}
+
+/// Writes a line for each document of an end, in order of opening.
+fn write_documents<W: Write>(
+    alloc: Global,
+    end: &str,
+    store: &Store,
+    output: &mut W,
+) -> Result<(), RunFault> {
+    for index in 0..store.len() {
+        let Some(document) = store.at(index) else {
+            return Ok(());
+        };
+        let line = document_line(alloc, &document)?;
+        written(write!(output, "{end} "))?;
+        written(output.write_all(&line))?;
+        written(writeln!(output))?;
+    }
+    Ok(())
+}
+
+/// A document as one line of JSON.
+fn document_line(alloc: Global, document: &Document<'_>) -> Result<Vec<u8>, AllocError> {
+    let mut writer = Writer::new(Vec::new(alloc));
+    writer.begin_object()?;
+    writer.key("languageId")?;
+    writer.string(document.language())?;
+    writer.key("text")?;
+    writer.string(document.text())?;
+    writer.key("uri")?;
+    writer.string(document.uri())?;
+    writer.key("version")?;
+    writer.i64(i64::from(document.version()))?;
+    writer.end_object()?;
+    Ok(writer.into_inner())
+}
+
+fn read_fault(kind: ErrorKind) -> RunFault {
+    match kind {
+        ErrorKind::OutOfMemory => RunFault::NoMemory,
+        _ => RunFault::Read,
+    }
+}
+
+fn written(written: io::Result<()>) -> Result<(), RunFault> {
+    written.map_err(|_| RunFault::Write)
+}
+
+/// Prints what `clap` says of the words: help to the output, and a usage fault to the errors. Returns the status.
+fn explain<W: Write, E: Write>(
+    alloc: Global,
+    error: &clap::Error,
+    output: &mut W,
+    errors: &mut E,
+) -> u8 {
+    if error.kind() == clap_error::ErrorKind::OutOfMemory {
+        return report(RunFault::NoMemory, errors);
+    }
+    if error.use_stderr() {
+        let _ = write!(errors, "{error}");
+        return USAGE;
+    }
+    match print_help(alloc, error, output) {
+        Ok(()) => 0,
+        Err(fault) => report(fault, errors),
+    }
+}
+
+fn print_help<W: Write>(alloc: Global, help: &clap::Error, output: &mut W) -> Result<(), RunFault> {
+    let text = format!(in alloc; "{help}")?;
+    written(output.write_all(text.as_bytes()))?;
+    written(output.flush())
+}
+
+/// Prints why the words of a call or the buffers could not be had: out of memory, or a word that is no text. Returns the status.
+pub fn refuse<E: Write>(kind: ErrorKind, errors: &mut E) -> u8 {
+    if kind == ErrorKind::OutOfMemory {
+        return report(RunFault::NoMemory, errors);
+    }
+    let _ = writeln!(errors, "lsp_simulate: the command line is not UTF-8");
+    USAGE
+}
+
+/// Prints the line of a fault, and returns its status.
+pub fn report<E: Write>(fault: RunFault, errors: &mut E) -> u8 {
+    let _ = writeln!(errors, "lsp_simulate: {fault}");
+    match fault {
+        RunFault::Pair(_) => USAGE,
+        RunFault::Read | RunFault::Write => STREAM_FAULT,
+        RunFault::NoMemory => OUT_OF_MEMORY,
+        RunFault::BadEvent { .. } => BAD_EVENT,
+    }
+}

@@ -1,0 +1,99 @@
+//! The event that a line of JSON is.
+
+use lsp_message::{ParamsFault, params_change, params_close, params_open};
+use lsp_pair::Event;
+use serde_json::Value;
+use std::alloc::{AllocError, Global};
+
+/// Why a line has no event.
+#[derive(Clone, Copy, Debug, PartialEq, Eq)]
+pub enum ScriptFault {
+    /// It is no JSON, or no event.
+    BadEvent,
+    NoMemory,
+}
+
+impl From<AllocError> for ScriptFault {
+    fn from(_: AllocError) -> ScriptFault {
+        ScriptFault::NoMemory
+    }
+}
+
+impl From<ParamsFault> for ScriptFault {
+    fn from(fault: ParamsFault) -> ScriptFault {
+        match fault {
+            ParamsFault::InvalidParams => ScriptFault::BadEvent,
+            ParamsFault::NoMemory => ScriptFault::NoMemory,
+        }
+    }
+}
+
+/// Reads the event of a line: an object whose member `event` is its name, and for `open`, `edit` and `close` the members of the
+/// protocol's didOpen, didChange and didClose beside it. Other members are ignored.
+pub fn event_of(alloc: Global, line: &[u8]) -> Result<Event, ScriptFault> {
+    let value = match Value::from_slice(alloc, line) {
+        Ok(value) => value,
+        Err(error) if error.is_memory() => return Err(ScriptFault::NoMemory),
+        Err(_) => return Err(ScriptFault::BadEvent),
+    };
+    let kind = kind_of(&value).ok_or(ScriptFault::BadEvent)?;
+    event_in(alloc, kind, value)
+}
+
+/// The kinds of events.
+#[derive(Clone, Copy, Debug, PartialEq, Eq)]
+enum Kind {
+    Start,
+    Open,
+    Edit,
+    Close,
+    Shutdown,
+    Exit,
+    ToServer,
+    ToClient,
+}
+
+fn kind_of(value: &Value) -> Option<Kind> {
+    match value.get("event")?.as_str()? {
+        "start" => Some(Kind::Start),
+        "open" => Some(Kind::Open),
+        "edit" => Some(Kind::Edit),
+        "close" => Some(Kind::Close),
+        "shutdown" => Some(Kind::Shutdown),
+        "exit" => Some(Kind::Exit),
+        "toServer" => Some(Kind::ToServer),
+        "toClient" => Some(Kind::ToClient),
+        _ => None,
+    }
+}
+
+fn event_in(alloc: Global, kind: Kind, value: Value) -> Result<Event, ScriptFault> {
+    match kind {
+        Kind::Start => Ok(Event::Start),
+        Kind::Open => {
+            let params = params_open(alloc, Some(value))?;
+            Ok(Event::Open {
+                uri: params.uri,
+                language: params.language,
+                version: params.version,
+                text: params.text,
+            })
+        }
+        Kind::Edit => {
+            let params = params_change(alloc, Some(value))?;
+            Ok(Event::Edit {
+                uri: params.uri,
+                version: params.version,
+                changes: params.changes,
+            })
+        }
+        Kind::Close => {
+            let params = params_close(alloc, Some(value))?;
+            Ok(Event::Close { uri: params.uri })
+        }
+        Kind::Shutdown => Ok(Event::Shutdown),
+        Kind::Exit => Ok(Event::Exit),
+        Kind::ToServer => Ok(Event::ToServer),
+        Kind::ToClient => Ok(Event::ToClient),
+    }
+}

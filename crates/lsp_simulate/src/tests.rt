@@ -1,0 +1,33 @@
+//! The program on whole inputs: what it writes, its status, and the line of a fault.
+
+mod events;
+mod faults;
+
+use crate::run::run;
+use std::alloc::Global;
+use std::io::Cursor;
+
+/// What one run of the program answered.
+#[derive(Drop)]
+struct Answer {
+    status: u8,
+    output: Vec<u8>,
+    errors: Vec<u8>,
+}
+
+fn ran(alloc: Global, words: &[&str], input: &str) -> Answer {
+    let mut output = Vec::new(alloc);
+    let mut errors = Vec::new(alloc);
+    let status = run(
+        alloc,
+        words,
+        Cursor::new(input.as_bytes()),
+        &mut output,
+        &mut errors,
+    );
+    Answer {
+        status,
+        output,
+        errors,
+    }
+}

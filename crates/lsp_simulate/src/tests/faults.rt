@@ -1,0 +1,69 @@
+//! Runs that end in a fault: the status, what was written before, and the line.
+
+use super::ran;
+use std::test::Fail;
+
+/// The words, the input, the status, the output, and the line of the fault.
+static FAULTS: &[(&[&str], &str, u8, &str, &str)] = &[
+    (
+        &["lsp_simulate"],
+        "{\"event\":\"start\"}\n\n",
+        5,
+        "1 sent\n",
+        "lsp_simulate: bad event at line 2\n",
+    ),
+    (
+        &["lsp_simulate"],
+        "{\"event\":\"begin\"}",
+        5,
+        "",
+        "lsp_simulate: bad event at line 1\n",
+    ),
+    (
+        &["lsp_simulate"],
+        "{\"event\":\"open\",\"textDocument\":{\"uri\":\"file:///a\"}}",
+        5,
+        "",
+        "lsp_simulate: bad event at line 1\n",
+    ),
+    (
+        &["lsp_simulate"],
+        "[\"start\"]",
+        5,
+        "",
+        "lsp_simulate: bad event at line 1\n",
+    ),
+    (
+        &["lsp_simulate", "--fixed", "utf-8", "--server-max-text", "7"],
+        "",
+        2,
+        "",
+        "lsp_simulate: the server's encoding is fixed, and is not utf-16\n",
+    ),
+    (
+        &["lsp_simulate", "--max-text", "8", "--server-max-text", "7"],
+        "",
+        2,
+        "",
+        "lsp_simulate: one of the server's limits is below the client's\n",
+    ),
+];
+
+#[test]
+fn what_ends_a_run(rt: HostRuntime) -> Result<(), Fail> {
+    for (words, input, status, output, line) in FAULTS {
+        let answer = ran(rt.alloc(), words, input);
+        assert_eq!(rt; answer.errors.as_slice(), line.as_bytes());
+        assert_eq!(rt; answer.output.as_slice(), output.as_bytes());
+        assert_eq!(rt; answer.status, *status);
+    }
+    Ok(())
+}
+
+#[test]
+fn a_word_that_is_unknown(rt: HostRuntime) -> Result<(), Fail> {
+    let answer = ran(rt.alloc(), &["lsp_simulate", "--prefer", "utf-7"], "");
+    assert_eq!(rt; answer.status, 2);
+    assert!(rt; answer.output.is_empty());
+    Ok(())
+}

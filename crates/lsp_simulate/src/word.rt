@@ -1,0 +1,88 @@
+//! What is written of what happened.
+
+use lsp_client::{ClientFault, Phase, Reason};
+use lsp_edit::EditFault;
+use lsp_pair::{Did, Happened, Heard};
+use lsp_server::Refusal;
+use lsp_store::StoreFault;
+use std::io::{self, Write};
+
+/// Writes the words of what happened.
+pub fn write_happened<W: Write>(output: &mut W, happened: Happened) -> io::Result<()> {
+    match happened {
+        Happened::Sent => write!(output, "sent"),
+        Happened::Refused(fault) => write_refused(output, fault),
+        Happened::Server(did) => write_did(output, did),
+        Happened::Client(heard) => write_heard(output, heard),
+        Happened::Nothing => write!(output, "nothing"),
+    }
+}
+
+fn write_refused<W: Write>(output: &mut W, fault: ClientFault) -> io::Result<()> {
+    match fault {
+        ClientFault::WrongPhase { phase } => write!(output, "refused C1 {}", phase_word(phase)),
+        ClientFault::Store(fault) => write!(output, "refused {}", store_label(fault)),
+        ClientFault::NoMemory => write!(output, "refused C3"),
+    }
+}
+
+fn write_did<W: Write>(output: &mut W, did: Did) -> io::Result<()> {
+    match did {
+        Did::Reply(None) => write!(output, "server reply"),
+        Did::Reply(Some(code)) => write!(output, "server error {}", code.code()),
+        Did::Changed => write!(output, "server changed"),
+        Did::Dropped => write!(output, "server dropped"),
+        Did::Ignored => write!(output, "server ignored"),
+        Did::Refused(Refusal::InvalidParams) => write!(output, "server refused M4"),
+        Did::Refused(Refusal::Store(fault)) => {
+            write!(output, "server refused {}", store_label(fault))
+        }
+        Did::Exit(status) => write!(output, "server exit {status}"),
+    }
+}
+
+fn write_heard<W: Write>(output: &mut W, heard: Heard) -> io::Result<()> {
+    match heard {
+        Heard::Send => write!(output, "client send"),
+        Heard::Noted => write!(output, "client noted"),
+        Heard::Ignored => write!(output, "client ignored"),
+        Heard::BadServer(reason) => write!(output, "client bad-server {}", reason_word(reason)),
+    }
+}
+
+pub fn phase_word(phase: Phase) -> &'static str {
+    match phase {
+        Phase::New => "new",
+        Phase::Asked => "asked",
+        Phase::Ready => "ready",
+        Phase::Closing => "closing",
+        Phase::Closed => "closed",
+        Phase::Done => "done",
+        Phase::Failed(_) => "failed",
+    }
+}
+
+pub fn reason_word(reason: Reason) -> &'static str {
+    match reason {
+        Reason::NotAnAnswer => "not-an-answer",
+        Reason::ErrorAnswer => "error-answer",
+        Reason::NoSync => "no-sync",
+        Reason::BadEncoding => "bad-encoding",
+    }
+}
+
+pub fn store_label(fault: StoreFault) -> &'static str {
+    match fault {
+        StoreFault::AlreadyOpen => "S1",
+        StoreFault::TooManyDocuments => "S2",
+        StoreFault::TextTooLong => "S3",
+        StoreFault::NotOpen => "S4",
+        StoreFault::StaleVersion { .. } => "S5",
+        StoreFault::TooManyChanges => "S6",
+        StoreFault::Edit(EditFault::InsideCharacter { .. }) => "E1",
+        StoreFault::Edit(EditFault::ReversedRange { .. }) => "E2",
+        StoreFault::Edit(EditFault::NoMemory) => "S7",
+        StoreFault::BodyTooLong { .. } => "S8",
+        StoreFault::NoMemory => "S9",
+    }
+}

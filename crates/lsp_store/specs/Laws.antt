@@ -1,0 +1,111 @@
+-- What is true of the table of documents, whatever commands come.
+use Rattle.std.specs.Prelude.{ℕ, ℤ, ◌≡◌, ◌≤◌, List, [], ◌∷◌, ◌++◌, length, IsUtf8, None, ⊤}
+use Rattle.lsp_frame.specs.Limits.{Bounds, AreInRange}
+use Rattle.lsp_text.specs.declared.encoding.Encoding.{Encoding}
+use Rattle.lsp_text.specs.Units.{units_in}
+use Rattle.lsp_edit.specs.Batch.{Edit}
+use Rattle.lsp_store.specs.Table.{Entry, Command, opens, changes, closes, entry_at, change_refusal, after_change, command_refusal, table_after, table_of}
+use Rattle.lsp_store.specs.Message.{AreTexts, canonical_batch, whole_batch}
+
+-- Each of the limits is at most the other's.
+pub record AreWithin (small great : Bounds) : Type 0 where
+  pub body : small.max_body ≤ great.max_body
+  pub text : small.max_text ≤ great.max_text
+  pub docs : small.max_docs ≤ great.max_docs
+  pub changes : small.max_changes ≤ great.max_changes
+
+-- Greater limits refuse no command that smaller ones accept.
+abbrev pub GreaterLimitsLaw : Type 0
+GreaterLimitsLaw =
+    (small great : Bounds) (table : List Entry) (command : Command) → AreWithin small great
+    → command_refusal small table command ≡ None → command_refusal great table command ≡ None
+
+-- ---- what may be sent in place of a batch
+
+-- Another batch is accepted within these limits, and leaves what the batch leaves.
+pub record IsReplacedBy (limits : Bounds) (units : ℕ → ℕ) (table : List Entry) (uri : List ℕ)
+    (version : ℤ) (batch other : List Edit) : Type 0 where
+  pub accepted : change_refusal limits units table uri version other ≡ None
+  pub leaves : after_change units table uri version other ≡ after_change units table uri version batch
+
+-- The canonical batch of a batch that is accepted does the same, within greater limits too.
+abbrev pub CanonicalBatchLaw : Type 0
+CanonicalBatchLaw =
+    (small great : Bounds) (encoding : Encoding) (table : List Entry) (uri : List ℕ) (version : ℤ)
+    (batch : List Edit) → AreInRange small → AreWithin small great
+    → change_refusal small (units_in encoding) table uri version batch ≡ None
+    → IsReplacedBy great (units_in encoding) table uri version batch
+      (canonical_batch (units_in encoding) table uri batch)
+
+-- ---- the documents of a table
+
+-- A document's text is UTF-8 and within the limit.
+pub record IsWithin (limits : Bounds) (entry : Entry) : Type 0 where
+  pub utf8 : IsUtf8 entry.text
+  pub short : length entry.text ≤ limits.max_text
+
+abbrev pub AllWithin : Bounds → List Entry → Type 0
+AllWithin limits [] = ⊤
+AllWithin limits (entry ∷ table) = IsWithin limits entry × AllWithin limits table
+
+-- The texts of a command are texts.
+abbrev pub HasTexts : Command → Type 0
+HasTexts (opens entry) = IsUtf8 entry.text
+HasTexts (changes uri version encoding batch) = AreTexts batch
+HasTexts (closes uri) = ⊤
+
+-- A command that is accepted leaves a table of such documents, and no more of them than there may be.
+abbrev pub WithinLaw : Type 0
+WithinLaw =
+    (limits : Bounds) (table : List Entry) (command : Command) → AllWithin limits table
+    → length table ≤ limits.max_docs → HasTexts command → command_refusal limits table command ≡ None
+    → AllWithin limits (table_after table command)
+      × (length (table_after table command) ≤ limits.max_docs)
+
+-- The whole text that a batch leaves does the same as the batch, within greater limits too.
+abbrev pub WholeTextLaw : Type 0
+WholeTextLaw =
+    (small great : Bounds) (encoding : Encoding) (table : List Entry) (uri : List ℕ) (version : ℤ)
+    (batch : List Edit) → AreInRange small → AreWithin small great
+    → AllWithin small table → AreTexts batch
+    → change_refusal small (units_in encoding) table uri version batch ≡ None
+    → IsReplacedBy great (units_in encoding) table uri version batch
+      (whole_batch (units_in encoding) table uri version batch)
+
+-- No two documents have the same URI.
+abbrev pub AreUnique : List Entry → Type 0
+AreUnique [] = ⊤
+AreUnique (entry ∷ table) = (entry_at table entry.uri ≡ None) × AreUnique table
+
+-- A command that is accepted leaves it so.
+abbrev pub UniqueLaw : Type 0
+UniqueLaw =
+    (limits : Bounds) (table : List Entry) (command : Command) → AreUnique table
+    → command_refusal limits table command ≡ None → AreUnique (table_after table command)
+
+-- ---- the table of a list of commands
+
+-- Commands are accepted one after another on a table, and their texts are texts.
+abbrev pub AreAccepted : Bounds → List Entry → List Command → Type 0
+AreAccepted limits table [] = ⊤
+AreAccepted limits table (command ∷ commands) =
+    HasTexts command × (command_refusal limits table command ≡ None)
+    × AreAccepted limits (table_after table command) commands
+
+-- A table has no URI twice, at most as many documents as it may, and each text is within its limit.
+pub record IsInOrder (limits : Bounds) (table : List Entry) : Type 0 where
+  pub unique : AreUnique table
+  pub many : length table ≤ limits.max_docs
+  pub texts : AllWithin limits table
+
+-- So is the table of every list of commands that were accepted.
+abbrev pub TableLaw : Type 0
+TableLaw =
+    (limits : Bounds) (commands : List Command) → AreAccepted limits [] commands
+    → IsInOrder limits (table_of commands)
+
+-- The table after one command more.
+abbrev pub LastLaw : Type 0
+LastLaw =
+    (commands : List Command) (command : Command)
+    → table_of (commands ++ command ∷ []) ≡ table_after (table_of commands) command
