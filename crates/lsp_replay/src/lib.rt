@@ -1,4 +1,4 @@
-//! Engines that run between a reader and a writer.
+//! Engines that run between a reader and a writer. Both ends together (`lsp_pair`) and the streams (`lsp_stream`) are re-exported.
 //!
 //! - `engines`: `serve`, `check`, `replay`, `normalise` and `convert`.
 //! - `engine`: the one loop from a reader to a writer, over what a `handler` makes of each record and of the end.
@@ -21,5 +21,6 @@ mod session;
 
 pub use engines::{Settings, check, convert, normalise, replay, serve};
 pub use laws::log_laws;
+pub use lsp_pair::{Did, Event, Happened, Heard, Pair, PairFault, Ran, run_pair};
 pub use lsp_stream::{Call, EngineFault, Sink, Source, StopReader, StopWriter, Told};
 pub use outcome::Outcome;
