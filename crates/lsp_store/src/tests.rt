@@ -2,6 +2,8 @@
 
 mod canonical;
 mod documents;
+mod faults;
+mod made_again;
 mod refused;
 
 use crate::{Store, StoreFault};
