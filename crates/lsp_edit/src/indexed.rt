@@ -109,7 +109,8 @@ impl IndexedText {
         ensures means { IfOk result (λ pieces.
             Means (chars self.now) (meaning (units_in encoding) (chars self.now) (map edit_of changes.now)) (length changes.now) pieces) }
         ensures within { IfOk result (λ pieces. length (edited_bytes pieces) ≤ max_len) }
-        ensures ok { OnOk result (IsOk (text_within max_len self.now (meaning (units_in encoding) (chars self.now) (map edit_of changes.now)))) }
+        ensures ok { OnOk result (IsOk (text_within max_len self.now
+            (meaning (units_in encoding) (chars self.now) (map edit_of changes.now)))) }
         ensures told { IfErr result (λ fault. (fault ≡ NoMemory)
             ⊎ (text_within max_len self.now (meaning (units_in encoding) (chars self.now) (map edit_of changes.now)) ≡ Err fault)) }
     {
@@ -135,7 +136,8 @@ impl IndexedText {
             ⊎ (text_within max_len self.old (meaning (units_in encoding) (chars self.old) (alone range new.now)) ≡ Err fault)) }
         // Memory is taken last.
         ensures memory { result ≡ Err NoMemory
-            → IsOk (text_within max_len self.old (meaning (units_in encoding) (chars self.old) (alone range new.now))) }
+            → IsOk (text_within max_len self.old
+            (meaning (units_in encoding) (chars self.old) (alone range new.now))) }
     {
         let (start, stop) = ends(&self.lines, &self.text, encoding, range, 0)?;
         if self.text.len() - (stop - start) + new.len() > max_len {
@@ -162,8 +164,9 @@ impl IndexedText {
         ensures told { IfErr result (λ fault. (fault ≡ NoMemory)
             ⊎ (text_within max_len self.old (meaning (units_in encoding) (chars self.old) (map edit_of changes.now)) ≡ Err fault)) }
         // For one change of a range memory is taken last.
-        ensures memory { result ≡ Err NoMemory → (range : Range) (text : List ℕ) → map edit_of changes.now ≡ alone range text
-            → IsOk (text_within max_len self.old (meaning (units_in encoding) (chars self.old) (map edit_of changes.now))) }
+        ensures memory { result ≡ Err NoMemory → (range : Range) (text : List ℕ)
+            → map edit_of changes.now ≡ alone range text → IsOk (text_within max_len self.old
+            (meaning (units_in encoding) (chars self.old) (map edit_of changes.now))) }
     {
         if let [
             Change {
@@ -204,7 +207,8 @@ impl IndexedText {
 /// Whether the text of pieces has at most `max_len` bytes. Takes no memory.
 fn may_have_len(pieces: &Pieces<'_>, max_len: usize) -> Result<(), TextFault>
     ensures ok { OnOk result (length (edited_bytes pieces.now) ≤ max_len) }
-    ensures error { IfErr result (λ fault. (fault ≡ TooLong) × (max_len < length (edited_bytes pieces.now))) }
+    ensures error { IfErr result (λ fault. (fault ≡ TooLong)
+        × (max_len < length (edited_bytes pieces.now))) }
 {
     if pieces.text_len() > max_len {
         return Err(TextFault::TooLong);

@@ -187,8 +187,9 @@ impl<'a> Pieces<'a> {
         ensures same { OnErr result (self.new ≡ self.old) }
         ensures told { IfErr result (λ fault. TellsFault self.old.changes
             (after_change (units_in encoding) self.old.before self.old.items (record { range = Some range; text = chars text.now })) fault) }
-        ensures memory { result ≡ Err NoMemory → self.old.changes ≡ 0 → IsOk
-            (after_change (units_in encoding) self.old.before self.old.items (record { range = Some range; text = chars text.now })) }
+        ensures memory { result ≡ Err NoMemory → self.old.changes ≡ 0
+            → IsOk (after_change (units_in encoding) self.old.before self.old.items
+            (record { range = Some range; text = chars text.now })) }
     {
         let (start, stop) = self.places(encoding, range)?;
         let current = match self.current.take() {
@@ -213,7 +214,8 @@ impl<'a> Pieces<'a> {
             (after_change (units_in encoding) self.old.before self.old.items (edit_of change.now)) fault) }
         // Before the first change its range is resolved without memory.
         ensures memory { result ≡ Err NoMemory → self.old.changes ≡ 0
-            → IsOk (after_change (units_in encoding) self.old.before self.old.items (edit_of change.now)) }
+            → IsOk (after_change (units_in encoding) self.old.before self.old.items
+            (edit_of change.now)) }
     {
         match change.range {
             None => self.apply_to_all(&change.text),

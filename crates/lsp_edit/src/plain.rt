@@ -120,10 +120,13 @@ impl<'a> Plain<'a> {
           items = spec_then_items self.now.items second.now.items;
           changes = both_counts self.now.changes second.now.changes;
         }) }
-        ensures means { (units : ℕ → ℕ) (batch next : List Edit) → meaning units self.now.before batch ≡ Ok self.now.items
+        ensures means { (units : ℕ → ℕ) (batch next : List Edit)
+            → meaning units self.now.before batch ≡ Ok self.now.items
             → meaning units second.now.before next ≡ Ok second.now.items
-            → meaning units self.now.before (batch ++ next) ≡ Ok (spec_then_items self.now.items second.now.items) }
-        ensures associative { (third : List SpecItem) → spec_then_items (spec_then_items self.now.items second.now.items) third
+            → meaning units self.now.before (batch ++ next)
+            ≡ Ok (spec_then_items self.now.items second.now.items) }
+        ensures associative { (third : List SpecItem)
+            → spec_then_items (spec_then_items self.now.items second.now.items) third
             ≡ spec_then_items self.now.items (spec_then_items second.now.items third) }
     {
         let items = then_items(self.alloc, &self.items, &second.items)?;

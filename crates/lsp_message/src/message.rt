@@ -90,7 +90,9 @@ pub fn read(alloc: Global, body: &[u8]) -> Result<Message, ReadFault>
 
 /// The message that a value is, or why a body that was parsed so is none. Out of memory only where parsing was.
 fn message_from(parsed: Result<Value, serde_json::Error>) -> Result<Message, ReadFault>
-    ensures { MatchResult parsed (λ value. Answers result (message_of (view value))) (λ error. IsErrAnd result (IsFaultOf error)) }
+    ensures { MatchResult parsed
+        (λ value. Answers result (message_of (view value)))
+        (λ error. IsErrAnd result (IsFaultOf error)) }
 {
     message_of(parsed?)
 }

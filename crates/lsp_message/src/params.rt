@@ -233,7 +233,8 @@ fn edits_in(alloc: Global, values: Vec<Value>) -> Result<Vec<Change>, ParamsFaul
 fn edits_into(mut changes: Vec<Change>, values: Vec<Value>) -> Option<Vec<Change>>
     requires empty { changes.items ≡ [] }
     requires room { vec_len values ≤ vec_capacity changes }
-    ensures { option_map (λ edits. map edit_view edits.items) result ≡ edits_in (items_view values.items) }
+    ensures { option_map (λ edits. map edit_view edits.items) result
+        ≡ edits_in (items_view values.items) }
 {
     for value in values {
         if changes.push(edit_in(value)?).is_err() {

@@ -2,6 +2,7 @@
 
 mod agreement;
 mod bodies;
+mod faults;
 mod params;
 mod refused;
 mod texts;

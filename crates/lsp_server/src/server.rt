@@ -154,7 +154,8 @@ impl Server {
         ensures answer { IfOk result (λ a. answer_view a ≡ as_sent (step_on self.old (incoming_view incoming)).answer) }
         ensures state { OnOk result (self.new ≡ (step_on self.old (incoming_view incoming)).state) }
         ensures same { OnErr result (self.new ≡ self.old) }
-        ensures quiet { OnErr result (IsQuiet (step_on self.old (incoming_view incoming)).answer → ⊥) }
+        ensures quiet { OnErr result
+            (IsQuiet (step_on self.old (incoming_view incoming)).answer → ⊥) }
     {
         match incoming {
             Incoming::NotJson => self.fail(None, ErrorCode::ParseError),
@@ -187,7 +188,8 @@ impl Server {
         ensures answer { IfOk result (λ a. answer_view a ≡ as_sent (step_on self.old (initialize (id_view id) offers)).answer) }
         ensures state { OnOk result (self.new ≡ (step_on self.old (initialize (id_view id) offers)).state) }
         ensures same { OnErr result (self.new ≡ self.old) }
-        ensures quiet { OnErr result (IsQuiet (step_on self.old (initialize (id_view id) offers)).answer → ⊥) }
+        ensures quiet { OnErr result
+            (IsQuiet (step_on self.old (initialize (id_view id) offers)).answer → ⊥) }
     {
         match self.phase {
             Phase::New => match offers {
@@ -220,7 +222,8 @@ impl Server {
         ensures answer { IfOk result (λ a. answer_view a ≡ as_sent (step_on self.old (shutdown (id_view id))).answer) }
         ensures state { OnOk result (self.new ≡ (step_on self.old (shutdown (id_view id))).state) }
         ensures same { OnErr result (self.new ≡ self.old) }
-        ensures quiet { OnErr result (IsQuiet (step_on self.old (shutdown (id_view id))).answer → ⊥) }
+        ensures quiet { OnErr result
+            (IsQuiet (step_on self.old (shutdown (id_view id))).answer → ⊥) }
     {
         match self.phase {
             Phase::New => self.fail(Some(id), ErrorCode::ServerNotInitialized),
@@ -268,7 +271,8 @@ impl Server {
         ensures answer { IfOk result (λ a. answer_view a ≡ as_sent (step_on self.old (did_open (option_map open_view params))).answer) }
         ensures state { OnOk result (self.new ≡ (step_on self.old (did_open (option_map open_view params))).state) }
         ensures same { OnErr result (self.new ≡ self.old) }
-        ensures quiet { OnErr result (IsQuiet (step_on self.old (did_open (option_map open_view params))).answer → ⊥) }
+        ensures quiet { OnErr result
+            (IsQuiet (step_on self.old (did_open (option_map open_view params))).answer → ⊥) }
     {
         if self.phase != Phase::Running {
             return Ok(Answer::Dropped);
@@ -298,7 +302,8 @@ impl Server {
         ensures answer { IfOk result (λ a. answer_view a ≡ as_sent (step_on self.old (did_change (option_map change_view params))).answer) }
         ensures state { OnOk result (self.new ≡ (step_on self.old (did_change (option_map change_view params))).state) }
         ensures same { OnErr result (self.new ≡ self.old) }
-        ensures quiet { OnErr result (IsQuiet (step_on self.old (did_change (option_map change_view params))).answer → ⊥) }
+        ensures quiet { OnErr result
+            (IsQuiet (step_on self.old (did_change (option_map change_view params))).answer → ⊥) }
     {
         if self.phase != Phase::Running {
             return Ok(Answer::Dropped);
@@ -328,7 +333,8 @@ impl Server {
         ensures answer { IfOk result (λ a. answer_view a ≡ as_sent (step_on self.old (did_close (option_map close_view params))).answer) }
         ensures state { OnOk result (self.new ≡ (step_on self.old (did_close (option_map close_view params))).state) }
         ensures same { OnErr result (self.new ≡ self.old) }
-        ensures quiet { OnErr result (IsQuiet (step_on self.old (did_close (option_map close_view params))).answer → ⊥) }
+        ensures quiet { OnErr result
+            (IsQuiet (step_on self.old (did_close (option_map close_view params))).answer → ⊥) }
     {
         if self.phase != Phase::Running {
             return Ok(Answer::Dropped);

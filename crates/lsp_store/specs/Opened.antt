@@ -31,4 +31,5 @@ IsRefused old command fault = IsRefusal (command_refusal old.limits old.table co
 
 -- All that may still refuse a change of the open document of this URI is what the batch means.
 abbrev pub MayTakeMemory : StoreData → List ℕ → ℤ → List Edit → Type 0
-MayTakeMemory old uri version batch = IsSomeAnd (entry_at old.table uri) (λ entry. IsLeftToMeaning old.limits entry version batch)
+MayTakeMemory old uri version batch =
+    IsSomeAnd (entry_at old.table uri) (λ entry. IsLeftToMeaning old.limits entry version batch)

@@ -70,7 +70,9 @@ entry_refusal limits units entry version batch =
 -- Nothing refuses the batch but what it means: the version is greater, and there are not too many changes nor too long ones.
 abbrev pub IsLeftToMeaning : Bounds → Entry → ℤ → List Edit → Type 0
 IsLeftToMeaning limits entry version batch =
-    (units : ℕ → ℕ) → entry_refusal limits units entry version batch ≡ meaning_refusal limits entry.text (meaning units (chars entry.text) batch)
+    (units : ℕ → ℕ) →
+    entry_refusal limits units entry version batch ≡
+    meaning_refusal limits entry.text (meaning units (chars entry.text) batch)
 
 abbrev pub refusal_on : Bounds → (ℕ → ℕ) → Option Entry → ℤ → List Edit → Option Refusal
 refusal_on limits units None version batch = Some not_open

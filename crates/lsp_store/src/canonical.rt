@@ -74,7 +74,8 @@ impl Store {
         ensures accepted { OnOk result (message_refusal self.now.limits (units_in encoding) self.now.table uri.now version (map edit_of changes.now) ≡ None) }
         ensures told { IfErr result (IsRefusal (message_refusal self.now.limits (units_in encoding) self.now.table uri.now version (map edit_of changes.now))) }
         // Memory is taken only once nothing but what the batch means, or its message's length, can refuse it.
-        ensures memory { result ≡ Err NoMemory → MayTakeMemory self.now uri.now version (map edit_of changes.now) }
+        ensures memory { result ≡ Err NoMemory
+            → MayTakeMemory self.now uri.now version (map edit_of changes.now) }
         // What holds of the batch that is written.
         ensures canonical { OnOk result (IsCanonicalOn (units_in encoding) self.now.table uri.now (map edit_of changes.now)) }
         // Of every other batch that is accepted here the canonical message has the same bytes exactly if both do the same.

@@ -87,8 +87,9 @@ impl Held {
         ensures told { IfErr result (λ fault. (uri : List ℕ) →
             IsRefusal (entry_refusal limits.now (units_in encoding) (entry_under uri self.old) version (map edit_of changes.now)) fault) }
         // Memory is taken only once nothing but the meaning can refuse the batch.
-        ensures memory { result ≡ Err NoMemory → (uri : List ℕ) →
-            IsLeftToMeaning limits.now (entry_under uri self.old) version (map edit_of changes.now) }
+        ensures memory { result ≡ Err NoMemory → (uri : List ℕ)
+            → IsLeftToMeaning limits.now (entry_under uri self.old) version
+            (map edit_of changes.now) }
     {
         self.may_change(limits, version, changes)?;
         self.text.change(encoding, changes, limits.max_text())?;
@@ -112,10 +113,12 @@ impl Held {
         ensures told { IfErr result (λ fault. (uri : List ℕ) →
             IsRefusal (entry_refusal limits.now (units_in encoding) (entry_under uri self.now) version (map edit_of changes.now)) fault) }
         // Memory is taken only once nothing but the meaning can refuse the batch.
-        ensures memory { result ≡ Err NoMemory → (uri : List ℕ) →
-            IsLeftToMeaning limits.now (entry_under uri self.now) version (map edit_of changes.now) }
-        ensures left { OnOk result ((uri : List ℕ) →
-            IsLeftToMeaning limits.now (entry_under uri self.now) version (map edit_of changes.now)) }
+        ensures memory { result ≡ Err NoMemory → (uri : List ℕ)
+            → IsLeftToMeaning limits.now (entry_under uri self.now) version
+            (map edit_of changes.now) }
+        ensures left { OnOk result ((uri : List ℕ)
+            → IsLeftToMeaning limits.now (entry_under uri self.now) version
+            (map edit_of changes.now)) }
     {
         let max_text = limits.max_text();
         self.may_change(limits, version, changes)?;

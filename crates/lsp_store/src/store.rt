@@ -117,7 +117,12 @@ impl Store {
             (opens (record { uri = string_bytes uri; language = string_bytes language; version = version; text = string_bytes text }))) }
         // Memory is taken only once nothing refuses the document.
         ensures memory { result ≡ Err NoMemory → open_refusal self.old.limits self.old.table
-            (record { uri = string_bytes uri; language = string_bytes language; version = version; text = string_bytes text }) ≡ None }
+            (record {
+              uri = string_bytes uri;
+              language = string_bytes language;
+              version = version;
+              text = string_bytes text;
+            }) ≡ None }
     {
         self.may_open(&uri, &text)?;
         let held = Held::new(*self.documents.allocator(), language, version, text)?;
@@ -142,7 +147,8 @@ impl Store {
         ensures same { OnErr result (self.new ≡ self.old) }
         ensures told { IfErr result (IsRefused self.old (changing uri.now version encoding (map edit_of changes.now))) }
         // Memory is taken only once nothing but what the batch means can refuse it.
-        ensures memory { result ≡ Err NoMemory → MayTakeMemory self.old uri.now version (map edit_of changes.now) }
+        ensures memory { result ≡ Err NoMemory
+            → MayTakeMemory self.old uri.now version (map edit_of changes.now) }
     {
         let limits = self.limits;
         let Some(held) = self.documents.get_mut(uri) else {

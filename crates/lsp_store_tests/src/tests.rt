@@ -2,7 +2,9 @@
 
 mod canonical;
 mod documents;
+mod faults;
 mod limits;
+mod made_again;
 mod refused;
 
 use lsp_frame::{BadLimits, Limits};

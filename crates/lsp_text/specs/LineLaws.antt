@@ -21,8 +21,8 @@ pub record LinesPart (text : List ℕ) : Type 0 where
   pub last : line_stop text (line_ends text) ≡ length text
   pub order : (line : ℕ) → line ≤ line_ends text → line_start text line ≤ line_stop text line
   pub ends : (line : ℕ) → line < line_ends text → IsLineEnd (line_end_of text line)
-  pub crlf_is_one : (line : ℕ) → line < line_ends text → line_end_of text line ≡ carriage_return ∷ [] →
-      slice_index text (line_start text (suc line)) ≢ line_feed
+  pub crlf_is_one : (line : ℕ) → line < line_ends text →
+      line_end_of text line ≡ carriage_return ∷ [] → slice_index text (line_start text (suc line)) ≢ line_feed
   pub no_feed : (line k : ℕ) → line ≤ line_ends text → line_start text line ≤ k → k < line_stop text line → slice_index text k ≢ line_feed
   pub no_return : (line k : ℕ) → line ≤ line_ends text → line_start text line ≤ k → k < line_stop text line → slice_index text k ≢ carriage_return
   pub each : (k : ℕ) → k ≤ length text → line_at text k ≤ line_ends text
@@ -43,7 +43,9 @@ StartsLaw = (text : List ℕ) (line : ℕ) → line ≤ line_ends text → HasSt
 
 -- Two texts with the same first characters split their CRLFs alike before the last of these.
 abbrev pub SplitsLaw : Type 0
-SplitsLaw = (text other : List ℕ) (j k : ℕ) → take k text ≡ take k other → j < k → splits_crlf text j ≡ splits_crlf other j
+SplitsLaw =
+    (text other : List ℕ) (j k : ℕ) → take k text ≡ take k other → j < k →
+    splits_crlf text j ≡ splits_crlf other j
 
 -- Neither the end of a text nor what is past it splits a CRLF.
 abbrev pub PastEndLaw : Type 0

@@ -27,18 +27,22 @@ IndexLaw = (bytes : List ℕ) (index : ℕ) → IsUtf8 bytes → index ≤ lengt
 
 -- The bytes before the place of an index are those of the characters before it.
 abbrev pub BytesBeforeLaw : Type 0
-BytesBeforeLaw = (text : List ℕ) (k : ℕ) → take (place_of text k) (encode_utf8_all text) ≡ encode_utf8_all (take k text)
+BytesBeforeLaw =
+    (text : List ℕ) (k : ℕ) → take (place_of text k) (encode_utf8_all text) ≡ encode_utf8_all (take k text)
 
 -- The bytes after it are those of the characters after it.
 abbrev pub BytesAfterLaw : Type 0
-BytesAfterLaw = (text : List ℕ) (k : ℕ) → drop (place_of text k) (encode_utf8_all text) ≡ encode_utf8_all (drop k text)
+BytesAfterLaw =
+    (text : List ℕ) (k : ℕ) → drop (place_of text k) (encode_utf8_all text) ≡ encode_utf8_all (drop k text)
 
 -- The bytes between the places of two indexes are those of the characters between them.
 abbrev pub BytesBetweenLaw : Type 0
 BytesBetweenLaw =
     (text : List ℕ) (j k : ℕ) → j ≤ k → k ≤ length text →
-    take (place_of text k - place_of text j) (drop (place_of text j) (encode_utf8_all text)) ≡ encode_utf8_all (take (k - j) (drop j text))
+    take (place_of text k - place_of text j) (drop (place_of text j) (encode_utf8_all text)) ≡
+    encode_utf8_all (take (k - j) (drop j text))
 
 -- The place of an index further on: that of the first, and the bytes of the characters from there.
 abbrev pub FurtherLaw : Type 0
-FurtherLaw = (text : List ℕ) (j n : ℕ) → place_of text (j + n) ≡ place_of text j + place_of (drop j text) n
+FurtherLaw =
+    (text : List ℕ) (j n : ℕ) → place_of text (j + n) ≡ place_of text j + place_of (drop j text) n

@@ -38,7 +38,8 @@ AloneLaw =
 abbrev pub ExactLaw : Type 0
 ExactLaw =
     (units : ℕ → ℕ) (text : List ℕ) (p : Position) (k : ℕ) →
-    p.line ≤ line_ends text → p.character ≤ units_between units text (line_start text p.line) (line_stop text p.line) →
+    p.line ≤ line_ends text →
+    p.character ≤ units_between units text (line_start text p.line) (line_stop text p.line) →
     denoted units text p ≡ Some k → exact_position units text k ≡ p
 
 -- A position past a line's content denotes its end.

@@ -1,0 +1,60 @@
+//! The text of each fault.
+
+use lsp_edit::{EditFault, Side, TextFault};
+use std::alloc::{AllocError, Global};
+use std::process::Abort;
+use std::test::Fail;
+
+static EDIT_FAULTS: [(EditFault, &str); 4] = [
+    (
+        EditFault::InsideCharacter {
+            change: 0,
+            side: Side::Start,
+        },
+        "change 0: Start lies inside a character",
+    ),
+    (
+        EditFault::InsideCharacter {
+            change: 7,
+            side: Side::Stop,
+        },
+        "change 7: Stop lies inside a character",
+    ),
+    (
+        EditFault::ReversedRange { change: 1 },
+        "change 1: the range is reversed",
+    ),
+    (EditFault::NoMemory, "out of memory"),
+];
+
+static TEXT_FAULTS: [(TextFault, &str); 3] = [
+    (
+        TextFault::Edit(EditFault::ReversedRange { change: 2 }),
+        "change 2: the range is reversed",
+    ),
+    (TextFault::TooLong, "the text is too long"),
+    (TextFault::NoMemory, "out of memory"),
+];
+
+fn prints_edit_fault(alloc: Global, row: &(EditFault, &str)) -> Result<bool, AllocError> {
+    let fault = row.0;
+    let text = format!(in alloc; "{fault}")?;
+    Ok(text.as_str() == row.1)
+}
+
+fn prints_text_fault(alloc: Global, row: &(TextFault, &str)) -> Result<bool, AllocError> {
+    let fault = row.0;
+    let text = format!(in alloc; "{fault}")?;
+    Ok(text.as_str() == row.1)
+}
+
+#[test]
+fn each_fault_has_its_text(rt: HostRuntime) -> Result<(), Fail> {
+    for row in &EDIT_FAULTS {
+        assert!(rt; prints_edit_fault(rt.alloc(), row)?, "{}", row.1);
+    }
+    for row in &TEXT_FAULTS {
+        assert!(rt; prints_text_fault(rt.alloc(), row)?, "{}", row.1);
+    }
+    Ok(())
+}
