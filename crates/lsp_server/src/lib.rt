@@ -51,7 +51,7 @@
 //! let answer = server.handle_incoming(incoming)?;
 //! ```
 //!
-//! Both programs stand whole in `src/tests/front_page.rt`.
+//! Both programs are tested whole, in `lsp_server_tests/src/tests/front_page.rt`.
 //! `server.store().get(uri)` lends the document as it is now; `lsp_text` turns its positions, in `server.encoding()`, into places.
 //!
 //! - `server`: the server, and the table of its steps.

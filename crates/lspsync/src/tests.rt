@@ -1,4 +1,4 @@
-//! The program on whole inputs: what it writes, its status, and the line that it tells a fault by.
+//! The program on whole inputs: what it writes, its status, and the line that reports a fault.
 
 mod command_line;
 mod converted;
@@ -8,39 +8,8 @@ mod sessions;
 mod streams;
 
 use crate::run::run;
-use lsp_frame::frame;
 use lsp_replay::{Call, StopReader, StopWriter, Told};
 use std::alloc::{AllocError, Global};
-
-const INITIALIZE: &str =
-    r#"{"id":1,"jsonrpc":"2.0","method":"initialize","params":{"capabilities":{"general":{"positionEncodings":["utf-16"]}},"processId":null,"rootUri":null}}"#;
-
-const INITIALIZED: &str = r#"{"jsonrpc":"2.0","method":"initialized","params":{}}"#;
-
-const OPEN: &str =
-    r#"{"jsonrpc":"2.0","method":"textDocument/didOpen","params":{"textDocument":{"languageId":"plaintext","text":"abc","uri":"file:///a","version":1}}}"#;
-
-/// A change of `abc` to `aXc` as a whole text, and the canonical message that means the same.
-const WHOLE: &str =
-    r#"{"jsonrpc":"2.0","method":"textDocument/didChange","params":{"contentChanges":[{"text":"aXc"}],"textDocument":{"uri":"file:///a","version":2}}}"#;
-
-const CANONICAL: &str =
-    r#"{"jsonrpc":"2.0","method":"textDocument/didChange","params":{"contentChanges":[{"range":{"end":{"character":3,"line":0},"start":{"character":0,"line":0}},"text":"aXc"}],"textDocument":{"uri":"file:///a","version":2}}}"#;
-
-/// A change of `abc` to `aXc` by its range.
-const CHANGE: &str =
-    r#"{"jsonrpc":"2.0","method":"textDocument/didChange","params":{"contentChanges":[{"range":{"end":{"character":2,"line":0},"start":{"character":1,"line":0}},"text":"X"}],"textDocument":{"uri":"file:///a","version":2}}}"#;
-
-const CLOSE: &str =
-    r#"{"jsonrpc":"2.0","method":"textDocument/didClose","params":{"textDocument":{"uri":"file:///a"}}}"#;
-
-const SHUTDOWN: &str = r#"{"id":2,"jsonrpc":"2.0","method":"shutdown"}"#;
-
-const EXIT: &str = r#"{"jsonrpc":"2.0","method":"exit"}"#;
-
-/// The result of `initialize` in UTF-16.
-const REPLY: &str =
-    r#"{"id":1,"jsonrpc":"2.0","result":{"capabilities":{"positionEncoding":"utf-16","textDocumentSync":{"change":2,"openClose":true}}}}"#;
 
 /// What one run of the program answered.
 #[derive(Drop)]
@@ -50,13 +19,35 @@ struct Answer {
     errors: Vec<u8>,
 }
 
-/// The frames of some bodies, one after another.
-fn log(alloc: Global, bodies: &[&str]) -> Result<Vec<u8>, AllocError> {
-    let mut bytes = Vec::new(alloc);
-    for body in bodies {
-        bytes.extend_from_slice(&frame(alloc, body.as_bytes())?)?;
+impl Answer {
+    /// Are these the status, the output and the lines on standard error?
+    fn is(&self, status: u8, output: &[u8], errors: &str) -> bool {
+        self.status == status
+            && self.output.as_slice() == output
+            && self.errors.as_slice() == errors.as_bytes()
     }
-    Ok(bytes)
+}
+
+/// Does a run with these words answer so, with nothing on standard error?
+fn answers(
+    alloc: Global,
+    words: &[&str],
+    input: &[u8],
+    status: u8,
+    output: &[u8],
+) -> Result<bool, AllocError> {
+    Ok(ran(alloc, words, input)?.is(status, output, ""))
+}
+
+/// Is a run with these words a fault that is reported in this line, after this output?
+fn fails(
+    alloc: Global,
+    words: &[&str],
+    input: &[u8],
+    output: &[u8],
+    line: &str,
+) -> Result<bool, AllocError> {
+    Ok(ran(alloc, words, input)?.is(5, output, line))
 }
 
 /// A run of the program over streams whose calls all go well.

@@ -4,114 +4,158 @@ use super::*;
 use std::str;
 use std::test::Fail;
 
+static WRONG: [&[&str]; 22] = [
+    &["lspsync"],
+    &["lspsync", "rewrite"],
+    &["lspsync", "--max-body", "4096", "check"],
+    &["lspsync", "help", "rewrite"],
+    &["lspsync", "check", "session.log"],
+    &["lspsync", "check", "--sync", "full"],
+    &["lspsync", "normalise", "--squash"],
+    &["lspsync", "serve", "--squash"],
+    &["lspsync", "serve", "--sync", "none"],
+    &["lspsync", "serve", "--sync"],
+    &["lspsync", "replay", "--encoding", "utf-7"],
+    &["lspsync", "replay", "--encoding", "UTF-8"],
+    &["lspsync", "convert", "--encoding"],
+    &["lspsync", "check", "--max-body"],
+    &["lspsync", "check", "--max-body", "4095"],
+    &["lspsync", "check", "--max-body=1073741825"],
+    &["lspsync", "check", "--max-text", "1073741825"],
+    &["lspsync", "check", "--max-docs", "0"],
+    &["lspsync", "check", "--max-docs", "65537"],
+    &["lspsync", "check", "--max-changes", "1048577"],
+    &["lspsync", "check", "--max-changes", "x"],
+    &["lspsync", "check", "--max-text", "1", "--max-text", "1"],
+];
+
+/// Is a call with these words refused, by a text on standard error?
+fn is_wrong(alloc: Global, words: &[&str]) -> Result<bool, AllocError> {
+    let answer = ran(alloc, words, b"")?;
+    Ok(answer.status == 2 && answer.output.is_empty() && !answer.errors.is_empty())
+}
+
 #[test]
 fn a_wrong_command_line_has_a_text_and_status_2(rt: HostRuntime) -> Result<(), Fail> {
-    let alloc = rt.alloc();
-    let wrong: [&[&str]; 22] = [
-        &["lspsync"],
-        &["lspsync", "rewrite"],
-        &["lspsync", "--max-body", "4096", "check"],
-        &["lspsync", "help", "rewrite"],
-        &["lspsync", "check", "session.log"],
-        &["lspsync", "check", "--sync", "full"],
-        &["lspsync", "normalise", "--squash"],
-        &["lspsync", "serve", "--squash"],
-        &["lspsync", "serve", "--sync", "none"],
-        &["lspsync", "serve", "--sync"],
-        &["lspsync", "replay", "--encoding", "utf-7"],
-        &["lspsync", "replay", "--encoding", "UTF-8"],
-        &["lspsync", "convert", "--encoding"],
-        &["lspsync", "check", "--max-body"],
-        &["lspsync", "check", "--max-body", "4095"],
-        &["lspsync", "check", "--max-body=1073741825"],
-        &["lspsync", "check", "--max-text", "1073741825"],
-        &["lspsync", "check", "--max-docs", "0"],
-        &["lspsync", "check", "--max-docs", "65537"],
-        &["lspsync", "check", "--max-changes", "1048577"],
-        &["lspsync", "check", "--max-changes", "x"],
-        &["lspsync", "check", "--max-text", "1", "--max-text", "1"],
-    ];
-    for words in wrong {
-        let answer = ran(alloc, words, b"")?;
-        assert_eq!(rt; answer.status, 2, "at {words:?}");
-        assert!(rt; answer.output.is_empty());
-        assert!(rt; !answer.errors.is_empty());
+    for words in &WRONG {
+        assert!(rt; is_wrong(rt.alloc(), words)?, "at {words:?}");
     }
     Ok(())
+}
+
+static COMMANDS: [&str; 5] = ["serve", "check", "replay", "normalise", "convert"];
+
+/// An option, its least value, and the greatest one.
+static ENDS: [(&str, &str, &str); 5] = [
+    ("--max-body", "4096", "--max-body=1073741824"),
+    ("--max-text", "0", "--max-text=1073741824"),
+    ("--max-docs", "1", "--max-docs=65536"),
+    ("--max-changes", "1", "--max-changes=1048576"),
+    ("--encoding", "utf-8", "--encoding=utf-32"),
+];
+
+/// The status of a call with these words and no input.
+fn status_of(alloc: Global, words: &[&str]) -> Result<u8, AllocError> {
+    Ok(ran(alloc, words, b"")?.status)
+}
+
+/// Are both ends of the range of an option taken? `serve` ends with status 1 where no `exit` came.
+fn takes_both<'a>(
+    alloc: Global,
+    command: &'a str,
+    option: &'a str,
+    least: &'a str,
+    greatest: &'a str,
+) -> Result<bool, AllocError> {
+    let status = if command == "serve" { 1 } else { 0 };
+    if status_of(alloc, &["lspsync", command, option, least])? != status {
+        return Ok(false);
+    }
+    Ok(status_of(alloc, &["lspsync", command, greatest])? == status)
 }
 
 #[test]
 fn both_ends_of_each_range_are_taken(rt: HostRuntime) -> Result<(), Fail> {
-    let alloc = rt.alloc();
-    let options = [
-        ("--max-body", "4096", "--max-body=1073741824"),
-        ("--max-text", "0", "--max-text=1073741824"),
-        ("--max-docs", "1", "--max-docs=65536"),
-        ("--max-changes", "1", "--max-changes=1048576"),
-        ("--encoding", "utf-8", "--encoding=utf-32"),
-    ];
-    for command in ["check", "replay", "normalise", "convert", "serve"] {
-        for (option, least, greatest) in options {
-            let status = if command == "serve" { 1 } else { 0 };
-            let words = ["lspsync", command, option, least];
-            assert_eq!(rt; ran(alloc, &words, b"")?.status, status, "at {words:?}");
-            let words = ["lspsync", command, greatest];
-            assert_eq!(rt; ran(alloc, &words, b"")?.status, status, "at {words:?}");
+    for command in &COMMANDS {
+        for (option, least, greatest) in &ENDS {
+            assert!(rt;
+                takes_both(rt.alloc(), command, option, least, greatest)?,
+                "at {command} {option}"
+            );
         }
     }
     let words = ["lspsync", "serve", "--sync", "full"];
-    assert_eq!(rt; ran(alloc, &words, b"")?.status, 1);
+    assert_eq!(rt; status_of(rt.alloc(), &words)?, 1);
     Ok(())
+}
+
+static HELP: [&[&str]; 3] = [
+    &["lspsync", "--help"],
+    &["lspsync", "-h"],
+    &["lspsync", "help"],
+];
+
+/// Are all of these in a text?
+fn has_all(text: &str, words: &[&str]) -> bool {
+    for word in words {
+        if !text.contains(*word) {
+            return false;
+        }
+    }
+    true
+}
+
+/// The text that a call for help prints.
+fn help(alloc: Global, words: &[&str]) -> Result<Vec<u8>, Fail> {
+    let answer = ran(alloc, words, b"")?;
+    if answer.status != 0 || !answer.errors.is_empty() {
+        return Err(Fail::from("help"));
+    }
+    Ok(answer.output)
+}
+
+fn names_each(alloc: Global, words: &[&str]) -> Result<bool, Fail> {
+    let output = help(alloc, words)?;
+    Ok(has_all(str::from_utf8(&output)?, &COMMANDS))
 }
 
 #[test]
 fn help_names_each_command(rt: HostRuntime) -> Result<(), Fail> {
-    let alloc = rt.alloc();
-    let commands = ["serve", "check", "replay", "normalise", "convert"];
-    let all: [&[&str]; 3] = [
-        &["lspsync", "--help"],
-        &["lspsync", "-h"],
-        &["lspsync", "help"],
-    ];
-    for words in all {
-        let answer = ran(alloc, words, b"")?;
-        assert_eq!(rt; answer.status, 0);
-        assert!(rt; answer.errors.is_empty());
-        let text = str::from_utf8(&answer.output)?;
-        for command in commands {
-            assert!(rt; text.contains(command), "{command} in {text}");
-        }
+    for words in &HELP {
+        assert!(rt; names_each(rt.alloc(), words)?, "at {words:?}");
     }
     Ok(())
 }
 
+static OPTIONS: [&str; 5] = [
+    "--encoding",
+    "--max-body",
+    "--max-text",
+    "--max-docs",
+    "--max-changes",
+];
+
+/// Does the help of a command have its options, and an example of its call?
+fn has_options(alloc: Global, command: &str, words: &[&str]) -> Result<bool, Fail> {
+    let example = format!(in alloc; "  ./lspsync {command} < examples/")?;
+    let output = help(alloc, words)?;
+    let text = str::from_utf8(&output)?;
+    if !text.contains(example.as_str()) || !has_all(text, &OPTIONS) {
+        return Ok(false);
+    }
+    Ok(text.contains("--sync") == (command == "serve"))
+}
+
 #[test]
 fn help_of_each_command_has_its_options_and_an_example(rt: HostRuntime) -> Result<(), Fail> {
-    let alloc = rt.alloc();
-    let options = [
-        "--encoding",
-        "--max-body",
-        "--max-text",
-        "--max-docs",
-        "--max-changes",
-    ];
-    for command in ["serve", "check", "replay", "normalise", "convert"] {
-        let example = format!(in alloc; "  ./lspsync {command} < examples/")?;
-        let ways: [&[&str]; 3] = [
-            &["lspsync", command, "--help"],
-            &["lspsync", command, "-h"],
-            &["lspsync", "help", command],
+    for command in &COMMANDS {
+        let ways: [[&str; 3]; 3] = [
+            ["lspsync", command, "--help"],
+            ["lspsync", command, "-h"],
+            ["lspsync", "help", command],
         ];
-        for words in ways {
-            let answer = ran(alloc, words, b"")?;
-            assert_eq!(rt; answer.status, 0);
-            assert!(rt; answer.errors.is_empty());
-            let text = str::from_utf8(&answer.output)?;
-            assert!(rt; text.contains(example.as_str()), "{example} in {text}");
-            for option in options {
-                assert!(rt; text.contains(option), "{option} in {text}");
-            }
-            assert_eq!(rt; text.contains("--sync"), command == "serve");
+        for words in &ways {
+            assert!(rt; has_options(rt.alloc(), command, words)?, "at {words:?}");
         }
     }
     Ok(())

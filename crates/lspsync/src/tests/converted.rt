@@ -1,12 +1,14 @@
-//! Logs of version 2: how they are made, and what the commands on logs write of them.
+//! Logs of version 2: how they are converted, and what the commands on logs write of them.
 
 use super::*;
+use lsp_frame::frame;
+use lsp_samples::bodies::{
+    ACCEPTED, AFTER_ONE_UNIT, CANONICAL, EXIT, INITIALIZE, OPEN, OPEN_EMOJI, WHOLE,
+};
+use lsp_samples::logs::{LINE, log};
 use std::test::Fail;
 
-/// The first line of a log of version 2.
-const LINE: &[u8] = b"lsp-session-log 2\n";
-
-/// A log of version 2 with the client's records, and the server's behind the first.
+/// A log of version 2 with the client's records, and the server's after the first.
 fn recorded(alloc: Global, bodies: &[&str], server: &[&str]) -> Result<Vec<u8>, AllocError> {
     let mut bytes = Vec::from_slice(alloc, LINE)?;
     for (i, body) in bodies.iter().enumerate() {
@@ -25,95 +27,84 @@ fn recorded(alloc: Global, bodies: &[&str], server: &[&str]) -> Result<Vec<u8>, 
 #[test]
 fn a_converted_log_has_the_replies(rt: HostRuntime) -> Result<(), Fail> {
     let alloc = rt.alloc();
+    let both = recorded(alloc, &[INITIALIZE, OPEN, WHOLE], &[ACCEPTED])?;
+    assert_eq!(rt; both.len(), 680);
     let input = log(alloc, &[INITIALIZE, OPEN, WHOLE])?;
-    let both = recorded(alloc, &[INITIALIZE, OPEN, WHOLE], &[REPLY])?;
-    let normal = recorded(alloc, &[INITIALIZE, OPEN, CANONICAL], &[REPLY])?;
-    assert_eq!(rt; (both.len(), normal.len()), (680, 754));
-    let answer = ran(alloc, &["lspsync", "convert"], &input)?;
-    assert_eq!(rt; answer.status, 0);
-    assert_eq!(rt; answer.output, both);
-    let answer = ran(alloc, &["lspsync", "check"], &both)?;
-    assert_eq!(rt; answer.status, 0);
-    assert_eq!(rt;
-        answer.output.as_slice(),
-        b"1 reply\n2 server\n3 changed\n4 changed\n".as_slice()
-    );
-    for given in [&both, &normal] {
-        let answer = ran(alloc, &["lspsync", "normalise"], given)?;
-        assert_eq!(rt; answer.status, 0);
-        assert_eq!(rt; answer.output, normal);
-    }
-    let answer = ran(alloc, &["lspsync", "convert"], &both)?;
-    assert_eq!(rt; answer.status, 5);
-    assert!(rt; answer.output.is_empty());
-    assert_eq!(rt;
-        answer.errors.as_slice(),
-        b"lspsync: bad log at 0\n".as_slice()
-    );
+    assert!(rt; answers(alloc, &["lspsync", "convert"], &input, 0, &both)?);
+    let words = b"1 reply\n2 server\n3 changed\n4 changed\n";
+    assert!(rt; answers(alloc, &["lspsync", "check"], &both, 0, words)?);
+    let line = "lspsync: bad log at 0\n";
+    assert!(rt; fails(alloc, &["lspsync", "convert"], &both, b"", line)?);
     Ok(())
 }
 
 #[test]
-fn an_empty_log_and_one_that_exits(rt: HostRuntime) -> Result<(), Fail> {
+fn a_converted_log_is_normalised(rt: HostRuntime) -> Result<(), Fail> {
     let alloc = rt.alloc();
-    let empty = ran(alloc, &["lspsync", "convert"], b"")?;
-    assert_eq!(rt; empty.status, 0);
-    assert_eq!(rt; empty.output.as_slice(), LINE);
-    for command in ["check", "replay"] {
-        let answer = ran(alloc, &["lspsync", command], LINE)?;
-        assert_eq!(rt; (answer.status, answer.output.len()), (0, 0));
-    }
-    let again = ran(alloc, &["lspsync", "normalise"], LINE)?;
-    assert_eq!(rt; again.output.as_slice(), LINE);
+    let both = recorded(alloc, &[INITIALIZE, OPEN, WHOLE], &[ACCEPTED])?;
+    let normal = recorded(alloc, &[INITIALIZE, OPEN, CANONICAL], &[ACCEPTED])?;
+    assert_eq!(rt; normal.len(), 754);
+    assert!(rt; answers(alloc, &["lspsync", "normalise"], &both, 0, &normal)?);
+    assert!(rt; answers(alloc, &["lspsync", "normalise"], &normal, 0, &normal)?);
+    Ok(())
+}
+
+#[test]
+fn an_empty_log(rt: HostRuntime) -> Result<(), Fail> {
+    let alloc = rt.alloc();
+    assert!(rt; answers(alloc, &["lspsync", "convert"], b"", 0, LINE)?);
+    assert!(rt; answers(alloc, &["lspsync", "check"], LINE, 0, b"")?);
+    assert!(rt; answers(alloc, &["lspsync", "replay"], LINE, 0, b"")?);
+    assert!(rt; answers(alloc, &["lspsync", "normalise"], LINE, 0, LINE)?);
+    Ok(())
+}
+
+#[test]
+fn a_log_that_exits(rt: HostRuntime) -> Result<(), Fail> {
+    let alloc = rt.alloc();
     let input = log(alloc, &[INITIALIZE, EXIT])?;
     let exits = ran(alloc, &["lspsync", "convert"], &input)?;
     assert_eq!(rt; (exits.status, exits.output.len()), (1, 400));
-    let answer = ran(alloc, &["lspsync", "check"], &exits.output)?;
-    assert_eq!(rt; answer.status, 1);
-    assert_eq!(rt;
-        answer.output.as_slice(),
-        b"1 reply\n2 server\n3 exit 1\n".as_slice()
-    );
+    let words = b"1 reply\n2 server\n3 exit 1\n";
+    assert!(rt; answers(alloc, &["lspsync", "check"], &exits.output, 1, words)?);
     Ok(())
 }
 
 #[test]
 fn a_change_before_the_result_of_initialize(rt: HostRuntime) -> Result<(), Fail> {
-    let alloc = rt.alloc();
-    let input = recorded(alloc, &[INITIALIZE, OPEN, WHOLE], &[])?;
-    let answer = ran(alloc, &["lspsync", "check"], &input)?;
-    assert_eq!(rt; answer.status, 5);
-    assert_eq!(rt;
-        answer.output.as_slice(),
-        b"1 reply\n2 changed\n".as_slice()
-    );
-    assert_eq!(rt;
-        answer.errors.as_slice(),
-        b"lspsync: bad log at 360\n".as_slice()
-    );
+    let input = recorded(rt.alloc(), &[INITIALIZE, OPEN, WHOLE], &[])?;
+    let words = b"1 reply\n2 changed\n";
+    let line = "lspsync: bad log at 360\n";
+    assert!(rt; fails(rt.alloc(), &["lspsync", "check"], &input, words, line)?);
     Ok(())
 }
 
-const OPEN_EMOJI: &str =
-    r#"{"jsonrpc":"2.0","method":"textDocument/didOpen","params":{"textDocument":{"languageId":"plaintext","text":"😀","uri":"file:///a","version":1}}}"#;
+/// The encoding that a log records, the word of a change in the middle of a character, and the status.
+static RECORDED: [(&str, &str, u8); 2] = [("utf-32", "changed", 0), ("utf-8", "refused E1", 1)];
 
-const BEHIND_ONE: &str =
-    r#"{"jsonrpc":"2.0","method":"textDocument/didChange","params":{"contentChanges":[{"range":{"end":{"character":1,"line":0},"start":{"character":1,"line":0}},"text":"b"}],"textDocument":{"uri":"file:///a","version":2}}}"#;
+/// A log whose server chose the encoding of this name.
+fn encoded_log(alloc: Global, name: &str) -> Result<Vec<u8>, AllocError> {
+    let result = format!(in alloc;
+        r#"{{"id":1,"jsonrpc":"2.0","result":{{"capabilities":{{"positionEncoding":"{name}"}}}}}}"#
+    )?;
+    recorded(
+        alloc,
+        &[INITIALIZE, OPEN_EMOJI, AFTER_ONE_UNIT],
+        &[result.as_str()],
+    )
+}
+
+fn counts_so(alloc: Global, name: &str, word: &str, status: u8) -> Result<bool, AllocError> {
+    let input = encoded_log(alloc, name)?;
+    let lines = format!(in alloc; "1 reply\n2 server\n3 changed\n4 {word}\n")?;
+    let words = ["lspsync", "check", "--encoding", "utf-16"];
+    answers(alloc, &words, &input, status, lines.as_bytes())
+}
 
 #[test]
 fn the_recorded_encoding_counts(rt: HostRuntime) -> Result<(), Fail> {
-    let alloc = rt.alloc();
-    for (name, word, status) in [("utf-32", "changed", 0), ("utf-8", "refused E1", 1)] {
-        let result = format!(in alloc;
-            r#"{{"id":1,"jsonrpc":"2.0","result":{{"capabilities":{{"positionEncoding":"{name}"}}}}}}"#
-        )?;
-        let bodies = [INITIALIZE, OPEN_EMOJI, BEHIND_ONE];
-        let input = recorded(alloc, &bodies, &[result.as_str()])?;
-        let words = ["lspsync", "check", "--encoding", "utf-16"];
-        let answer = ran(alloc, &words, &input)?;
-        let lines = format!(in alloc; "1 reply\n2 server\n3 changed\n4 {word}\n")?;
-        assert_eq!(rt; answer.output.as_slice(), lines.as_bytes());
-        assert_eq!(rt; answer.status, status);
+    for (name, word, status) in &RECORDED {
+        assert!(rt; counts_so(rt.alloc(), name, word, *status)?, "{name}");
     }
     Ok(())
 }

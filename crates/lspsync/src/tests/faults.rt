@@ -4,54 +4,64 @@ use super::*;
 use crate::run::{refuse, report};
 use lsp_frame::FrameFault;
 use lsp_replay::EngineFault;
+use lsp_samples::bodies::{INITIALIZE, OPEN, WHOLE};
+use lsp_samples::logs::log;
 use std::io::ErrorKind;
 use std::test::Fail;
 
-#[test]
-fn each_fault_has_its_line_and_status(rt: HostRuntime) -> Result<(), Fail> {
-    let alloc = rt.alloc();
-    let repeated = FrameFault::RepeatedHeader { place: 39 };
-    let cases = [
-        (EngineFault::Read, 3, "lspsync: read fault\n"),
-        (EngineFault::Write, 3, "lspsync: write fault\n"),
-        (EngineFault::TooManyTurns, 3, "lspsync: too many turns\n"),
-        (EngineFault::NoMemory, 4, "lspsync: out of memory\n"),
-        (
-            EngineFault::Frame(repeated),
-            5,
-            "lspsync: frame fault F4 at 39\n",
-        ),
-        (
-            EngineFault::Truncated { place: 23 },
-            5,
-            "lspsync: truncated at 23\n",
-        ),
-        (
-            EngineFault::BodyTooLong { place: 340 },
-            5,
-            "lspsync: body too long at 340\n",
-        ),
-        (
-            EngineFault::BadLog { place: 18 },
-            5,
-            "lspsync: bad log at 18\n",
-        ),
-    ];
-    for (fault, status, line) in cases {
-        let mut errors = Vec::new(alloc);
-        assert_eq!(rt; report(fault, &mut errors), status, "at {line}");
-        assert_eq!(rt; errors.as_slice(), line.as_bytes());
-    }
+/// A fault, the status, and the line.
+static REPORTS: [(EngineFault, u8, &str); 8] = [
+    (EngineFault::Read, 3, "lspsync: read fault\n"),
+    (EngineFault::Write, 3, "lspsync: write fault\n"),
+    (EngineFault::TooManyTurns, 3, "lspsync: too many turns\n"),
+    (EngineFault::NoMemory, 4, "lspsync: out of memory\n"),
+    (
+        EngineFault::Frame(FrameFault::RepeatedHeader { place: 39 }),
+        5,
+        "lspsync: frame fault F4 at 39\n",
+    ),
+    (
+        EngineFault::Truncated { place: 23 },
+        5,
+        "lspsync: truncated at 23\n",
+    ),
+    (
+        EngineFault::BodyTooLong { place: 340 },
+        5,
+        "lspsync: body too long at 340\n",
+    ),
+    (
+        EngineFault::BadLog { place: 18 },
+        5,
+        "lspsync: bad log at 18\n",
+    ),
+];
+
+/// Is a fault reported with this status, in this line?
+fn is_reported(alloc: Global, fault: EngineFault, status: u8, line: &str) -> bool {
     let mut errors = Vec::new(alloc);
-    assert_eq!(rt; refuse(ErrorKind::OutOfMemory, &mut errors), 4);
-    assert_eq!(rt; refuse(ErrorKind::InvalidData, &mut errors), 2);
-    let lines = "lspsync: out of memory\nlspsync: the command line is not UTF-8\n";
-    assert_eq!(rt; errors.as_slice(), lines.as_bytes());
-    Ok(())
+    report(fault, &mut errors) == status && errors.as_slice() == line.as_bytes()
 }
 
-/// Inputs of `check`, and the line that each is told by.
-const FAULTY: [(&str, &str); 14] = [
+/// Are words that are no words refused with this status, in this line?
+fn is_refused(alloc: Global, kind: ErrorKind, status: u8, line: &str) -> bool {
+    let mut errors = Vec::new(alloc);
+    refuse(kind, &mut errors) == status && errors.as_slice() == line.as_bytes()
+}
+
+#[test]
+fn each_fault_has_its_line_and_status(rt: HostRuntime) {
+    for (fault, status, line) in &REPORTS {
+        assert!(rt; is_reported(rt.alloc(), *fault, *status, line), "{line}");
+    }
+    let line = "lspsync: out of memory\n";
+    assert!(rt; is_refused(rt.alloc(), ErrorKind::OutOfMemory, 4, line));
+    let line = "lspsync: the command line is not UTF-8\n";
+    assert!(rt; is_refused(rt.alloc(), ErrorKind::InvalidData, 2, line));
+}
+
+/// Inputs of `check`, and the line that reports each.
+static FAULTY: [(&str, &str); 14] = [
     ("Content-Length 2", "lspsync: frame fault F1 at 14\n"),
     ("Content-Length: 2\n", "lspsync: frame fault F1 at 17\n"),
     ("Content-Length: 2\r[]", "lspsync: frame fault F1 at 18\n"),
@@ -83,80 +93,95 @@ const FAULTY: [(&str, &str); 14] = [
     ("lsp-session-log 2", "lspsync: frame fault F1 at 15\n"),
 ];
 
+static COMMANDS: [&str; 3] = ["check", "replay", "normalise"];
+
+fn is_faulty(alloc: Global, command: &str, input: &str, line: &str) -> Result<bool, AllocError> {
+    let words = ["lspsync", command, "--max-body=4096"];
+    fails(alloc, &words, input.as_bytes(), b"", line)
+}
+
 #[test]
-fn a_faulty_input_is_told_with_its_place(rt: HostRuntime) -> Result<(), Fail> {
-    let alloc = rt.alloc();
-    for command in ["check", "replay", "normalise"] {
-        let words = ["lspsync", command, "--max-body=4096"];
-        for (input, line) in FAULTY {
-            let answer = ran(alloc, &words, input.as_bytes())?;
-            assert_eq!(rt; answer.status, 5, "at {input:?}");
-            assert!(rt; answer.output.is_empty());
-            assert_eq!(rt; answer.errors.as_slice(), line.as_bytes(), "at {input:?}");
+fn a_faulty_input_is_reported_with_its_place(rt: HostRuntime) -> Result<(), Fail> {
+    for command in &COMMANDS {
+        for (input, line) in &FAULTY {
+            assert!(rt;
+                is_faulty(rt.alloc(), command, input, line)?,
+                "at {input:?}"
+            );
         }
     }
-    let letters = "x".repeat(alloc, 8_168)?;
-    let long = format!(in alloc; "Content-Length: 2\r\na:{letters}\r\n\r\n[]")?;
-    let answer = ran(alloc, &["lspsync", "check"], long.as_bytes())?;
-    assert_eq!(rt; answer.status, 5);
-    assert_eq!(rt;
-        answer.errors.as_slice(),
-        b"lspsync: frame fault F2 at 8191\n".as_slice()
+    let letters = "x".repeat(rt.alloc(), 8_168)?;
+    let long = format!(in rt.alloc(); "Content-Length: 2\r\na:{letters}\r\n\r\n[]")?;
+    let line = "lspsync: frame fault F2 at 8191\n";
+    assert!(rt;
+        fails(
+            rt.alloc(),
+            &["lspsync", "check"],
+            long.as_bytes(),
+            b"",
+            line
+        )?
     );
     Ok(())
 }
 
-#[test]
-fn a_cut_log_is_told_with_its_length(rt: HostRuntime) -> Result<(), Fail> {
-    let alloc = rt.alloc();
-    let input = log(alloc, &[INITIALIZE, OPEN, WHOLE])?;
+/// How many of so many bytes of a log are whole records.
+fn whole_len(len: usize) -> usize {
+    if len < 172 {
+        0
+    } else if len < 340 {
+        172
+    } else {
+        340
+    }
+}
+
+/// Is a log that is cut after so many bytes written as far as its records are whole, and the cut reported?
+fn is_cut(alloc: Global, input: &[u8], len: usize) -> Result<bool, AllocError> {
+    let (Some(cut), Some(whole)) = (input.get(..len), input.get(..whole_len(len))) else {
+        return Ok(false);
+    };
     let words = ["lspsync", "normalise"];
+    if len == whole.len() {
+        return answers(alloc, &words, cut, 0, whole);
+    }
+    let line = format!(in alloc; "lspsync: truncated at {len}\n")?;
+    fails(alloc, &words, cut, whole, &line)
+}
+
+#[test]
+fn a_cut_log_is_reported_with_its_length(rt: HostRuntime) -> Result<(), Fail> {
+    let input = log(rt.alloc(), &[INITIALIZE, OPEN, WHOLE])?;
     for len in 0..input.len() {
-        let answer = ran(alloc, &words, &input[..len])?;
-        let whole = if len < 172 {
-            0
-        } else if len < 340 {
-            172
-        } else {
-            340
-        };
-        assert!(rt; input.starts_with(&answer.output), "at {len}");
-        assert_eq!(rt; answer.output.len(), whole, "at {len}");
-        let line = format!(in alloc; "lspsync: truncated at {len}\n")?;
-        if len == whole {
-            assert_eq!(rt; answer.status, 0, "at {len}");
-            assert!(rt; answer.errors.is_empty());
-        } else {
-            assert_eq!(rt; answer.status, 5, "at {len}");
-            assert_eq!(rt; answer.errors.as_slice(), line.as_bytes());
-        }
+        assert!(rt; is_cut(rt.alloc(), &input, len)?, "at {len}");
     }
     Ok(())
 }
 
+/// A log in which the text `abc` is replaced by so many letters.
+fn long_log(alloc: Global, letters: usize) -> Result<Vec<u8>, Fail> {
+    let text = "x".repeat(alloc, letters)?;
+    let change = format!(in alloc;
+        r#"{{"jsonrpc":"2.0","method":"textDocument/didChange","params":{{"contentChanges":[{{"text":"{text}"}}],"textDocument":{{"uri":"file:///a","version":2}}}}}}"#
+    )?;
+    Ok(log(alloc, &[INITIALIZE, OPEN, change.as_str()])?)
+}
+
+/// The run that normalises such a log.
+fn long_answer(alloc: Global, letters: usize) -> Result<Answer, Fail> {
+    let words = ["lspsync", "normalise", "--max-body", "4096"];
+    let input = long_log(alloc, letters)?;
+    Ok(ran(alloc, &words, &input)?)
+}
+
+/// With `abc` before it the canonical message of a text of n letters has a body of 214 + n bytes.
 #[test]
 fn a_canonical_body_at_the_limit_and_over_it(rt: HostRuntime) -> Result<(), Fail> {
-    let alloc = rt.alloc();
-    let words = ["lspsync", "normalise", "--max-body", "4096"];
-    // with `abc` before it the canonical message of a text of n letters has a body of 214 + n bytes
-    for (letters, status) in [(3_882, 0), (3_883, 5)] {
-        let text = "x".repeat(alloc, letters)?;
-        let change = format!(in alloc;
-            r#"{{"jsonrpc":"2.0","method":"textDocument/didChange","params":{{"contentChanges":[{{"text":"{text}"}}],"textDocument":{{"uri":"file:///a","version":2}}}}}}"#
-        )?;
-        let input = log(alloc, &[INITIALIZE, OPEN, change.as_str()])?;
-        let answer = ran(alloc, &words, &input)?;
-        assert_eq!(rt; answer.status, status);
-        if status == 0 {
-            assert_eq!(rt; answer.output.len(), 340 + 24 + 4_096);
-            assert!(rt; answer.errors.is_empty());
-        } else {
-            assert_eq!(rt; answer.output, log(alloc, &[INITIALIZE, OPEN])?);
-            assert_eq!(rt;
-                answer.errors.as_slice(),
-                b"lspsync: body too long at 340\n".as_slice()
-            );
-        }
-    }
+    let fits = long_answer(rt.alloc(), 3_882)?;
+    assert_eq!(rt; (fits.status, fits.output.len()), (0, 340 + 24 + 4_096));
+    assert!(rt; fits.errors.is_empty());
+    let before = log(rt.alloc(), &[INITIALIZE, OPEN])?;
+    let line = "lspsync: body too long at 340\n";
+    assert!(rt; long_answer(rt.alloc(), 3_883)?.is(5, &before, line));
     Ok(())
 }

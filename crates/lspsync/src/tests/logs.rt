@@ -1,60 +1,66 @@
 //! What the commands on logs write of a log of version 1.
 
 use super::*;
+use lsp_samples::bodies::{
+    CANONICAL, CHANGE, CLOSE, EXIT, INITIALIZE, INITIALIZED, OPEN, OPEN_EMOJI, SHUTDOWN, WHOLE,
+};
+use lsp_samples::logs::log;
 use std::test::Fail;
+
+const REPORT: &str =
+    "{\"languageId\":\"plaintext\",\"text\":\"aXc\",\"uri\":\"file:///a\",\"version\":2}\n";
+
+/// Does a log of a change of the whole text have these outputs of `normalise`, `check` and `replay`?
+fn is_worked(alloc: Global, input: &[u8], normal: &[u8]) -> Result<bool, AllocError> {
+    if !answers(alloc, &["lspsync", "normalise"], input, 0, normal)? {
+        return Ok(false);
+    }
+    let words = b"1 reply\n2 changed\n3 changed\n";
+    if !answers(alloc, &["lspsync", "check"], input, 0, words)? {
+        return Ok(false);
+    }
+    answers(alloc, &["lspsync", "replay"], input, 0, REPORT.as_bytes())
+}
 
 #[test]
 fn a_change_of_the_whole_text(rt: HostRuntime) -> Result<(), Fail> {
-    let alloc = rt.alloc();
-    let input = log(alloc, &[INITIALIZE, OPEN, WHOLE])?;
-    let normal = log(alloc, &[INITIALIZE, OPEN, CANONICAL])?;
+    let input = log(rt.alloc(), &[INITIALIZE, OPEN, WHOLE])?;
+    let normal = log(rt.alloc(), &[INITIALIZE, OPEN, CANONICAL])?;
     assert_eq!(rt; (input.len(), normal.len()), (506, 580));
-    let report =
-        "{\"languageId\":\"plaintext\",\"text\":\"aXc\",\"uri\":\"file:///a\",\"version\":2}\n";
-    let cases = [
-        ("normalise", normal.as_slice()),
-        ("check", b"1 reply\n2 changed\n3 changed\n"),
-        ("replay", report.as_bytes()),
-    ];
-    for (command, wanted) in cases {
-        for input in [&input, &normal] {
-            let answer = ran(alloc, &["lspsync", command], input)?;
-            assert_eq!(rt; answer.status, 0, "at {command}");
-            assert_eq!(rt; answer.output.as_slice(), wanted, "at {command}");
-            assert!(rt; answer.errors.is_empty());
-        }
-    }
+    assert!(rt; is_worked(rt.alloc(), &input, &normal)?);
+    assert!(rt; is_worked(rt.alloc(), &normal, &normal)?);
+    Ok(())
+}
+
+static SESSION: [&str; 7] = [INITIALIZE, INITIALIZED, OPEN, CHANGE, CLOSE, SHUTDOWN, EXIT];
+
+const SESSION_WORDS: &[u8] =
+    b"1 reply\n2 ignored\n3 changed\n4 changed\n5 changed\n6 reply\n7 exit 0\n";
+
+#[test]
+fn a_whole_session_is_canonical(rt: HostRuntime) -> Result<(), Fail> {
+    let alloc = rt.alloc();
+    let input = log(alloc, &SESSION)?;
+    assert_eq!(rt; input.len(), 891);
+    assert!(rt; answers(alloc, &["lspsync", "normalise"], &input, 0, &input)?);
+    assert!(rt; answers(alloc, &["lspsync", "check"], &input, 0, SESSION_WORDS)?);
+    assert!(rt; answers(alloc, &["lspsync", "replay"], &input, 0, b"")?);
     Ok(())
 }
 
 #[test]
-fn a_whole_session_is_canonical_and_ends_at_exit(rt: HostRuntime) -> Result<(), Fail> {
+fn a_whole_session_ends_at_exit(rt: HostRuntime) -> Result<(), Fail> {
     let alloc = rt.alloc();
-    let session = [INITIALIZE, INITIALIZED, OPEN, CHANGE, CLOSE, SHUTDOWN, EXIT];
-    let input = log(alloc, &session)?;
-    assert_eq!(rt; input.len(), 891);
-    let answer = ran(alloc, &["lspsync", "normalise"], &input)?;
-    assert_eq!(rt; answer.status, 0);
-    assert_eq!(rt; answer.output, input);
-    let words = "1 reply\n2 ignored\n3 changed\n4 changed\n5 changed\n6 reply\n7 exit 0\n";
-    let answer = ran(alloc, &["lspsync", "check"], &input)?;
-    assert_eq!(rt; answer.status, 0);
-    assert_eq!(rt; answer.output.as_slice(), words.as_bytes());
-    assert_eq!(rt; ran(alloc, &["lspsync", "replay"], &input)?.output.len(), 0);
-    let mut longer = input.clone()?;
+    let input = log(alloc, &SESSION)?;
+    let mut longer = log(alloc, &SESSION)?;
     longer.extend_from_slice(&log(alloc, &[EXIT])?)?;
-    let answer = ran(alloc, &["lspsync", "normalise"], &longer)?;
-    assert_eq!(rt; answer.status, 5);
-    assert_eq!(rt; answer.output, input);
-    assert_eq!(rt;
-        answer.errors.as_slice(),
-        b"lspsync: bad log at 891\n".as_slice()
-    );
+    let line = "lspsync: bad log at 891\n";
+    assert!(rt; fails(alloc, &["lspsync", "normalise"], &longer, &input, line)?);
     Ok(())
 }
 
-/// Options of `check`, a third message behind `initialize` and the opening of `abc`, and its word.
-const THIRD: [(&str, &str, &str); 12] = [
+/// Options of `check`, a third message after `initialize` and the opening of `abc`, and its word.
+static THIRD: [(&str, &str, &str); 12] = [
     ("--max-docs=2", "[", "error -32700"),
     ("--max-docs=2", "[]", "error -32600"),
     ("--max-docs=2", INITIALIZE, "error -32600"),
@@ -97,59 +103,87 @@ const THIRD: [(&str, &str, &str); 12] = [
     ("--max-docs=2", EXIT, "exit 1"),
 ];
 
+/// Has the third message this word and status 1, and is the log written as it is?
+fn is_refused(alloc: Global, option: &str, third: &str, word: &str) -> Result<bool, AllocError> {
+    let input = log(alloc, &[INITIALIZE, OPEN, third])?;
+    let lines = format!(in alloc; "1 reply\n2 changed\n3 {word}\n")?;
+    if !answers(
+        alloc,
+        &["lspsync", "check", option],
+        &input,
+        1,
+        lines.as_bytes(),
+    )? {
+        return Ok(false);
+    }
+    answers(alloc, &["lspsync", "normalise", option], &input, 1, &input)
+}
+
 #[test]
 fn what_is_refused_has_status_1_and_keeps_its_bytes(rt: HostRuntime) -> Result<(), Fail> {
-    let alloc = rt.alloc();
-    for (option, third, word) in THIRD {
-        let input = log(alloc, &[INITIALIZE, OPEN, third])?;
-        let answer = ran(alloc, &["lspsync", "check", option], &input)?;
-        let lines = format!(in alloc; "1 reply\n2 changed\n3 {word}\n")?;
-        assert_eq!(rt; answer.output.as_slice(), lines.as_bytes(), "at {word}");
-        assert_eq!(rt; answer.status, 1, "at {word}");
-        let answer = ran(alloc, &["lspsync", "normalise", option], &input)?;
-        assert_eq!(rt; answer.status, 1, "at {word}");
-        assert_eq!(rt; answer.output, input, "at {word}");
-        assert!(rt; answer.errors.is_empty());
+    for (option, third, word) in &THIRD {
+        assert!(rt; is_refused(rt.alloc(), option, third, word)?, "at {word}");
     }
-    // a request that isn't known, and what other servers' clients send besides, is no refusal
-    let hover = r#"{"id":7,"jsonrpc":"2.0","method":"textDocument/hover","params":{}}"#;
-    let saved = r#"{"jsonrpc":"2.0","method":"textDocument/didSave","params":{}}"#;
-    let input = log(alloc, &[OPEN, INITIALIZE, hover, saved])?;
-    let answer = ran(alloc, &["lspsync", "check"], &input)?;
-    assert_eq!(rt; answer.status, 0);
-    assert_eq!(rt;
-        answer.output.as_slice(),
-        b"1 dropped\n2 reply\n3 error -32601\n4 ignored\n".as_slice()
-    );
     Ok(())
 }
 
-/// Opens a document with one character of four bytes, U+1F600.
-const OPEN_EMOJI: &str =
-    r#"{"jsonrpc":"2.0","method":"textDocument/didOpen","params":{"textDocument":{"languageId":"plaintext","text":"😀","uri":"file:///a","version":1}}}"#;
+/// A request that isn't known, and what other servers' clients send besides, is no refusal.
+#[test]
+fn what_is_not_known_is_no_refusal(rt: HostRuntime) -> Result<(), Fail> {
+    let hover = r#"{"id":7,"jsonrpc":"2.0","method":"textDocument/hover","params":{}}"#;
+    let saved = r#"{"jsonrpc":"2.0","method":"textDocument/didSave","params":{}}"#;
+    let input = log(rt.alloc(), &[OPEN, INITIALIZE, hover, saved])?;
+    let words = b"1 dropped\n2 reply\n3 error -32601\n4 ignored\n";
+    assert!(rt; answers(rt.alloc(), &["lspsync", "check"], &input, 0, words)?);
+    Ok(())
+}
+
+/// An option, a character of the line that has one character of four bytes, and the status of a change there.
+static ENCODINGS: [(&str, u32, u8); 5] = [
+    ("--encoding=utf-8", 4, 0),
+    ("--encoding=utf-8", 1, 1),
+    ("--encoding=utf-16", 2, 0),
+    ("--encoding=utf-16", 1, 1),
+    ("--encoding=utf-32", 1, 0),
+];
+
+/// A log in which a letter is put in at a character.
+fn log_with_change_at(alloc: Global, character: u32) -> Result<Vec<u8>, AllocError> {
+    let change = format!(in alloc;
+        r#"{{"jsonrpc":"2.0","method":"textDocument/didChange","params":{{"contentChanges":[{{"range":{{"end":{{"character":{character},"line":0}},"start":{{"character":{character},"line":0}}}},"text":"b"}}],"textDocument":{{"uri":"file:///a","version":2}}}}}}"#
+    )?;
+    log(alloc, &[INITIALIZE, OPEN_EMOJI, change.as_str()])
+}
+
+fn counts_so(alloc: Global, option: &str, character: u32, status: u8) -> Result<bool, AllocError> {
+    let input = log_with_change_at(alloc, character)?;
+    if !answers(
+        alloc,
+        &["lspsync", "normalise", option],
+        &input,
+        status,
+        &input,
+    )? {
+        return Ok(false);
+    }
+    let word = if status == 0 { "changed" } else { "refused E1" };
+    let lines = format!(in alloc; "1 reply\n2 changed\n3 {word}\n")?;
+    answers(
+        alloc,
+        &["lspsync", "check", option],
+        &input,
+        status,
+        lines.as_bytes(),
+    )
+}
 
 #[test]
 fn positions_count_in_the_encoding_that_is_named(rt: HostRuntime) -> Result<(), Fail> {
-    let alloc = rt.alloc();
-    let cases = [
-        ("--encoding=utf-8", 4, 0),
-        ("--encoding=utf-8", 1, 1),
-        ("--encoding=utf-16", 2, 0),
-        ("--encoding=utf-16", 1, 1),
-        ("--encoding=utf-32", 1, 0),
-    ];
-    for (option, character, status) in cases {
-        let change = format!(in alloc;
-            r#"{{"jsonrpc":"2.0","method":"textDocument/didChange","params":{{"contentChanges":[{{"range":{{"end":{{"character":{character},"line":0}},"start":{{"character":{character},"line":0}}}},"text":"b"}}],"textDocument":{{"uri":"file:///a","version":2}}}}}}"#
-        )?;
-        let input = log(alloc, &[INITIALIZE, OPEN_EMOJI, change.as_str()])?;
-        let answer = ran(alloc, &["lspsync", "normalise", option], &input)?;
-        assert_eq!(rt; answer.status, status, "at {option} {character}");
-        assert_eq!(rt; answer.output, input);
-        let word = if status == 0 { "changed" } else { "refused E1" };
-        let lines = format!(in alloc; "1 reply\n2 changed\n3 {word}\n")?;
-        let answer = ran(alloc, &["lspsync", "check", option], &input)?;
-        assert_eq!(rt; answer.output.as_slice(), lines.as_bytes());
+    for (option, character, status) in &ENCODINGS {
+        assert!(rt;
+            counts_so(rt.alloc(), option, *character, *status)?,
+            "{option} {character}"
+        );
     }
     Ok(())
 }

@@ -2,6 +2,8 @@
 
 use super::*;
 use lsp_replay::Call::{Fail as Fails, Interrupt, Take};
+use lsp_samples::bodies::{INITIALIZE, OPEN, WHOLE};
+use lsp_samples::logs::log;
 use std::test::Fail;
 
 const ALL: Call = Take(usize::MAX);
@@ -10,98 +12,145 @@ const READ_FAULT: &str = "lspsync: read fault\n";
 
 const WRITE_FAULT: &str = "lspsync: write fault\n";
 
+/// A command, its reads and writes, the length of what was written, and the line.
+type Failing = (
+    &'static str,
+    &'static [Call],
+    &'static [Call],
+    usize,
+    &'static str,
+);
+
+static FAILING: [Failing; 10] = [
+    ("serve", &[Take(172), Fails], &[], 152, READ_FAULT),
+    ("serve", &[], &[Take(100), Fails], 100, WRITE_FAULT),
+    ("serve", &[], &[Take(100), Take(0)], 100, WRITE_FAULT),
+    ("serve", &[], &[ALL, Fails], 152, WRITE_FAULT),
+    // the reply is flushed before more is read
+    (
+        "serve",
+        &[Take(172), Fails],
+        &[ALL, Fails],
+        152,
+        WRITE_FAULT,
+    ),
+    ("check", &[Take(340), Fails], &[], 18, READ_FAULT),
+    ("check", &[], &[ALL, ALL, Fails], 18, WRITE_FAULT),
+    ("check", &[], &[ALL, ALL, ALL, Fails], 28, WRITE_FAULT),
+    ("replay", &[Fails], &[], 0, READ_FAULT),
+    ("normalise", &[], &[Take(0)], 0, WRITE_FAULT),
+];
+
+/// Has a stream that fails this line and status 3, and are so many bytes of the output written?
+fn has_failed(alloc: Global, input: &[u8], row: &Failing) -> Result<bool, AllocError> {
+    let (command, reads, writes, len, line) = *row;
+    let words = ["lspsync", command];
+    let whole = ran(alloc, &words, input)?;
+    let Some(start) = whole.output.get(..len) else {
+        return Ok(false);
+    };
+    Ok(stopped(alloc, &words, input, reads, writes)?.is(3, start, line))
+}
+
 #[test]
 fn a_stream_that_fails_has_its_line_and_status_3(rt: HostRuntime) -> Result<(), Fail> {
-    let alloc = rt.alloc();
-    let input = log(alloc, &[INITIALIZE, OPEN, WHOLE])?;
-    // the command, its reads and writes, the length of what was written, and the line
-    let cases: [(&str, &[Call], &[Call], usize, &str); 10] = [
-        ("serve", &[Take(172), Fails], &[], 152, READ_FAULT),
-        ("serve", &[], &[Take(100), Fails], 100, WRITE_FAULT),
-        ("serve", &[], &[Take(100), Take(0)], 100, WRITE_FAULT),
-        ("serve", &[], &[ALL, Fails], 152, WRITE_FAULT),
-        // the reply is flushed before more is read
-        (
-            "serve",
-            &[Take(172), Fails],
-            &[ALL, Fails],
-            152,
-            WRITE_FAULT,
-        ),
-        ("check", &[Take(340), Fails], &[], 18, READ_FAULT),
-        ("check", &[], &[ALL, ALL, Fails], 18, WRITE_FAULT),
-        ("check", &[], &[ALL, ALL, ALL, Fails], 28, WRITE_FAULT),
-        ("replay", &[Fails], &[], 0, READ_FAULT),
-        ("normalise", &[], &[Take(0)], 0, WRITE_FAULT),
-    ];
-    for (command, reads, writes, len, line) in cases {
-        let words = ["lspsync", command];
-        let whole = ran(alloc, &words, &input)?;
-        let answer = stopped(alloc, &words, &input, reads, writes)?;
-        assert_eq!(rt; answer.status, 3, "at {command} {len}");
-        assert!(rt; whole.output.starts_with(&answer.output));
-        assert_eq!(rt; answer.output.len(), len);
-        assert_eq!(rt; answer.errors.as_slice(), line.as_bytes());
+    let input = log(rt.alloc(), &[INITIALIZE, OPEN, WHOLE])?;
+    for row in &FAILING {
+        assert!(rt;
+            has_failed(rt.alloc(), &input, row)?,
+            "at {} {}",
+            row.0,
+            row.3
+        );
     }
     Ok(())
+}
+
+static COMMANDS: [&str; 5] = ["serve", "check", "replay", "normalise", "convert"];
+
+/// Is the answer the same where reader and writer are slow?
+fn is_the_same(
+    alloc: Global,
+    command: &str,
+    input: &[u8],
+    slow: &[Call],
+) -> Result<bool, AllocError> {
+    let words = ["lspsync", command];
+    let whole = ran(alloc, &words, input)?;
+    Ok(stopped(alloc, &words, input, slow, slow)?.is(whole.status, &whole.output, ""))
 }
 
 #[test]
 fn a_slow_stream_changes_nothing(rt: HostRuntime) -> Result<(), Fail> {
-    let alloc = rt.alloc();
-    let input = log(alloc, &[INITIALIZE, OPEN, WHOLE])?;
-    let slow = [Interrupt, Take(1)].repeat(alloc, 700)?;
-    for command in ["serve", "check", "replay", "normalise", "convert"] {
-        let words = ["lspsync", command];
-        let whole = ran(alloc, &words, &input)?;
-        let answer = stopped(alloc, &words, &input, &slow, &slow)?;
-        assert_eq!(rt; answer.status, whole.status, "at {command}");
-        assert_eq!(rt; answer.output, whole.output, "at {command}");
-        assert!(rt; answer.errors.is_empty());
+    let input = log(rt.alloc(), &[INITIALIZE, OPEN, WHOLE])?;
+    let slow = [Interrupt, Take(1)].repeat(rt.alloc(), 700)?;
+    for command in &COMMANDS {
+        assert!(rt;
+            is_the_same(rt.alloc(), command, &input, &slow)?,
+            "at {command}"
+        );
     }
     Ok(())
 }
+
+static HELP: [&str; 3] = ["lspsync", "check", "--help"];
+
+/// Has help that cannot be printed this status and line, and is this much of it printed?
+fn has_printed(
+    alloc: Global,
+    writes: &[Call],
+    len: usize,
+    status: u8,
+    line: &str,
+) -> Result<bool, AllocError> {
+    let whole = ran(alloc, &HELP, b"")?;
+    let Some(start) = whole.output.get(..len) else {
+        return Ok(false);
+    };
+    Ok(stopped(alloc, &HELP, b"", &[], writes)?.is(status, start, line))
+}
+
+/// The writes of help that cannot be printed, and the length of what was printed.
+static UNPRINTED: [(&[Call], usize); 3] = [
+    (&[Fails], 0),
+    (&[Take(10), Fails], 10),
+    (&[Take(10), Take(0)], 10),
+];
+
+static SLOW: [Call; 5] = [Interrupt, Take(9), Interrupt, ALL, Interrupt];
 
 #[test]
 fn help_that_cannot_be_printed(rt: HostRuntime) -> Result<(), Fail> {
     let alloc = rt.alloc();
-    let words = ["lspsync", "check", "--help"];
-    let whole = ran(alloc, &words, b"")?;
-    let cases: [(&[Call], usize); 4] = [
-        (&[Fails], 0),
-        (&[Take(10), Fails], 10),
-        (&[Take(10), Take(0)], 10),
-        (&[ALL, Fails], whole.output.len()),
-    ];
-    for (writes, len) in cases {
-        let answer = stopped(alloc, &words, b"", &[], writes)?;
-        assert_eq!(rt; answer.status, 3);
-        assert_eq!(rt; answer.output.len(), len);
-        assert_eq!(rt; answer.errors.as_slice(), WRITE_FAULT.as_bytes());
+    for (writes, len) in &UNPRINTED {
+        assert!(rt; has_printed(alloc, writes, *len, 3, WRITE_FAULT)?, "{len}");
     }
-    let slow = [Interrupt, Take(9), Interrupt, ALL, Interrupt];
-    let answer = stopped(alloc, &words, b"", &[], &slow)?;
-    assert_eq!(rt; answer.status, 0);
-    assert_eq!(rt; answer.output, whole.output);
+    let whole = ran(alloc, &HELP, b"")?.output.len();
+    assert!(rt; has_printed(alloc, &[ALL, Fails], whole, 3, WRITE_FAULT)?);
+    assert!(rt; has_printed(alloc, &SLOW, whole, 0, "")?);
     Ok(())
 }
 
+/// Words, the reads, and the status.
+static SILENT: [(&[&str], &[Call], u8); 4] = [
+    (&["lspsync"], &[], 2),
+    (&["lspsync", "check"], &[Fails], 3),
+    (&["lspsync", "check"], &[Take(1)], 5),
+    (&["lspsync", "check", "--max-docs", "0"], &[], 2),
+];
+
+/// Is this the status of a call that cannot print its line?
+fn has_status(alloc: Global, words: &[&str], reads: &[Call], status: u8) -> bool {
+    let mut reader = Told::new(StopReader::new(b"\r\n", reads, ALL));
+    let mut writer = Told::new(Vec::new(alloc));
+    let mut errors = StopWriter::new(alloc, &[], Fails);
+    let found = run(alloc, words, &mut reader, &mut writer, &mut errors);
+    found == status && errors.bytes().is_empty()
+}
+
 #[test]
-fn a_line_that_cannot_be_printed_changes_no_status(rt: HostRuntime) -> Result<(), Fail> {
-    let alloc = rt.alloc();
-    let cases: [(&[&str], &[Call], u8); 4] = [
-        (&["lspsync"], &[], 2),
-        (&["lspsync", "check"], &[Fails], 3),
-        (&["lspsync", "check"], &[Take(1)], 5),
-        (&["lspsync", "check", "--max-docs", "0"], &[], 2),
-    ];
-    for (words, reads, status) in cases {
-        let mut reader = Told::new(StopReader::new(b"\r\n", reads, ALL));
-        let mut writer = Told::new(Vec::new(alloc));
-        let mut errors = StopWriter::new(alloc, &[], Fails);
-        let found = run(alloc, words, &mut reader, &mut writer, &mut errors);
-        assert_eq!(rt; found, status);
-        assert_eq!(rt; errors.bytes().len(), 0);
+fn a_line_that_cannot_be_printed_changes_no_status(rt: HostRuntime) {
+    for (words, reads, status) in &SILENT {
+        assert!(rt; has_status(rt.alloc(), words, reads, *status), "{words:?}");
     }
-    Ok(())
 }
