@@ -2,10 +2,9 @@
 
 use super::{
     ACCEPTED, Ask, CHANGE, CLOSE, EXIT, INITIALIZE, INITIALIZED, OPEN, SHUT_DOWN, SHUTDOWN, URI,
-    answer_to, change, client_with, is_answer, new_client, open_as,
+    answer_to, change, is_answer, new_client, open_as,
 };
 use crate::{Client, ClientFault, Delivered, Phase};
-use lsp_edit::Change;
 use lsp_frame::{Framer, Limits};
 use lsp_message::Offers;
 use lsp_server::{Answer, Config, EncodingChoice, Server, Sync};
@@ -81,131 +80,190 @@ fn letters(alloc: Global, count: usize) -> Result<String, AllocError> {
     Ok(text)
 }
 
-/// The letters of a text to open, and whether the body is short enough. 142 bytes stand around the text.
-static OPENED: [(usize, bool); 3] = [(3_954, true), (3_955, false), (8_000, false)];
+/// Why a text of so many letters isn't opened, if it isn't.
+fn open_fault(
+    alloc: Global,
+    client: &mut Client,
+    count: usize,
+) -> Result<Option<ClientFault>, AllocError> {
+    let text = letters(alloc, count)?;
+    Ok(open_as(alloc, client, URI, &text).err())
+}
 
-fn is_opened(alloc: Global, count: usize, fits: bool) -> Result<bool, Fail> {
+/// Why so many letters aren't inserted, if they aren't.
+fn edit_fault(
+    alloc: Global,
+    client: &mut Client,
+    count: usize,
+) -> Result<Option<ClientFault>, AllocError> {
+    let text = letters(alloc, count)?;
+    let changes = [change(alloc, 0, 0, &text)?];
+    Ok(client.edit(URI, 2, &changes).err())
+}
+
+fn too_long(len: usize) -> Option<ClientFault> {
+    Some(ClientFault::Store(StoreFault::BodyTooLong { len }))
+}
+
+/// The letters of a text to open, and the length of a body that is too long. 142 bytes stand around the text.
+static OPENED: [(usize, Option<usize>); 3] = [
+    (3_954, None),
+    (3_955, Some(4_097)),
+    (8_000, Some(8_142)),
+];
+
+fn is_opened(alloc: Global, count: usize, len: Option<usize>) -> Result<bool, Fail> {
     let mut client = small(alloc, ACCEPTED)?;
-    let given = open_as(alloc, &mut client, URI, &letters(alloc, count)?);
-    let len = count + 142;
-    let wanted = match given {
-        Ok(_) => fits,
-        Err(fault) => !fits && fault == ClientFault::Store(StoreFault::BodyTooLong { len }),
-    };
-    Ok(wanted && client.store().len() == if fits { 1 } else { 0 })
+    let fault = open_fault(alloc, &mut client, count)?;
+    let open = client.store().len();
+    Ok(match len {
+        Some(len) => fault == too_long(len) && open == 0,
+        None => fault.is_none() && open == 1,
+    })
 }
 
 #[test]
 fn a_body_over_the_limit_is_not_opened(rt: HostRuntime) -> Result<(), Fail> {
-    for (count, fits) in &OPENED {
-        assert!(rt; is_opened(rt.alloc(), *count, *fits)?, "{count}");
+    for (count, len) in &OPENED {
+        assert!(rt; is_opened(rt.alloc(), *count, *len)?, "{count}");
     }
     Ok(())
 }
 
 const FULL: &str = r#"{"id":1,"jsonrpc":"2.0","result":{"capabilities":{"textDocumentSync":1}}}"#;
 
-/// How many letters an edit inserts under Full into 3,953, and whether the body is short enough. 140 bytes stand around the text.
-static WHOLE: [(usize, bool); 2] = [(3, true), (4, false)];
+/// What the server answered, the letters of a text and of an edit of it, and the length of a body that is too long. Under Full 140 bytes
+/// stand around the text.
+static EDITED: [(&str, usize, usize, Option<usize>); 3] = [
+    (FULL, 3_953, 3, None),
+    (FULL, 3_953, 4, Some(4_097)),
+    (ACCEPTED, 0, 4_000, Some(4_214)),
+];
 
-fn is_sent_whole(alloc: Global, count: usize, fits: bool) -> Result<bool, Fail> {
-    let mut client = small(alloc, FULL)?;
-    let _open = open_as(alloc, &mut client, URI, &letters(alloc, 3_953)?)?;
-    let given = client.edit(URI, 2, &[change(alloc, 0, 0, &letters(alloc, count)?)?]);
-    let len = 3_953 + count + 140;
-    let wanted = match given {
-        Ok(_) => fits,
-        Err(fault) => !fits && fault == ClientFault::Store(StoreFault::BodyTooLong { len }),
-    };
-    let version = client.store().get(URI).map(|document| document.version());
-    Ok(wanted && version == Some(if fits { 2 } else { 1 }))
+fn is_edited(row: &(&str, usize, usize, Option<usize>), alloc: Global) -> Result<bool, Fail> {
+    let (answer, opened, inserted, len) = *row;
+    let mut client = small(alloc, answer)?;
+    let _fault = open_fault(alloc, &mut client, opened)?;
+    let fault = edit_fault(alloc, &mut client, inserted)?;
+    let kept = client
+        .store()
+        .get(URI)
+        .map(|document| (document.version(), document.text().len()));
+    Ok(match len {
+        Some(len) => fault == too_long(len) && kept == Some((1, opened)),
+        None => fault.is_none() && kept == Some((2, opened.wrapping_add(inserted))),
+    })
 }
 
 #[test]
-fn a_whole_text_over_the_limit_is_not_sent(rt: HostRuntime) -> Result<(), Fail> {
-    for (count, fits) in &WHOLE {
-        assert!(rt; is_sent_whole(rt.alloc(), *count, *fits)?, "{count}");
+fn a_body_over_the_limit_is_no_edit(rt: HostRuntime) -> Result<(), Fail> {
+    for row in &EDITED {
+        assert!(rt; is_edited(row, rt.alloc())?, "{} {}", row.1, row.2);
     }
-    Ok(())
-}
-
-#[test]
-fn an_edit_over_the_limit_is_not_made(rt: HostRuntime) -> Result<(), Fail> {
-    let alloc = rt.alloc();
-    let mut client = small(alloc, ACCEPTED)?;
-    let _open = open_as(alloc, &mut client, URI, "")?;
-    let given = client.edit(URI, 2, &[change(alloc, 0, 0, &letters(alloc, 4_000)?)?]);
-    assert!(rt; given == Err(ClientFault::Store(StoreFault::BodyTooLong { len: 4_214 })));
-    let document = client.store().get(URI);
-    let kept = document.map(|document| (document.version(), document.text()));
-    assert_eq!(rt; kept, Some((1, "")));
     Ok(())
 }
 
 // ---- the front page
 
-/// The part of an editor that talks to a language server: what the client says goes out, what the server says comes in.
-fn talk(alloc: Global, client: &mut Client, server: &mut Server, frame: &[u8]) -> Result<(), Fail> {
+/// Both ends of a session, in one program.
+#[derive(Drop)]
+struct Ends {
+    client: Client,
+    server: Server,
+}
+
+fn new_ends(alloc: Global) -> Result<Ends, Fail> {
+    let limits = Limits::new(16_777_216, 16_777_216, 1_024, 65_536)?;
+    let choice = EncodingChoice::Negotiated {
+        prefer: Encoding::Utf8,
+    };
+    let config = Config {
+        limits,
+        choice,
+        sync: Sync::Incremental,
+    };
+    Ok(Ends {
+        client: Client::new(alloc, limits, Offers::new(true, false)),
+        server: Server::new(alloc, config),
+    })
+}
+
+/// The body of a frame goes to the server; what it replies is its frame.
+fn serve(alloc: Global, server: &mut Server, frame: &[u8]) -> Result<Option<Vec<u8>>, Fail> {
+    let mut framer = Framer::new(alloc, server.store().limits());
+    let _taken = framer.feed(frame)?;
+    let Some(body) = framer.body() else {
+        return Ok(None);
+    };
+    match server.handle(body)? {
+        Answer::Reply { frame, .. } => Ok(Some(frame)),
+        _ => Ok(None),
+    }
+}
+
+/// The body of a frame goes to the client; what it sends is its frame.
+fn hear(alloc: Global, client: &mut Client, frame: &[u8]) -> Result<Option<Vec<u8>>, Fail> {
     let mut framer = Framer::new(alloc, client.store().limits());
     let _taken = framer.feed(frame)?;
     let Some(body) = framer.body() else {
-        return Ok(());
-    };
-    let Answer::Reply { frame, .. } = server.handle(body)? else {
-        return Ok(());
-    };
-    framer.next();
-    let _taken = framer.feed(&frame)?;
-    let Some(body) = framer.body() else {
-        return Ok(());
+        return Ok(None);
     };
     match client.deliver(body)? {
-        Delivered::Send(frame) => talk_once(alloc, server, &frame),
-        Delivered::Noted | Delivered::Ignored | Delivered::BadServer(_) => Ok(()),
+        Delivered::Send(frame) => Ok(Some(frame)),
+        _ => Ok(None),
     }
 }
 
-fn talk_once(alloc: Global, server: &mut Server, frame: &[u8]) -> Result<(), Fail> {
-    let mut framer = Framer::new(alloc, server.store().limits());
-    let _taken = framer.feed(frame)?;
-    if let Some(body) = framer.body() {
-        let _answer = server.handle(body)?;
+impl Ends {
+    /// A frame goes to the server, its reply to the client, and so on until nothing is sent.
+    fn exchange(&mut self, alloc: Global, frame: Vec<u8>) -> Result<(), Fail> {
+        let mut to_server = Some(frame);
+        for _ in 0..2 {
+            let Some(frame) = to_server else {
+                return Ok(());
+            };
+            let Some(reply) = serve(alloc, &mut self.server, &frame)? else {
+                return Ok(());
+            };
+            to_server = hear(alloc, &mut self.client, &reply)?;
+        }
+        Ok(())
     }
-    Ok(())
+
+    /// Makes a call, and exchanges what follows from it.
+    fn call(&mut self, alloc: Global, asked: Ask) -> Result<(), Fail> {
+        match answer_to(alloc, &mut self.client, asked)?? {
+            Delivered::Send(frame) => self.exchange(alloc, frame),
+            _ => Ok(()),
+        }
+    }
+
+    fn server_text(&self) -> &str {
+        match self.server.store().get(URI) {
+            Some(document) => document.text(),
+            None => "",
+        }
+    }
 }
+
+/// What the editor does, and the server's text after it.
+static TALK: [(Ask, &str); 6] = [
+    (Ask::Start, ""),
+    (Ask::Open("😀c"), "😀c"),
+    (Ask::Edit(2, 4, 4, "b"), "😀bc"),
+    (Ask::Close, ""),
+    (Ask::Shutdown, ""),
+    (Ask::Exit, ""),
+];
 
 #[test]
 fn a_client_and_a_server_talk(rt: HostRuntime) -> Result<(), Fail> {
-    let alloc = rt.alloc();
-    let limits = Limits::new(16_777_216, 16_777_216, 1_024, 65_536)?;
-    let mut client = client_with(alloc, Offers::new(true, false))?;
-    let mut server = Server::new(
-        alloc,
-        Config {
-            limits,
-            choice: EncodingChoice::Negotiated {
-                prefer: Encoding::Utf8,
-            },
-            sync: Sync::Incremental,
-        },
-    );
-    let start = client.start()?;
-    talk(alloc, &mut client, &mut server, &start)?;
-    assert_eq!(rt;
-        (client.phase(), client.encoding()),
-        (Phase::Ready, Some(Encoding::Utf8))
-    );
-    let open = open_as(alloc, &mut client, URI, "abc")?;
-    talk(alloc, &mut client, &mut server, &open)?;
-    let changes: [Change; 1] = [change(alloc, 1, 2, "X")?];
-    let edit = client.edit(URI, 2, &changes)?;
-    talk(alloc, &mut client, &mut server, &edit)?;
-    let text = server.store().get(URI).map(|document| document.text());
-    assert_eq!(rt; text, Some("aXc"));
-    let shutdown = client.shutdown()?;
-    talk(alloc, &mut client, &mut server, &shutdown)?;
-    let exit = client.exit()?;
-    talk(alloc, &mut client, &mut server, &exit)?;
-    assert_eq!(rt; client.phase(), Phase::Done);
+    let mut ends = new_ends(rt.alloc())?;
+    for (asked, text) in &TALK {
+        ends.call(rt.alloc(), *asked)?;
+        assert_eq!(rt; ends.server_text(), *text, "{asked:?}");
+    }
+    assert_eq!(rt; ends.client.encoding(), Some(Encoding::Utf8));
+    assert_eq!(rt; ends.client.phase(), Phase::Done);
     Ok(())
 }
