@@ -1,5 +1,8 @@
 //! The program over any reader and writers.
 
+ghost use Rattle.std.specs.Prelude.{◌≡◌};
+ghost use Rattle.lsp_simulate.specs.Words.{status_of};
+
 use crate::command_line::{Setting, parse};
 use crate::script::{ScriptFault, event_of};
 use crate::word::write_happened;
@@ -19,6 +22,9 @@ const STREAM_FAULT: u8 = 3;
 const OUT_OF_MEMORY: u8 = 4;
 
 const BAD_EVENT: u8 = 5;
+
+/// How often an interrupted flush is repeated.
+const MAX_TURNS: u64 = 1_099_511_627_776;
 
 /// Why a run ended before its input did.
 #[derive(Clone, Copy, Debug, PartialEq, Eq, Error)]
@@ -55,11 +61,10 @@ pub fn run<R: BufRead + Drop, W: Write, E: Write>(
         Err(error) => return explain(alloc, &error, output, errors),
     };
     let ran = simulate(alloc, setting, input, output);
-    let flushed = output.flush();
-    match (ran, flushed) {
-        (Err(fault), _) => report(fault, errors),
-        (Ok(()), Err(_)) => report(RunFault::Write, errors),
-        (Ok(()), Ok(())) => 0,
+    let flushed = flush(output);
+    match ran.and(flushed) {
+        Ok(()) => 0,
+        Err(fault) => report(fault, errors),
     }
 }
 
@@ -181,7 +186,19 @@ fn explain<W: Write, E: Write>(
 fn print_help<W: Write>(alloc: Global, help: &clap::Error, output: &mut W) -> Result<(), RunFault> {
     let text = format!(in alloc; "{help}")?;
     written(output.write_all(text.as_bytes()))?;
-    written(output.flush())
+    flush(output)
+}
+
+/// Passes on what was written. An interrupted flush is repeated.
+fn flush<W: Write>(output: &mut W) -> Result<(), RunFault> {
+    for _ in 0..MAX_TURNS {
+        match output.flush() {
+            Ok(()) => return Ok(()),
+            Err(error) if error.kind() == ErrorKind::Interrupted => {}
+            Err(_) => return Err(RunFault::Write),
+        }
+    }
+    Err(RunFault::Write)
 }
 
 /// Prints why the words of a call or the buffers could not be had: out of memory, or a word that is no text. Returns the status.
@@ -194,7 +211,9 @@ pub fn refuse<E: Write>(kind: ErrorKind, errors: &mut E) -> u8 {
 }
 
 /// Prints the line of a fault, and returns its status.
-pub fn report<E: Write>(fault: RunFault, errors: &mut E) -> u8 {
+pub fn report<E: Write>(fault: RunFault, errors: &mut E) -> u8
+    ensures { result ≡ status_of fault }
+{
     let _ = writeln!(errors, "lsp_simulate: {fault}");
     match fault {
         RunFault::Pair(_) => USAGE,

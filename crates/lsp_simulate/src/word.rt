@@ -1,5 +1,8 @@
 //! What is written of what happened.
 
+ghost use Rattle.std.specs.Prelude.{◌≡◌};
+ghost use Rattle.lsp_simulate.specs.Words.{phase_name, reason_name, refusal_name};
+
 use lsp_client::{ClientFault, Phase, Reason};
 use lsp_edit::EditFault;
 use lsp_pair::{Did, Happened, Heard};
@@ -21,7 +24,7 @@ pub fn write_happened<W: Write>(output: &mut W, happened: Happened) -> io::Resul
 fn write_refused<W: Write>(output: &mut W, fault: ClientFault) -> io::Result<()> {
     match fault {
         ClientFault::WrongPhase { phase } => write!(output, "refused C1 {}", phase_word(phase)),
-        ClientFault::Store(fault) => write!(output, "refused {}", store_label(fault)),
+        ClientFault::Store(fault) => write!(output, "refused {}", refusal_word(fault)),
         ClientFault::NoMemory => write!(output, "refused C3"),
     }
 }
@@ -35,7 +38,7 @@ fn write_did<W: Write>(output: &mut W, did: Did) -> io::Result<()> {
         Did::Ignored => write!(output, "server ignored"),
         Did::Refused(Refusal::InvalidParams) => write!(output, "server refused M4"),
         Did::Refused(Refusal::Store(fault)) => {
-            write!(output, "server refused {}", store_label(fault))
+            write!(output, "server refused {}", refusal_word(fault))
         }
         Did::Exit(status) => write!(output, "server exit {status}"),
     }
@@ -50,7 +53,9 @@ fn write_heard<W: Write>(output: &mut W, heard: Heard) -> io::Result<()> {
     }
 }
 
-pub fn phase_word(phase: Phase) -> &'static str {
+fn phase_word(phase: Phase) -> &'static str
+    ensures { result.now ≡ phase_name phase }
+{
     match phase {
         Phase::New => "new",
         Phase::Asked => "asked",
@@ -62,7 +67,9 @@ pub fn phase_word(phase: Phase) -> &'static str {
     }
 }
 
-pub fn reason_word(reason: Reason) -> &'static str {
+fn reason_word(reason: Reason) -> &'static str
+    ensures { result.now ≡ reason_name reason }
+{
     match reason {
         Reason::NotAnAnswer => "not-an-answer",
         Reason::ErrorAnswer => "error-answer",
@@ -71,7 +78,9 @@ pub fn reason_word(reason: Reason) -> &'static str {
     }
 }
 
-pub fn store_label(fault: StoreFault) -> &'static str {
+fn refusal_word(fault: StoreFault) -> &'static str
+    ensures { result.now ≡ refusal_name fault }
+{
     match fault {
         StoreFault::AlreadyOpen => "S1",
         StoreFault::TooManyDocuments => "S2",
@@ -81,8 +90,7 @@ pub fn store_label(fault: StoreFault) -> &'static str {
         StoreFault::TooManyChanges => "S6",
         StoreFault::Edit(EditFault::InsideCharacter { .. }) => "E1",
         StoreFault::Edit(EditFault::ReversedRange { .. }) => "E2",
-        StoreFault::Edit(EditFault::NoMemory) => "S7",
         StoreFault::BodyTooLong { .. } => "S8",
-        StoreFault::NoMemory => "S9",
+        StoreFault::Edit(EditFault::NoMemory) | StoreFault::NoMemory => "S9",
     }
 }
