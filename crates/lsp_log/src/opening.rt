@@ -37,7 +37,7 @@ pub fn read_opening<R: Source>(
     ensures ended { IfOk result (λ opening. R.has_ended reader.new ≡ true ↔ opening.ended ≡ true) }
     ensures at_end { IfOk result (λ opening. opening.ended ≡ true → IsAtEnd (R.left reader.new)) }
     ensures rose { OnOk result (Rose (R.count reader.old) (R.count reader.new)) }
-    ensures below { IfErr result (λ _. IsBelowLine (R.left reader.old) (R.left reader.new)) }
+    ensures below { IfErr result (λ _. IsBelowLine versions (R.left reader.old) (R.left reader.new)) }
     ensures fault { IfErr result (λ fault. (fault ≡ EngineFault.Read) ⊎ (fault ≡ EngineFault.TooManyTurns)) }
     ensures failed { IfErr result (λ fault. fault ≡ EngineFault.Read →
         (R.has_failed reader.new ≡ true) × (R.has_ended reader.new ≡ false) × Rose (R.count reader.old) (R.count reader.new)) }
@@ -68,6 +68,7 @@ fn is_undecided(bytes: &[u8], versions: bool, ended: bool) -> bool
     ensures yes { result ≡ true → IsLineFront bytes.now }
     ensures no { result ≡ false → versions ≡ true → IsLineFront bytes.now → ended ≡ true }
     ensures not_ended { result ≡ true → ended ≡ false }
+    ensures looked_for { result ≡ true → versions ≡ true }
 {
     versions && !ended && may_be_line(bytes)
 }

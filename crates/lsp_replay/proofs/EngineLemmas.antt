@@ -19,6 +19,7 @@ use Rattle.lsp_log.specs.declared.splitter.Splitter.{Splitter}
 use Rattle.lsp_stream.specs.Turns.{AppendsFront}
 use Rattle.lsp_log.specs.Log.{Reading, Record, Log, IsReadAs, HasNoRecord, IsCut, IsUndecided, mark_of, is_line_due}
 use Rattle.lsp_log.specs.Splitting.{IsFed, IsReady, Stands, IsSplitFault, log_at, head_of, held_of, record_at}
+use Rattle.lsp_log.specs.Opening.{IsUnfinished}
 use Rattle.lsp_log.specs.Laws.{HeldLaw, RestLaw}
 use Rattle.lsp_replay.specs.Course.{Course, written_first, stopped}
 use Rattle.lsp_replay.specs.Engine.{Stopped, Reached, Broken, AtEnd, BrokenAtEnd, IsPieceFault, last_of}
@@ -186,10 +187,11 @@ module _ (reading : Reading) (course : List Record → Course) (held : Option (L
       (cut_only reading.max_body (log_at s w.records []) (rest_law reading input w.records s ready w.stands) (λ nothing. some (sym (append-nil (held_of s)) ∙ nothing)))
 
   pub went_read : RestLaw → (s : Splitter) (now : List Record → Course) (held_now : Option (List ℕ)) → IsReady s → IsQuiet now
-      → Went reading course held input [] s now held_now → Reached reading course input held held_now (HasNoRecord reading.max_body)
+      → Went reading course held input [] s now held_now → Reached reading course input held held_now (IsUnfinished reading input)
   went_read rest_law s now held_now ready quiet w =
-      went_so_far reading course held input [] s now held_now held_now (HasNoRecord reading.max_body) w quiet (Appends-nil held_now)
-      (no_record reading.max_body (log_at s w.records []) (rest_law reading input w.records s ready w.stands))
+      let undecided = rest_law reading input w.records s ready w.stands in
+      went_so_far reading course held input [] s now held_now held_now (IsUnfinished reading input) w quiet (Appends-nil held_now)
+      (record { none = no_record reading.max_body (log_at s w.records []) undecided; undecided = inl undecided })
 
   -- what the course of the records says of the end
   went_whole : (s : Splitter) (now : List Record → Course) (held_now : Option (List ℕ)) (w : Went reading course held input [] s now held_now) → course w.records ≡ written_first w.out (now [])

@@ -14,8 +14,8 @@ use Rattle.lsp_stream.specs.declared.fault.EngineFault.TheVariants.{Read, Write,
 use Rattle.lsp_log.specs.declared.record.Version.{Version}
 use Rattle.lsp_log.specs.declared.record.Version.TheVariants.{One, Two}
 use Rattle.lsp_log.specs.declared.splitter.Splitter.{Splitter}
-use Rattle.lsp_log.specs.Log.{Reading, Record, IsVersion, HasNoRecord, line_of, version_line, together, record_bytes}
-use Rattle.lsp_log.specs.Opening.{IsLineFront, IsBelowLine}
+use Rattle.lsp_log.specs.Log.{Reading, Record, IsVersion, IsUndecided, line_of, version_line, together, record_bytes}
+use Rattle.lsp_log.specs.Opening.{IsLineFront, IsBelowLine, IsUnfinished}
 use Rattle.lsp_log.specs.Splitting.{IsReady, IsOpen, Stands, held_of}
 use Rattle.lsp_log.specs.Laws.{RestLaw}
 use Rattle.lsp_replay.specs.Course.{Course}
@@ -62,6 +62,12 @@ no_frame_in_line max_body bytes spelling body more front spells e =
     line ∙ ap (λ z. z ++ drop (length bytes) version_line) frame ∙ regroup (lines_bytes spells.lines) (13 ∷ 10 ∷ []) body more (drop (length bytes) version_line) in
     let two : false ≡ true = sym line_has_none ∙ ap has_return all ∙ has_in (lines_bytes spells.lines) (10 ∷ (body ++ (more ++ drop (length bytes) version_line))) in
     cc
+
+-- The input may still become the line, or it is nothing.
+unopened : (versions : Bool) (max_body : ℕ) (input : List ℕ) → IsLineFront input → (versions ≡ false → input ≡ [])
+    → IsUndecided max_body (record { version = One; records = []; rest = input }) ⊎ ((versions ≡ true) × IsLineFront input)
+unopened true max_body input front none = inr (refl, front)
+unopened false max_body input front none = inl (inl (none refl))
 
 module _ (reading : Reading) (course : List Record → Course) (left held : Option (List ℕ)) where
   -- at the start
@@ -193,7 +199,7 @@ module _ (reading : Reading) (course : List Record → Course) (left held : Opti
 
   -- No more could be read.
   read_fault : (told_end : Bool) (input : List ℕ) (held_new : Option (List ℕ)) (fault : EngineFault) → (fault ≡ Read) ⊎ (fault ≡ TooManyTurns)
-      → Reached reading course input held held_new (HasNoRecord reading.max_body) → IsRunFault reading course told_end input held held_new fault
+      → Reached reading course input held held_new (IsUnfinished reading input) → IsRunFault reading course told_end input held held_new fault
   read_fault told_end input held_new fault (inl is) reached = subst (IsRunFault reading course told_end input held held_new) (sym is) reached
   read_fault told_end input held_new fault (inr is) reached =
       subst (IsRunFault reading course told_end input held held_new) (sym is)
@@ -220,11 +226,11 @@ module _ (reading : Reading) (course : List Record → Course) (left held : Opti
       }
 
   -- Some first bytes of the line are no log of version 2, and begin no frame.
-  pub ran_unopened : (left_new : Option (List ℕ)) (told_end : Bool) (fault : EngineFault) → IsQuiet course → IsBelowLine left left_new → (fault ≡ Read) ⊎ (fault ≡ TooManyTurns)
+  pub ran_unopened : (left_new : Option (List ℕ)) (told_end : Bool) (fault : EngineFault) → IsQuiet course → IsBelowLine reading.versions left left_new → (fault ≡ Read) ⊎ (fault ≡ TooManyTurns)
       → Ran reading course told_end left left_new held held (Err fault)
   ran_unopened left_new told_end fault quiet below kind = record {
     input = below.0;
-    read = below.2;
+    read = below.3;
     came = read_fault told_end below.0 held fault kind (record {
       log = record { version = One; records = []; rest = below.0 };
       reads = record {
@@ -233,7 +239,10 @@ module _ (reading : Reading) (course : List Record → Course) (left held : Opti
         is = refl;
         each = tt;
       };
-      rest = λ side spelling body more spells e. no_frame_in_line reading.max_body below.0 spelling body more below.1 spells e;
+      rest = record {
+        none = λ side spelling body more spells e. no_frame_in_line reading.max_body below.0 spelling body more below.1 spells e;
+        undecided = unopened reading.versions reading.max_body below.0 below.1 below.2;
+      };
       goes_on = quiet.unstopped;
       wrote = subst (λ (z : List ℕ). Appends held held z) (sym quiet.silent) (Appends-nil held);
     });

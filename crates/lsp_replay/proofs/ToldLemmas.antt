@@ -17,6 +17,7 @@ use Rattle.lsp_replay.specs.Session.{Session, judge}
 use Rattle.lsp_replay.specs.Engine.{Ran, Stopped, Reached, Broken, AtEnd, BreaksAtEnd, IsRunFault, IsRefused}
 use Rattle.lsp_replay.specs.Engines.{View, go_on, course_in}
 use Rattle.lsp_replay.specs.Told.{EndedBy, Passed, PassedEnd, CutAtEnd, IsFaultTold, IsTold, RanOver}
+use Rattle.lsp_log.specs.Opening.{IsUnfinished}
 use Rattle.lsp_log.specs.Laws.{IsFirstOf, FirstLaw, VersionLaw}
 use Rattle.lsp_replay.proofs.LineLemmas.{first_byte}
 use Rattle.lsp_replay.proofs.EngineLemmas.{empty_rest}
@@ -120,7 +121,7 @@ module _ (first_of : FirstLaw) (same_version : VersionLaw) (reading : Reading) (
   refused place is = let one : Two ≡ One = same_version reading.versions Two all.version input is.version reads.version ∙ reads.accepted is.only_one in absurd (cc)
 
   fault_told : (fault : EngineFault) → IsRunFault reading (course_in view s) ended input held_old held_new fault → IsFaultTold reading (course_in view s) ended input held_old held_new all fault
-  fault_told Read r = (reached (HasNoRecord reading.max_body) (λ log none. none) r).1
+  fault_told Read r = reached (IsUnfinished reading input) (λ log is. is.none) r
   fault_told Write (inl b) = inl (broken b)
   fault_told Write (inr b) = inr (cut b)
   fault_told (Frame fault) r = reached (IsMalformed reading.max_body input fault) (λ log is. malformed_rest reading.max_body input fault log is) r

@@ -8,7 +8,8 @@ use Rattle.lsp_stream.specs.declared.fault.EngineFault.TheVariants.{Read, Write,
 use Rattle.lsp_log.specs.declared.record.Version.TheVariants.{Two}
 use Rattle.lsp_stream.specs.Ports.{Rose}
 use Rattle.lsp_stream.specs.Turns.{AppendsFront, StaysWell}
-use Rattle.lsp_log.specs.Log.{Reading, Record, Log, IsVersion, IsReadAs, HasNoRecord, IsCut, IsMalformed, IsBadMark, is_line_due}
+use Rattle.lsp_log.specs.Log.{Reading, Record, Log, IsVersion, IsReadAs, IsCut, IsMalformed, IsBadMark, is_line_due}
+use Rattle.lsp_log.specs.Opening.{IsUnfinished}
 use Rattle.lsp_replay.specs.Course.{Course}
 
 -- A record ended the run: what was written is the output of the records up to it.
@@ -82,7 +83,7 @@ BreaksAtEnd reading course ended input old new = (ended ≡ true) × BrokenAtEnd
 
 -- What stands written when a fault comes, and what the fault says of the input.
 abbrev pub IsRunFault : Reading → (List Record → Course) → Bool → List ℕ → Option (List ℕ) → Option (List ℕ) → EngineFault → Type 0
-IsRunFault reading course ended input old new Read = Reached reading course input old new (HasNoRecord reading.max_body)
+IsRunFault reading course ended input old new Read = Reached reading course input old new (IsUnfinished reading input)
 IsRunFault reading course ended input old new Write = Broken reading course input old new ⊎ BreaksAtEnd reading course ended input old new
 IsRunFault reading course ended input old new (Frame fault) = Reached reading course input old new (IsMalformed reading.max_body input fault)
 IsRunFault reading course ended input old new (Truncated place) =

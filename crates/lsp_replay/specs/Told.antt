@@ -7,6 +7,7 @@ use Rattle.lsp_stream.specs.declared.fault.EngineFault.{EngineFault}
 use Rattle.lsp_stream.specs.declared.fault.EngineFault.TheVariants.{Read, Write, Frame, Truncated, BodyTooLong, NoMemory, TooManyTurns, BadLog}
 use Rattle.lsp_stream.specs.Turns.{AppendsFront}
 use Rattle.lsp_log.specs.Log.{Reading, Record, Log, IsReadAs, HasNoRecord, IsCut, IsMalformed, IsBadMark}
+use Rattle.lsp_log.specs.Opening.{IsUnfinished}
 use Rattle.lsp_replay.specs.Course.{Course}
 use Rattle.lsp_replay.specs.Laws.{all_of}
 
@@ -40,7 +41,7 @@ IsFirstPart course ended held_old held_new all =
 
 -- what each fault tells
 abbrev pub IsFaultTold : Reading → (List Record → Course) → Bool → List ℕ → Option (List ℕ) → Option (List ℕ) → Log → EngineFault → Type 0
-IsFaultTold reading course ended input held_old held_new all Read = Passed course held_old held_new all
+IsFaultTold reading course ended input held_old held_new all Read = IsUnfinished reading input all × Passed course held_old held_new all
 IsFaultTold reading course ended input held_old held_new all Write = IsFirstPart course ended held_old held_new all
 IsFaultTold reading course ended input held_old held_new all (Frame fault) =
     IsMalformed reading.max_body input fault all × Passed course held_old held_new all

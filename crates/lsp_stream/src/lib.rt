@@ -16,7 +16,7 @@ pub use fault::EngineFault;
 pub use port::{Sink, Source};
 pub use stop::{Call, StopReader, StopWriter};
 pub use told::Told;
-pub use turns::{Turns, read_piece, write_given};
+pub use turns::{Turns, flush_out, read_piece, write_given};
 
 #[cfg(test)]
 mod tests;

@@ -100,8 +100,13 @@ fn write_out<W: Sink>(writer: &mut W, bytes: &[u8], turns: &mut Turns) -> Result
 }
 
 /// Passes on what was written. An interrupted flush is repeated.
-fn flush_out<W: Sink>(writer: &mut W, turns: &mut Turns) -> Result<(), EngineFault>
+///
+/// # Errors
+/// [`EngineFault::Write`] where a flush fails, [`EngineFault::TooManyTurns`] where one more was to be made than allowed.
+pub fn flush_out<W: Sink>(writer: &mut W, turns: &mut Turns) -> Result<(), EngineFault>
     ensures kept { Keeps (W.held writer.old) (W.held writer.new) }
+    // The last flush was made, and did not fail.
+    ensures flushed { OnOk result ((W.has_failed writer.new ≡ false) × Rose (W.count writer.old) (W.count writer.new)) }
     ensures fault { IfErr result (λ fault. (fault ≡ EngineFault.Write) ⊎ (fault ≡ EngineFault.TooManyTurns)) }
     ensures failed { IfErr result (λ fault. fault ≡ EngineFault.Write →
         (W.has_failed writer.new ≡ true) × Rose (W.count writer.old) (W.count writer.new)) }

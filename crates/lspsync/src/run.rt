@@ -1,8 +1,13 @@
 //! The program over any reader and writers.
 
+ghost use Rattle.std.specs.Prelude.{◌≡◌};
+ghost use Rattle.std.specs.Io.KnownBytes.{Keeps};
+ghost use Rattle.lspsync.specs.Run.{EngineRan, IsFlushed, IsPerformed, answer_of, status_of};
+
 use crate::command_line::{Call, parse};
 use clap::error as clap_error;
 use lsp_replay::{EngineFault, Outcome, Sink, Source, check, convert, normalise, replay, serve};
+use lsp_stream::{Turns, flush_out};
 use std::alloc::Global;
 use std::io::{ErrorKind, Write};
 
@@ -31,16 +36,41 @@ pub fn run<R: Source, W: Sink, E: Write>(
         Ok(None) => return USAGE,
         Err(error) => return explain(alloc, &error, output, errors),
     };
-    let outcome = match obey(alloc, call, input, output) {
-        Ok(outcome) => outcome,
-        Err(fault) => {
-            let _ = flush(output);
-            return report(fault, errors);
-        }
-    };
-    match flush(output) {
-        Ok(()) => outcome.status,
+    match perform(alloc, call, input, output) {
+        Ok(status) => status,
         Err(fault) => report(fault, errors),
+    }
+}
+
+/// Runs the engine that a call names, and then passes on what it wrote, also after a fault. Answers the outcome's status.
+///
+/// # Errors
+/// The fault of the engine, else that of the flush.
+pub fn perform<R: Source, W: Sink>(
+    alloc: Global,
+    call: Call,
+    input: &mut R,
+    output: &mut W,
+) -> Result<u8, EngineFault>
+    ensures { IsPerformed call (R.has_ended input.new) (R.left input.old) (R.left input.new)
+        (W.held output.old) (W.held output.new) (W.has_failed output.new) (W.count output.new) result }
+{
+    let ran = obey(alloc, call, input, output);
+    let flushed = flush(output);
+    answer_with(ran, flushed)
+}
+
+/// A fault of the engine comes before one of the flush.
+fn answer_with(
+    ran: Result<Outcome, EngineFault>,
+    flushed: Result<(), EngineFault>,
+) -> Result<u8, EngineFault>
+    ensures { result ≡ answer_of ran flushed }
+{
+    match (ran, flushed) {
+        (Ok(outcome), Ok(())) => Ok(outcome.status),
+        (Ok(_), Err(fault)) => Err(fault),
+        (Err(fault), _) => Err(fault),
     }
 }
 
@@ -50,7 +80,10 @@ fn obey<R: Source, W: Sink>(
     call: Call,
     input: &mut R,
     output: &mut W,
-) -> Result<Outcome, EngineFault> {
+) -> Result<Outcome, EngineFault>
+    ensures { EngineRan call (R.has_ended input.new) (R.left input.old) (R.left input.new)
+        (W.held output.old) (W.held output.new) result }
+{
     match call {
         Call::Serve(config) => serve(alloc, input, output, config, MAX_TURNS),
         Call::Check(settings) => check(alloc, input, output, settings, MAX_TURNS),
@@ -107,15 +140,11 @@ fn write_all<W: Sink>(output: &mut W, mut bytes: &[u8]) -> Result<(), EngineFaul
 }
 
 /// Passes on what was written. An interrupted flush is repeated.
-fn flush<W: Sink>(output: &mut W) -> Result<(), EngineFault> {
-    for _ in 0..MAX_TURNS {
-        match output.flush() {
-            Ok(()) => return Ok(()),
-            Err(error) if error.kind() == ErrorKind::Interrupted => {}
-            Err(_) => return Err(EngineFault::Write),
-        }
-    }
-    Err(EngineFault::TooManyTurns)
+fn flush<W: Sink>(output: &mut W) -> Result<(), EngineFault>
+    ensures kept { Keeps (W.held output.old) (W.held output.new) }
+    ensures flushed { IsFlushed (W.has_failed output.new) (W.count output.old) (W.count output.new) result }
+{
+    flush_out(output, &mut Turns::new(MAX_TURNS))
 }
 
 /// Prints why the words of a call could not be had: want of memory, or a word that is no text. Answers the status.
@@ -128,7 +157,9 @@ pub fn refuse<E: Write>(kind: ErrorKind, errors: &mut E) -> u8 {
 }
 
 /// Prints the line of a fault, and answers its status.
-pub fn report<E: Write>(fault: EngineFault, errors: &mut E) -> u8 {
+pub fn report<E: Write>(fault: EngineFault, errors: &mut E) -> u8
+    ensures { result ≡ status_of fault }
+{
     let _ = writeln!(errors, "lspsync: {fault}");
     match fault {
         EngineFault::Read | EngineFault::Write | EngineFault::TooManyTurns => STREAM_FAULT,

@@ -1,4 +1,4 @@
-use Rattle.std.proofs.Common.{ℕ, ◌≡◌, ◌≤◌, ◌-◌, length, arith}
+use Rattle.std.proofs.Common.{ℕ, ◌≡◌, ◌≤◌, ◌-◌, true, false, length, sym, ◌∙◌, arith}
 use Rattle.std.proofs.lemmas.List.{length-take, length-drop}
 use Rattle.lsp_log.proofs.OpeningLemmas.{next_read, next_len, stays}
 use Rattle.lsp_log.proofs.opening.read_opening.Goals as goal
@@ -20,6 +20,7 @@ opening-preserved g c =
     record {
       within = omega (arith, front.0, next_len c.opening.len c.in_ok-n.n c.opening.buf c.read_piece.new.buf within long c.in_ok-n.ensures.bound);
       front = front;
+      unread = λ no. absurd (let two : false ≡ true = sym no ∙ c.is_undecided.ensures.looked_for c.if-not-is_undecided.false in cc);
       read = next_read _ _ _ c.opening.len c.in_ok-n.n c.opening.buf c.read_piece.new.buf within long c.in_ok-n.ensures.bound c.opening.invariant.read c.in_ok-n.ensures.read;
       well = λ before. c.in_ok-n.ensures.well (c.opening.invariant.well before);
       spent = record {

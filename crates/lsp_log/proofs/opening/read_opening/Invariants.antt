@@ -1,4 +1,4 @@
-use Rattle.std.specs.Prelude.{◌<◌, take}
+use Rattle.std.specs.Prelude.{◌≡◌, ◌<◌, false, take}
 use Rattle.std.specs.Io.KnownBytes.{Consumes}
 use Rattle.lsp_stream.specs.Turns.{Spends, StaysWell}
 use Rattle.lsp_log.specs.Opening.{IsLineFront}
@@ -8,6 +8,7 @@ abbrev pub invariant-opening : goal.invariant-opening
 invariant-opening g l = record {
   within : l.len < 18;
   front : IsLineFront (take l.len l.buf);
+  unread : l.fn.versions ≡ false → l.len ≡ 0;
   read : Consumes (g.R.Source.left l.fn.reader) (g.R.Source.left l.reader) (take l.len l.buf);
   well : StaysWell (g.R.Source.has_failed l.fn.reader) (g.R.Source.has_failed l.reader);
   spent : Spends (g.R.Source.count l.fn.reader) (g.R.Source.count l.reader) l.fn.turns.left l.turns.left;

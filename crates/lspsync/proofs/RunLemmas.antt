@@ -1,0 +1,11 @@
+-- What the last flush answered.
+use Rattle.std.specs.Prelude.{ℕ, ◌≡◌, Bool, true, false, Result, Ok, Err, OnOk, IfErr}
+use Rattle.lsp_stream.specs.declared.fault.EngineFault.{EngineFault}
+use Rattle.lsp_stream.specs.declared.fault.EngineFault.TheVariants.{Write}
+use Rattle.lsp_stream.specs.Ports.{Rose}
+use Rattle.lspsync.specs.Run.{IsFlushed}
+
+pub flushed_of : (failed : Bool) (old new : ℕ) (answer : Result (Unit {0}) EngineFault) → OnOk answer ((failed ≡ false) × Rose old new)
+    → IfErr answer (λ fault. fault ≡ Write → (failed ≡ true) × Rose old new) → IsFlushed failed old new answer
+flushed_of failed old new (Ok _) ok err = ok
+flushed_of failed old new (Err fault) ok err = λ is. (err is).0
