@@ -12,6 +12,7 @@ mod canonical;
 mod change;
 mod composed;
 mod current;
+mod draft;
 mod ends;
 mod fault;
 mod in_place;

@@ -1,0 +1,138 @@
+//! A text under the changes of a batch.
+
+ghost use Rattle.std.specs.Prelude.{◌≡◌, ◌+◌, ◌≤◌, IfErr, IfOk, Ok, Some, length, map, string_bytes, string_len, sum_by};
+ghost use Rattle.std.specs.Str.{IsUtf8, chars};
+ghost use Rattle.lsp_text.specs.Units.{units_in};
+ghost use Rattle.lsp_text.specs.LineStarts.{Indexes};
+ghost use Rattle.lsp_edit.specs.Edited.{edit_of};
+ghost use Rattle.lsp_edit.specs.TextBatch.{IsFaultOf, IsFaultOfBatch, text_after_change, text_after_changes};
+
+use crate::change::{Change, MAX_NEW_TEXT};
+use crate::composed::MAX_OLD_TEXT;
+use crate::ends::ends;
+use crate::fault::EditFault;
+use crate::in_place::put_in_place;
+use crate::pieces::MAX_TEXT;
+use lsp_text::{Encoding, Lines, Range};
+use std::alloc::{AllocError, Global};
+use std::marker::Model;
+
+/// A text under the changes of a batch, with its lines. It keeps no spans. Clauses see its bytes.
+#[derive(Drop)]
+pub struct Draft {
+    text: String,
+    lines: Lines,
+}
+
+impl Model for Draft {
+    ghost use Rattle.std.specs.Prelude.{ℕ, List, string_bytes};
+    ghost use Rattle.lsp_text.specs.LineStarts.{Indexes};
+
+    ghost Value = { List ℕ };
+
+    ghost view = { λ draft. string_bytes draft.text };
+
+    ghost invariant = { λ draft. Indexes draft.lines (string_bytes draft.text) };
+}
+
+impl Draft {
+    /// A copy of a text. Costs the copy, and a search through it for its lines.
+    pub fn new(alloc: Global, text: &str) -> Result<Self, AllocError>
+        requires { length text.now ≤ MAX_TEXT }
+        ensures { IfOk result (λ draft. draft ≡ text.now) }
+    {
+        let text = String::from_str(alloc, text)?;
+        let lines = Lines::new(alloc, &text)?;
+        Ok(Draft { text, lines })
+    }
+
+    /// How many bytes it has.
+    pub fn len(&self) -> usize
+        ensures len { result ≡ length self.now }
+        ensures utf8 { IsUtf8 self.now }
+    {
+        self.text.len()
+    }
+
+    /// The draft with a text in place of a range. `number` is the number of the change that a fault names.
+    fn with_range(
+        self,
+        encoding: Encoding,
+        number: usize,
+        range: Range,
+        new: &str,
+    ) -> Result<Self, EditFault>
+        requires { length self + length new.now ≤ MAX_TEXT }
+        ensures ok { IfOk result (λ next. text_after_change (units_in encoding) (chars self)
+            (record { range = Some range; text = chars new.now }) ≡ Ok (chars next)) }
+        ensures error { IfErr result (IsFaultOf number (text_after_change (units_in encoding) (chars self)
+            (record { range = Some range; text = chars new.now }))) }
+        ensures longer { IfOk result (λ next. length next ≤ length self + length new.now) }
+    {
+        let Draft {
+            mut text,
+            mut lines,
+        } = self;
+        let (start, stop) = ends(&lines, &text, encoding, range, number)?;
+        put_in_place(&mut text, &mut lines, start, stop, new)?;
+        Ok(Draft { text, lines })
+    }
+
+    /// The draft after a change (LSP 3.17, TextDocumentContentChangeEvent). `number` is the number of the change that a fault names.
+    pub fn after(
+        self,
+        encoding: Encoding,
+        number: usize,
+        change: &Change,
+    ) -> Result<Self, EditFault>
+        requires { length self + string_len change.now.text ≤ MAX_TEXT }
+        ensures ok { IfOk result (λ next. text_after_change (units_in encoding) (chars self) (edit_of change.now) ≡ Ok (chars next)) }
+        ensures error { IfErr result (IsFaultOf number (text_after_change (units_in encoding) (chars self) (edit_of change.now))) }
+        ensures longer { IfOk result (λ next. length next ≤ length self + string_len change.now.text) }
+    {
+        match change.range {
+            None => Ok(Self::new(*self.text.allocator(), &change.text)?),
+            Some(range) => self.with_range(encoding, number, range, &change.text),
+        }
+    }
+
+    /// The draft after the changes of a batch, one after another. A fault names the first change that has no result.
+    fn after_all(self, encoding: Encoding, changes: &[Change]) -> Result<Self, EditFault>
+        requires { length self + sum_by (λ change. string_len change.text) changes.now ≤ MAX_TEXT }
+        ensures ok { IfOk result (λ left. text_after_changes (units_in encoding) 0 (chars self) (map edit_of changes.now) ≡ Ok (chars left)) }
+        ensures error { IfErr result (IsFaultOfBatch (text_after_changes (units_in encoding) 0 (chars self) (map edit_of changes.now))) }
+    {
+        let mut draft = self;
+        for (number, change) in changes.iter().enumerate() {
+            draft = draft.after(encoding, number, change)?;
+        }
+        Ok(draft)
+    }
+
+    /// What a batch leaves of a text. A fault names the first change that has no result. Costs a copy of the text, where the batch
+    /// doesn't begin with a whole text, and what each change costs.
+    pub fn left_by(
+        alloc: Global,
+        text: &str,
+        encoding: Encoding,
+        changes: &[Change],
+    ) -> Result<Self, EditFault>
+        requires size { length text.now ≤ MAX_OLD_TEXT }
+        requires fits { sum_by (λ change. string_len change.text) changes.now ≤ MAX_NEW_TEXT }
+        ensures ok { IfOk result (λ left. text_after_changes (units_in encoding) 0 (chars text.now) (map edit_of changes.now) ≡ Ok (chars left)) }
+        ensures error { IfErr result (IsFaultOfBatch (text_after_changes (units_in encoding) 0 (chars text.now) (map edit_of changes.now))) }
+    {
+        let begun = match changes {
+            [Change { range: None, .. }, ..] => "",
+            _ => text,
+        };
+        Self::new(alloc, begun)?.after_all(encoding, changes)
+    }
+
+    /// The text and its lines, handed over.
+    pub fn into_text(self) -> Result<(String, Lines), AllocError>
+        ensures { IfOk result (λ handed. (string_bytes handed.0 ≡ self) × Indexes handed.1 (string_bytes handed.0)) }
+    {
+        Ok((self.text, self.lines))
+    }
+}
