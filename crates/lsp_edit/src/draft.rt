@@ -9,41 +9,59 @@ ghost use Rattle.lsp_edit.specs.TextBatch.{IsFaultOf, IsFaultOfBatch, text_after
 
 use crate::change::{Change, MAX_NEW_TEXT};
 use crate::composed::MAX_OLD_TEXT;
-use crate::ends::ends;
+use crate::ends::ends_in;
 use crate::fault::EditFault;
-use crate::in_place::put_in_place;
 use crate::pieces::MAX_TEXT;
-use lsp_text::{Encoding, Lines, Range};
+use lsp_text::{Encoding, GapText, Lines, Range};
 use std::alloc::{AllocError, Global};
 use std::marker::Model;
 
-/// A text under the changes of a batch, with its lines. It keeps no spans. Clauses see its bytes.
+/// A text under the changes of a batch. It keeps no spans. Clauses see its bytes.
 #[derive(Drop)]
 pub struct Draft {
-    text: String,
-    lines: Lines,
+    alloc: Global,
+    text: GapText,
 }
 
 impl Model for Draft {
-    ghost use Rattle.std.specs.Prelude.{ℕ, List, string_bytes};
-    ghost use Rattle.lsp_text.specs.LineStarts.{Indexes};
+    ghost use Rattle.std.specs.Prelude.{ℕ, List};
 
     ghost Value = { List ℕ };
 
-    ghost view = { λ draft. string_bytes draft.text };
+    ghost view = { λ draft. draft.text };
+}
 
-    ghost invariant = { λ draft. Indexes draft.lines (string_bytes draft.text) };
+/// How many bytes the texts of a batch have together.
+fn texts_len(changes: &[Change]) -> usize
+    requires { sum_by (λ change. string_len change.text) changes.now ≤ MAX_NEW_TEXT }
+    ensures { result ≡ sum_by (λ change. string_len change.text) changes.now }
+{
+    let mut len = 0;
+    for change in changes {
+        len += change.text.len();
+    }
+    len
 }
 
 impl Draft {
     /// A copy of a text. Costs the copy, and a search through it for its lines.
-    pub fn new(alloc: Global, text: &str) -> Result<Self, AllocError>
+    fn new(alloc: Global, text: &str) -> Result<Self, AllocError>
         requires { length text.now ≤ MAX_TEXT }
         ensures { IfOk result (λ draft. draft ≡ text.now) }
     {
-        let text = String::from_str(alloc, text)?;
-        let lines = Lines::new(alloc, &text)?;
-        Ok(Draft { text, lines })
+        let lines = Lines::new(alloc, text)?;
+        let text = GapText::new(alloc, text, lines, 0)?;
+        Ok(Draft { alloc, text })
+    }
+
+    /// A copy of a text and of its lines, with room for `room` bytes more. Costs the copies.
+    fn over(alloc: Global, text: &str, lines: &Lines, room: usize) -> Result<Self, AllocError>
+        requires indexed { Indexes lines.now text.now }
+        requires room { room ≤ MAX_NEW_TEXT }
+        ensures { IfOk result (λ draft. draft ≡ text.now) }
+    {
+        let text = GapText::new(alloc, text, lines.copied(alloc)?, room)?;
+        Ok(Draft { alloc, text })
     }
 
     /// How many bytes it has.
@@ -69,13 +87,10 @@ impl Draft {
             (record { range = Some range; text = chars new.now }))) }
         ensures longer { IfOk result (λ next. length next ≤ length self + length new.now) }
     {
-        let Draft {
-            mut text,
-            mut lines,
-        } = self;
-        let (start, stop) = ends(&lines, &text, encoding, range, number)?;
-        put_in_place(&mut text, &mut lines, start, stop, new)?;
-        Ok(Draft { text, lines })
+        let Draft { alloc, mut text } = self;
+        let (start, stop) = ends_in(&mut text, encoding, range, number)?;
+        let text = text.replaced(start, stop, new)?;
+        Ok(Draft { alloc, text })
     }
 
     /// The draft after a change (LSP 3.17, TextDocumentContentChangeEvent). `number` is the number of the change that a fault names.
@@ -91,7 +106,7 @@ impl Draft {
         ensures longer { IfOk result (λ next. length next ≤ length self + string_len change.now.text) }
     {
         match change.range {
-            None => Ok(Self::new(*self.text.allocator(), &change.text)?),
+            None => Ok(Self::new(self.alloc, &change.text)?),
             Some(range) => self.with_range(encoding, number, range, &change.text),
         }
     }
@@ -109,30 +124,32 @@ impl Draft {
         Ok(draft)
     }
 
-    /// What a batch leaves of a text. A fault names the first change that has no result. Costs a copy of the text, where the batch
-    /// doesn't begin with a whole text, and what each change costs.
+    /// What a batch leaves of a text whose lines are kept. A fault names the first change that has no result. Costs what each change
+    /// costs, and a copy of the text and of its line starts, if the batch doesn't begin with a whole text.
     pub fn left_by(
         alloc: Global,
         text: &str,
+        lines: &Lines,
         encoding: Encoding,
         changes: &[Change],
     ) -> Result<Self, EditFault>
+        requires indexed { Indexes lines.now text.now }
         requires size { length text.now ≤ MAX_OLD_TEXT }
         requires fits { sum_by (λ change. string_len change.text) changes.now ≤ MAX_NEW_TEXT }
         ensures ok { IfOk result (λ left. text_after_changes (units_in encoding) 0 (chars text.now) (map edit_of changes.now) ≡ Ok (chars left)) }
         ensures error { IfErr result (IsFaultOfBatch (text_after_changes (units_in encoding) 0 (chars text.now) (map edit_of changes.now))) }
     {
-        let begun = match changes {
-            [Change { range: None, .. }, ..] => "",
-            _ => text,
+        let draft = match changes {
+            [Change { range: None, .. }, ..] => Self::new(alloc, "")?,
+            _ => Self::over(alloc, text, lines, texts_len(changes))?,
         };
-        Self::new(alloc, begun)?.after_all(encoding, changes)
+        draft.after_all(encoding, changes)
     }
 
-    /// The text and its lines, handed over.
+    /// The text and its lines, handed over. Costs what lies after the last change.
     pub fn into_text(self) -> Result<(String, Lines), AllocError>
         ensures { IfOk result (λ handed. (string_bytes handed.0 ≡ self) × Indexes handed.1 (string_bytes handed.0)) }
     {
-        Ok((self.text, self.lines))
+        self.text.into_text()
     }
 }

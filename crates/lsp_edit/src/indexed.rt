@@ -134,7 +134,7 @@ impl IndexedText {
             ⊎ (text_within max_len self.now (meaning (units_in encoding) (chars self.now) (map edit_of changes.now)) ≡ Err fault)) }
     {
         let alloc = *self.text.allocator();
-        let draft = Draft::left_by(alloc, &self.text, encoding, changes)?;
+        let draft = Draft::left_by(alloc, &self.text, &self.lines, encoding, changes)?;
         if draft.len() > max_len {
             return Err(TextFault::TooLong);
         }

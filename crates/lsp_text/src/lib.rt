@@ -11,6 +11,10 @@
 mod encoding;
 mod ends;
 mod exact;
+mod gap_bytes;
+mod gap_resolve;
+mod gap_starts;
+mod gap_text;
 mod in_line;
 mod laws;
 mod lines;
@@ -24,6 +28,7 @@ mod tests;
 mod units;
 
 pub use encoding::Encoding;
+pub use gap_text::GapText;
 pub use laws::{encoding_laws, line_laws, place_laws, position_laws};
 pub use lines::Lines;
 pub use position::{Position, Range};

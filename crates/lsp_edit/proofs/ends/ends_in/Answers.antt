@@ -1,0 +1,12 @@
+use Rattle.std.specs.Str.{chars}
+use Rattle.lsp_text.specs.Units.{units_in}
+use Rattle.lsp_edit.proofs.EndLemmas.{places_in_order, places_reversed}
+use Rattle.lsp_edit.proofs.ends.ends_in.Goals as goal
+
+pub returns-then-start-stop : goal.returns-then-start-stop
+returns-then-start-stop c =
+    places_reversed (units_in c.args.encoding) (chars c.args.text.now) c.args.range c.args.change c.in-Ok.start c.in-Ok-resolve.stop c.in-Ok.ensures.value c.in-Ok-resolve.ensures.value c.if-start-stop.true
+
+pub returns : goal.returns
+returns c =
+    places_in_order (units_in c.args.encoding) (chars c.args.text.now) c.args.range c.args.change c.in-Ok.start c.in-Ok-resolve.stop c.in-Ok.ensures.value c.in-Ok-resolve.ensures.value c.if-start-stop.false
