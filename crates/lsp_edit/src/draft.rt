@@ -1,16 +1,16 @@
 //! A text under the changes of a batch.
 
-ghost use Rattle.std.specs.Prelude.{◌≡◌, ◌+◌, ◌≤◌, IfErr, IfOk, Ok, Some, length, map, string_bytes, string_len, sum_by};
+ghost use Rattle.std.specs.Prelude.{◌≡◌, ◌+◌, ◌≤◌, ℕ, IfErr, IfOk, Ok, Some, length, map, string_bytes, string_len, sum_by};
 ghost use Rattle.std.specs.Str.{IsUtf8, chars};
 ghost use Rattle.lsp_text.specs.Units.{units_in};
 ghost use Rattle.lsp_text.specs.LineStarts.{Indexes};
 ghost use Rattle.lsp_edit.specs.Edited.{edit_of};
+ghost use Rattle.lsp_edit.specs.Faults.{ends_of, places_at};
 ghost use Rattle.lsp_edit.specs.TextBatch.{IsFaultOf, IsFaultOfBatch, text_after_change, text_after_changes};
 
 use crate::change::{Change, MAX_NEW_TEXT};
 use crate::composed::MAX_OLD_TEXT;
-use crate::ends::ends_in;
-use crate::fault::EditFault;
+use crate::fault::{EditFault, Side};
 use crate::pieces::MAX_TEXT;
 use lsp_text::{Encoding, GapText, Lines, Range};
 use std::alloc::{AllocError, Global};
@@ -41,6 +41,35 @@ fn texts_len(changes: &[Change]) -> usize
         len += change.text.len();
     }
     len
+}
+
+/// The offsets of a range's two ends in a text with a gap. `change` is the number of the change that a fault names.
+fn ends_in(
+    text: &mut GapText,
+    encoding: Encoding,
+    range: Range,
+    change: usize,
+) -> Result<(usize, usize), EditFault>
+    ensures utf8 { IsUtf8 text.old }
+    ensures same { text.new ≡ text.old }
+    ensures value { result ≡ places_at change (chars text.old) (ends_of (units_in encoding) (chars text.old) range) }
+{
+    let Ok(start) = text.resolve(encoding, range.start) else {
+        return Err(EditFault::InsideCharacter {
+            change,
+            side: Side::Start,
+        });
+    };
+    let Ok(stop) = text.resolve(encoding, range.stop) else {
+        return Err(EditFault::InsideCharacter {
+            change,
+            side: Side::Stop,
+        });
+    };
+    if start > stop {
+        return Err(EditFault::ReversedRange { change });
+    }
+    Ok((start, stop))
 }
 
 impl Draft {
@@ -124,6 +153,25 @@ impl Draft {
         Ok(draft)
     }
 
+    /// The draft that a batch begins with: a copy of the text, or nothing, where its first change replaces all.
+    fn begun(
+        alloc: Global,
+        text: &str,
+        lines: &Lines,
+        changes: &[Change],
+    ) -> Result<Self, AllocError>
+        requires indexed { Indexes lines.now text.now }
+        requires fits { sum_by (λ change. string_len change.text) changes.now ≤ MAX_NEW_TEXT }
+        ensures same { IfOk result (λ draft. (units : ℕ → ℕ) → text_after_changes units 0 (chars draft) (map edit_of changes.now)
+            ≡ text_after_changes units 0 (chars text.now) (map edit_of changes.now)) }
+        ensures short { IfOk result (λ draft. length draft ≤ length text.now) }
+    {
+        match changes {
+            [Change { range: None, .. }, ..] => Self::new(alloc, ""),
+            _ => Self::over(alloc, text, lines, texts_len(changes)),
+        }
+    }
+
     /// What a batch leaves of a text whose lines are kept. A fault names the first change that has no result. Costs what each change
     /// costs, and a copy of the text and of its line starts, if the batch doesn't begin with a whole text.
     pub fn left_by(
@@ -139,10 +187,7 @@ impl Draft {
         ensures ok { IfOk result (λ left. text_after_changes (units_in encoding) 0 (chars text.now) (map edit_of changes.now) ≡ Ok (chars left)) }
         ensures error { IfErr result (IsFaultOfBatch (text_after_changes (units_in encoding) 0 (chars text.now) (map edit_of changes.now))) }
     {
-        let draft = match changes {
-            [Change { range: None, .. }, ..] => Self::new(alloc, "")?,
-            _ => Self::over(alloc, text, lines, texts_len(changes))?,
-        };
+        let draft = Self::begun(alloc, text, lines, changes)?;
         draft.after_all(encoding, changes)
     }
 

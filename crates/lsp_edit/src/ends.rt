@@ -7,7 +7,7 @@ ghost use Rattle.lsp_text.specs.Units.{units_in};
 ghost use Rattle.lsp_edit.specs.Faults.{ends_of, places_at};
 
 use crate::fault::{EditFault, Side};
-use lsp_text::{Encoding, GapText, Lines, Range};
+use lsp_text::{Encoding, Lines, Range};
 
 /// The places of a range's two ends in the text that `lines` index. `change` is the number of the change that a fault tells.
 pub fn ends(
@@ -27,34 +27,6 @@ pub fn ends(
         });
     };
     let Ok(stop) = lines.resolve(text, encoding, range.stop) else {
-        return Err(EditFault::InsideCharacter {
-            change,
-            side: Side::Stop,
-        });
-    };
-    if start > stop {
-        return Err(EditFault::ReversedRange { change });
-    }
-    Ok((start, stop))
-}
-
-/// The same in a text with a gap.
-pub fn ends_in(
-    text: &mut GapText,
-    encoding: Encoding,
-    range: Range,
-    change: usize,
-) -> Result<(usize, usize), EditFault>
-    ensures same { text.new ≡ text.old }
-    ensures value { result ≡ places_at change (chars text.old) (ends_of (units_in encoding) (chars text.old) range) }
-{
-    let Ok(start) = text.resolve(encoding, range.start) else {
-        return Err(EditFault::InsideCharacter {
-            change,
-            side: Side::Start,
-        });
-    };
-    let Ok(stop) = text.resolve(encoding, range.stop) else {
         return Err(EditFault::InsideCharacter {
             change,
             side: Side::Stop,

@@ -96,6 +96,7 @@ impl GapText {
         position: Position,
     ) -> Result<usize, InsideCharacter>
         ensures same { self.new ≡ self.old }
+        ensures utf8 { IsUtf8 self.old }
         ensures value { result_ok result ≡ option_map (place_of (chars self.old)) (denoted (units_in encoding) (chars self.old) position) }
     {
         match encoding {
@@ -131,7 +132,7 @@ impl GapText {
 
     /// The text without the gap, and its lines, handed over. Costs the bytes and the lines after the gap.
     pub fn into_text(self) -> Result<(String, Lines), AllocError>
-        ensures { IfOk result (λ handed. (string_bytes handed.0 ≡ self) × Indexes handed.1 self) }
+        ensures { IfOk result (λ handed. (string_bytes handed.0 ≡ self) × Indexes handed.1 (string_bytes handed.0)) }
     {
         let GapText {
             bytes,
