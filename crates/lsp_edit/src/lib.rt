@@ -19,6 +19,8 @@ mod in_place;
 mod indexed;
 mod kept_lines;
 mod laws;
+#[cfg(test)]
+mod long_batch_tests;
 mod pieces;
 pub mod plain;
 #[cfg(test)]

@@ -94,12 +94,12 @@ last_is end offset whole before after are is next =
       within = omega (arith, both_count end before after, is.some);
       at_most = omega (arith, at_front end before after (length before - 1) (omega (arith, is.some)), is.last);
       greatest = λ later above within.
-      let some : 0 < length after = omega (arith, both_count end before after, above, within) in
-      let z : length before - length before ≡ 0 = omega arith in
-      let nearest : length after - 1 - (length before - length before) ≡ length after - 1 = omega (arith) in
-      let first : slice_index (starts_of_both end before after) (length before) ≡ end - slice_index after (length after - 1)
-      = at_back end before after (length before) (omega arith) (omega (arith, some)) ∙ ap (λ (n : ℕ). end - slice_index after n) nearest in
-      let rises : slice_index (starts_of_both end before after) (length before) ≤ slice_index (starts_of_both end before after) later
-      = (subst AreStarts (sym is.same) are).ascend (length before) later (omega (arith, above)) within in
-      omega (arith, first, rises, next some);
+          let some : 0 < length after = omega (arith, both_count end before after, above, within) in
+          let z : length before - length before ≡ 0 = omega arith in
+          let nearest : length after - 1 - (length before - length before) ≡ length after - 1 = omega (arith) in
+          let first : slice_index (starts_of_both end before after) (length before) ≡ end - slice_index after (length after - 1)
+          = at_back end before after (length before) (omega arith) (omega (arith, some)) ∙ ap (λ (n : ℕ). end - slice_index after n) nearest in
+          let rises : slice_index (starts_of_both end before after) (length before) ≤ slice_index (starts_of_both end before after) later
+          = (subst AreStarts (sym is.same) are).ascend (length before) later (omega (arith, above)) within in
+          omega (arith, first, rises, next some);
     })

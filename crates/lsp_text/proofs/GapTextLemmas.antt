@@ -52,12 +52,12 @@ front_are end whole before after same are some =
       some = some;
       first = sym (at_front end before after 0 some) ∙ all.first;
       ascend = λ j k order within.
-      omega (
-        arith,
-        at_front end before after j (omega (arith, order, within)),
-        at_front end before after k within,
-        all.ascend j k order (omega (arith, both_count end before after, within)),
-      );
+          omega (
+            arith,
+            at_front end before after j (omega (arith, order, within)),
+            at_front end before after k within,
+            all.ascend j k order (omega (arith, both_count end before after, within)),
+          );
     }
 
 -- A text without changes: all of its starts lie before the gap.
@@ -176,10 +176,10 @@ module _ (old before after bytes front back new : List ℕ) (start stop : ℕ) (
         within = omega (arith, count, to_low.within);
         at_most = omega (arith, get_or_append_left first behind 0 (keep - 1) to_low.within, to_low.at_most);
         greatest = λ later above within.
-        ⊎_elim
-        (λ (h : later < length first). omega (arith, get_or_append_left first behind 0 later h, to_low.greatest later above h))
-        (λ (h : length first ≤ later). omega (arith, order, stops.greatest later (omega (arith, h, some)) within))
-        (cases_lt later (length first));
+            ⊎_elim
+            (λ (h : later < length first). omega (arith, get_or_append_left first behind 0 later h, to_low.greatest later above h))
+            (λ (h : length first ≤ later). omega (arith, order, stops.greatest later (omega (arith, h, some)) within))
+            (cases_lt later (length first));
       }
 
   low_cut : IsCut old (start - 1) keep
@@ -208,14 +208,14 @@ module _ (old before after bytes front back new : List ℕ) (start stop : ℕ) (
   pub gap_replaced : IsGapText bytes last rest
   gap_replaced = record {
     utf8 =
-    is_utf8-from_IsUtf8 bytes
-    (subst IsUtf8 (sym bytes_is)
-    (IsUtf8-append (take start old ++ new) (drop stop old) (IsUtf8-append (take start old) new (IsUtf8-take old start (gap_utf8 old before after is) at_start) new_utf8) (IsUtf8-drop old stop (gap_utf8 old before after is) at_stop)));
+        is_utf8-from_IsUtf8 bytes
+        (subst IsUtf8 (sym bytes_is)
+        (IsUtf8-append (take start old ++ new) (drop stop old) (IsUtf8-append (take start old) new (IsUtf8-take old start (gap_utf8 old before after is) at_start) new_utf8) (IsUtf8-drop old stop (gap_utf8 old before after is) at_stop)));
     size = room;
     some = omega (arith, ap length last_is, length-append (take keep first) (ends_between front (start - 1) (start + length new)), ap length kept_is);
     starts =
-    ap (λ (xs : List ℕ). xs ++ reverse (map (λ (d : ℕ). length bytes - d) rest)) last_is
-    ∙ (assoc (take keep first) (ends_between front (start - 1) (start + length new)) (reverse (map (λ (d : ℕ). length bytes - d) rest))
-    ∙ (ap₂ (λ (x y : List ℕ). x ++ y) kept_is (ap₂ (λ (x y : List ℕ). x ++ y) found_is moved_is)
-    ∙ sym (starts_spliced old bytes start stop (length new) replaced)));
+        ap (λ (xs : List ℕ). xs ++ reverse (map (λ (d : ℕ). length bytes - d) rest)) last_is
+        ∙ (assoc (take keep first) (ends_between front (start - 1) (start + length new)) (reverse (map (λ (d : ℕ). length bytes - d) rest))
+        ∙ (ap₂ (λ (x y : List ℕ). x ++ y) kept_is (ap₂ (λ (x y : List ℕ). x ++ y) found_is moved_is)
+        ∙ sym (starts_spliced old bytes start stop (length new) replaced)));
   }

@@ -27,12 +27,7 @@ impl Model for GapBytes {
 }
 
 /// Makes a gap of `count` bytes at least from `low` on, where there is one up to `high`. The offset where it ends then.
-fn widen(
-    buffer: &mut Vec<u8>,
-    low: usize,
-    high: usize,
-    count: usize,
-) -> Result<usize, AllocError>
+fn widen(buffer: &mut Vec<u8>, low: usize, high: usize, count: usize) -> Result<usize, AllocError>
     requires order { low ≤ high }
     requires within { high ≤ vec_len buffer.old }
     ensures front { OnOk result (take low buffer.new.items ≡ take low buffer.old.items) }
@@ -181,7 +176,10 @@ impl GapBytes {
         ensures value { result ≡ splits_crlf (without_gap self.now) offset }
         ensures within { IsTrue result → offset < length (without_gap self.now) }
     {
-        offset > 0 && offset < self.len() && self.at(offset - 1) == b'\r' && self.at(offset) == b'\n'
+        offset > 0
+            && offset < self.len()
+            && self.at(offset - 1) == b'\r'
+            && self.at(offset) == b'\n'
     }
 
     /// Moves the gap to the start of some bytes, if it lies among them.

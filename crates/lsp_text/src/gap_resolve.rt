@@ -39,7 +39,10 @@ fn content(bytes: &GapBytes, before: &[u32], after: &[u32], line: usize) -> (usi
     if next == before.len() + after.len() {
         (start, end)
     } else {
-        (start, stop_before(bytes, start_at(before, after, end, next)))
+        (
+            start,
+            stop_before(bytes, start_at(before, after, end, next)),
+        )
     }
 }
 

@@ -100,9 +100,24 @@ impl GapText {
         ensures value { result_ok result ≡ option_map (place_of (chars self.old)) (denoted (units_in encoding) (chars self.old) position) }
     {
         match encoding {
-            Encoding::Utf8 => resolve_gapped::<Utf8>(&mut self.bytes, &self.before, &self.after, position),
-            Encoding::Utf16 => resolve_gapped::<Utf16>(&mut self.bytes, &self.before, &self.after, position),
-            Encoding::Utf32 => resolve_gapped::<Utf32>(&mut self.bytes, &self.before, &self.after, position),
+            Encoding::Utf8 => resolve_gapped::<Utf8>(
+                &mut self.bytes,
+                &self.before,
+                &self.after,
+                position,
+            ),
+            Encoding::Utf16 => resolve_gapped::<Utf16>(
+                &mut self.bytes,
+                &self.before,
+                &self.after,
+                position,
+            ),
+            Encoding::Utf32 => resolve_gapped::<Utf32>(
+                &mut self.bytes,
+                &self.before,
+                &self.after,
+                position,
+            ),
         }
     }
 

@@ -23,7 +23,7 @@ gather-requires-clause-within g c =
     omega (
       arith,
       content_within (without_gap c.args.bytes.now) c.args.position.line _ _ (gap_utf8 (without_gap c.args.bytes.now) c.args.before.now c.args.after.now c.requires)
-      (record { there = (indexes_line (without_gap c.args.bytes.now) (starts_of_both (length (without_gap c.args.bytes.now)) c.args.before.now c.args.after.now) c.args.position.line (gap_indexes (without_gap c.args.bytes.now) c.args.before.now c.args.after.now c.requires) (omega (arith, c.if-line-before.false, both_count (length (without_gap c.args.bytes.now)) c.args.before.now c.args.after.now))); start_is = c.content-start.ensures.start; stop_is = c.content-start.ensures.stop }),
+          (record { there = (indexes_line (without_gap c.args.bytes.now) (starts_of_both (length (without_gap c.args.bytes.now)) c.args.before.now c.args.after.now) c.args.position.line (gap_indexes (without_gap c.args.bytes.now) c.args.before.now c.args.after.now c.requires) (omega (arith, c.if-line-before.false, both_count (length (without_gap c.args.bytes.now)) c.args.before.now c.args.after.now))); start_is = c.content-start.ensures.start; stop_is = c.content-start.ensures.stop }),
     )
 
 pub part-requires-clause-order : goal.part-requires-clause-order
@@ -37,7 +37,7 @@ part-requires-clause-within g c =
       arith,
       ap length c.gather.ensures.same,
       content_within (without_gap c.args.bytes.now) c.args.position.line _ _ (gap_utf8 (without_gap c.args.bytes.now) c.args.before.now c.args.after.now c.requires)
-      (record { there = (indexes_line (without_gap c.args.bytes.now) (starts_of_both (length (without_gap c.args.bytes.now)) c.args.before.now c.args.after.now) c.args.position.line (gap_indexes (without_gap c.args.bytes.now) c.args.before.now c.args.after.now c.requires) (omega (arith, c.if-line-before.false, both_count (length (without_gap c.args.bytes.now)) c.args.before.now c.args.after.now))); start_is = c.content-start.ensures.start; stop_is = c.content-start.ensures.stop }),
+          (record { there = (indexes_line (without_gap c.args.bytes.now) (starts_of_both (length (without_gap c.args.bytes.now)) c.args.before.now c.args.after.now) c.args.position.line (gap_indexes (without_gap c.args.bytes.now) c.args.before.now c.args.after.now c.requires) (omega (arith, c.if-line-before.false, both_count (length (without_gap c.args.bytes.now)) c.args.before.now c.args.after.now))); start_is = c.content-start.ensures.start; stop_is = c.content-start.ensures.stop }),
     )
 
 pub place_in-requires : goal.place_in-requires

@@ -19,7 +19,8 @@ pub returns : goal.returns
 returns c =
     let starts : c.in_ok-starts.starts.items ≡ starts_of_both (length (without_gap c.self.inside.bytes)) c.self.inside.before.items c.self.inside.after.items
     = c.in_ok-starts.ensures ∙ ap (λ (n : ℕ). starts_of_both n c.self.inside.before.items c.self.inside.after.items) c.len.ensures in
-    let text : string_bytes c.from_utf8_unchecked-text.result ≡ without_gap c.self.inside.bytes = ap (λ v. v.items) c.from_utf8_unchecked-text.ensures.value ∙ c.into_vec.ensures in
-    (text ∙ c.self.view_is,
-    subst (Indexes c.of_starts.result) (sym text)
-    (subst (λ (xs : List ℕ). Indexes xs (without_gap c.self.inside.bytes)) (sym (c.of_starts.ensures ∙ starts)) (gap_indexes (without_gap c.self.inside.bytes) c.self.inside.before.items c.self.inside.after.items c.self.invariant)))
+    let text : string_bytes c.from_utf8_unchecked-text.result ≡ without_gap c.self.inside.bytes = ap (λ v. v.items) c.from_utf8_unchecked-text.ensures.value ∙ c.into_vec.ensures in (
+      text ∙ c.self.view_is,
+      subst (Indexes c.of_starts.result) (sym text)
+          (subst (λ (xs : List ℕ). Indexes xs (without_gap c.self.inside.bytes)) (sym (c.of_starts.ensures ∙ starts)) (gap_indexes (without_gap c.self.inside.bytes) c.self.inside.before.items c.self.inside.after.items c.self.invariant)),
+    )
