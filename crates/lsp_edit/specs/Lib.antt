@@ -1,5 +1,6 @@
 pub mod Items
 pub mod Batch
+pub mod TextBatch
 pub mod Canonical
 pub mod Compose
 pub mod Keeps

@@ -12,6 +12,7 @@ ghost use Rattle.lsp_edit.specs.Indexed.{IsCanonicalBatch, alone, told_as, text_
 
 use crate::change::{Change, MAX_NEW_TEXT};
 use crate::composed::{MAX_OLD_TEXT, compose_over};
+use crate::draft::Draft;
 use crate::ends::ends;
 use crate::fault::EditFault;
 use crate::in_place::put_in_place;
@@ -120,6 +121,27 @@ impl IndexedText {
         Ok(pieces)
     }
 
+    /// What a batch leaves of the text, if that has at most `max_len` bytes. No spans are kept.
+    fn draft(
+        &self,
+        encoding: Encoding,
+        changes: &[Change],
+        max_len: usize,
+    ) -> Result<Draft, TextFault>
+        requires size { length self.now ≤ MAX_OLD_TEXT }
+        requires fits { sum_by (λ change. string_len change.text) changes.now ≤ MAX_NEW_TEXT }
+        ensures ok { IfOk result (λ left. text_within max_len self.now (meaning (units_in encoding) (chars self.now) (map edit_of changes.now)) ≡ Ok left) }
+        ensures told { IfErr result (λ fault. (fault ≡ NoMemory)
+            ⊎ (text_within max_len self.now (meaning (units_in encoding) (chars self.now) (map edit_of changes.now)) ≡ Err fault)) }
+    {
+        let alloc = *self.text.allocator();
+        let draft = Draft::left_by(alloc, &self.text, &self.lines, encoding, changes)?;
+        if draft.len() > max_len {
+            return Err(TextFault::TooLong);
+        }
+        Ok(draft)
+    }
+
     /// Puts a text in place of a range, in place.
     fn put(
         &mut self,
@@ -150,7 +172,8 @@ impl IndexedText {
     /// Makes the text what a batch means on it (LSP 3.17, DidChangeTextDocumentParams), if that has at most `max_len` bytes; the texts
     /// between may have more. The first change that has no result is told. Where anything is refused nothing changes. One change of a
     /// range costs its two positions, one move of the text behind it, and one pass over the line starts that follow. A longer batch costs
-    /// what each change costs to apply, and one copy of the text.
+    /// one copy of the text and of its line starts, if it doesn't begin with a whole text, and for each change its two positions, its
+    /// text, and the bytes and the lines between it and the change before. No spans are kept.
     pub fn change(
         &mut self,
         encoding: Encoding,
@@ -178,8 +201,7 @@ impl IndexedText {
             self.put(encoding, *range, text, max_len)?;
             return Ok(());
         }
-        let pieces = self.composed(encoding, changes, max_len)?;
-        let (text, lines) = pieces.into_text()?;
+        let (text, lines) = self.draft(encoding, changes, max_len)?.into_text()?;
         *self = IndexedText { text, lines };
         Ok(())
     }

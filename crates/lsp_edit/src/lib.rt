@@ -3,6 +3,7 @@
 //! - `change`: a change as the protocol writes it, and the limit on the texts of a batch.
 //! - `pieces`: a text that changes are applied to, its canonical batch, and two runs of changes put together; `composed`: a whole batch.
 //! - `spans`, `row`, `replace`, `through`: what became of the old text, in runs of it and of the changes' texts.
+//! - `draft`: a text under the changes of a batch, where nobody asks for spans.
 //! - `current`: the text that changes meet, made late and changed in place.
 //! - `laws`: what holds of every batch and of its canonical batch.
 //! - `plain`: the definitions as a plain program, one item for each character, with the same clauses, save on memory.
@@ -12,6 +13,7 @@ mod canonical;
 mod change;
 mod composed;
 mod current;
+mod draft;
 mod ends;
 mod fault;
 mod in_place;

@@ -17,6 +17,9 @@ pub mod ExactLemmas
 pub mod BoundaryLemmas
 pub mod ShiftLemmas
 pub mod SpliceLemmas
+pub mod GapBytesLemmas
+pub mod GapStartsLemmas
+pub mod GapTextLemmas
 pub mod PastLemmas
 pub mod PartLemmas
 pub mod SearchLemmas

@@ -8,6 +8,7 @@ pub mod Leads
 pub mod UnitLaws
 pub mod LeadLaws
 pub mod Splice
+pub mod Gapped
 pub mod LineLaws
 pub mod PlaceLaws
 pub mod EncodingLaws

@@ -6,6 +6,7 @@ ghost use Rattle.lsp_text.specs.Text.{place_of};
 ghost use Rattle.lsp_text.specs.TextLines.{line_ends};
 ghost use Rattle.lsp_text.specs.LineStarts.{Indexes, IsPlace};
 ghost use Rattle.lsp_text.specs.Splice.{IsSpliced};
+ghost use Rattle.lsp_text.specs.Starts.{AreStarts};
 ghost use Rattle.lsp_text.specs.Units.{units_in};
 ghost use Rattle.lsp_text.specs.Positions.{exact_position, denoted};
 
@@ -48,6 +49,30 @@ impl Lines {
         let mut starts = Vec::new(alloc);
         starts.push(0)?;
         push_ends(&mut starts, bytes, 0, bytes.len())?;
+        Ok(Lines { starts })
+    }
+
+    /// Lines of their starts.
+    pub(crate) fn of_starts(starts: Vec<u32>) -> Self
+        requires { AreStarts starts.items }
+        ensures { result ≡ starts.items }
+    {
+        Lines { starts }
+    }
+
+    /// The line starts, handed over.
+    pub(crate) fn into_starts(self) -> Vec<u32>
+        ensures { result.items ≡ self }
+    {
+        self.starts
+    }
+
+    /// A copy. Costs four bytes a line.
+    pub fn copied(&self, alloc: Global) -> Result<Self, AllocError>
+        ensures { IfOk result (λ lines. lines ≡ self.now) }
+    {
+        let mut starts = Vec::with_capacity(alloc, self.count())?;
+        starts.extend_from_slice(&self.starts)?;
         Ok(Lines { starts })
     }
 

@@ -9,7 +9,7 @@ use crate::starts::{Looks, line_of};
 use std::alloc::AllocError;
 
 /// How many starts are at most a place.
-fn starts_to(starts: &[u32], place: usize) -> usize
+pub fn starts_to(starts: &[u32], place: usize) -> usize
     requires { AreStarts starts.now }
     ensures some { 0 < result }
     ensures last { IsLineOf starts.now place (result - 1) }

@@ -1,0 +1,185 @@
+//! Batches of several changes on a text that is kept with its lines: what they leave, and that nothing changes where they fail. Ranges
+//! are counted in UTF-16.
+
+use lsp_edit::{Change, EditFault, IndexedText, MAX_OLD_TEXT, MAX_TEXT, Side, TextFault, fits};
+use lsp_samples::edits::{ALL, Edit, batch};
+use lsp_text::{Encoding, Lines, Position};
+use std::alloc::{AllocError, Global};
+use std::test::Fail;
+
+/// A text, a batch, and the text that it leaves.
+type Row = (&'static str, &'static [Edit], &'static str);
+
+static BATCHES: [Row; 12] = [
+    (
+        "a\nb\nc\n",
+        &[(2, 0, 2, 1, "C"), (1, 0, 1, 1, "B"), (0, 0, 0, 1, "A")],
+        "A\nB\nC\n",
+    ),
+    (
+        "a\nb\nc\n",
+        &[(0, 0, 0, 0, "x\n"), (2, 0, 2, 1, ""), (3, 0, 3, 1, "zz")],
+        "x\na\n\nzz\n",
+    ),
+    (
+        "one\ntwo\nthree\nfour\n",
+        &[
+            (3, 0, 3, 4, "4"),
+            (0, 0, 0, 3, "1"),
+            (2, 0, 2, 5, "3"),
+            (1, 0, 1, 3, "2"),
+        ],
+        "1\n2\n3\n4\n",
+    ),
+    (
+        "a\nb\nc\nd\ne\n",
+        &[(2, 1, 2, 1, "!"), (1, 0, 3, 0, ""), (1, 0, 1, 0, "x\ny\n")],
+        "a\nx\ny\nd\ne\n",
+    ),
+    ("a\nb", &[(0, 1, 0, 1, "\r"), (1, 0, 1, 1, "c")], "a\r\nc"),
+    ("a\r\nb", &[(0, 1, 1, 0, "\r"), (1, 0, 1, 0, "x")], "a\rxb"),
+    ("a\rb\nc", &[(1, 0, 1, 1, ""), (1, 0, 1, 1, "d")], "a\r\nd"),
+    (
+        "abc",
+        &[(0, 0, 0, 1, ""), (ALL, 0, 0, 0, "x\ny"), (1, 0, 1, 1, "z")],
+        "x\nz",
+    ),
+    (
+        "abc",
+        &[(ALL, 0, 0, 0, "p\nq\n"), (1, 0, 1, 1, "r")],
+        "p\nr\n",
+    ),
+    (
+        "\u{E9}\u{1F600}b",
+        &[(0, 3, 0, 4, "\u{1D11E}"), (0, 1, 0, 3, "\u{FC}")],
+        "\u{E9}\u{FC}\u{1D11E}",
+    ),
+    ("a\n", &[(9, 9, 9, 9, "b"), (0, 9, 0, 9, "c")], "ac\nb"),
+    ("a\n", &[], "a\n"),
+];
+
+/// A text, a batch, and why it has no result.
+type Faulty = (&'static str, &'static [Edit], TextFault);
+
+static FAULTS: [Faulty; 3] = [
+    (
+        "\u{E9}\u{1F600}b",
+        &[(0, 0, 0, 1, "x"), (0, 2, 0, 3, "")],
+        TextFault::Edit(EditFault::InsideCharacter {
+            change: 1,
+            side: Side::Start,
+        }),
+    ),
+    (
+        "abc\n",
+        &[(0, 3, 0, 3, "d"), (0, 0, 0, 0, "x"), (0, 2, 0, 1, "")],
+        TextFault::Edit(EditFault::ReversedRange { change: 2 }),
+    ),
+    (
+        "abc\n",
+        &[(0, 3, 0, 3, "0123456789"), (0, 0, 0, 0, "x")],
+        TextFault::TooLong,
+    ),
+];
+
+const MAX_LEN: usize = 14;
+
+fn kept(alloc: Global, text: &str) -> Result<IndexedText, AllocError> {
+    let text = String::from_str(alloc, text)?;
+    if text.len() > MAX_TEXT {
+        return Err(AllocError);
+    }
+    IndexedText::new(alloc, text)
+}
+
+fn applied(text: &mut IndexedText, changes: &[Change], max_len: usize) -> Result<(), TextFault> {
+    if text.text().len() > MAX_OLD_TEXT || !fits(changes) {
+        return Err(TextFault::TooLong);
+    }
+    text.change(Encoding::Utf16, changes, max_len)
+}
+
+/// Whether the lines that are kept are those of the text, by the offset where each starts.
+fn has_its_lines(alloc: Global, text: &IndexedText) -> Result<bool, AllocError> {
+    if text.text().len() > MAX_TEXT {
+        return Err(AllocError);
+    }
+    let lines = Lines::new(alloc, text.text())?;
+    if lines.count() != text.lines().count() {
+        return Ok(false);
+    }
+    for line in 0..9 {
+        let start = Position { line, character: 0 };
+        let kept = text.lines().resolve(text.text(), Encoding::Utf8, start);
+        if kept != lines.resolve(text.text(), Encoding::Utf8, start) {
+            return Ok(false);
+        }
+    }
+    Ok(true)
+}
+
+fn leaves(alloc: Global, row: &Row) -> Result<bool, AllocError> {
+    let (before, edits, after) = *row;
+    let changes = batch(alloc, edits)?;
+    let mut text = kept(alloc, before)?;
+    let is_applied = applied(&mut text, &changes, MAX_OLD_TEXT).is_ok();
+    Ok(is_applied && text.text() == after && has_its_lines(alloc, &text)?)
+}
+
+#[test]
+fn long_batches_leave_their_texts(rt: HostRuntime) -> Result<(), Fail> {
+    for row in &BATCHES {
+        assert!(rt; leaves(rt.alloc(), row)?, "{row:?}");
+    }
+    Ok(())
+}
+
+fn fails(alloc: Global, row: &Faulty) -> Result<bool, AllocError> {
+    let (before, edits, fault) = *row;
+    let changes = batch(alloc, edits)?;
+    let mut text = kept(alloc, before)?;
+    let answer = applied(&mut text, &changes, MAX_LEN);
+    Ok(answer == Err(fault) && text.text() == before && has_its_lines(alloc, &text)?)
+}
+
+#[test]
+fn long_batches_that_fail_change_nothing(rt: HostRuntime) -> Result<(), Fail> {
+    for row in &FAULTS {
+        assert!(rt; fails(rt.alloc(), row)?, "{row:?}");
+    }
+    Ok(())
+}
+
+static SEVERAL: [Edit; 3] = [
+    (1, 0, 1, 1, "B\nBB\nBBB"),
+    (0, 0, 0, 1, "A"),
+    (4, 0, 4, 0, "x"),
+];
+
+#[test]
+fn refused_long_batch(rt: HostRuntime) -> Result<(), Fail> {
+    let mut refused: usize = 0;
+    let changes = match batch(rt.alloc(), &SEVERAL) {
+        Ok(changes) => changes,
+        Err(_) => {
+            refused = refused.saturating_add(1);
+            batch(rt.alloc(), &SEVERAL)?
+        }
+    };
+    let mut text = match kept(rt.alloc(), "a\nb\nc\n") {
+        Ok(text) => text,
+        Err(_) => {
+            refused = refused.saturating_add(1);
+            kept(rt.alloc(), "a\nb\nc\n")?
+        }
+    };
+    if applied(&mut text, &changes, MAX_LEN + 10) == Err(TextFault::NoMemory) {
+        refused = refused.saturating_add(1);
+        assert_eq!(rt; text.text(), "a\nb\nc\n");
+        assert_eq!(rt; applied(&mut text, &changes, MAX_LEN + 10), Ok(()));
+    }
+    assert_eq!(rt; text.text(), "A\nB\nBB\nBBB\nxc\n");
+    assert_eq!(rt; text.lines().count(), 6);
+    println!(rt; "refused {refused}")?;
+    Ok(())
+}

@@ -1,0 +1,221 @@
+-- A text with a gap, changed: its line starts are those of the new text.
+use Rattle.std.proofs.Common.{ℕ, zero, suc, ◌≡◌, ◌+◌, ◌-◌, ◌<◌, ◌≤◌, Bool, true, false, not, ◌&&◌, ◌||◌, ◌==◌, List, [], ◌∷◌, ◌++◌, length, map, take, drop, reverse, get_or, slice_index, refl, sym, ap, ap₂, ◌∙◌, subst, arith, ⊎_elim}
+use Rattle.std.proofs.lemmas.List.{length-append, length-drop, length-take-le, length-map, length-reverse, map-append, map-id, get_or_append_left, get_or-append_right, get_or_default, append_assoc, append-nil, take-append-le, take_at, drop_at, reverse-append}
+use Rattle.std.proofs.lemmas.Bool.{cases_lt, cases_Bool}
+use Rattle.std.proofs.lemmas.Str.{IsUtf8-append, IsUtf8-take, IsUtf8-drop, IsUtf8-from_is_utf8, is_utf8-from_IsUtf8}
+use Rattle.std.specs.List.{replace_range}
+use Rattle.std.specs.Str.{IsCharBoundary, IsUtf8, is_utf8, chars}
+use Rattle.lsp_text.specs.Gapped.{IsGapText, starts_of_both}
+use Rattle.lsp_text.specs.LineStarts.{Indexes, ends_between, line_starts}
+use Rattle.lsp_text.specs.Splice.{IsReplaced}
+use Rattle.lsp_text.specs.Starts.{AreStarts, IsLineOf}
+use Rattle.lsp_text.specs.TextLines.{ends_line, splits_crlf, numbers_from}
+use Rattle.lsp_text.proofs.GapStartsLemmas.{at_front, both_count}
+use Rattle.lsp_text.proofs.SpliceLemmas.{IsCut, starts_cut, starts_spliced, filter_moved, filter_below, ends_behind}
+use Rattle.lsp_text.proofs.StartLemmas.{starts_of_text}
+use Rattle.lsp_text.proofs.StartRowLemmas.{line_starts_are}
+use Rattle.lsp_text.proofs.IndexesLemmas.{indexes_from}
+
+assoc : (a b c : List ℕ) → a ++ b ++ c ≡ a ++ (b ++ c)
+assoc a b c = simp append_assoc
+
+-- ---- the starts as they are kept
+
+start_within : (bytes : List ℕ) (k : ℕ) → k < length (line_starts bytes) → slice_index (line_starts bytes) k ≤ length bytes
+start_within bytes zero h = omega arith
+start_within bytes (suc k) h = omega (arith, filter_below (ends_line bytes) 1 (length bytes - 0) k (omega arith))
+
+module _ (bytes before after : List ℕ) (is : IsGapText bytes before after) where
+  pub gap_are : AreStarts (starts_of_both (length bytes) before after)
+  gap_are = subst AreStarts (sym is.starts) (line_starts_are bytes)
+
+  pub gap_within : (k : ℕ) → k < length before → slice_index before k ≤ length bytes
+  gap_within k h =
+      omega (
+        arith,
+        at_front (length bytes) before after k h,
+        ap (λ (xs : List ℕ). slice_index xs k) is.starts,
+        start_within bytes k (omega (arith, both_count (length bytes) before after, ap length is.starts, h)),
+      )
+
+  pub gap_utf8 : IsUtf8 bytes
+  gap_utf8 = IsUtf8-from_is_utf8 bytes is.utf8
+
+  pub gap_indexes : Indexes (starts_of_both (length bytes) before after) bytes
+  gap_indexes = indexes_from bytes (starts_of_both (length bytes) before after) gap_utf8 is.size is.starts
+
+-- Starts before a gap are starts.
+pub front_are : (end : ℕ) (whole before after : List ℕ) → starts_of_both end before after ≡ whole → AreStarts whole → 0 < length before → AreStarts before
+front_are end whole before after same are some =
+    let all : AreStarts (starts_of_both end before after) = subst AreStarts (sym same) are in
+    record {
+      some = some;
+      first = sym (at_front end before after 0 some) ∙ all.first;
+      ascend = λ j k order within.
+          omega (
+            arith,
+            at_front end before after j (omega (arith, order, within)),
+            at_front end before after k within,
+            all.ascend j k order (omega (arith, both_count end before after, within)),
+          );
+    }
+
+-- A text without changes: all of its starts lie before the gap.
+pub gap_begun : (bytes lines before after : List ℕ) → IsUtf8 bytes → Indexes lines bytes → before ≡ lines → after ≡ [] → IsGapText bytes before after
+gap_begun bytes lines before after utf8 indexed is none =
+    let starts : lines ≡ line_starts bytes = indexed.starts ∙ sym (starts_of_text bytes utf8) in
+    record {
+      utf8 = is_utf8-from_IsUtf8 bytes utf8;
+      size = indexed.size;
+      some = omega (arith, ap length (is ∙ starts));
+      starts = ap (starts_of_both (length bytes) before) none ∙ (append-nil before ∙ (is ∙ starts));
+    }
+
+-- ---- line ends among the bytes before a gap
+
+module _ (front back : List ℕ) (low high : ℕ) (order : low ≤ high) (within : high ≤ length front) (seam : length front ≡ high → splits_crlf (front ++ back) high ≡ false) where
+  same_byte : (k : ℕ) → k < length front → slice_index front k ≡ slice_index (front ++ back) k
+  same_byte k h = sym (get_or_append_left front back 0 k h)
+
+  same_end : (k : ℕ) → suc k ≤ high → ends_line front (suc k) ≡ ends_line (front ++ back) (suc k)
+  same_end k h =
+      ⊎_elim
+      (λ (inside : suc k < length front).
+      ap (λ (x : ℕ). (x == 10) || ((x == 13) && not (slice_index front (suc k) == 10))) (same_byte k (omega (arith, inside)))
+      ∙ ap (λ (y : ℕ). (slice_index (front ++ back) k == 10) || ((slice_index (front ++ back) k == 13) && not (y == 10))) (same_byte (suc k) inside))
+      (λ (last : length front ≤ suc k).
+      let n : length front ≡ suc k = omega (arith, last, within, h) in
+      let m : suc k ≡ high = omega (arith, last, within, h) in
+      let apart : splits_crlf (front ++ back) (suc k) ≡ false = ap (splits_crlf (front ++ back)) m ∙ seam (n ∙ m) in
+      let past : slice_index front (suc k) ≡ 0 = past_end front (suc k) last in
+      ap (λ (x : ℕ). (x == 10) || ((x == 13) && not (slice_index front (suc k) == 10))) (same_byte k (omega (arith, n)))
+      ∙ (ap (λ (y : ℕ). (slice_index (front ++ back) k == 10) || ((slice_index (front ++ back) k == 13) && not (y == 10))) past
+      ∙ both (slice_index (front ++ back) k == 10) (slice_index (front ++ back) k == 13) (slice_index (front ++ back) (suc k) == 10) apart))
+      (cases_lt (suc k) (length front))
+    where
+      past_end : (xs : List ℕ) (n : ℕ) → length xs ≤ n → slice_index xs n ≡ 0
+      past_end [] n h = refl
+      past_end (x ∷ xs) zero h = absurd (omega arith)
+      past_end (x ∷ xs) (suc n) h = past_end xs n (omega arith)
+
+      both : (a b c : Bool) → (b && c) ≡ false → (a || (b && true)) ≡ (a || (b && not c))
+      both true b c e = refl
+      both false true true e = absurd (cc)
+      both false true false e = refl
+      both false false c e = refl
+
+  pub ends_of_front : ends_between front low high ≡ ends_between (front ++ back) low high
+  ends_of_front =
+      sym (map-id (ends_between front low high)) ∙
+      filter_moved (λ x. x) (ends_line front) (ends_line (front ++ back)) (suc low) (suc low) (high - low)
+      (λ j h. let a : suc low + j ≡ suc (low + j) = omega arith in ap (ends_line front) a ∙ (same_end (low + j) (omega (arith, h, order)) ∙ ap (ends_line (front ++ back)) (sym a)))
+      (λ j h. refl)
+
+-- ---- starts after a gap, whose distance to the end stays
+
+map_reversed : (f : ℕ → ℕ) (xs : List ℕ) → reverse (map f xs) ≡ map f (reverse xs)
+map_reversed f [] = refl
+map_reversed f (x ∷ xs) =
+    reverse-append (f x ∷ []) (map f xs)
+    ∙ (ap (λ (ys : List ℕ). ys ++ f x ∷ []) (map_reversed f xs)
+    ∙ (sym (map-append f (reverse xs) (x ∷ [])) ∙ ap (map f) (sym (reverse-append (x ∷ []) xs))))
+
+moved_all : (end next to moved : ℕ) (distances : List ℕ) → next ≡ moved + (end - to) → ((k : ℕ) → k < length distances → to < get_or (map (λ (d : ℕ). end - d) distances) k 0)
+    → map (λ (d : ℕ). next - d) distances ≡ map (λ (start : ℕ). start - to + moved) (map (λ (d : ℕ). end - d) distances)
+moved_all end next to moved [] is above = refl
+moved_all end next to moved (d ∷ distances) is above =
+    let here : to < end - d = above 0 (omega arith) in
+    let this : next - d ≡ end - d - to + moved = omega (arith, is, here) in
+    ap₂ (λ (x : ℕ) (xs : List ℕ). x ∷ xs) this (moved_all end next to moved distances is (λ k h. above (suc k) (omega arith)))
+
+-- ---- a replacement
+
+module _ (old before after bytes front back new : List ℕ) (start stop : ℕ) (is : IsGapText old before after) (new_utf8 : IsUtf8 new) (order : start ≤ stop) (at_start : IsCharBoundary old start) (at_stop : IsCharBoundary old stop)
+    (bytes_is : bytes ≡ replace_range old start stop new) (room : length bytes ≤ 2147483648) (whole : bytes ≡ front ++ back) (there : start + length new ≤ length front)
+    (seam : length front ≡ start + length new → splits_crlf bytes (start + length new) ≡ false) (first rest last : List ℕ) (keep : ℕ)
+    (same : starts_of_both (length old) first rest ≡ starts_of_both (length old) before after) (some : 0 < length first) (to_stop : IsLineOf (starts_of_both (length old) before after) stop (length first - 1))
+    (kept : 0 < keep) (to_low : IsLineOf first (start - 1) (keep - 1)) (last_is : last ≡ take keep first ++ ends_between front (start - 1) (start + length new)) where
+  end : ℕ
+  end = start + length new
+
+  front_len : length (take start old) ≡ start
+  front_len = length-take-le start old at_start.0
+
+  both_len : length (take start old ++ new) ≡ start + length new
+  both_len = omega (arith, length-append (take start old) new, front_len)
+
+  bytes_len : length bytes ≡ start + length new + (length old - stop)
+  bytes_len = omega (arith, ap length bytes_is, length-append (take start old ++ new) (drop stop old), both_len, length-drop stop old)
+
+  replaced : IsReplaced old bytes start stop (length new)
+  replaced = record {
+    order = order;
+    within = at_stop.0;
+    inserted = omega (arith, bytes_len);
+    front = ap (take start) (bytes_is ∙ assoc (take start old) new (drop stop old)) ∙ take_at (take start old) (new ++ drop stop old) start front_len;
+    back = ap (drop (start + length new)) bytes_is ∙ drop_at (take start old ++ new) (drop stop old) (start + length new) both_len;
+  }
+
+  abbrev behind : List ℕ
+  behind = reverse (map (λ (d : ℕ). length old - d) rest)
+
+  starts_are : first ++ behind ≡ line_starts old
+  starts_are = same ∙ is.starts
+
+  stop_cut : IsCut old stop (length first)
+  stop_cut = starts_cut old stop (length first) at_stop.0 some (subst (λ (xs : List ℕ). IsLineOf xs stop (length first - 1)) is.starts to_stop)
+
+  behind_is : behind ≡ ends_between old stop (length old)
+  behind_is = sym (drop_at first behind (length first) refl) ∙ (ap (drop (length first)) starts_are ∙ stop_cut.behind)
+
+  low_line : IsLineOf (first ++ behind) (start - 1) (keep - 1)
+  low_line =
+      let count : length (first ++ behind) ≡ length first + length behind = length-append first behind in
+      let stops : IsLineOf (first ++ behind) stop (length first - 1) = subst (λ (xs : List ℕ). IsLineOf xs stop (length first - 1)) (sym same) to_stop in
+      record {
+        within = omega (arith, count, to_low.within);
+        at_most = omega (arith, get_or_append_left first behind 0 (keep - 1) to_low.within, to_low.at_most);
+        greatest = λ later above within.
+            ⊎_elim
+            (λ (h : later < length first). omega (arith, get_or_append_left first behind 0 later h, to_low.greatest later above h))
+            (λ (h : length first ≤ later). omega (arith, order, stops.greatest later (omega (arith, h, some)) within))
+            (cases_lt later (length first));
+      }
+
+  low_cut : IsCut old (start - 1) keep
+  low_cut = starts_cut old (start - 1) keep (omega (arith, at_start.0)) kept (subst (λ (xs : List ℕ). IsLineOf xs (start - 1) (keep - 1)) starts_are low_line)
+
+  kept_within : keep ≤ length first
+  kept_within = omega (arith, to_low.within, kept)
+
+  kept_is : take keep first ≡ 0 ∷ ends_between old 0 (start - 1)
+  kept_is = sym (take-append-le keep first behind kept_within) ∙ (ap (take keep) starts_are ∙ low_cut.front)
+
+  found_is : ends_between front (start - 1) (start + length new) ≡ ends_between bytes (start - 1) (start + length new)
+  found_is =
+      ends_of_front front back (start - 1) (start + length new) (omega arith) there (λ e. ap (λ (b : List ℕ). splits_crlf b (start + length new)) (sym whole) ∙ seam e)
+      ∙ ap (λ (b : List ℕ). ends_between b (start - 1) (start + length new)) (sym whole)
+
+  moved_is : reverse (map (λ (d : ℕ). length bytes - d) rest) ≡ map (λ (s : ℕ). s - stop + (start + length new)) (ends_between old stop (length old))
+  moved_is =
+      let turned : map (λ (d : ℕ). length old - d) (reverse rest) ≡ ends_between old stop (length old) = sym (map_reversed (λ (d : ℕ). length old - d) rest) ∙ behind_is in
+      let size : length (ends_between old stop (length old)) ≡ length (reverse rest) = ap length (sym turned) ∙ length-map (reverse rest) (λ (d : ℕ). length old - d) in
+      map_reversed (λ (d : ℕ). length bytes - d) rest
+      ∙ (moved_all (length old) (length bytes) stop (start + length new) (reverse rest) bytes_len
+      (λ k h. omega (arith, ap (λ (xs : List ℕ). get_or xs k 0) turned, ends_behind old stop (length old) k (omega (arith, size, h))))
+      ∙ ap (map (λ (s : ℕ). s - stop + (start + length new))) turned)
+
+  pub gap_replaced : IsGapText bytes last rest
+  gap_replaced = record {
+    utf8 =
+        is_utf8-from_IsUtf8 bytes
+        (subst IsUtf8 (sym bytes_is)
+        (IsUtf8-append (take start old ++ new) (drop stop old) (IsUtf8-append (take start old) new (IsUtf8-take old start (gap_utf8 old before after is) at_start) new_utf8) (IsUtf8-drop old stop (gap_utf8 old before after is) at_stop)));
+    size = room;
+    some = omega (arith, ap length last_is, length-append (take keep first) (ends_between front (start - 1) (start + length new)), ap length kept_is);
+    starts =
+        ap (λ (xs : List ℕ). xs ++ reverse (map (λ (d : ℕ). length bytes - d) rest)) last_is
+        ∙ (assoc (take keep first) (ends_between front (start - 1) (start + length new)) (reverse (map (λ (d : ℕ). length bytes - d) rest))
+        ∙ (ap₂ (λ (x y : List ℕ). x ++ y) kept_is (ap₂ (λ (x y : List ℕ). x ++ y) found_is moved_is)
+        ∙ sym (starts_spliced old bytes start stop (length new) replaced)));
+  }

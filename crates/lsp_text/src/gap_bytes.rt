@@ -1,0 +1,241 @@
+//! The bytes of a text with a gap where it is changed.
+ghost use Rattle.std.specs.Prelude.{◌≡◌, ◌+◌, ◌-◌, ◌++◌, ◌≤◌, ◌<◌, [], IfOk, OnOk, OnErr, length, take, drop, vec_len, slice_index, false, IsTrue};
+ghost use Rattle.std.specs.List.{replace_range};
+ghost use Rattle.lsp_text.specs.TextLines.{splits_crlf};
+ghost use Rattle.lsp_text.specs.Gapped.{without_gap};
+
+use std::alloc::{AllocError, Global};
+use std::marker::Model;
+
+/// Bytes with a gap. What is put in goes into the gap, so it costs what it has, and the distance to the change before.
+#[derive(Drop)]
+pub struct GapBytes {
+    buffer: Vec<u8>,
+    low: usize,
+    high: usize,
+}
+
+impl Model for GapBytes {
+    ghost use Rattle.std.specs.Prelude.{◌≤◌, length, take, drop};
+    ghost use Rattle.lsp_text.specs.Gapped.{Gapped};
+
+    ghost Value = { Gapped };
+
+    ghost view = { λ bytes. record { front = take bytes.low bytes.buffer.items; back = drop bytes.high bytes.buffer.items } };
+
+    ghost invariant = { λ bytes. (bytes.low ≤ bytes.high) × (bytes.high ≤ length bytes.buffer.items) };
+}
+
+/// Makes a gap of `count` bytes at least from `low` on, where there is one up to `high`. The offset where it ends then.
+fn widen(buffer: &mut Vec<u8>, low: usize, high: usize, count: usize) -> Result<usize, AllocError>
+    requires order { low ≤ high }
+    requires within { high ≤ vec_len buffer.old }
+    ensures front { OnOk result (take low buffer.new.items ≡ take low buffer.old.items) }
+    ensures back { IfOk result (λ next. drop next buffer.new.items ≡ drop high buffer.old.items) }
+    ensures wide { IfOk result (λ next. low + count ≤ next) }
+    ensures within { IfOk result (λ next. next ≤ vec_len buffer.new) }
+    ensures error { OnErr result (buffer.new.items ≡ buffer.old.items) }
+{
+    if count <= high - low {
+        return Ok(high);
+    }
+    let len = buffer.len();
+    let added = count.max(len);
+    let Some(wide) = len.checked_add(added) else {
+        return Err(AllocError);
+    };
+    buffer.resize(wide, 0)?;
+    let next = high + added;
+    buffer.copy_within(high..len, next);
+    Ok(next)
+}
+
+/// Writes bytes over those from an offset on.
+fn write(buffer: &mut Vec<u8>, low: usize, bytes: &[u8])
+    requires { low + length bytes.now ≤ vec_len buffer.old }
+    ensures { buffer.new.items ≡ take low buffer.old.items ++ (bytes.now ++ drop (low + length bytes.now) buffer.old.items) }
+{
+    buffer[low..low + bytes.len()].copy_from_slice(bytes);
+}
+
+/// Moves a gap from `low` to `high` towards the front, so that it begins at an offset. The offset where it ends then.
+fn move_back(buffer: &mut Vec<u8>, low: usize, high: usize, offset: usize) -> usize
+    requires order { low ≤ high }
+    requires within { high ≤ vec_len buffer.old }
+    requires before { offset ≤ low }
+    ensures front { take offset buffer.new.items ≡ take offset (take low buffer.old.items ++ drop high buffer.old.items) }
+    ensures back { drop result buffer.new.items ≡ drop offset (take low buffer.old.items ++ drop high buffer.old.items) }
+    ensures order { offset ≤ result }
+    ensures within { result ≤ vec_len buffer.new }
+{
+    let next = high - (low - offset);
+    buffer.copy_within(offset..low, next);
+    next
+}
+
+/// Moves a gap from `low` to `high` towards the end, so that it begins at an offset. The offset where it ends then.
+fn move_on(buffer: &mut Vec<u8>, low: usize, high: usize, offset: usize) -> usize
+    requires order { low ≤ high }
+    requires within { high + (offset - low) ≤ vec_len buffer.old }
+    requires after { low ≤ offset }
+    ensures front { take offset buffer.new.items ≡ take offset (take low buffer.old.items ++ drop high buffer.old.items) }
+    ensures back { drop result buffer.new.items ≡ drop offset (take low buffer.old.items ++ drop high buffer.old.items) }
+    ensures order { offset ≤ result }
+    ensures within { result ≤ vec_len buffer.new }
+{
+    let next = high + (offset - low);
+    buffer.copy_within(high..next, low);
+    next
+}
+
+impl GapBytes {
+    /// A copy of bytes, with room for `room` more.
+    pub fn new(alloc: Global, bytes: &[u8], room: usize) -> Result<Self, AllocError>
+        requires { length bytes.now + room ≤ 4294967296 }
+        ensures { IfOk result (λ gapped. gapped ≡ record { front = bytes.now; back = [] }) }
+    {
+        let low = bytes.len();
+        let high = low + room;
+        let mut buffer = Vec::with_capacity(alloc, high)?;
+        buffer.extend_from_slice(bytes)?;
+        buffer.resize(high, 0)?;
+        Ok(GapBytes { buffer, low, high })
+    }
+
+    /// How many bytes there are.
+    pub fn len(&self) -> usize
+        ensures { result ≡ length (without_gap self.now) }
+    {
+        self.low + (self.buffer.len() - self.high)
+    }
+
+    /// The bytes before the gap.
+    pub fn front(&self) -> &[u8]
+        ensures { result.now ≡ self.now.front }
+    {
+        &self.buffer[..self.low]
+    }
+
+    /// The bytes after the gap.
+    pub fn back(&self) -> &[u8]
+        ensures { result.now ≡ self.now.back }
+    {
+        &self.buffer[self.high..]
+    }
+
+    /// Moves the gap. Costs the bytes between.
+    pub fn move_to(&mut self, offset: usize)
+        requires { offset ≤ length (without_gap self.old) }
+        ensures front { self.new.front ≡ take offset (without_gap self.old) }
+        ensures back { self.new.back ≡ drop offset (without_gap self.old) }
+    {
+        self.high = if offset < self.low {
+            move_back(&mut self.buffer, self.low, self.high, offset)
+        } else {
+            move_on(&mut self.buffer, self.low, self.high, offset)
+        };
+        self.low = offset;
+    }
+
+    /// Removes the first bytes after the gap.
+    pub fn remove(&mut self, count: usize)
+        requires { count ≤ length self.old.back }
+        ensures front { self.new.front ≡ self.old.front }
+        ensures back { self.new.back ≡ drop count self.old.back }
+    {
+        self.high += count;
+    }
+
+    /// Puts bytes at the end of those before the gap. Where memory is refused nothing changes.
+    pub fn insert(&mut self, bytes: &[u8]) -> Result<(), AllocError>
+        ensures front { OnOk result (self.new.front ≡ self.old.front ++ bytes.now) }
+        ensures back { OnOk result (self.new.back ≡ self.old.back) }
+        ensures error { OnErr result (self.new ≡ self.old) }
+    {
+        self.high = widen(&mut self.buffer, self.low, self.high, bytes.len())?;
+        write(&mut self.buffer, self.low, bytes);
+        self.low += bytes.len();
+        Ok(())
+    }
+
+    /// The byte of this index.
+    pub fn at(&self, index: usize) -> u8
+        requires { index < length (without_gap self.now) }
+        ensures { result ≡ slice_index (without_gap self.now) index }
+    {
+        if index < self.low {
+            self.buffer[index]
+        } else {
+            self.buffer[self.high + (index - self.low)]
+        }
+    }
+
+    /// Whether the offset lies between the bytes of a CRLF.
+    pub fn is_inside_crlf(&self, offset: usize) -> bool
+        requires { offset ≤ length (without_gap self.now) }
+        ensures value { result ≡ splits_crlf (without_gap self.now) offset }
+        ensures within { IsTrue result → offset < length (without_gap self.now) }
+    {
+        offset > 0
+            && offset < self.len()
+            && self.at(offset - 1) == b'\r'
+            && self.at(offset) == b'\n'
+    }
+
+    /// Moves the gap to the start of some bytes, if it lies among them.
+    pub fn gather(&mut self, start: usize, stop: usize)
+        requires order { start ≤ stop }
+        requires within { stop ≤ length (without_gap self.old) }
+        ensures same { without_gap self.new ≡ without_gap self.old }
+        ensures whole { length self.new.front < stop → length self.new.front ≤ start }
+    {
+        if start < self.low && self.low < stop {
+            self.move_to(start);
+        }
+    }
+
+    /// The bytes from one offset to another, among which the gap doesn't lie.
+    pub fn part(&self, start: usize, stop: usize) -> &[u8]
+        requires order { start ≤ stop }
+        requires within { stop ≤ length (without_gap self.now) }
+        requires whole { length self.now.front < stop → length self.now.front ≤ start }
+        ensures { result.now ≡ take (stop - start) (drop start (without_gap self.now)) }
+    {
+        if stop <= self.low {
+            &self.front()[start..stop]
+        } else {
+            &self.back()[start - self.low..stop - self.low]
+        }
+    }
+
+    /// Puts bytes in place of others. They lie before the gap then, and so does a line feed that ends a CRLF with the last of them.
+    pub fn replace(&mut self, start: usize, stop: usize, new: &[u8]) -> Result<(), AllocError>
+        requires order { start ≤ stop }
+        requires within { stop ≤ length (without_gap self.old) }
+        requires room { length (without_gap self.old) + length new.now ≤ 4294967296 }
+        ensures bytes { OnOk result (without_gap self.new ≡ replace_range (without_gap self.old) start stop new.now) }
+        ensures front { OnOk result (start + length new.now ≤ length self.new.front) }
+        ensures seam { OnOk result (length self.new.front ≡ start + length new.now → splits_crlf (without_gap self.new) (start + length new.now) ≡ false) }
+    {
+        self.move_to(start);
+        self.remove(stop - start);
+        self.insert(new)?;
+        let end = start + new.len();
+        if self.is_inside_crlf(end) {
+            self.move_to(end + 1);
+        }
+        Ok(())
+    }
+
+    /// The bytes without the gap, handed over. Costs the bytes after the gap.
+    pub fn into_vec(self) -> Vec<u8>
+        ensures { result.items ≡ without_gap self }
+    {
+        let len = self.len();
+        let mut bytes = self;
+        bytes.move_to(len);
+        let mut buffer = bytes.buffer;
+        buffer.truncate(len);
+        buffer
+    }
+}
