@@ -7,7 +7,7 @@ ghost use Rattle.lsp_text.specs.Units.{units_in};
 ghost use Rattle.lsp_edit.specs.declared.indexed.TextFault.TheVariants.{NoMemory};
 ghost use Rattle.lsp_edit.specs.Batch.{meaning};
 ghost use Rattle.lsp_edit.specs.Edited.{Means, edit_of, edited_bytes};
-ghost use Rattle.lsp_edit.specs.Indexed.{IsCanonicalBatch, alone, told_as, text_within};
+ghost use Rattle.lsp_edit.specs.Indexed.{IsCanonicalBatch, IsCanonicalOfBoth, LeavesText, alone, told_as, text_within};
 
 use crate::change::{Change, MAX_NEW_TEXT};
 use crate::composed::{MAX_OLD_TEXT, compose_over};
@@ -192,5 +192,32 @@ impl IndexedText {
     {
         let pieces = self.composed(encoding, changes, max_len)?;
         Ok(pieces.canonical(encoding)?)
+    }
+
+    /// The canonical batch of what two batches, one after the other, mean together: `first` on this text, and `second` on `reached`, which
+    /// is what `first` leaves. Refuses as [`IndexedText::change`] does for `second` on `reached`, and changes nothing. Costs what the
+    /// changes cost to apply, the spans of both, and one exact position for each end of a changed gap.
+    pub fn canonical_then(
+        &self,
+        encoding: Encoding,
+        first: &[Change],
+        reached: &IndexedText,
+        second: &[Change],
+        max_len: usize,
+    ) -> Result<Vec<Change>, TextFault>
+        requires size { length self.now ≤ MAX_OLD_TEXT }
+        requires reached_size { length reached.now ≤ MAX_OLD_TEXT }
+        requires first_fits { sum_by (λ change. string_len change.text) first.now ≤ MAX_NEW_TEXT }
+        requires second_fits { sum_by (λ change. string_len change.text) second.now ≤ MAX_NEW_TEXT }
+        requires reaches { LeavesText (units_in encoding) self.now (map edit_of first.now) reached.now }
+        ensures batch { IfOk result (λ made. IsCanonicalOfBoth (units_in encoding) self.now (map edit_of first.now) reached.now (map edit_of second.now) (map edit_of made.items)) }
+        ensures told { IfErr result (λ fault. (fault ≡ NoMemory)
+            ⊎ (text_within max_len reached.now (meaning (units_in encoding) (chars reached.now) (map edit_of second.now)) ≡ Err fault)) }
+    {
+        let alloc = *self.text.allocator();
+        let first = compose_over(alloc, &self.text, &self.lines, encoding, first)?;
+        let second = reached.composed(encoding, second, max_len)?;
+        let both = Pieces::then(alloc, &first, &second)?;
+        Ok(both.canonical(encoding)?)
     }
 }

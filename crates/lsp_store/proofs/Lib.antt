@@ -5,3 +5,4 @@ pub mod FrameLemmas
 pub mod ScalarLemmas
 pub mod ProperLemmas
 pub mod MessageLemmas
+pub mod SquashLemmas

@@ -2,3 +2,4 @@ pub mod Table
 pub mod Faults
 pub mod Opened
 pub mod Message
+pub mod Squash

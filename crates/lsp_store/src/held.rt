@@ -23,7 +23,7 @@ impl Held {
     ghost use Rattle.lsp_text.specs.Units.{units_in};
     ghost use Rattle.lsp_edit.specs.Batch.{meaning};
     ghost use Rattle.lsp_edit.specs.Edited.{edit_of};
-    ghost use Rattle.lsp_edit.specs.Indexed.{IsCanonicalBatch};
+    ghost use Rattle.lsp_edit.specs.Indexed.{IsCanonicalBatch, IsCanonicalOfBoth, LeavesText};
     ghost use Rattle.lsp_store.specs.Table.{changed, entry_refusal, meaning_refusal};
     ghost use Rattle.lsp_store.specs.Faults.{fault_of, IsRefusal};
     ghost use Rattle.lsp_store.specs.Opened.{entry_under};
@@ -110,5 +110,29 @@ impl Held {
         let max_text = limits.max_text();
         self.may_change(limits, version, changes)?;
         Ok(self.text.canonical(encoding, changes, max_text)?)
+    }
+
+    /// The canonical batch of what two batches, one after the other, mean together: `first` on the text `before`, and `changes` on the
+    /// document's text, which is what `first` leaves. Refuses as a change does.
+    pub fn canonical_after(
+        &self,
+        limits: &Limits,
+        version: i32,
+        encoding: Encoding,
+        before: &IndexedText,
+        first: &[Change],
+        changes: &[Change],
+    ) -> Result<Vec<Change>, StoreFault>
+        requires size { length before.now ≤ 1073741824 }
+        requires fits { sum_by (λ change. string_len change.text) first.now ≤ 1073741824 }
+        requires reaches { LeavesText (units_in encoding) before.now (map edit_of first.now) self.now.text }
+        ensures batch { IfOk result (λ made. IsCanonicalOfBoth (units_in encoding) before.now (map edit_of first.now) self.now.text
+            (map edit_of changes.now) (map edit_of made.items)) }
+        ensures told { IfErr result (λ fault. (uri : List ℕ) →
+            IsRefusal (entry_refusal limits.now (units_in encoding) (entry_under uri self.now) version (map edit_of changes.now)) fault) }
+    {
+        let max_text = limits.max_text();
+        self.may_change(limits, version, changes)?;
+        Ok(before.canonical_then(encoding, first, &self.text, changes, max_text)?)
     }
 }

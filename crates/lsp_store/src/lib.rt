@@ -11,10 +11,12 @@ mod canonical;
 mod document;
 mod fault;
 mod held;
+mod squash;
 mod store;
 #[cfg(test)]
 mod tests;
 
 pub use document::Document;
 pub use fault::StoreFault;
+pub use squash::Squash;
 pub use store::Store;

@@ -3,6 +3,7 @@
 mod canonical;
 mod documents;
 mod refused;
+mod squash;
 
 use crate::{Store, StoreFault};
 use lsp_edit::Change;

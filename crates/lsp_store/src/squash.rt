@@ -1,0 +1,119 @@
+//! Batches of changes on one document, as one.
+
+ghost use Rattle.std.specs.Prelude.{◌≡◌, None, IfErr, IfOk, OnErr, OnOk, map, string_bytes};
+ghost use Rattle.lsp_edit.specs.Edited.{edit_of};
+ghost use Rattle.lsp_store.specs.Faults.{IsRefusal};
+ghost use Rattle.lsp_store.specs.Squash.{IsSquashAfter, add_refusal, squash_frame, squash_of, squash_refusal};
+
+use crate::canonical::framed_change;
+use crate::document::Document;
+use crate::fault::StoreFault;
+use crate::held::Held;
+use lsp_edit::{Change, IndexedText};
+use lsp_frame::Limits;
+use lsp_text::Encoding;
+use std::alloc::{AllocError, Global};
+use std::marker::Model;
+
+/// Batches of changes on one document, one after another, as one batch (LSP 3.17, DidChangeTextDocumentParams). It keeps the document's
+/// old text and the text reached so far, each with its lines, and one batch that means what all batches mean together.
+#[derive(Drop)]
+pub struct Squash {
+    uri: String,
+    limits: Limits,
+    encoding: Encoding,
+    before: IndexedText,
+    reached: Held,
+    batch: Vec<Change>,
+}
+
+impl Model for Squash {
+    ghost use Rattle.std.specs.Prelude.{◌≤◌, length, map, string_bytes, string_len, sum_by};
+    ghost use Rattle.std.specs.Str.{chars};
+    ghost use Rattle.lsp_text.specs.Units.{units_in};
+    ghost use Rattle.lsp_edit.specs.Batch.{meaning};
+    ghost use Rattle.lsp_edit.specs.Edited.{edit_of};
+    ghost use Rattle.lsp_edit.specs.Indexed.{LeavesText};
+    ghost use Rattle.lsp_store.specs.Squash.{SquashData, items_meant};
+
+    ghost Value = { SquashData };
+
+    ghost view = { λ squash. record {
+      uri = string_bytes squash.uri;
+      limits = squash.limits;
+      encoding = squash.encoding;
+      text = squash.before;
+      items = items_meant (meaning (units_in squash.encoding) (chars squash.before) (map edit_of squash.batch.items));
+      version = squash.reached.version;
+    } };
+
+    ghost invariant = { λ squash.
+        LeavesText (units_in squash.encoding) squash.before (map edit_of squash.batch.items) squash.reached.text
+        × (length squash.before ≤ 1073741824)
+        × (sum_by (λ change. string_len change.text) squash.batch.items ≤ 1073741824) };
+}
+
+impl Squash {
+    /// A document before any batch, within limits. Costs two copies of the text and two searches through it for its lines.
+    pub fn start(
+        alloc: Global,
+        limits: Limits,
+        document: &Document<'_>,
+        encoding: Encoding,
+    ) -> Result<Self, AllocError>
+        ensures { IfOk result (λ squash. squash ≡ squash_of limits encoding document.now) }
+    {
+        let held = document.held;
+        let uri = String::from_str(alloc, document.uri)?;
+        let before = String::from_str(alloc, held.text.text())?;
+        let before = IndexedText::new(alloc, before)?;
+        let text = String::from_str(alloc, held.text.text())?;
+        let reached = Held::new(alloc, String::new(alloc), held.version, text)?;
+        Ok(Squash {
+            uri,
+            limits,
+            encoding,
+            before,
+            reached,
+            batch: Vec::new(alloc),
+        })
+    }
+
+    /// Adds a batch on the text reached so far, under a version greater than the one reached. Refuses as [`crate::Store::change`] does from
+    /// [`StoreFault::StaleVersion`] on. A refused batch changes nothing.
+    pub fn add(&mut self, version: i32, changes: &[Change]) -> Result<(), StoreFault>
+        ensures ok { OnOk result (IsSquashAfter self.old version (map edit_of changes.now) self.new) }
+        ensures unchanged { OnErr result (self.new ≡ self.old) }
+        ensures error { IfErr result (IsRefusal (add_refusal self.old version (map edit_of changes.now))) }
+    {
+        let batch = self.reached.canonical_after(
+            &self.limits,
+            version,
+            self.encoding,
+            &self.before,
+            &self.batch,
+            changes,
+        )?;
+        self.reached
+            .change(&self.limits, version, self.encoding, changes)?;
+        self.batch = batch;
+        Ok(())
+    }
+
+    /// The frame of the message in which all added batches are written as one, with the last version. Refuses
+    /// [`StoreFault::TooManyChanges`] where their canonical batch has more than `max_changes` changes, then [`StoreFault::BodyTooLong`].
+    pub fn message(&self) -> Result<Vec<u8>, StoreFault>
+        ensures ok { IfOk result (λ bytes. bytes.items ≡ squash_frame self.now) }
+        ensures accepted { OnOk result (squash_refusal self.now ≡ None) }
+        ensures error { IfErr result (IsRefusal (squash_refusal self.now)) }
+    {
+        let len = self.reached.text.text().len();
+        let batch = self.before.canonical(self.encoding, &self.batch, len)?;
+        if batch.len() > self.limits.max_changes() {
+            return Err(StoreFault::TooManyChanges);
+        }
+        let alloc = *self.uri.allocator();
+        let version = self.reached.version;
+        framed_change(alloc, &self.limits, &self.uri, version, batch)
+    }
+}
