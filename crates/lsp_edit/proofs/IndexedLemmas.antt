@@ -1,14 +1,13 @@
 -- What a batch makes of a text that is kept with its lines.
-use Rattle.std.proofs.Common.{◌≡◌, ◌≤◌, ◌<◌, ℕ, List, length, Result, Ok, Err, sym, refl, ap, ◌∙◌, subst, arith}
+use Rattle.std.proofs.Common.{◌≡◌, ◌≤◌, ◌<◌, ℕ, List, length, Result, Ok, Err, sym, refl, ap, ◌∙◌, arith}
 use Rattle.std.proofs.lemmas.Bool.{lt-ltb, le-ltb}
 use Rattle.std.specs.Str.{IsUtf8, chars}
 use Rattle.lsp_edit.specs.declared.indexed.TextFault.TheVariants.{TooLong}
 use Rattle.lsp_edit.specs.Items.{Item}
 use Rattle.lsp_edit.specs.Batch.{Edit, Fault, meaning}
 use Rattle.lsp_edit.specs.Canonical.{canonical}
-use Rattle.lsp_edit.specs.Compose.{then_items}
-use Rattle.lsp_edit.specs.Edited.{Edited, Means, both_counts, edited_bytes}
-use Rattle.lsp_edit.specs.Indexed.{IsCanonicalBatch, IsCanonicalOfBoth, bytes_left, text_within}
+use Rattle.lsp_edit.specs.Edited.{Edited, Means, edited_bytes}
+use Rattle.lsp_edit.specs.Indexed.{IsCanonicalBatch, bytes_left, text_within}
 use Rattle.lsp_text.specs.declared.encoding.Encoding.{Encoding}
 use Rattle.lsp_text.specs.Units.{units_in}
 use Rattle.lsp_edit.proofs.LawLemmas.{canonical_law, units_some}
@@ -33,21 +32,3 @@ module _ (before : List ℕ) (meant : Result (List Item) (ℕ × Fault)) (change
     is = answer ∙ ap (λ (old : List ℕ). canonical (units_in encoding) old edited.items) is.same;
     law = canonical_law (units_in encoding) (units_some encoding) (chars before);
   }
-
--- two batches, one after the other
-pub both_is : (units : ℕ → ℕ) (before reached : List ℕ) (first second answered : List Edit) (few many : ℕ) (one two both : Edited)
-    → Means (chars before) (meaning units (chars before) first) few one → Means (chars reached) (meaning units (chars reached) second) many two
-    → both ≡ record { before = one.before; items = then_items one.items two.items; changes = both_counts one.changes two.changes }
-    → answered ≡ canonical units both.before both.items → meaning units both.before (canonical units both.before both.items) ≡ Ok both.items
-    → IsCanonicalOfBoth units before first reached second answered
-both_is units before reached first second answered few many one two both a b is answer means =
-    let old : both.before ≡ chars before = ap (λ (e : Edited). e.before) is ∙ a.same in
-    let items : both.items ≡ then_items one.items two.items = ap (λ (e : Edited). e.items) is in
-    record {
-      items = one.items;
-      first_means = a.means;
-      others = two.items;
-      second_means = b.means;
-      is = rw (old, items) at answer;
-      means = subst (λ (b : List Edit). meaning units (chars before) b ≡ Ok (then_items one.items two.items)) (sym (rw (old, items) at answer)) (rw (old, items) at means);
-    }

@@ -9,7 +9,6 @@ use Rattle.lsp_edit.specs.declared.indexed.TextFault.TheVariants.{Edit as EditOf
 use Rattle.lsp_edit.specs.Items.{Item, text_of}
 use Rattle.lsp_edit.specs.Batch.{Edit, Fault, meaning}
 use Rattle.lsp_edit.specs.Canonical.{canonical}
-use Rattle.lsp_edit.specs.Compose.{then_items}
 use Rattle.lsp_edit.specs.Faults.{fault_at}
 use Rattle.lsp_edit.specs.Laws.{IsCanonical}
 
@@ -41,20 +40,3 @@ pub record IsCanonicalBatch (units : ℕ → ℕ) (max_len : ℕ) (before : List
   pub within : length (bytes_left before items) ≤ max_len
   pub is : answered ≡ canonical units (chars before) items
   pub law : (other : List Edit) (others : List Item) → meaning units (chars before) other ≡ Ok others → IsCanonical units (chars before) other others
-
--- A batch on the text with the bytes `before` leaves the text with the bytes `after`.
-pub record LeavesText (units : ℕ → ℕ) (before : List ℕ) (batch : List Edit) (after : List ℕ) : Type 0 where
-  pub items : List Item
-  pub means : meaning units (chars before) batch ≡ Ok items
-  pub utf8 : IsUtf8 after
-  pub text : chars after ≡ text_of (chars before) items
-
--- `answered` is the canonical batch of what two batches mean together, `first` on the text with the bytes `before` and `second` on that with
--- the bytes `reached`; and it means that.
-pub record IsCanonicalOfBoth (units : ℕ → ℕ) (before : List ℕ) (first : List Edit) (reached : List ℕ) (second answered : List Edit) : Type 0 where
-  pub items : List Item
-  pub first_means : meaning units (chars before) first ≡ Ok items
-  pub others : List Item
-  pub second_means : meaning units (chars reached) second ≡ Ok others
-  pub is : answered ≡ canonical units (chars before) (then_items items others)
-  pub means : meaning units (chars before) answered ≡ Ok (then_items items others)

@@ -6,11 +6,13 @@ ghost use Rattle.lsp_text.specs.LineStarts.{Indexes};
 ghost use Rattle.lsp_text.specs.Units.{units_in};
 ghost use Rattle.lsp_edit.specs.declared.indexed.TextFault.TheVariants.{NoMemory};
 ghost use Rattle.lsp_edit.specs.Batch.{meaning};
+ghost use Rattle.lsp_edit.specs.Deltas.{IsDelta, delta_parts};
 ghost use Rattle.lsp_edit.specs.Edited.{Means, edit_of, edited_bytes};
-ghost use Rattle.lsp_edit.specs.Indexed.{IsCanonicalBatch, IsCanonicalOfBoth, LeavesText, alone, told_as, text_within};
+ghost use Rattle.lsp_edit.specs.Indexed.{IsCanonicalBatch, alone, told_as, text_within};
 
 use crate::change::{Change, MAX_NEW_TEXT};
 use crate::composed::{MAX_OLD_TEXT, compose_over};
+use crate::delta::Delta;
 use crate::ends::ends;
 use crate::fault::EditFault;
 use crate::in_place::put_in_place;
@@ -194,30 +196,24 @@ impl IndexedText {
         Ok(pieces.canonical(encoding)?)
     }
 
-    /// The canonical batch of what two batches, one after the other, mean together: `first` on this text, and `second` on `reached`, which
-    /// is what `first` leaves. Refuses as [`IndexedText::change`] does for `second` on `reached`, and changes nothing. Costs what the
-    /// changes cost to apply, the spans of both, and one exact position for each end of a changed gap.
-    pub fn canonical_then(
+    /// What a batch makes of the text, in spans that own their texts. Refuses as [`IndexedText::change`] does, and changes nothing. Costs
+    /// what each change costs to apply.
+    pub(crate) fn delta(
         &self,
         encoding: Encoding,
-        first: &[Change],
-        reached: &IndexedText,
-        second: &[Change],
+        changes: &[Change],
         max_len: usize,
-    ) -> Result<Vec<Change>, TextFault>
+    ) -> Result<Delta, TextFault>
         requires size { length self.now ≤ MAX_OLD_TEXT }
-        requires reached_size { length reached.now ≤ MAX_OLD_TEXT }
-        requires first_fits { sum_by (λ change. string_len change.text) first.now ≤ MAX_NEW_TEXT }
-        requires second_fits { sum_by (λ change. string_len change.text) second.now ≤ MAX_NEW_TEXT }
-        requires reaches { LeavesText (units_in encoding) self.now (map edit_of first.now) reached.now }
-        ensures batch { IfOk result (λ made. IsCanonicalOfBoth (units_in encoding) self.now (map edit_of first.now) reached.now (map edit_of second.now) (map edit_of made.items)) }
-        ensures told { IfErr result (λ fault. (fault ≡ NoMemory)
-            ⊎ (text_within max_len reached.now (meaning (units_in encoding) (chars reached.now) (map edit_of second.now)) ≡ Err fault)) }
+        requires fits { sum_by (λ change. string_len change.text) changes.now ≤ MAX_NEW_TEXT }
+        ensures ok { IfOk result (λ delta. IsDelta
+            (meaning (units_in encoding) (chars self.now) (map edit_of changes.now)) self.now (delta_parts delta)) }
+        ensures error { IfErr result (λ fault. (fault ≡ NoMemory)
+            ⊎ (text_within max_len self.now
+                (meaning (units_in encoding) (chars self.now) (map edit_of changes.now)) ≡ Err fault)) }
     {
         let alloc = *self.text.allocator();
-        let first = compose_over(alloc, &self.text, &self.lines, encoding, first)?;
-        let second = reached.composed(encoding, second, max_len)?;
-        let both = Pieces::then(alloc, &first, &second)?;
-        Ok(both.canonical(encoding)?)
+        let pieces = self.composed(encoding, changes, max_len)?;
+        Ok(Delta::of_spans(alloc, 0, pieces.spans())?)
     }
 }

@@ -3,6 +3,7 @@
 //! - `change`: a change as the protocol writes it, and the limit on the texts of a batch.
 //! - `pieces`: a text that changes are applied to, its canonical batch, and two runs of changes put together; `composed`: a whole batch.
 //! - `spans`, `row`, `replace`, `through`: what became of the old text, in runs of it and of the changes' texts.
+//! - `joined`: many batches, one after another, joined; `delta`: what some of them made of a text, in spans that own their texts.
 //! - `current`: the text that changes meet, made late and changed in place.
 //! - `laws`: what holds of every batch and of its canonical batch.
 //! - `plain`: the definitions as a plain program, one item for each character, with the same contracts.
@@ -12,10 +13,12 @@ mod canonical;
 mod change;
 mod composed;
 mod current;
+mod delta;
 mod ends;
 mod fault;
 mod in_place;
 mod indexed;
+mod joined;
 mod kept_lines;
 mod laws;
 mod pieces;
@@ -36,6 +39,7 @@ pub use change::{Change, MAX_NEW_TEXT, fits};
 pub use composed::{MAX_OLD_TEXT, compose, compose_over};
 pub use fault::{EditFault, Side};
 pub use indexed::{IndexedText, TextFault};
+pub use joined::Joined;
 pub use laws::batch_laws;
 pub use pieces::{MAX_TEXT, Pieces};
 pub use span::Span;
