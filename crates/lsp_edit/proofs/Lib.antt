@@ -28,3 +28,4 @@ pub mod ThenLemmas
 pub mod PlainLemmas
 pub mod IndexedLemmas
 pub mod InPlaceLemmas
+pub mod DeltaLemmas

@@ -78,8 +78,7 @@ impl Joined {
             return Ok(false);
         }
         let both = first.then(*self.deltas.allocator(), second)?;
-        let _ = self.deltas.take_last();
-        let _ = self.deltas.take_last();
+        self.deltas.truncate(len - 2);
         self.deltas.push_reserved(both);
         Ok(true)
     }
@@ -161,10 +160,8 @@ impl Joined {
     {
         let alloc = *self.deltas.allocator();
         let text = self.before.text();
-        let mut spans = Vec::new(alloc);
-        for span in Spans::whole(alloc, text).as_slice() {
-            spans.push(*span)?;
-        }
+        let whole = Spans::whole(alloc, text);
+        let mut spans = Vec::from_slice(alloc, whole.as_slice())?;
         for delta in &self.deltas {
             let next = delta.borrowed(alloc)?;
             spans = spans_through(alloc, &spans, &next)?;

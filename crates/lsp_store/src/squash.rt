@@ -9,32 +9,27 @@ use crate::canonical::framed_change;
 use crate::document::Document;
 use crate::fault::StoreFault;
 use crate::held::Held;
-use lsp_edit::{Change, IndexedText};
+use lsp_edit::{Change, Joined};
 use lsp_frame::Limits;
 use lsp_text::Encoding;
 use std::alloc::{AllocError, Global};
 use std::marker::Model;
 
 /// Batches of changes on one document, one after another, as one batch (LSP 3.17, DidChangeTextDocumentParams). It keeps the document's
-/// old text and the text reached so far, each with its lines, and one batch that means what all batches mean together.
+/// old text and the text reached so far, each with its lines, and what became of the old text, in spans of it and of new texts.
 #[derive(Drop)]
 pub struct Squash {
     uri: String,
     limits: Limits,
     encoding: Encoding,
-    before: IndexedText,
+    joined: Joined,
     reached: Held,
-    batch: Vec<Change>,
 }
 
 impl Model for Squash {
-    ghost use Rattle.std.specs.Prelude.{◌≤◌, length, map, string_bytes, string_len, sum_by};
-    ghost use Rattle.std.specs.Str.{chars};
-    ghost use Rattle.lsp_text.specs.Units.{units_in};
-    ghost use Rattle.lsp_edit.specs.Batch.{meaning};
-    ghost use Rattle.lsp_edit.specs.Edited.{edit_of};
-    ghost use Rattle.lsp_edit.specs.Indexed.{LeavesText};
-    ghost use Rattle.lsp_store.specs.Squash.{SquashData, items_meant};
+    ghost use Rattle.std.specs.Prelude.{string_bytes};
+    ghost use Rattle.lsp_edit.specs.Joined.{IsReached};
+    ghost use Rattle.lsp_store.specs.Squash.{SquashData};
 
     ghost Value = { SquashData };
 
@@ -42,15 +37,12 @@ impl Model for Squash {
       uri = string_bytes squash.uri;
       limits = squash.limits;
       encoding = squash.encoding;
-      text = squash.before;
-      items = items_meant (meaning (units_in squash.encoding) (chars squash.before) (map edit_of squash.batch.items));
+      text = squash.joined.before;
+      items = squash.joined.items;
       version = squash.reached.version;
     } };
 
-    ghost invariant = { λ squash.
-        LeavesText (units_in squash.encoding) squash.before (map edit_of squash.batch.items) squash.reached.text
-        × (length squash.before ≤ 1073741824)
-        × (sum_by (λ change. string_len change.text) squash.batch.items ≤ 1073741824) };
+    ghost invariant = { λ squash. IsReached squash.joined squash.reached.text };
 }
 
 impl Squash {
@@ -66,16 +58,15 @@ impl Squash {
         let held = document.held;
         let uri = String::from_str(alloc, document.uri)?;
         let before = String::from_str(alloc, held.text.text())?;
-        let before = IndexedText::new(alloc, before)?;
+        let joined = Joined::new(alloc, before)?;
         let text = String::from_str(alloc, held.text.text())?;
         let reached = Held::new(alloc, String::new(alloc), held.version, text)?;
         Ok(Squash {
             uri,
             limits,
             encoding,
-            before,
+            joined,
             reached,
-            batch: Vec::new(alloc),
         })
     }
 
@@ -86,18 +77,13 @@ impl Squash {
         ensures unchanged { OnErr result (self.new ≡ self.old) }
         ensures error { IfErr result (IsRefusal (add_refusal self.old version (map edit_of changes.now))) }
     {
-        let batch = self.reached.canonical_after(
+        self.reached.change_joined(
+            &mut self.joined,
             &self.limits,
             version,
             self.encoding,
-            &self.before,
-            &self.batch,
             changes,
-        )?;
-        self.reached
-            .change(&self.limits, version, self.encoding, changes)?;
-        self.batch = batch;
-        Ok(())
+        )
     }
 
     /// The frame of the message in which all added batches are written as one, with the last version. Refuses
@@ -107,8 +93,7 @@ impl Squash {
         ensures accepted { OnOk result (squash_refusal self.now ≡ None) }
         ensures error { IfErr result (IsRefusal (squash_refusal self.now)) }
     {
-        let len = self.reached.text.text().len();
-        let batch = self.before.canonical(self.encoding, &self.batch, len)?;
+        let batch = self.joined.canonical(self.encoding)?;
         if batch.len() > self.limits.max_changes() {
             return Err(StoreFault::TooManyChanges);
         }
