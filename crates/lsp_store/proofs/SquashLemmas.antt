@@ -68,8 +68,8 @@ module _ (uri : List ℕ) (limits : Bounds) (encoding : Encoding) (joined : Join
   -- ---- a batch more
 
   module _ (version next_version : ℤ) (more : List Edit) (next : JoinedData)
-           (accepted : entry_refusal limits (units_in encoding) (entry_under uri held) version more ≡ None)
-           (is : IsJoined (units_in encoding) joined more next) (version_is : next_version ≡ version) where
+      (accepted : entry_refusal limits (units_in encoding) (entry_under uri held) version more ≡ None)
+      (is : IsJoined (units_in encoding) joined more next) (version_is : next_version ≡ version) where
     more_means : meaning (units_in kept.encoding) (text_of (chars kept.text) kept.items) more ≡ Ok is.others
     more_means = subst (λ (k : SquashData). meaning (units_in k.encoding) (text_of (chars k.text) k.items) more ≡ Ok is.others) view is.means
 
@@ -85,13 +85,13 @@ module _ (uri : List ℕ) (limits : Bounds) (encoding : Encoding) (joined : Join
       means = more_means;
       is = next_is;
       together = λ b p.
-      then_means (units_in kept.encoding) (chars kept.text) b more kept.items is.others p more_means ∙ ap Ok (sym (ap (λ (k : SquashData). k.items) next_is));
+          then_means (units_in kept.encoding) (chars kept.text) b more kept.items is.others p more_means ∙ ap Ok (sym (ap (λ (k : SquashData). k.items) next_is));
     }
 
 -- ---- the message
 
 module _ (uri : List ℕ) (limits : Bounds) (encoding : Encoding) (joined : JoinedData) (version : ℤ) (kept : SquashData) (view : seen uri limits encoding joined version ≡ kept)
-         (made : List Edit) (is : made ≡ canonical (units_in encoding) (chars joined.before) joined.items) where
+    (made : List Edit) (is : made ≡ canonical (units_in encoding) (chars joined.before) joined.items) where
   pub batch_is : made ≡ squash_batch kept
   batch_is = is ∙ ap squash_batch view
 
@@ -105,10 +105,10 @@ module _ (uri : List ℕ) (limits : Bounds) (encoding : Encoding) (joined : Join
 -- ---- the message of all batches is accepted on the document as it was, and leaves the one that was reached
 
 module _ (limits : Bounds) (encoding : Encoding) (entry : Entry) (version : ℤ) (batch : List Edit) (items : List Item)
-         (means : meaning (units_in encoding) (chars entry.text) batch ≡ Ok items)
-         (newer : int_le version entry.version ≡ false)
-         (short : length (bytes_after entry.text items) ≤ limits.max_text) (within : limits.max_text ≤ 1073741824)
-         (few : nat_lt limits.max_changes (length (canonical (units_in encoding) (chars entry.text) items)) ≡ false) where
+    (means : meaning (units_in encoding) (chars entry.text) batch ≡ Ok items)
+    (newer : int_le version entry.version ≡ false)
+    (short : length (bytes_after entry.text items) ≤ limits.max_text) (within : limits.max_text ≤ 1073741824)
+    (few : nat_lt limits.max_changes (length (canonical (units_in encoding) (chars entry.text) items)) ≡ false) where
   all_law : IsCanonical (units_in encoding) (chars entry.text) batch items
   all_law = canonical_law (units_in encoding) (units_some encoding) (chars entry.text) batch items means
 

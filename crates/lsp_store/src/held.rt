@@ -3,7 +3,7 @@
 ghost use Rattle.std.specs.Prelude.{◌≤◌, length, sum_by};
 
 use crate::fault::StoreFault;
-use lsp_edit::{Change, IndexedText, Joined, fits};
+use lsp_edit::{Change, IndexedText, fits};
 use lsp_frame::Limits;
 use lsp_text::Encoding;
 use std::alloc::{AllocError, Global};
@@ -24,7 +24,6 @@ impl Held {
     ghost use Rattle.lsp_edit.specs.Batch.{meaning};
     ghost use Rattle.lsp_edit.specs.Edited.{edit_of};
     ghost use Rattle.lsp_edit.specs.Indexed.{IsCanonicalBatch};
-    ghost use Rattle.lsp_edit.specs.Joined.{IsJoined, IsReached};
     ghost use Rattle.lsp_store.specs.Table.{changed, entry_refusal, meaning_refusal};
     ghost use Rattle.lsp_store.specs.Faults.{fault_of, IsRefusal};
     ghost use Rattle.lsp_store.specs.Opened.{entry_under};
@@ -111,33 +110,5 @@ impl Held {
         let max_text = limits.max_text();
         self.may_change(limits, version, changes)?;
         Ok(self.text.canonical(encoding, changes, max_text)?)
-    }
-
-    /// Joins a batch to those that led to this document, puts it into the document, and sets its version. Where anything is refused
-    /// both stay as they are.
-    pub fn change_joined(
-        &mut self,
-        joined: &mut Joined,
-        limits: &Limits,
-        version: i32,
-        encoding: Encoding,
-        changes: &[Change],
-    ) -> Result<(), StoreFault>
-        requires { IsReached joined.old self.old.text }
-        ensures accepted { OnOk result ((uri : List ℕ) → entry_refusal limits.now (units_in encoding)
-            (entry_under uri self.old) version (map edit_of changes.now) ≡ None) }
-        ensures joined { OnOk result
-            (IsJoined (units_in encoding) joined.old (map edit_of changes.now) joined.new) }
-        ensures reached { OnOk result (IsReached joined.new self.new.text) }
-        ensures version { OnOk result (self.new.version ≡ version) }
-        ensures unchanged { OnErr result (self.new ≡ self.old) }
-        ensures joined_unchanged { OnErr result (joined.new ≡ joined.old) }
-        ensures error { IfErr result (λ fault. (uri : List ℕ) → IsRefusal (entry_refusal limits.now
-            (units_in encoding) (entry_under uri self.old) version (map edit_of changes.now)) fault) }
-    {
-        self.may_change(limits, version, changes)?;
-        joined.change(encoding, &mut self.text, changes, limits.max_text())?;
-        self.version = version;
-        Ok(())
     }
 }

@@ -11,6 +11,7 @@ mod canonical;
 mod document;
 mod fault;
 mod held;
+mod reached;
 mod squash;
 mod store;
 #[cfg(test)]

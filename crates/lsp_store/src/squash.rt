@@ -83,7 +83,8 @@ impl Squash {
             version,
             self.encoding,
             changes,
-        )
+        )?;
+        Ok(())
     }
 
     /// The frame of the message in which all added batches are written as one, with the last version. Refuses
