@@ -21,7 +21,7 @@ use Rattle.lsp_edit.specs.Keeps.{Keeps}
 use Rattle.lsp_edit.specs.Parts.{Part, OldPart, NewPart, AreParts, AreThrough, Ascend, IsPart, bytes_in, bytes_of, items_in, items_of, new_parts, through_parts, whole_parts}
 use Rattle.lsp_edit.proofs.ComposeLemmas.{text_of-then, then_associative, then_keeps}
 use Rattle.lsp_edit.proofs.CutPartsLemmas.{parts_bytes}
-use Rattle.lsp_edit.proofs.EditedLemmas.{index_first, whole_is}
+use Rattle.lsp_edit.proofs.EditedLemmas.{index_first, plain_text, whole_is}
 use Rattle.lsp_edit.proofs.KeepsLemmas.{meaning_keeps, plain_keeps}
 use Rattle.lsp_edit.proofs.PutLemmas.{new_items}
 use Rattle.lsp_edit.proofs.ThroughLemmas.{are_through, ascending, through_items}
@@ -242,7 +242,10 @@ module _ (before : List ℕ) (deltas : List Delta) (all : AllOver (chars before)
     is = more_is;
   }
 
--- ---- the text that a batch leaves
+-- ---- the text before any batch, and that which a batch leaves
+
+pub first_reached : (before : List ℕ) (joined : JoinedData) → IsUtf8 before → joined ≡ record { before = before; items = plain (chars before) } → IsReached joined before
+first_reached before joined utf8 is = record { utf8 = utf8; text_is = sym (ap joined_text is ∙ plain_text (chars before)) }
 
 part_utf8 : (old : List ℕ) → IsUtf8 old → (part : Part) → IsPart old part → IsUtf8 (bytes_in old part)
 part_utf8 old utf8 (NewPart bytes) is = IsUtf8-from_is_utf8 bytes is.1

@@ -54,8 +54,9 @@ impl Joined {
     /// A text before any batch. The text is moved in. Costs a search through it for its lines.
     pub fn new(alloc: Global, text: String) -> Result<Self, AllocError>
         requires { string_len text ≤ MAX_TEXT }
-        ensures { IfOk result (λ joined.
+        ensures joined { IfOk result (λ joined.
             joined ≡ record { before = string_bytes text; items = plain (chars (string_bytes text)) }) }
+        ensures reached { IfOk result (λ joined. IsReached joined (string_bytes text)) }
     {
         let before = IndexedText::new(alloc, text)?;
         Ok(Joined {
@@ -144,10 +145,10 @@ impl Joined {
                 (meaning (units_in encoding) (chars reached.old) (map edit_of changes.now)) ≡ Err fault)) }
     {
         self.join()?;
-        let delta = reached.delta(encoding, changes, max_len)?;
+        let next = reached.delta(encoding, changes, max_len)?;
         self.deltas.reserve(1)?;
         reached.change(encoding, changes, max_len)?;
-        self.deltas.push_reserved(delta);
+        self.deltas.push_reserved(next);
         Ok(())
     }
 

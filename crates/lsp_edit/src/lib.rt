@@ -19,6 +19,8 @@ mod fault;
 mod in_place;
 mod indexed;
 mod joined;
+#[cfg(test)]
+mod joined_tests;
 mod kept_lines;
 mod laws;
 mod pieces;

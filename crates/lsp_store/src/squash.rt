@@ -46,7 +46,8 @@ impl Model for Squash {
 }
 
 impl Squash {
-    /// A document before any batch, within limits. Costs two copies of the text and two searches through it for its lines.
+    /// A document before any batch, within limits; what it is changed to later plays no part. Answers an error where memory runs out. Costs
+    /// two copies of the text and two searches through it for its lines.
     pub fn start(
         alloc: Global,
         limits: Limits,
@@ -70,8 +71,9 @@ impl Squash {
         })
     }
 
-    /// Adds a batch on the text reached so far, under a version greater than the one reached. Refuses as [`crate::Store::change`] does from
-    /// [`StoreFault::StaleVersion`] on. A refused batch changes nothing.
+    /// Adds a batch on the text reached so far, under a version greater than the one reached (LSP 3.17, DidChangeTextDocumentParams). Refuses
+    /// as [`crate::Store::change`] does from [`StoreFault::StaleVersion`] on, on that text and version; a refused batch changes nothing. Costs
+    /// what the change of a document costs, and a share in the joins of earlier batches: k changes cost some k log k steps on spans.
     pub fn add(&mut self, version: i32, changes: &[Change]) -> Result<(), StoreFault>
         ensures ok { OnOk result (IsSquashAfter self.old version (map edit_of changes.now) self.new) }
         ensures unchanged { OnErr result (self.new ≡ self.old) }
@@ -87,8 +89,9 @@ impl Squash {
         Ok(())
     }
 
-    /// The frame of the message in which all added batches are written as one, with the last version. Refuses
-    /// [`StoreFault::TooManyChanges`] where their canonical batch has more than `max_changes` changes, then [`StoreFault::BodyTooLong`].
+    /// The frame of the one message in which all added batches are written (LSP 3.17, DidChangeTextDocument): their canonical batch under
+    /// the last version; with none added no changes, under the document's version. Refuses [`StoreFault::TooManyChanges`] where that batch has
+    /// more than `max_changes` changes, then [`StoreFault::BodyTooLong`]. Costs a walk over the spans of each delta, and the message's bytes.
     pub fn message(&self) -> Result<Vec<u8>, StoreFault>
         ensures ok { IfOk result (λ bytes. bytes.items ≡ squash_frame self.now) }
         ensures accepted { OnOk result (squash_refusal self.now ≡ None) }
