@@ -1,6 +1,6 @@
 -- Spans that own their texts, and rows of them over one another.
 use Rattle.std.proofs.Common.{ℕ, ◌≡◌, ◌+◌, ◌-◌, ◌<◌, ◌≤◌, true, List, [], ◌∷◌, ◌++◌, length, map, take, drop, get_or, refl, sym, ap, ap₂, ◌∙◌, subst, arith, ⊎_elim, nat_lt, false, append_assoc, append-nil, encode_utf8_all, Result, Ok, Err}
-use Rattle.std.specs.Str.{chars, IsUtf8, is_utf8}
+use Rattle.std.specs.Str.{chars, IsUtf8}
 use Rattle.std.proofs.lemmas.Bool.{cases_Bool}
 use Rattle.std.proofs.lemmas.List.{drop_more, drop_all, map-append, take-append-drop}
 use Rattle.std.proofs.lemmas.List.Concat.{flat_map-append}
@@ -209,8 +209,8 @@ abbrev pub joined_seen : List ℕ → List Delta → JoinedData
 joined_seen before deltas = record { before = before; items = items_over (chars before) (plain (chars before)) (map delta_parts deltas) }
 
 module _ (before : List ℕ) (deltas : List Delta) (all : AllOver (chars before) (plain (chars before)) (map delta_parts deltas)) (old : JoinedData) (view : joined_seen before deltas ≡ old)
-         (reached : List ℕ) (at : IsReached old reached) (units : ℕ → ℕ) (batch : List Edit) (delta : Delta) (is : IsDelta (meaning units (chars reached) batch) reached (delta_parts delta))
-         (now : List Delta) (now_is : now ≡ deltas ++ delta ∷ []) where
+    (reached : List ℕ) (at : IsReached old reached) (units : ℕ → ℕ) (batch : List Edit) (delta : Delta) (is : IsDelta (meaning units (chars reached) batch) reached (delta_parts delta))
+    (now : List Delta) (now_is : now ≡ deltas ++ delta ∷ []) where
   abbrev items_then : List Item
   items_then = items_over (chars before) (plain (chars before)) (map delta_parts deltas)
 

@@ -210,7 +210,7 @@ impl IndexedText {
             (meaning (units_in encoding) (chars self.now) (map edit_of changes.now)) self.now (delta_parts delta)) }
         ensures error { IfErr result (λ fault. (fault ≡ NoMemory)
             ⊎ (text_within max_len self.now
-                (meaning (units_in encoding) (chars self.now) (map edit_of changes.now)) ≡ Err fault)) }
+            (meaning (units_in encoding) (chars self.now) (map edit_of changes.now)) ≡ Err fault)) }
     {
         let alloc = *self.text.allocator();
         let pieces = self.composed(encoding, changes, max_len)?;

@@ -113,7 +113,7 @@ impl Joined {
         ensures unchanged { OnErr result (self.new ≡ self.old) }
         ensures error { IfErr result (λ fault. (fault ≡ NoMemory)
             ⊎ (text_within max_len reached.now
-                (meaning (units_in encoding) (chars reached.now) (map edit_of changes.now)) ≡ Err fault)) }
+            (meaning (units_in encoding) (chars reached.now) (map edit_of changes.now)) ≡ Err fault)) }
     {
         self.join()?;
         let delta = reached.delta(encoding, changes, max_len)?;
@@ -142,7 +142,7 @@ impl Joined {
         ensures reached_unchanged { OnErr result (reached.new ≡ reached.old) }
         ensures error { IfErr result (λ fault. (fault ≡ NoMemory)
             ⊎ (text_within max_len reached.old
-                (meaning (units_in encoding) (chars reached.old) (map edit_of changes.now)) ≡ Err fault)) }
+            (meaning (units_in encoding) (chars reached.old) (map edit_of changes.now)) ≡ Err fault)) }
     {
         self.join()?;
         let next = reached.delta(encoding, changes, max_len)?;

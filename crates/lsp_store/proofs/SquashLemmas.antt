@@ -1,5 +1,5 @@
 -- Batches of changes on one document, as one: what the fields that are kept are.
-use Rattle.std.proofs.Common.{ℕ, ℤ, ◌≡◌, ◌≤◌, true, false, nat_lt, int_le, List, [], ◌++◌, length, sum_by, IsUtf8, encode_utf8_all, Option, None, Result, Ok, Err, refl, sym, ap, ap₂, ◌∙◌, subst, arith}
+use Rattle.std.proofs.Common.{ℕ, ℤ, ◌≡◌, ◌≤◌, false, nat_lt, int_le, List, [], ◌++◌, length, sum_by, IsUtf8, encode_utf8_all, Option, None, Ok, refl, sym, ap, ap₂, ◌∙◌, subst, arith}
 use Rattle.std.proofs.lemmas.Bool.{le-ltb}
 use Rattle.std.proofs.lemmas.List.Sums.{sum_by-le-sum_by}
 use Rattle.std.proofs.lemmas.Str.{encodes-chars}
@@ -9,7 +9,7 @@ use Rattle.lsp_frame.specs.Limits.{Bounds}
 use Rattle.lsp_text.specs.Units.{units_in}
 use Rattle.lsp_text.specs.declared.encoding.Encoding.{Encoding}
 use Rattle.lsp_edit.specs.Items.{Item, plain, text_of}
-use Rattle.lsp_edit.specs.Batch.{Edit, Fault, meaning}
+use Rattle.lsp_edit.specs.Batch.{Edit, meaning}
 use Rattle.lsp_edit.specs.Canonical.{canonical}
 use Rattle.lsp_edit.specs.Compose.{then_items}
 use Rattle.lsp_edit.specs.Joined.{IsJoined, IsReached, JoinedData, joined_text}

@@ -1,5 +1,5 @@
 use Rattle.std.proofs.Common.{◌≡◌, ◌++◌, drop}
-use Rattle.lsp_edit.specs.Deltas.{delta_parts, owned_parts}
+use Rattle.lsp_edit.specs.Deltas.{owned_parts}
 use Rattle.lsp_edit.specs.Parts.{parts_of}
 use Rattle.lsp_edit.proofs.delta.Delta.borrowed.Given as goal
 

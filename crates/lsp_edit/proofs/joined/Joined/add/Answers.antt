@@ -1,8 +1,7 @@
-use Rattle.std.proofs.Common.{◌≡◌, ◌∙◌, map, subst}
+use Rattle.std.proofs.Common.{◌∙◌, map}
 use Rattle.lsp_text.specs.Units.{units_in}
 use Rattle.lsp_edit.specs.Edited.{edit_of}
-use Rattle.lsp_edit.specs.Joined.{IsReached, JoinedData}
-use Rattle.lsp_edit.proofs.DeltaLemmas.{joined_seen, left_reached, more_all, more_joined}
+use Rattle.lsp_edit.proofs.DeltaLemmas.{more_all, more_joined}
 use Rattle.lsp_edit.proofs.joined.Joined.add.Goals as goal
 
 pub invariant_of-self-2 : goal.invariant_of-self-2

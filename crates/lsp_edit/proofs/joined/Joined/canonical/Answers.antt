@@ -1,8 +1,6 @@
-use Rattle.std.proofs.Common.{◌≡◌, ◌∷◌, [], List, ℕ, length, drop, map, ap, ◌∙◌, sym, subst, arith}
-use Rattle.std.specs.Str.{chars, IsUtf8}
-use Rattle.lsp_edit.specs.Deltas.{delta_parts}
+use Rattle.std.proofs.Common.{ap, ◌∙◌}
 use Rattle.lsp_edit.specs.Joined.{JoinedData}
-use Rattle.lsp_edit.specs.Parts.{parts_of, whole_parts}
+use Rattle.lsp_edit.specs.Parts.{parts_of}
 use Rattle.lsp_edit.proofs.DeltaLemmas.{folded_end, folded_next, folded_order, folded_start, folded_through, rows_rest}
 use Rattle.lsp_edit.proofs.GapLemmas.{ends_exact}
 use Rattle.lsp_edit.proofs.joined.Joined.canonical.Goals as goal
@@ -33,11 +31,14 @@ loop-delta-preserved c =
     (rw (c.deref.ensures.value, c.deref-in-loop-delta.ensures.value, c.in_ok-next.ensures, c.delta-item.is) at c.in_ok-spans-2.ensures)
 
 pub canonical_of-requires-clause-ends : goal.canonical_of-requires-clause-ends
-canonical_of-requires-clause-ends c = 
+canonical_of-requires-clause-ends c =
     rw (c.text-text.ensures ∙ ap (λ (j : JoinedData). j.before) c.self.view_is, c.deref-2.ensures.value) (ends_exact _ _ c.loop-delta.invariant.keeps)
 
 pub returns : goal.returns
 returns c =
-    rw (c.text-text.ensures ∙ ap (λ (j : JoinedData). j.before) c.self.view_is, c.deref-2.ensures.value,
-    folded_end c.args.self.now.before (parts_of c.loop-delta.spans.items) c.deref-delta-items.result.now c.loop-delta.delta-index c.args.self.now.items c.loop-delta-test.false c.loop-delta.invariant)
+    rw (
+      c.text-text.ensures ∙ ap (λ (j : JoinedData). j.before) c.self.view_is,
+      c.deref-2.ensures.value,
+      folded_end c.args.self.now.before (parts_of c.loop-delta.spans.items) c.deref-delta-items.result.now c.loop-delta.delta-index c.args.self.now.items c.loop-delta-test.false c.loop-delta.invariant,
+    )
     at c.canonical_of.ensures

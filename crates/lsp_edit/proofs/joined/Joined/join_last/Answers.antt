@@ -1,8 +1,6 @@
-use Rattle.std.proofs.Common.{◌≡◌, ◌-◌, ◌++◌, ◌∷◌, [], take, ap, ◌∙◌, arith}
+use Rattle.std.proofs.Common.{◌-◌, ◌∙◌, arith}
 use Rattle.std.specs.Str.{chars}
-use Rattle.lsp_edit.specs.declared.delta.Delta.{Delta}
 use Rattle.lsp_edit.specs.Items.{plain}
-use Rattle.lsp_edit.specs.Joined.{JoinedData}
 use Rattle.lsp_edit.proofs.DeltaLemmas.{last_through, last_order, last_all, last_same, two_last}
 use Rattle.lsp_edit.proofs.joined.Joined.join_last.Goals as goal
 

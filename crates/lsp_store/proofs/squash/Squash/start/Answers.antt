@@ -1,8 +1,5 @@
-use Rattle.std.proofs.Common.{◌≡◌, List, ℕ, ap, sym, ◌∙◌, string_bytes, subst, IsUtf8, rules, w32}
+use Rattle.std.proofs.Common.{◌≡◌, ap, sym, ◌∙◌, string_bytes, subst, IsUtf8, rules, w32}
 use Rattle.std.proofs.lemmas.Int.{to_z-of_z}
-use Rattle.std.specs.Str.{chars}
-use Rattle.lsp_edit.specs.Items.{plain}
-use Rattle.lsp_edit.specs.Joined.{JoinedData}
 use Rattle.lsp_store.specs.Table.{Entry}
 use Rattle.lsp_store.proofs.SquashLemmas.{start_reached, start_seen}
 use Rattle.lsp_store.proofs.squash.Squash.start.Goals as goal
