@@ -29,3 +29,4 @@ pub mod PlainLemmas
 pub mod IndexedLemmas
 pub mod InPlaceLemmas
 pub mod TextBatchLemmas
+pub mod DeltaLemmas

@@ -11,5 +11,7 @@ pub mod Faults
 pub mod Edited
 pub mod Gaps
 pub mod Indexed
+pub mod Joined
+pub mod Deltas
 pub mod Examples
 pub mod Plain

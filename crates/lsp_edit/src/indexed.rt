@@ -7,11 +7,13 @@ ghost use Rattle.lsp_text.specs.Units.{units_in};
 ghost use Rattle.lsp_text.specs.declared.position.Range.{Range};
 ghost use Rattle.lsp_edit.specs.declared.indexed.TextFault.TheVariants.{TooLong, NoMemory};
 ghost use Rattle.lsp_edit.specs.Batch.{meaning};
+ghost use Rattle.lsp_edit.specs.Deltas.{IsDelta, delta_parts};
 ghost use Rattle.lsp_edit.specs.Edited.{Means, edit_of, edited_bytes};
 ghost use Rattle.lsp_edit.specs.Indexed.{IsCanonicalBatch, alone, told_as, text_within};
 
 use crate::change::{Change, MAX_NEW_TEXT};
 use crate::composed::{MAX_OLD_TEXT, compose_over};
+use crate::delta::Delta;
 use crate::draft::Draft;
 use crate::ends::ends;
 use crate::fault::EditFault;
@@ -223,6 +225,27 @@ impl IndexedText {
     {
         let pieces = self.composed(encoding, changes, max_len)?;
         Ok(pieces.canonical(encoding)?)
+    }
+
+    /// What a batch makes of the text, in spans that own their texts. Refuses as [`IndexedText::change`] does, and changes nothing. Costs
+    /// what each change costs to apply.
+    pub(crate) fn delta(
+        &self,
+        encoding: Encoding,
+        changes: &[Change],
+        max_len: usize,
+    ) -> Result<Delta, TextFault>
+        requires size { length self.now ≤ MAX_OLD_TEXT }
+        requires fits { sum_by (λ change. string_len change.text) changes.now ≤ MAX_NEW_TEXT }
+        ensures ok { IfOk result (λ delta. IsDelta
+            (meaning (units_in encoding) (chars self.now) (map edit_of changes.now)) self.now (delta_parts delta)) }
+        ensures error { IfErr result (λ fault. (fault ≡ NoMemory)
+            ⊎ (text_within max_len self.now
+            (meaning (units_in encoding) (chars self.now) (map edit_of changes.now)) ≡ Err fault)) }
+    {
+        let alloc = *self.text.allocator();
+        let pieces = self.composed(encoding, changes, max_len)?;
+        Ok(Delta::of_spans(alloc, 0, pieces.spans())?)
     }
 }
 

@@ -3,6 +3,7 @@
 //! - `change`: a change as the protocol writes it, and the limit on the texts of a batch.
 //! - `pieces`: a text that changes are applied to, its canonical batch, and two runs of changes put together; `composed`: a whole batch.
 //! - `spans`, `row`, `replace`, `through`: what became of the old text, in runs of it and of the changes' texts.
+//! - `joined`: many batches, one after another, joined; `delta`: what some of them made of a text, in spans that own their texts.
 //! - `draft`: a text under the changes of a batch, where nobody asks for spans.
 //! - `current`: the text that changes meet, made late and changed in place.
 //! - `laws`: what holds of every batch and of its canonical batch.
@@ -13,11 +14,13 @@ mod canonical;
 mod change;
 mod composed;
 mod current;
+mod delta;
 mod draft;
 mod ends;
 mod fault;
 mod in_place;
 mod indexed;
+mod joined;
 mod kept_lines;
 mod laws;
 mod pieces;
@@ -32,6 +35,7 @@ pub use change::{Change, MAX_NEW_TEXT, fits};
 pub use composed::{MAX_OLD_TEXT, compose, compose_over};
 pub use fault::{EditFault, Side};
 pub use indexed::{IndexedText, TextFault};
+pub use joined::Joined;
 pub use laws::batch_laws;
 pub use pieces::{MAX_TEXT, Pieces};
 pub use span::Span;

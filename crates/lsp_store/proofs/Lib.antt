@@ -6,3 +6,4 @@ pub mod ScalarLemmas
 pub mod ProperLemmas
 pub mod MessageLemmas
 pub mod LawLemmas
+pub mod SquashLemmas

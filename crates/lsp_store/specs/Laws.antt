@@ -35,7 +35,7 @@ CanonicalBatchLaw =
     (batch : List Edit) → AreInRange small → AreWithin small great
     → change_refusal small (units_in encoding) table uri version batch ≡ None
     → IsReplacedBy great (units_in encoding) table uri version batch
-      (canonical_batch (units_in encoding) table uri batch)
+    (canonical_batch (units_in encoding) table uri batch)
 
 -- ---- the documents of a table
 
@@ -60,7 +60,7 @@ WithinLaw =
     (limits : Bounds) (table : List Entry) (command : Command) → AllWithin limits table
     → length table ≤ limits.max_docs → HasTexts command → command_refusal limits table command ≡ None
     → AllWithin limits (table_after table command)
-      × (length (table_after table command) ≤ limits.max_docs)
+    × (length (table_after table command) ≤ limits.max_docs)
 
 -- The whole text that a batch leaves does the same as the batch, within greater limits too.
 abbrev pub WholeTextLaw : Type 0
@@ -70,7 +70,7 @@ WholeTextLaw =
     → AllWithin small table → AreTexts batch
     → change_refusal small (units_in encoding) table uri version batch ≡ None
     → IsReplacedBy great (units_in encoding) table uri version batch
-      (whole_batch (units_in encoding) table uri version batch)
+    (whole_batch (units_in encoding) table uri version batch)
 
 -- No two documents have the same URI.
 abbrev pub AreUnique : List Entry → Type 0

@@ -3,3 +3,4 @@ pub mod Faults
 pub mod Opened
 pub mod Message
 pub mod Laws
+pub mod Squash

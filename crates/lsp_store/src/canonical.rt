@@ -23,7 +23,7 @@ use lsp_text::Encoding;
 use std::alloc::Global;
 
 /// The frame of the `textDocument/didChange` of a batch.
-fn framed_change(
+pub fn framed_change(
     alloc: Global,
     limits: &Limits,
     uri: &str,

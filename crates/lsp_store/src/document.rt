@@ -9,8 +9,8 @@ use std::marker::Model;
 /// An open document (LSP 3.17, TextDocumentItem). It borrows from the store.
 #[derive(Drop)]
 pub struct Document<'a> {
-    uri: &'a str,
-    held: &'a Held,
+    pub(crate) uri: &'a str,
+    pub(crate) held: &'a Held,
 }
 
 impl<'a> Model for Document<'a> {

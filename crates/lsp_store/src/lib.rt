@@ -4,6 +4,7 @@
 //! - `document`: an open document as a caller reads it.
 //! - `held`: what is kept of a document, and how a batch of changes is put into it.
 //! - `canonical`: the one message in which an accepted batch of changes is written.
+//! - `squash`: many batches on one document as one message; `reached`: the document that they lead to.
 //! - `fault`: why a call is refused.
 //! - `laws`: what is true of the table of documents, whatever commands come.
 #![tactic(auto)]
@@ -13,9 +14,12 @@ mod document;
 mod fault;
 mod held;
 mod laws;
+mod reached;
+mod squash;
 mod store;
 
 pub use document::Document;
 pub use fault::StoreFault;
 pub use laws::store_laws;
+pub use squash::Squash;
 pub use store::Store;

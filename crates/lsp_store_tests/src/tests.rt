@@ -6,6 +6,7 @@ mod faults;
 mod limits;
 mod made_again;
 mod refused;
+mod squash;
 
 use lsp_frame::{BadLimits, Limits};
 use lsp_store::{Store, StoreFault};

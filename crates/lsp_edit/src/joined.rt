@@ -1,0 +1,172 @@
+//! Batches of changes on a text, one after another, joined.
+
+ghost use Rattle.std.specs.Prelude.{◌≡◌, ◌≤◌, ◌⊎◌, Err, IfErr, IfOk, Ok, OnErr, OnOk, length, map, string_bytes, string_len, sum_by};
+ghost use Rattle.std.specs.Str.{chars};
+ghost use Rattle.lsp_text.specs.Units.{units_in};
+ghost use Rattle.lsp_edit.specs.declared.indexed.TextFault.TheVariants.{NoMemory};
+ghost use Rattle.lsp_edit.specs.Batch.{meaning};
+ghost use Rattle.lsp_edit.specs.Canonical.{canonical};
+ghost use Rattle.lsp_edit.specs.Edited.{edit_of};
+ghost use Rattle.lsp_edit.specs.Indexed.{text_within};
+ghost use Rattle.lsp_edit.specs.Items.{plain};
+ghost use Rattle.lsp_edit.specs.Joined.{IsJoined, IsReached};
+
+use crate::canonical::canonical_of;
+use crate::change::{Change, MAX_NEW_TEXT};
+use crate::composed::MAX_OLD_TEXT;
+use crate::delta::Delta;
+use crate::indexed::{IndexedText, TextFault};
+use crate::pieces::MAX_TEXT;
+use crate::spans::Spans;
+use crate::through::spans_through;
+use lsp_text::Encoding;
+use std::alloc::{AllocError, Global};
+use std::marker::Model;
+
+/// Batches of changes on a text, one after another, and what they make of it together. It keeps the text as it was before them, and what
+/// became of it in deltas, each over the text that the one before it leaves. Two neighbours are joined when each was joined equally
+/// often, as the digits of a binary counter are carried: of k batches each takes part in some log k joins.
+#[derive(Drop)]
+pub struct Joined {
+    before: IndexedText,
+    deltas: Vec<Delta>,
+}
+
+impl Model for Joined {
+    ghost use Rattle.std.specs.Prelude.{map};
+    ghost use Rattle.std.specs.Str.{chars};
+    ghost use Rattle.lsp_edit.specs.Deltas.{AllOver, delta_parts, items_over};
+    ghost use Rattle.lsp_edit.specs.Items.{plain};
+    ghost use Rattle.lsp_edit.specs.Joined.{JoinedData};
+
+    ghost Value = { JoinedData };
+
+    ghost view = { λ joined. record {
+      before = joined.before;
+      items = items_over (chars joined.before) (plain (chars joined.before)) (map delta_parts joined.deltas.items);
+    } };
+
+    ghost invariant = { λ joined.
+        AllOver (chars joined.before) (plain (chars joined.before)) (map delta_parts joined.deltas.items) };
+}
+
+impl Joined {
+    /// A text before any batch. The text is moved in. Costs a search through it for its lines.
+    pub fn new(alloc: Global, text: String) -> Result<Self, AllocError>
+        requires { string_len text ≤ MAX_TEXT }
+        ensures joined { IfOk result (λ joined.
+            joined ≡ record { before = string_bytes text; items = plain (chars (string_bytes text)) }) }
+        ensures reached { IfOk result (λ joined. IsReached joined (string_bytes text)) }
+    {
+        let before = IndexedText::new(alloc, text)?;
+        Ok(Joined {
+            before,
+            deltas: Vec::new(alloc),
+        })
+    }
+
+    /// Joins the last two deltas, if both were joined equally often. Says whether they were.
+    fn join_last(&mut self) -> Result<bool, AllocError>
+        ensures { self.new ≡ self.old }
+    {
+        let len = self.deltas.len();
+        if len < 2 {
+            return Ok(false);
+        }
+        let first = &self.deltas[len - 2];
+        let second = &self.deltas[len - 1];
+        if first.rank != second.rank {
+            return Ok(false);
+        }
+        let both = first.then(*self.deltas.allocator(), second)?;
+        self.deltas.truncate(len - 2);
+        self.deltas.push_reserved(both);
+        Ok(true)
+    }
+
+    /// Joins the last deltas for as long as two were joined equally often.
+    fn join(&mut self) -> Result<(), AllocError>
+        ensures { self.new ≡ self.old }
+    {
+        for _ in 0..self.deltas.len() {
+            if !self.join_last()? {
+                return Ok(());
+            }
+        }
+        Ok(())
+    }
+
+    /// Joins a batch on `reached`, the text that the batches before it leave, if the text that it leaves has at most `max_len` bytes. Refuses
+    /// as [`IndexedText::change`] does, and then nothing changes. Costs what the changes cost to apply, and now and then a walk over the
+    /// spans of earlier batches: k changes, in as many batches, cost some k log k steps on spans.
+    pub fn add(
+        &mut self,
+        encoding: Encoding,
+        reached: &IndexedText,
+        changes: &[Change],
+        max_len: usize,
+    ) -> Result<(), TextFault>
+        requires reached { IsReached self.old reached.now }
+        requires size { length reached.now ≤ MAX_OLD_TEXT }
+        requires fits { sum_by (λ change. string_len change.text) changes.now ≤ MAX_NEW_TEXT }
+        ensures ok { OnOk result (IsJoined (units_in encoding) self.old (map edit_of changes.now) self.new) }
+        ensures unchanged { OnErr result (self.new ≡ self.old) }
+        ensures error { IfErr result (λ fault. (fault ≡ NoMemory)
+            ⊎ (text_within max_len reached.now
+            (meaning (units_in encoding) (chars reached.now) (map edit_of changes.now)) ≡ Err fault)) }
+    {
+        self.join()?;
+        let delta = reached.delta(encoding, changes, max_len)?;
+        self.deltas.reserve(1)?;
+        self.deltas.push_reserved(delta);
+        Ok(())
+    }
+
+    /// Joins a batch on `reached`, as [`Joined::add`] does, and makes `reached` the text that it leaves. Where anything is refused, both
+    /// stay as they are. Costs what both calls cost.
+    pub fn change(
+        &mut self,
+        encoding: Encoding,
+        reached: &mut IndexedText,
+        changes: &[Change],
+        max_len: usize,
+    ) -> Result<(), TextFault>
+        requires reached { IsReached self.old reached.old }
+        requires size { length reached.old ≤ MAX_OLD_TEXT }
+        requires fits { sum_by (λ change. string_len change.text) changes.now ≤ MAX_NEW_TEXT }
+        ensures ok { OnOk result (IsJoined (units_in encoding) self.old (map edit_of changes.now) self.new) }
+        ensures reached { OnOk result (IsReached self.new reached.new) }
+        ensures changed { OnOk result (text_within max_len reached.old
+            (meaning (units_in encoding) (chars reached.old) (map edit_of changes.now)) ≡ Ok reached.new) }
+        ensures unchanged { OnErr result (self.new ≡ self.old) }
+        ensures reached_unchanged { OnErr result (reached.new ≡ reached.old) }
+        ensures error { IfErr result (λ fault. (fault ≡ NoMemory)
+            ⊎ (text_within max_len reached.old
+            (meaning (units_in encoding) (chars reached.old) (map edit_of changes.now)) ≡ Err fault)) }
+    {
+        self.join()?;
+        let next = reached.delta(encoding, changes, max_len)?;
+        self.deltas.reserve(1)?;
+        reached.change(encoding, changes, max_len)?;
+        self.deltas.push_reserved(next);
+        Ok(())
+    }
+
+    /// The canonical batch of all batches: one change for each gap between kept characters of the text before them that is changed,
+    /// from the last gap to the first. Costs a walk over the spans for each of some log k deltas of k batches, and one exact position for
+    /// each end of a changed gap.
+    pub fn canonical(&self, encoding: Encoding) -> Result<Vec<Change>, AllocError>
+        ensures { IfOk result (λ changes. map edit_of changes.items
+            ≡ canonical (units_in encoding) (chars self.now.before) self.now.items) }
+    {
+        let alloc = *self.deltas.allocator();
+        let text = self.before.text();
+        let whole = Spans::whole(alloc, text);
+        let mut spans = Vec::from_slice(alloc, whole.as_slice())?;
+        for delta in &self.deltas {
+            let next = delta.borrowed(alloc)?;
+            spans = spans_through(alloc, &spans, &next)?;
+        }
+        canonical_of(alloc, text, self.before.lines(), &spans, encoding)
+    }
+}

@@ -1,0 +1,141 @@
+-- Batches of changes on one document, as one: what the fields that are kept are.
+use Rattle.std.proofs.Common.{ℕ, ℤ, ◌≡◌, ◌≤◌, false, nat_lt, int_le, List, [], ◌++◌, length, sum_by, IsUtf8, encode_utf8_all, Option, None, Ok, refl, sym, ap, ap₂, ◌∙◌, subst, arith}
+use Rattle.std.proofs.lemmas.Bool.{le-ltb}
+use Rattle.std.proofs.lemmas.List.Sums.{sum_by-le-sum_by}
+use Rattle.std.proofs.lemmas.Str.{encodes-chars}
+use Rattle.std.specs.Char.{len_utf8}
+use Rattle.std.specs.Str.{chars}
+use Rattle.lsp_frame.specs.Limits.{Bounds}
+use Rattle.lsp_text.specs.Units.{units_in}
+use Rattle.lsp_text.specs.declared.encoding.Encoding.{Encoding}
+use Rattle.lsp_edit.specs.Items.{Item, plain, text_of}
+use Rattle.lsp_edit.specs.Batch.{Edit, meaning}
+use Rattle.lsp_edit.specs.Canonical.{canonical}
+use Rattle.lsp_edit.specs.Compose.{then_items}
+use Rattle.lsp_edit.specs.Joined.{IsJoined, IsReached, JoinedData, joined_text}
+use Rattle.lsp_edit.specs.Laws.{IsCanonical}
+use Rattle.lsp_edit.proofs.ComposeLemmas.{then_means}
+use Rattle.lsp_edit.proofs.EditedLemmas.{plain_text}
+use Rattle.lsp_edit.proofs.LawLemmas.{canonical_law, units_some}
+use Rattle.lsp_store.specs.declared.fault.StoreFault.{StoreFault}
+use Rattle.lsp_store.specs.declared.held.Held.{Held}
+use Rattle.lsp_store.specs.Faults.{IsRefusal}
+use Rattle.lsp_store.specs.Message.{body_refusal, change_body}
+use Rattle.lsp_store.specs.Opened.{entry_under}
+use Rattle.lsp_store.specs.Squash.{IsSquashAfter, SquashData, add_refusal, squash_after, items_meant, squash_batch, squash_of, squash_refusal}
+use Rattle.lsp_store.specs.Table.{Entry, Refusal, batch_bytes, bytes_after, changed, greatest_batch, entry_refusal}
+use Rattle.lsp_store.proofs.ProperLemmas.{bytes_sum}
+
+-- what callers see of the fields
+abbrev pub seen : List ℕ → Bounds → Encoding → JoinedData → ℤ → SquashData
+seen uri limits encoding joined version = record {
+  uri = uri;
+  limits = limits;
+  encoding = encoding;
+  text = joined.before;
+  items = joined.items;
+  version = version;
+}
+
+weights : (edits : List Edit) → batch_bytes edits ≤ sum_by (λ change. sum_by len_utf8 change.text) edits
+weights edits = sum_by-le-sum_by (λ (e : Edit). length (encode_utf8_all e.text)) (λ (e : Edit). sum_by len_utf8 e.text) edits (λ e. omega (arith, bytes_sum e.text))
+
+-- ---- before any batch
+
+pub start_reached : (joined : JoinedData) (before bytes : List ℕ) → joined ≡ record { before = before; items = plain (chars before) } → bytes ≡ before → IsUtf8 bytes → IsReached joined bytes
+start_reached joined before bytes is same utf8 = record {
+  utf8 = utf8;
+  text_is = ap chars same ∙ (sym (plain_text (chars before)) ∙ sym (ap joined_text is));
+}
+
+pub start_seen : (uri : List ℕ) (limits : Bounds) (encoding : Encoding) (joined : JoinedData) (before : List ℕ) (version : ℤ) (entry : Entry) → joined ≡ record { before = before; items = plain (chars before) } → uri ≡ entry.uri → before ≡ entry.text
+    → version ≡ entry.version → seen uri limits encoding joined version ≡ squash_of limits encoding entry
+start_seen uri limits encoding joined before version entry is same_uri same_text same_version =
+    (λ i. seen (same_uri i) limits encoding (is i) (same_version i)) ∙ ap (λ (t : List ℕ). seen entry.uri limits encoding (record { before = t; items = plain (chars t) }) entry.version) same_text
+
+module _ (uri : List ℕ) (limits : Bounds) (encoding : Encoding) (joined : JoinedData) (held : Held) (at : IsReached joined held.text) (kept : SquashData) (view : seen uri limits encoding joined held.version ≡ kept) where
+  text_is : held.text ≡ bytes_after joined.before joined.items
+  text_is = sym (encodes-chars held.text at.utf8) ∙ ap encode_utf8_all at.text_is
+
+  refusal_is : (version : ℤ) (more : List Edit) → entry_refusal limits (units_in encoding) (entry_under uri held) version more ≡ add_refusal kept version more
+  refusal_is version more =
+      ap (λ (t : List ℕ). entry_refusal limits (units_in encoding) (record { uri = uri; language = []; version = held.version; text = t }) version more) text_is
+      ∙ ap (λ (k : SquashData). add_refusal k version more) view
+
+  pub add_error : (version : ℤ) (more : List Edit) (fault : StoreFault) → IsRefusal (entry_refusal limits (units_in encoding) (entry_under uri held) version more) fault → IsRefusal (add_refusal kept version more) fault
+  add_error version more fault error = subst (λ (r : Option Refusal). IsRefusal r fault) (refusal_is version more) error
+
+  -- ---- a batch more
+
+  module _ (version next_version : ℤ) (more : List Edit) (next : JoinedData)
+      (accepted : entry_refusal limits (units_in encoding) (entry_under uri held) version more ≡ None)
+      (is : IsJoined (units_in encoding) joined more next) (version_is : next_version ≡ version) where
+    more_means : meaning (units_in kept.encoding) (text_of (chars kept.text) kept.items) more ≡ Ok is.others
+    more_means = subst (λ (k : SquashData). meaning (units_in k.encoding) (text_of (chars k.text) k.items) more ≡ Ok is.others) view is.means
+
+    next_is : seen uri limits encoding next next_version ≡ record kept { items = then_items kept.items is.others; version = version }
+    next_is =
+        ap₂ (λ (j : JoinedData) (v : ℤ). seen uri limits encoding j v) is.is version_is
+        ∙ ap (λ (k : SquashData). record k { items = then_items k.items is.others; version = version }) view
+
+    pub adds : IsSquashAfter kept version more (seen uri limits encoding next next_version)
+    adds = record {
+      accepted = sym (refusal_is version more) ∙ accepted;
+      others = is.others;
+      means = more_means;
+      is = next_is;
+      together = λ b p.
+          then_means (units_in kept.encoding) (chars kept.text) b more kept.items is.others p more_means ∙ ap Ok (sym (ap (λ (k : SquashData). k.items) next_is));
+    }
+
+-- ---- the message
+
+module _ (uri : List ℕ) (limits : Bounds) (encoding : Encoding) (joined : JoinedData) (version : ℤ) (kept : SquashData) (view : seen uri limits encoding joined version ≡ kept)
+    (made : List Edit) (is : made ≡ canonical (units_in encoding) (chars joined.before) joined.items) where
+  pub batch_is : made ≡ squash_batch kept
+  batch_is = is ∙ ap squash_batch view
+
+  pub few_refusal : length made ≤ limits.max_changes → body_refusal limits (change_body uri version made) ≡ squash_refusal kept
+  few_refusal few =
+      let few_kept : nat_lt kept.limits.max_changes (length (squash_batch kept)) ≡ false =
+      le-ltb kept.limits.max_changes (length (squash_batch kept)) (omega (arith, few, ap length batch_is, ap (λ (k : SquashData). k.limits.max_changes) view)) in
+      ap (λ (b : List Edit). body_refusal limits (change_body uri version b)) batch_is
+      ∙ (ap (λ (k : SquashData). body_refusal k.limits (change_body k.uri k.version (squash_batch kept))) view ∙ sym (rw few_kept refl))
+
+-- ---- the message of all batches is accepted on the document as it was, and leaves the one that was reached
+
+module _ (limits : Bounds) (encoding : Encoding) (entry : Entry) (version : ℤ) (batch : List Edit) (items : List Item)
+    (means : meaning (units_in encoding) (chars entry.text) batch ≡ Ok items)
+    (newer : int_le version entry.version ≡ false)
+    (short : length (bytes_after entry.text items) ≤ limits.max_text) (within : limits.max_text ≤ 1073741824)
+    (few : nat_lt limits.max_changes (length (canonical (units_in encoding) (chars entry.text) items)) ≡ false) where
+  all_law : IsCanonical (units_in encoding) (chars entry.text) batch items
+  all_law = canonical_law (units_in encoding) (units_some encoding) (chars entry.text) batch items means
+
+  all_fit : nat_lt greatest_batch (batch_bytes (canonical (units_in encoding) (chars entry.text) items)) ≡ false
+  all_fit =
+      le-ltb greatest_batch (batch_bytes (canonical (units_in encoding) (chars entry.text) items))
+      (omega (arith, weights (canonical (units_in encoding) (chars entry.text) items), all_law.short len_utf8, bytes_sum (text_of (chars entry.text) items), short, within))
+
+  pub squash_accepted : entry_refusal limits (units_in encoding) entry version (canonical (units_in encoding) (chars entry.text) items) ≡ None
+  squash_accepted = rw (newer, few, all_fit, all_law.means, le-ltb limits.max_text (length (bytes_after entry.text items)) short) refl
+
+  pub squash_leaves : changed (units_in encoding) entry version (canonical (units_in encoding) (chars entry.text) items) ≡ record entry { version = version; text = bytes_after entry.text items }
+  squash_leaves = rw all_law.means refl
+
+-- ---- what a run means: batches that are accepted one after another mean together what they mean as one list
+
+pub run_on : (units : ℕ → ℕ) (old : List ℕ) (batch more : List Edit) (items others : List Item) → meaning units old batch ≡ Ok items
+    → meaning units (text_of old items) more ≡ Ok others → meaning units old (batch ++ more) ≡ Ok (then_items items others)
+run_on units old batch more items others one two = then_means units old batch more items others one two
+
+-- Canonical batches that are written singly mean together what the batches that they were written for mean together.
+pub singles_mean : (units : ℕ → ℕ) → ((c : ℕ) → 1 ≤ units c) → (old : List ℕ) (batch more single : List Edit) (items others : List Item) → meaning units old batch ≡ Ok items → meaning units old single ≡ Ok items
+    → meaning units (text_of old items) more ≡ Ok others → meaning units old (single ++ canonical units (text_of old items) others) ≡ Ok (then_items items others)
+singles_mean units some old batch more single items others one same two =
+    then_means units old single (canonical units (text_of old items) others) items others same (canonical_law units some (text_of old items) more others two).means
+
+-- What a batch makes of a squash is one thing.
+pub after_is : (old : SquashData) (version : ℤ) (batch : List Edit) (new : SquashData) → IsSquashAfter old version batch new → new ≡ squash_after old version batch
+after_is old version batch new adds =
+    adds.is ∙ ap (λ (o : List Item). record old { items = then_items old.items o; version = version }) (sym (ap items_meant adds.means))

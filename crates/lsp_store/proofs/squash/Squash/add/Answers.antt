@@ -1,0 +1,22 @@
+use Rattle.std.proofs.Common.{◌≡◌, map, rules, w32, to_z, of_z, string_bytes}
+use Rattle.std.proofs.lemmas.Int.{to_z-of_z}
+use Rattle.std.proofs.lemmas.Result.{err_from_is_err_and}
+use Rattle.lsp_edit.specs.Edited.{edit_of}
+use Rattle.lsp_store.proofs.SquashLemmas.{add_error, adds}
+use Rattle.lsp_store.proofs.squash.Squash.add.Goals as goal
+
+pub returns-in_err-change_joined-clause-error : goal.returns-in_err-change_joined-clause-error
+returns-in_err-change_joined-clause-error c =
+    let version : to_z w32 (of_z w32 c.args.version) ≡ c.args.version = to_z-of_z w32 c.args.version (search rules) in
+    let p = err_from_is_err_and c.from_residual.result c.from_residual.ensures.1 in
+    rw (p.1, p.2)
+    (add_error (string_bytes c.self.inside.uri) c.self.inside.limits c.self.inside.encoding c.self.inside.joined c.self.inside.reached c.self.invariant c.args.self.now c.self.view_is c.args.version (map edit_of c.args.changes.now) _
+    (rw version at (c.in_err-change_joined.ensures.error (string_bytes c.self.inside.uri))))
+
+pub returns-clause-ok : goal.returns-clause-ok
+returns-clause-ok c =
+    let version : to_z w32 (of_z w32 c.args.version) ≡ c.args.version = to_z-of_z w32 c.args.version (search rules) in
+    adds (string_bytes c.self.inside.uri) c.self.inside.limits c.self.inside.encoding c.self.inside.joined c.self.inside.reached c.self.invariant c.args.self.now c.self.view_is c.args.version _ (map edit_of c.args.changes.now) _
+    (rw version at (c.in_ok-change_joined.ensures.accepted (string_bytes c.self.inside.uri)))
+    c.in_ok-change_joined.ensures.joined
+    (rw version at c.in_ok-change_joined.ensures.version)

@@ -1,0 +1,85 @@
+-- Batches of changes on one document, one after another, as one batch (LSP 3.17, DidChangeTextDocumentParams).
+use Rattle.std.specs.Prelude.{ℕ, ℤ, ◌≡◌, if◌then◌else◌, nat_lt, List, [], ◌++◌, length, Option, Some, None, Result, Ok, Err}
+use Rattle.std.specs.Str.{chars}
+use Rattle.lsp_frame.specs.Frame.{frame}
+use Rattle.lsp_frame.specs.Limits.{Bounds}
+use Rattle.lsp_text.specs.declared.encoding.Encoding.{Encoding}
+use Rattle.lsp_text.specs.Units.{units_in}
+use Rattle.lsp_edit.specs.Items.{Item, plain, text_of}
+use Rattle.lsp_edit.specs.Batch.{Edit, Fault, meaning}
+use Rattle.lsp_edit.specs.Canonical.{canonical}
+use Rattle.lsp_edit.specs.Compose.{then_items}
+use Rattle.lsp_store.specs.Table.{Entry, Refusal, too_many_changes, bytes_after, entry_refusal}
+use Rattle.lsp_store.specs.Message.{change_body, body_refusal}
+
+-- A document's URI and its text (as bytes) before any batch, the limits and the encoding of all batches, what became of the text's
+-- characters, and the version of the last batch.
+pub record SquashData : Type 0 where
+  pub uri : List ℕ
+  pub limits : Bounds
+  pub encoding : Encoding
+  pub text : List ℕ
+  pub items : List Item
+  pub version : ℤ
+
+-- a document before any batch
+abbrev pub squash_of : Bounds → Encoding → Entry → SquashData
+squash_of limits encoding entry = record {
+  uri = entry.uri;
+  limits = limits;
+  encoding = encoding;
+  text = entry.text;
+  items = plain (chars entry.text);
+  version = entry.version;
+}
+
+-- the document after all batches; its language plays no part
+abbrev pub reached_entry : SquashData → Entry
+reached_entry squash = record { uri = squash.uri; language = []; version = squash.version; text = bytes_after squash.text squash.items }
+
+-- Why a batch is refused: as a change of the document that was reached.
+abbrev pub add_refusal : SquashData → ℤ → List Edit → Option Refusal
+add_refusal squash version batch = entry_refusal squash.limits (units_in squash.encoding) (reached_entry squash) version batch
+
+-- the items that a batch means; none where it means nothing
+abbrev pub items_meant : Result (List Item) (ℕ × Fault) → List Item
+items_meant (Ok items) = items
+items_meant (Err fault) = []
+
+-- A squash after a batch that is accepted, as a function.
+abbrev pub squash_after : SquashData → ℤ → List Edit → SquashData
+squash_after squash version batch = record squash {
+  items = then_items squash.items (items_meant (meaning (units_in squash.encoding) (text_of (chars squash.text) squash.items) batch));
+  version = version;
+}
+
+-- A squash after a batch that is accepted: URI, limits, encoding and the old text stay.
+pub record IsSquashAfter (old : SquashData) (version : ℤ) (batch : List Edit) (new : SquashData) : Type 0 where
+  -- the batch is not refused
+  pub accepted : add_refusal old version batch ≡ None
+  -- what it means on the text that was reached
+  pub others : List Item
+  pub means : meaning (units_in old.encoding) (text_of (chars old.text) old.items) batch ≡ Ok others
+  -- the new items are what the old ones and these mean together
+  pub is : new ≡ record old { items = then_items old.items others; version = version }
+  -- So they are the meaning of all batches as one list, if the old ones are that of the batches before.
+  pub together : (before : List Edit) → meaning (units_in old.encoding) (chars old.text) before ≡ Ok old.items
+      → meaning (units_in old.encoding) (chars old.text) (before ++ batch) ≡ Ok new.items
+
+-- ---- the message of all batches
+
+-- their canonical batch, and the body and the frame in which it is written
+abbrev pub squash_batch : SquashData → List Edit
+squash_batch squash = canonical (units_in squash.encoding) (chars squash.text) squash.items
+
+abbrev pub squash_body : SquashData → List ℕ
+squash_body squash = change_body squash.uri squash.version (squash_batch squash)
+
+abbrev pub squash_frame : SquashData → List ℕ
+squash_frame squash = frame (squash_body squash)
+
+-- It is refused where it has too many changes, and then where the body is too long.
+abbrev pub squash_refusal : SquashData → Option Refusal
+squash_refusal squash =
+    if nat_lt squash.limits.max_changes (length (squash_batch squash)) then Some too_many_changes
+    else body_refusal squash.limits (squash_body squash)

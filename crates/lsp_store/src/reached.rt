@@ -1,0 +1,45 @@
+//! A document that is reached by batches of changes, which are joined as they come.
+
+ghost use Rattle.std.specs.Prelude.{◌≡◌, ℕ, List, None, IfErr, OnErr, OnOk, map};
+ghost use Rattle.lsp_text.specs.Units.{units_in};
+ghost use Rattle.lsp_edit.specs.Edited.{edit_of};
+ghost use Rattle.lsp_edit.specs.Joined.{IsJoined, IsReached};
+ghost use Rattle.lsp_store.specs.Faults.{IsRefusal};
+ghost use Rattle.lsp_store.specs.Opened.{entry_under};
+ghost use Rattle.lsp_store.specs.Table.{entry_refusal};
+
+use crate::fault::StoreFault;
+use crate::held::Held;
+use lsp_edit::{Change, Joined};
+use lsp_frame::Limits;
+use lsp_text::Encoding;
+
+impl Held {
+    /// Joins a batch to those that led to this document, puts it into the document, and sets its version. Where anything is refused
+    /// both stay as they are.
+    pub fn change_joined(
+        &mut self,
+        joined: &mut Joined,
+        limits: &Limits,
+        version: i32,
+        encoding: Encoding,
+        changes: &[Change],
+    ) -> Result<(), StoreFault>
+        requires { IsReached joined.old self.old.text }
+        ensures accepted { OnOk result ((uri : List ℕ) → entry_refusal limits.now (units_in encoding)
+            (entry_under uri self.old) version (map edit_of changes.now) ≡ None) }
+        ensures joined { OnOk result
+            (IsJoined (units_in encoding) joined.old (map edit_of changes.now) joined.new) }
+        ensures reached { OnOk result (IsReached joined.new self.new.text) }
+        ensures version { OnOk result (self.new.version ≡ version) }
+        ensures unchanged { OnErr result (self.new ≡ self.old) }
+        ensures joined_unchanged { OnErr result (joined.new ≡ joined.old) }
+        ensures error { IfErr result (λ fault. (uri : List ℕ) → IsRefusal (entry_refusal limits.now
+            (units_in encoding) (entry_under uri self.old) version (map edit_of changes.now)) fault) }
+    {
+        self.may_change(limits, version, changes)?;
+        joined.change(encoding, &mut self.text, changes, limits.max_text())?;
+        self.version = version;
+        Ok(())
+    }
+}
