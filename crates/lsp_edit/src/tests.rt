@@ -1,6 +1,5 @@
 //! Batches on small texts: what they leave, their canonical batches and their faults. Ranges are counted in UTF-16.
 
-mod faults;
 mod made_again;
 
 use crate::{Change, EditFault, MAX_OLD_TEXT, Pieces, Side, compose, fits};

@@ -2,7 +2,6 @@
 
 mod agreement;
 mod bodies;
-mod faults;
 mod params;
 mod refused;
 mod texts;

@@ -1,9 +1,7 @@
 //! Sessions in bytes: tables of bodies that go in, each with what is wanted of its answer.
 
 mod agreed;
-mod faults;
 mod front_page;
-mod made_again;
 mod phases;
 mod refused;
 mod sessions;

@@ -2,8 +2,6 @@
 
 mod canonical;
 mod documents;
-mod faults;
-mod made_again;
 mod refused;
 
 use crate::{Store, StoreFault};

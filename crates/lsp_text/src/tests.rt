@@ -1,7 +1,6 @@
 //! Positions of small texts in the three encodings, and lines after an edit, against lines made from scratch.
 ghost use Rattle.std.specs.Prelude.{◌≤◌, length};
 
-mod faults;
 mod pictures;
 mod plain;
 mod refused;
