@@ -50,104 +50,121 @@ fn positioned(
     Ok(Some((position.line, position.character)))
 }
 
+/// A text, an encoding, a line and a character, and the byte offset that they denote.
+type Denoted = (&'static str, Encoding, u32, u32, Option<usize>);
+
+static DENOTED: [Denoted; 21] = [
+    ("a\rX\nb", UTF16, 1, 0, Some(2)),
+    ("a\rX\nb", UTF16, 1, 1, Some(3)),
+    ("a\rX\nb", UTF16, 2, 0, Some(4)),
+    ("a\r\nb", UTF16, 0, 9, Some(1)),
+    ("a\r\nb", UTF16, 1, 0, Some(3)),
+    ("a\n", UTF16, 1, 0, Some(2)),
+    ("a\n", UTF16, 7, 3, Some(2)),
+    ("", UTF16, 0, 0, Some(0)),
+    ("", UTF8, 4294967295, 4294967295, Some(0)),
+    ("\r", UTF16, 0, 4294967295, Some(0)),
+    ("\r", UTF16, 1, 0, Some(1)),
+    ("\u{1F600}", UTF16, 0, 1, None),
+    ("\u{1F600}", UTF16, 0, 2, Some(4)),
+    ("\u{1F600}", UTF8, 0, 1, None),
+    ("\u{1F600}", UTF8, 0, 2, None),
+    ("\u{1F600}", UTF8, 0, 3, None),
+    ("\u{1F600}", UTF8, 0, 4, Some(4)),
+    ("\u{1F600}", UTF32, 0, 1, Some(4)),
+    ("\u{1F600}", UTF8, 0, 99, Some(4)),
+    ("\u{1F600}", UTF16, 0, 99, Some(4)),
+    ("\u{1F600}", UTF32, 0, 99, Some(4)),
+];
+
+fn denotes(alloc: Global, row: &Denoted) -> Result<bool, AllocError> {
+    let (text, encoding, line, character, place) = *row;
+    if text.len() > 1000 {
+        return Ok(false);
+    }
+    Ok(resolved(alloc, text, encoding, line, character)? == place)
+}
+
 #[test]
 fn positions_denote_places(rt: HostRuntime) -> Result<(), Fail> {
-    let cases = [
-        ("a\rX\nb", UTF16, 1, 0, Some(2)),
-        ("a\rX\nb", UTF16, 1, 1, Some(3)),
-        ("a\rX\nb", UTF16, 2, 0, Some(4)),
-        ("a\r\nb", UTF16, 0, 9, Some(1)),
-        ("a\r\nb", UTF16, 1, 0, Some(3)),
-        ("a\n", UTF16, 1, 0, Some(2)),
-        ("a\n", UTF16, 7, 3, Some(2)),
-        ("", UTF16, 0, 0, Some(0)),
-        ("", UTF8, 4294967295, 4294967295, Some(0)),
-        ("\r", UTF16, 0, 4294967295, Some(0)),
-        ("\r", UTF16, 1, 0, Some(1)),
-        ("\u{1F600}", UTF16, 0, 1, None),
-        ("\u{1F600}", UTF16, 0, 2, Some(4)),
-        ("\u{1F600}", UTF8, 0, 1, None),
-        ("\u{1F600}", UTF8, 0, 2, None),
-        ("\u{1F600}", UTF8, 0, 3, None),
-        ("\u{1F600}", UTF8, 0, 4, Some(4)),
-        ("\u{1F600}", UTF32, 0, 1, Some(4)),
-        ("\u{1F600}", UTF8, 0, 99, Some(4)),
-        ("\u{1F600}", UTF16, 0, 99, Some(4)),
-        ("\u{1F600}", UTF32, 0, 99, Some(4)),
-    ];
-    for (text, encoding, line, character, place) in cases {
-        assert!(rt; text.len() <= 1000);
-        assert_eq!(rt;
-            resolved(rt.alloc(), text, encoding, line, character)?,
-            place,
-            "{text:?} {line} {character}"
-        );
+    for row in &DENOTED {
+        assert!(rt; denotes(rt.alloc(), row)?, "{row:?}");
     }
     Ok(())
+}
+
+/// A text, an encoding, a byte offset, and its exact line and character.
+type Exact = (&'static str, Encoding, usize, Option<(u32, u32)>);
+
+static EXACT: [Exact; 15] = [
+    ("a\rX\nb", UTF16, 4, Some((2, 0))),
+    ("a\r\nb", UTF16, 1, Some((0, 1))),
+    ("a\r\nb", UTF16, 2, None),
+    ("a\r\nb", UTF16, 5, None),
+    ("a\n", UTF16, 2, Some((1, 0))),
+    ("", UTF8, 0, Some((0, 0))),
+    ("\r", UTF8, 1, Some((1, 0))),
+    ("\u{1F600}", UTF8, 4, Some((0, 4))),
+    ("\u{1F600}", UTF16, 4, Some((0, 2))),
+    ("\u{1F600}", UTF32, 4, Some((0, 1))),
+    ("\u{1F600}", UTF32, 2, None),
+    ("e\u{301}\u{7F}\u{80}\u{7FF}", UTF16, 8, Some((0, 5))),
+    (
+        "\u{800}\u{FFFF}\u{10000}\u{10FFFF}",
+        UTF8,
+        14,
+        Some((0, 14)),
+    ),
+    (
+        "\u{800}\u{FFFF}\u{10000}\u{10FFFF}",
+        UTF16,
+        14,
+        Some((0, 6)),
+    ),
+    (
+        "\u{800}\u{FFFF}\u{10000}\u{10FFFF}",
+        UTF32,
+        14,
+        Some((0, 4)),
+    ),
+];
+
+fn is_exact(alloc: Global, row: &Exact) -> Result<bool, AllocError> {
+    let (text, encoding, place, position) = *row;
+    if text.len() > 1000 {
+        return Ok(false);
+    }
+    Ok(positioned(alloc, text, encoding, place)? == position)
 }
 
 #[test]
 fn places_have_exact_positions(rt: HostRuntime) -> Result<(), Fail> {
-    let cases = [
-        ("a\rX\nb", UTF16, 4, Some((2, 0))),
-        ("a\r\nb", UTF16, 1, Some((0, 1))),
-        ("a\r\nb", UTF16, 2, None),
-        ("a\r\nb", UTF16, 5, None),
-        ("a\n", UTF16, 2, Some((1, 0))),
-        ("", UTF8, 0, Some((0, 0))),
-        ("\r", UTF8, 1, Some((1, 0))),
-        ("\u{1F600}", UTF8, 4, Some((0, 4))),
-        ("\u{1F600}", UTF16, 4, Some((0, 2))),
-        ("\u{1F600}", UTF32, 4, Some((0, 1))),
-        ("\u{1F600}", UTF32, 2, None),
-        ("e\u{301}\u{7F}\u{80}\u{7FF}", UTF16, 8, Some((0, 5))),
-        (
-            "\u{800}\u{FFFF}\u{10000}\u{10FFFF}",
-            UTF8,
-            14,
-            Some((0, 14)),
-        ),
-        (
-            "\u{800}\u{FFFF}\u{10000}\u{10FFFF}",
-            UTF16,
-            14,
-            Some((0, 6)),
-        ),
-        (
-            "\u{800}\u{FFFF}\u{10000}\u{10FFFF}",
-            UTF32,
-            14,
-            Some((0, 4)),
-        ),
-    ];
-    for (text, encoding, place, position) in cases {
-        assert!(rt; text.len() <= 1000);
-        assert_eq!(rt;
-            positioned(rt.alloc(), text, encoding, place)?,
-            position,
-            "{text:?} {place}"
-        );
+    for row in &EXACT {
+        assert!(rt; is_exact(rt.alloc(), row)?, "{row:?}");
     }
     Ok(())
 }
 
+/// A character, its bytes, and its units in UTF-16.
+static UNITS: [(char, u32, u32); 7] = [
+    ('\u{7F}', 1, 1),
+    ('\u{80}', 2, 1),
+    ('\u{7FF}', 2, 1),
+    ('\u{800}', 3, 1),
+    ('\u{FFFF}', 3, 1),
+    ('\u{10000}', 4, 2),
+    ('\u{10FFFF}', 4, 2),
+];
+
 #[test]
-fn characters_have_units(rt: HostRuntime) -> Result<(), Fail> {
-    let cases = [
-        ('\u{7F}', 1, 1),
-        ('\u{80}', 2, 1),
-        ('\u{7FF}', 2, 1),
-        ('\u{800}', 3, 1),
-        ('\u{FFFF}', 3, 1),
-        ('\u{10000}', 4, 2),
-        ('\u{10FFFF}', 4, 2),
-    ];
-    for (c, bytes, code_units) in cases {
-        assert_eq!(rt; Utf8::units(c), bytes);
-        assert_eq!(rt; Utf16::units(c), code_units);
-        assert_eq!(rt; Utf32::units(c), 1);
+fn characters_have_units(rt: HostRuntime) {
+    for (c, bytes, code_units) in &UNITS {
+        assert!(rt;
+            Utf8::units(*c) == *bytes && Utf16::units(*c) == *code_units,
+            "{c}"
+        );
+        assert_eq!(rt; Utf32::units(*c), 1);
     }
-    Ok(())
 }
 
 #[test]
@@ -161,27 +178,49 @@ fn encodings_have_names(rt: HostRuntime) -> Result<(), Fail> {
     Ok(())
 }
 
+/// A text, a byte offset, its line, and how many line starts may be read to find it.
+static FOUND: [(&str, usize, usize, usize); 3] = [
+    ("a\rX\nb", 4, 2, 2),
+    ("a\r\nb", 2, 0, 2),
+    ("", 0, 0, 1),
+];
+
+/// The same in a text of a hundred lines.
+static FOUND_IN_HUNDRED: [(usize, usize, usize); 3] = [(50, 50, 7), (100, 100, 7), (1000, 100, 7)];
+
+/// Is this the line of a byte offset, and is it found by reading so few line starts?
+fn is_found(
+    alloc: Global,
+    text: &str,
+    place: usize,
+    line: usize,
+    most: usize,
+) -> Result<bool, AllocError> {
+    if text.len() > 1000 {
+        return Ok(false);
+    }
+    let lines = Lines::new(alloc, text)?;
+    let mut looks = lines.looks();
+    if looks.made() != 0 {
+        return Ok(false);
+    }
+    Ok(line_of(&mut looks, place) == line && looks.made() <= most)
+}
+
 #[test]
 fn a_line_is_found_with_few_looks(rt: HostRuntime) -> Result<(), Fail> {
-    let mut hundred = String::new(rt.alloc());
-    for _ in 0..100 {
-        hundred.push_str("\n")?;
+    for (text, place, line, most) in &FOUND {
+        assert!(rt;
+            is_found(rt.alloc(), text, *place, *line, *most)?,
+            "{text:?} {place}"
+        );
     }
-    let cases = [
-        ("a\rX\nb", 4, 2, 2),
-        ("a\r\nb", 2, 0, 2),
-        ("", 0, 0, 1),
-        (hundred.as_str(), 50, 50, 7),
-        (hundred.as_str(), 100, 100, 7),
-        (hundred.as_str(), 1000, 100, 7),
-    ];
-    for (text, place, line, most) in cases {
-        assert!(rt; text.len() <= 1000);
-        let lines = Lines::new(rt.alloc(), text)?;
-        let mut looks = lines.looks();
-        assert_eq!(rt; looks.made(), 0);
-        assert_eq!(rt; line_of(&mut looks, place), line, "{text:?} {place}");
-        assert!(rt; looks.made() <= most);
+    let hundred = "\n".repeat(rt.alloc(), 100)?;
+    for (place, line, most) in &FOUND_IN_HUNDRED {
+        assert!(rt;
+            is_found(rt.alloc(), &hundred, *place, *line, *most)?,
+            "{place}"
+        );
     }
     Ok(())
 }

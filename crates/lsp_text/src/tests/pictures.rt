@@ -8,7 +8,7 @@ use std::test::Fail;
 const LINE: &str = "a\u{E9}\u{20AC}\u{1F600}b";
 
 /// The places that its characters 0, 1, 2 .. denote in an encoding; `None` inside a character.
-const PLACES: [(Encoding, &[Option<usize>]); 3] = [
+static PLACES: [(Encoding, &[Option<usize>]); 3] = [
     (
         UTF8,
         &[
@@ -57,10 +57,10 @@ const PLACES: [(Encoding, &[Option<usize>]); 3] = [
 #[test]
 fn a_line_in_three_encodings(rt: HostRuntime) -> Result<(), Fail> {
     assert!(rt; LINE.len() <= 1000);
-    for (encoding, places) in PLACES {
+    for (encoding, places) in &PLACES {
         let mut character = 0;
-        for place in places {
-            let found = resolved(rt.alloc(), LINE, encoding, 0, character)?;
+        for place in *places {
+            let found = resolved(rt.alloc(), LINE, *encoding, 0, character)?;
             assert_eq!(rt; found, *place, "{} {character}", encoding.name());
             character = character.saturating_add(1);
         }
@@ -72,7 +72,7 @@ fn a_line_in_three_encodings(rt: HostRuntime) -> Result<(), Fail> {
 const ENDS: &str = "a\r\nb\rc\n";
 
 /// Line, character, and the place that they denote.
-const ENDS_PLACES: [(u32, u32, usize); 13] = [
+static ENDS_PLACES: [(u32, u32, usize); 13] = [
     (0, 0, 0),
     (0, 1, 1),
     (0, 2, 1),
@@ -89,7 +89,7 @@ const ENDS_PLACES: [(u32, u32, usize); 13] = [
 ];
 
 /// A place, and its exact position where it has one.
-const ENDS_POSITIONS: [(usize, Option<(u32, u32)>); 8] = [
+static ENDS_POSITIONS: [(usize, Option<(u32, u32)>); 8] = [
     (0, Some((0, 0))),
     (1, Some((0, 1))),
     (2, None),
@@ -104,13 +104,13 @@ const ENDS_POSITIONS: [(usize, Option<(u32, u32)>); 8] = [
 fn line_ends_of_three_kinds(rt: HostRuntime) -> Result<(), Fail> {
     assert!(rt; ENDS.len() <= 1000);
     for encoding in [UTF8, UTF16, UTF32] {
-        for (line, character, place) in ENDS_PLACES {
-            let found = resolved(rt.alloc(), ENDS, encoding, line, character)?;
-            assert_eq!(rt; found, Some(place), "{line} {character}");
+        for (line, character, place) in &ENDS_PLACES {
+            let found = resolved(rt.alloc(), ENDS, encoding, *line, *character)?;
+            assert_eq!(rt; found, Some(*place), "{line} {character}");
         }
-        for (place, position) in ENDS_POSITIONS {
-            let found = positioned(rt.alloc(), ENDS, encoding, place)?;
-            assert_eq!(rt; found, position, "{place}");
+        for (place, position) in &ENDS_POSITIONS {
+            let found = positioned(rt.alloc(), ENDS, encoding, *place)?;
+            assert_eq!(rt; found, *position, "{place}");
         }
     }
     Ok(())

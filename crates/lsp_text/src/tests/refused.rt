@@ -7,7 +7,7 @@ use std::process::Abort;
 use std::test::Fail;
 
 /// Texts and their line starts: enough that `new` takes memory more often than the edits below do.
-const TEXTS: [(&str, &[usize]); 6] = [
+static TEXTS: [(&str, &[usize]); 6] = [
     ("\n\n\n\n\n\n\n\n", &[0, 1, 2, 3, 4, 5, 6, 7, 8]),
     ("\r\r\r\r\r\r\r\r", &[0, 1, 2, 3, 4, 5, 6, 7, 8]),
     (
@@ -38,7 +38,7 @@ struct Edit {
     then: &'static [usize],
 }
 
-const EDITS: [Edit; 3] = [
+static EDITS: [Edit; 3] = [
     Edit {
         text: "a\nb",
         starts: &[0, 2],
@@ -93,7 +93,7 @@ fn made(alloc: Global, text: &str) -> Result<(Lines, usize), AllocError>
 #[test]
 fn refused_lines_new(rt: HostRuntime) -> Result<(), Fail> {
     let mut refused: usize = 0;
-    for (text, starts) in TEXTS {
+    for (text, starts) in &TEXTS {
         assert!(rt; text.len() <= 1000);
         let (lines, again) = made(rt.alloc(), text)?;
         refused = refused.saturating_add(again);
