@@ -1,12 +1,14 @@
-//! Open documents: changed at moving places, written as canonical messages, looked up and closed; beside `replace_range` on a text whose
-//! line starts are kept.
+//! Open documents: changed at moving places, written as canonical messages, edited by a client, looked up and closed; beside
+//! `replace_range` on a text whose line starts are kept.
 
 use crate::edits::{
     LINE, Measured, ROUNDS, SIZES, made_text, replaced, report, scattered, scattered_line,
 };
 use anyhow::Result;
+use lsp_client::Client;
 use lsp_edit::Change;
 use lsp_frame::Limits;
+use lsp_message::Offers;
 use lsp_store::{Store, StoreFault};
 use lsp_text::Encoding;
 use std::alloc::{AllocError, Global};
@@ -58,6 +60,8 @@ fn change_one<R: Runtime + AllocGlobal>(rt: &R, size: usize, turns: u32) -> Resu
         let worked = worked(rt, &text, &changes, work)?;
         report(rt, what, size, &turns, &worked)?;
     }
+    let edited = edited(rt, &text, &changes)?;
+    report(rt, "Client::edit", size, &turns, &edited)?;
     let mut places = Vec::new(rt.alloc());
     for turn in 0..turns {
         places.push(scattered_line(turn, lines))?;
@@ -119,6 +123,40 @@ fn worked<R: Runtime + AllocGlobal>(
         }
         measured.took(start.elapsed(rt)? / turns);
         measured.made = made.wrapping_add(text_len(&store, URI));
+    }
+    Ok(measured)
+}
+
+/// What a server answers that wants changed ranges, in UTF-16.
+const ANSWER: &[u8] = br#"{"id":1,"jsonrpc":"2.0","result":{"capabilities":{"textDocumentSync":2}}}"#;
+
+/// A client in whose session one document is open.
+fn ready_client(alloc: Global, text: &str) -> Result<Client> {
+    let limits = Limits::new(67_108_864, 67_108_864, 1, 1)?;
+    let mut client = Client::new(alloc, limits, Offers::new(false, false));
+    let _initialize = client.start()?;
+    let _initialized = client.deliver(ANSWER)?;
+    let uri = String::from_str(alloc, URI)?;
+    let language = String::from_str(alloc, "rust")?;
+    let _open = client.open(uri, language, 1, String::from_str(alloc, text)?)?;
+    Ok(client)
+}
+
+/// Each change in turn as an edit of a client; the mean of a round, and how many bytes were sent and left.
+fn edited<R: Runtime + AllocGlobal>(rt: &R, text: &str, changes: &[Change]) -> Result<Measured> {
+    let mut measured = Measured::new();
+    let turns = u32::try_from(changes.len())?.max(1);
+    for _ in 0..ROUNDS {
+        let mut client = ready_client(rt.alloc(), text)?;
+        let mut made: usize = 0;
+        let mut version: i32 = 1;
+        let start = Instant::now(rt)?;
+        for change in changes.chunks(1) {
+            version = version.saturating_add(1);
+            made = made.wrapping_add(client.edit(URI, version, change)?.len());
+        }
+        measured.took(start.elapsed(rt)? / turns);
+        measured.made = made.wrapping_add(text_len(client.store(), URI));
     }
     Ok(measured)
 }
