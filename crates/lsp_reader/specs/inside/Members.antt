@@ -1,0 +1,76 @@
+-- What is kept of the members `ms` of an object.
+use Rattle.std.specs.Prelude.{◌≡◌, ◌<◌, ℕ, List, ◌∷◌, Bool, true, false, Option, Some, None, option_map, option_and_then, map, codes, ⊤}
+use Rattle.json.specs.Token.{Token}
+use Rattle.serde_json.specs.Data.{Data, null as null_data, Members}
+use Rattle.serde_json.specs.Find.{get_member, as_object, as_array}
+use Rattle.lsp_message.specs.Seen.{edit_view}
+use Rattle.lsp_message.specs.Values.{is_null, member_at, members_in, items_in}
+use Rattle.lsp_message.specs.Params.{position_in, range_of, edits_in}
+use Rattle.lsp_reader.specs.declared.opening.Opening.{Opening}
+use Rattle.lsp_reader.specs.declared.opening.Opening.TheVariants as opening
+use Rattle.lsp_reader.specs.declared.scalar.Scalar.{Scalar}
+use Rattle.lsp_reader.specs.declared.position.PositionMembers.{PositionMembers}
+use Rattle.lsp_reader.specs.declared.range.RangeMembers.{RangeMembers}
+use Rattle.lsp_reader.specs.declared.change.ChangeMembers.{ChangeMembers}
+use Rattle.lsp_reader.specs.declared.document.DocumentMembers.{DocumentMembers}
+use Rattle.lsp_reader.specs.declared.params.ParamsMembers.{ParamsMembers}
+use Rattle.lsp_reader.specs.declared.message.MessageMembers.{MessageMembers}
+use Rattle.lsp_reader.specs.inside.Reading.{value_at}
+use Rattle.lsp_reader.specs.inside.Scalars.{scalar_in, scalar_view}
+
+-- ---- the first token of a value
+
+-- an object's brace was read, or all of another value
+abbrev pub IsOpening : Opening → ℕ → List Token → List Token → Type 0
+IsOpening opening.Object depth old new = (0 < depth) × (old ≡ Token.begin_object ∷ new)
+IsOpening opening.Null depth old new = value_at depth old ≡ Some (null_data, new)
+IsOpening opening.Other depth old new =
+    (d : Data) × (value_at depth old ≡ Some (d, new)) × (as_object d ≡ None) × (is_null d ≡ false)
+
+-- an array's bracket was read, or all of another value
+abbrev pub IsArrayOpening : Bool → ℕ → List Token → List Token → Type 0
+IsArrayOpening true depth old new = (0 < depth) × (old ≡ Token.begin_array ∷ new)
+IsArrayOpening false depth old new =
+    (d : Data) × (value_at depth old ≡ Some (d, new)) × (as_array d ≡ None)
+
+-- ---- the members of an object
+
+abbrev pub IsScalarAt : Scalar → List ℕ → Members → Type 0
+IsScalarAt s name ms = scalar_view s ≡ scalar_in (get_member name ms)
+
+abbrev pub IsPositionOf : PositionMembers → Members → Type 0
+IsPositionOf p ms =
+    IsScalarAt p.line (codes "line") ms × IsScalarAt p.character (codes "character") ms
+
+abbrev pub IsRangeOf : RangeMembers → Members → Type 0
+IsRangeOf r ms =
+    (r.start ≡ position_in (get_member (codes "start") ms))
+    × (r.stop ≡ position_in (get_member (codes "end") ms))
+
+abbrev pub IsChangeOf : ChangeMembers → Members → Type 0
+IsChangeOf c ms =
+    IsScalarAt c.text (codes "text") ms × (c.range ≡ range_of (get_member (codes "range") ms))
+
+abbrev pub IsDocumentOf : DocumentMembers → Members → Type 0
+IsDocumentOf d ms =
+    IsScalarAt d.uri (codes "uri") ms × IsScalarAt d.language (codes "languageId") ms
+    × IsScalarAt d.version (codes "version") ms × IsScalarAt d.text (codes "text") ms
+
+abbrev pub IsDocumentIn : Option DocumentMembers → Option Members → Type 0
+IsDocumentIn None None = ⊤
+IsDocumentIn None (Some ms) = ⊥
+IsDocumentIn (Some d) None = ⊥
+IsDocumentIn (Some d) (Some ms) = IsDocumentOf d ms
+
+abbrev pub IsParamsOf : ParamsMembers → Option Data → Type 0
+IsParamsOf p value =
+    IsDocumentIn p.document (members_in (member_at (codes "textDocument") value))
+    × (option_map (λ v. map edit_view v.items) p.changes
+    ≡ option_and_then edits_in (items_in (member_at (codes "contentChanges") value)))
+
+abbrev pub IsMessageOf : MessageMembers → Members → Type 0
+IsMessageOf m ms =
+    IsScalarAt m.version (codes "jsonrpc") ms × IsScalarAt m.method (codes "method") ms
+    × IsScalarAt m.id (codes "id") ms × IsScalarAt m.error (codes "error") ms
+    × IsScalarAt m.outcome (codes "result") ms
+    × IsParamsOf m.params (get_member (codes "params") ms)

@@ -1,0 +1,200 @@
+//! What a body asks of a server.
+
+ghost use Rattle.std.specs.Prelude.{◌≡◌, option_map, Some, None, Err, IfOk, IfSome, string_bytes};
+ghost use Rattle.serde_json.specs.Data.{Data};
+ghost use Rattle.serde_json.specs.Read.{read as read_value};
+ghost use Rattle.serde_json.specs.View.{view};
+ghost use Rattle.lsp_message.specs.Message.{reading, message_of};
+ghost use Rattle.lsp_message.specs.Params.{change_of};
+ghost use Rattle.lsp_message.specs.Seen.{id_view, message_view};
+ghost use Rattle.lsp_reader.specs.Incoming.{incoming_of, incoming_by, request_of, notification_of, did_change};
+ghost use Rattle.lsp_reader.specs.Seen.{incoming_view};
+
+use crate::fault::Fault;
+use crate::message::read_message_members;
+use crate::opening::{Opening, open_object};
+use json::{Reader, Scratch};
+use lsp_message::{
+    ChangeParams, CloseParams, Id, Message, Offers, OpenParams, ParamsFault, ReadFault,
+    params_change, params_close, params_initialize, params_open, read,
+};
+use serde_json::Value;
+use std::alloc::{AllocError, Global};
+
+/// Arrays and objects nest at most so deep, as in `serde_json`.
+const MAX_DEPTH: usize = 127;
+
+/// The longest body that is read with the caller's scratch.
+const MAX_KEPT: usize = 65_536;
+
+/// What a body asks of a server, its parameters read (LSP 3.17, Base Protocol). Parameters that are
+/// not as the protocol wants them are `None`.
+///
+/// The params of other requests and notifications, and the result of a response, are read by
+/// `lsp_message::read` of the same body.
+#[derive(Debug, PartialEq, Drop)]
+pub enum Incoming {
+    /// The body is no JSON.
+    NotJson,
+    /// The body is JSON and no message. The id is the one that a reply may name.
+    NotAMessage { id: Option<Id> },
+    /// The response to a request of the server's; the id is `None` where the member is null.
+    Response { id: Option<Id> },
+    /// `initialize`, with the encodings that the client offers.
+    Initialize { id: Id, offers: Option<Offers> },
+    /// `shutdown`.
+    Shutdown { id: Id },
+    /// Any other request: `exit` as a request too, and the document messages as requests.
+    OtherRequest { id: Id, method: String },
+    /// `exit`.
+    Exit,
+    /// `textDocument/didOpen`.
+    DidOpen(Option<OpenParams>),
+    /// `textDocument/didChange`.
+    DidChange(Option<ChangeParams>),
+    /// `textDocument/didClose`.
+    DidClose(Option<CloseParams>),
+    /// Any other notification.
+    OtherNotification { method: String },
+}
+
+impl Incoming {
+    /// Reads a body. Fails only where memory runs out.
+    ///
+    /// One pass, linear in the body. Beside what it returns it takes a scratch: 16 KB and the body's
+    /// length. Where many bodies are read, keep one and call [`Incoming::read_with`].
+    #[inline(never)]
+    pub fn read(alloc: Global, body: &[u8]) -> Result<Incoming, AllocError>
+        ensures { IfOk result (λ m. incoming_view m ≡ incoming_of (reading body.now)) }
+    {
+        let mut scratch = Scratch::new(alloc);
+        read_body(alloc, body, &mut scratch)
+    }
+
+    /// Reads a body, as [`Incoming::read`], with a scratch that is kept from body to body.
+    ///
+    /// A body of more than 64 KB is read with a scratch of its own, so at most 80 KB are kept.
+    pub fn read_with(
+        alloc: Global,
+        body: &[u8],
+        scratch: &mut Scratch,
+    ) -> Result<Incoming, AllocError>
+        ensures { IfOk result (λ m. incoming_view m ≡ incoming_of (reading body.now)) }
+    {
+        if body.len() > MAX_KEPT {
+            return Incoming::read(alloc, body);
+        }
+        read_body(alloc, body, scratch)
+    }
+
+    /// What a message asks, for one who has read it. Fails only where memory runs out.
+    ///
+    /// Linear in the number of changes of a `didChange`; texts are moved out of the message.
+    pub fn of(alloc: Global, message: Message) -> Result<Incoming, AllocError>
+        ensures { IfOk result (λ m. incoming_view m ≡ incoming_by (message_view message)) }
+    {
+        match message {
+            Message::Request { id, method, params } => Ok(request(alloc, id, method, params)),
+            Message::Notification { method, params } => notification(alloc, method, params),
+            Message::Response { id, .. } => Ok(Incoming::Response { id }),
+        }
+    }
+}
+
+fn read_body(alloc: Global, body: &[u8], scratch: &mut Scratch) -> Result<Incoming, AllocError>
+    ensures { IfOk result (λ m. incoming_view m ≡ incoming_of (reading body.now)) }
+{
+    let Ok(text) = std::str::from_utf8(body) else {
+        return Ok(Incoming::NotJson);
+    };
+    match read_text(alloc, text, scratch) {
+        Ok(Some(incoming)) => Ok(incoming),
+        Ok(None) => read_tree(alloc, body),
+        Err(Fault::NotJson) => Ok(Incoming::NotJson),
+        Err(Fault::NoMemory) => Err(AllocError),
+    }
+}
+
+/// Reads a body as a tree of JSON.
+#[inline(never)]
+fn read_tree(alloc: Global, body: &[u8]) -> Result<Incoming, AllocError>
+    ensures { IfOk result (λ m. incoming_view m ≡ incoming_of (reading body.now)) }
+{
+    match read(alloc, body) {
+        Ok(message) => Incoming::of(alloc, message),
+        Err(ReadFault::NotJson) => Ok(Incoming::NotJson),
+        Err(ReadFault::NotAMessage { id }) => Ok(Incoming::NotAMessage { id }),
+        Err(ReadFault::NoMemory) => Err(AllocError),
+    }
+}
+
+/// Reads a text by its tokens; `None` where it has to be read as a tree.
+fn read_text(alloc: Global, text: &str, scratch: &mut Scratch) -> Result<Option<Incoming>, Fault>
+    ensures ok { IfOk result (λ r. IfSome r (λ m. (d : Data) × (read_value text.now ≡ Some d)
+        × (incoming_view m ≡ incoming_of (message_of d)))) }
+    ensures error { result ≡ Err Fault.NotJson → read_value text.now ≡ None }
+{
+    let mut reader = Reader::new(text, scratch)?;
+    match open_object(&mut reader, MAX_DEPTH)? {
+        Opening::Object => {}
+        Opening::Null => {
+            return match reader.next() {
+                Some(_) => Err(Fault::NotJson),
+                None => Ok(Some(Incoming::NotAMessage { id: None })),
+            };
+        }
+        Opening::Other => {
+            return match reader.next() {
+                Some(_) => Err(Fault::NotJson),
+                None => Ok(Some(Incoming::NotAMessage { id: None })),
+            };
+        }
+    }
+    let found = read_message_members(alloc, &mut reader, MAX_DEPTH - 1)?;
+    match reader.next() {
+        Some(_) => Err(Fault::NotJson),
+        None => Ok(found.incoming(alloc)?),
+    }
+}
+
+fn request(alloc: Global, id: Id, method: String, params: Option<Value>) -> Incoming
+    ensures { incoming_view result
+        ≡ request_of (id_view id) (string_bytes method) (option_map view params) }
+{
+    match method.as_str() {
+        "initialize" => {
+            let offers = params_initialize(alloc, params).ok();
+            Incoming::Initialize { id, offers }
+        }
+        "shutdown" => Incoming::Shutdown { id },
+        _ => Incoming::OtherRequest { id, method },
+    }
+}
+
+fn notification(
+    alloc: Global,
+    method: String,
+    params: Option<Value>,
+) -> Result<Incoming, AllocError>
+    ensures { IfOk result (λ m. incoming_view m
+        ≡ notification_of (string_bytes method) (option_map view params)) }
+{
+    match method.as_str() {
+        "exit" => Ok(Incoming::Exit),
+        "textDocument/didOpen" => Ok(Incoming::DidOpen(params_open(alloc, params).ok())),
+        "textDocument/didChange" => change(alloc, params),
+        "textDocument/didClose" => Ok(Incoming::DidClose(params_close(alloc, params).ok())),
+        _ => Ok(Incoming::OtherNotification { method }),
+    }
+}
+
+fn change(alloc: Global, params: Option<Value>) -> Result<Incoming, AllocError>
+    ensures { IfOk result (λ m. incoming_view m
+        ≡ did_change (change_of (option_map view params))) }
+{
+    match params_change(alloc, params) {
+        Ok(params) => Ok(Incoming::DidChange(Some(params))),
+        Err(ParamsFault::InvalidParams) => Ok(Incoming::DidChange(None)),
+        Err(ParamsFault::NoMemory) => Err(AllocError),
+    }
+}

@@ -1,0 +1,40 @@
+//! Reads what a body asks of a language server, in one pass over the tokens of its JSON.
+//!
+//! No tree is built: the members that the protocol names are kept, and all else is passed over. The
+//! result is what `lsp_message` defines for the value that `serde_json` reads, for each body.
+//!
+//! ```text
+//! let mut scratch = Scratch::new(alloc);
+//! // for each body:
+//! match Incoming::read_with(alloc, body, &mut scratch)? {
+//!     Incoming::DidChange(Some(params)) => apply(params),
+//!     Incoming::OtherRequest { id, method } => answer(id, method, body),
+//!     ..
+//! }
+//! ```
+//!
+//! - `incoming`: what a body asks, its parameters read.
+//! - `message`, `params`, `document`, `changes`, `change`, `range`, `position`: the objects of the
+//!   protocol, each with the members that are kept of it.
+//! - `scalar`: a member of which a text or a whole number is kept.
+//! - `number`: which numbers are in range.
+//! - `opening`: the first token of an object; `skip`: values that are passed over.
+//! - `fault`: why reading stopped.
+#![tactic(auto)]
+
+mod change;
+mod changes;
+mod document;
+mod fault;
+mod incoming;
+mod message;
+mod number;
+mod opening;
+mod params;
+mod position;
+mod range;
+mod scalar;
+mod skip;
+
+pub use incoming::Incoming;
+pub use json::Scratch;
