@@ -1,7 +1,7 @@
 //! Batches on small texts: what they leave, their canonical batches and their faults. Ranges are counted in UTF-16.
 
 mod faults;
-mod joined;
+mod joined_batches;
 mod long_batches;
 mod made_again;
 mod pieces;
