@@ -128,7 +128,8 @@ fn worked<R: Runtime + AllocGlobal>(
 }
 
 /// What a server answers that wants changed ranges, in UTF-16.
-const ANSWER: &[u8] = br#"{"id":1,"jsonrpc":"2.0","result":{"capabilities":{"textDocumentSync":2}}}"#;
+const ANSWER: &[u8] =
+    br#"{"id":1,"jsonrpc":"2.0","result":{"capabilities":{"textDocumentSync":2}}}"#;
 
 /// A client in whose session one document is open.
 fn ready_client(alloc: Global, text: &str) -> Result<Client> {
