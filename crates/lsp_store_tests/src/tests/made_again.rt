@@ -1,7 +1,7 @@
 //! Whole runs of calls on one store, in which a call that runs out of memory is made again. Each test prints how many growths were
 //! refused.
 
-use super::{URI, narrow, open};
+use super::{URI, current, narrow, open};
 use lsp_edit::EditFault;
 use lsp_frame::{BadLimits, Limits};
 use lsp_samples::edits::{ALL, Edit, batch};
@@ -30,7 +30,7 @@ fn has_document(store: &Store, wanted: Document) -> bool {
     let Some((version, text)) = wanted else {
         return store.len() == 0;
     };
-    match held(store) {
+    match current(store) {
         Some(found) => found.0 == version && found.1.as_bytes() == text.as_bytes(),
         None => false,
     }
