@@ -5,7 +5,7 @@ use std::alloc::{AllocError, Global};
 use std::process::Abort;
 use std::test::Fail;
 
-static READ_FAULTS: [(ReadFault, &str); 4] = [
+const READ_FAULTS: [(ReadFault, &str); 4] = [
     (ReadFault::NotJson, "the body is no JSON"),
     (
         ReadFault::NotAMessage { id: None },
