@@ -1,23 +1,19 @@
 -- What is sent for a command, and why a command is refused.
-use Rattle.std.proofs.Common.{◌≡◌, ◌≢◌, ℕ, ℤ, List, Option, Some, None, Result, Ok, Err, refl, sym, ap, ◌∙◌, subst, ⊎_elim, inl, inr}
+use Rattle.std.proofs.Common.{◌≡◌, ◌≢◌, ℕ, ℤ, List, Option, Some, None, refl, sym, ap, ◌∙◌, ⊎_elim, inl, inr}
 use Rattle.lsp_frame.specs.Frame.{frame}
-use Rattle.lsp_frame.specs.Limits.{Bounds}
 use Rattle.lsp_text.specs.declared.encoding.Encoding.{Encoding}
 use Rattle.lsp_text.specs.Units.{units_in}
 use Rattle.lsp_edit.specs.Batch.{Edit}
 use Rattle.lsp_message.specs.declared.agreement.SyncKind.{SyncKind}
 use Rattle.lsp_message.specs.declared.agreement.SyncKind.TheVariants.{Off, Full, Incremental}
-use Rattle.lsp_message.specs.Outgoing.{body_of}
 use Rattle.lsp_store.specs.declared.fault.StoreFault.{StoreFault}
 use Rattle.lsp_store.specs.declared.fault.StoreFault.TheVariants as faults
 use Rattle.lsp_store.specs.Faults as documents
 use Rattle.lsp_store.specs.Faults.{IsRefusal}
-use Rattle.lsp_store.specs.Message.{else_refused, body_refusal, change_body, canonical_batch, canonical_body}
+use Rattle.lsp_store.specs.Message.{else_refused, body_refusal, change_body, canonical_body}
 use Rattle.lsp_store.specs.Table as documents_table
 use Rattle.lsp_store.specs.Table.{Entry, already_open, too_many_documents, text_too_long, not_open, too_many_changes, stale_version, edit, body_too_long, changes, command_refusal, table_after}
-use Rattle.lsp_client.specs.declared.fault.ClientFault.{ClientFault}
-use Rattle.lsp_client.specs.declared.fault.ClientFault.TheVariants.{NoMemory, Store}
-use Rattle.lsp_client.specs.Step.{State, Sending, Refusal, store, message_of, sent_body, order_refusal, unless_refused, command_result}
+use Rattle.lsp_client.specs.Step.{State, Sending, store, sent_body, unless_refused, command_result}
 use Rattle.lsp_client.specs.Seen.{IsFaultOf, IsSent, client_fault, fault_of}
 
 -- ---- refusals

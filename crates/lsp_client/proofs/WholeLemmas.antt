@@ -1,21 +1,16 @@
 -- The text that a batch leaves, found on the document alone.
-use Rattle.std.proofs.Common.{◌≡◌, ◌≢◌, ℕ, ℤ, Bool, true, false, List, [], ◌∷◌, map, Option, Some, None, Result, Ok, Err, refl, sym, ap, ◌∙◌, subst, ⊎_elim, inl, inr, bytes_eq, string_bytes, encode_utf8_all, IsUtf8, String}
+use Rattle.std.proofs.Common.{◌≡◌, ℕ, ℤ, true, false, List, [], ◌∷◌, map, Some, None, refl, sym, ap, ◌∙◌, ⊎_elim, bytes_eq, string_bytes, String}
 use Rattle.std.proofs.lemmas.Bool.{cases_Bool}
 use Rattle.std.proofs.lemmas.Slice.Eq.{bytes_eq-Decides}
 use Rattle.std.proofs.lemmas.Str.{IsUtf8-string_bytes, encodes-chars}
-use Rattle.std.specs.Str.{chars}
 use Rattle.std.specs.declared.alloc.Global.{Global}
-use Rattle.lsp_frame.specs.Frame.{frame}
-use Rattle.lsp_frame.specs.Limits.{Bounds}
 use Rattle.lsp_edit.specs.declared.change.Change.{Change}
 use Rattle.lsp_edit.specs.Batch.{Edit}
 use Rattle.lsp_message.specs.Outgoing.{did_change, body_of}
 use Rattle.lsp_message.specs.Seen.{edit_view}
-use Rattle.lsp_store.specs.declared.fault.StoreFault.{StoreFault}
-use Rattle.lsp_store.specs.Faults.{IsRefusal}
 use Rattle.lsp_store.specs.Message.{change_body, whole_batch, whole_text}
 use Rattle.lsp_store.specs.Opened.{StoreData, Takes}
-use Rattle.lsp_store.specs.Table.{Entry, Command, opens, changes, entry_at, change_refusal, entry_refusal, changed, after_change, command_refusal, table_after}
+use Rattle.lsp_store.specs.Table.{Entry, opens, changes, entry_at, changed, after_change}
 use Rattle.lsp_client.specs.inside.Orders.{whole_change}
 use Rattle.lsp_client.proofs.OrderLemmas.{some_same}
 use Rattle.lsp_client.proofs.SentLemmas.{taken_parts}

@@ -12,7 +12,7 @@ use Rattle.lsp_client.specs.declared.fault.ClientFault.{ClientFault}
 use Rattle.lsp_client.specs.declared.fault.ClientFault.TheVariants.{WrongPhase, Store, NoMemory}
 use Rattle.lsp_client.specs.declared.delivered.Delivered.{Delivered}
 use Rattle.lsp_client.specs.declared.delivered.Delivered.TheVariants.{Send, Noted, Ignored, BadServer}
-use Rattle.lsp_client.specs.Step.{State, Sending, Refusal, wrong_phase, store, Order, opens, edits, closes, Delivery, DeliveredData, sends, noted, ignored, bad_server}
+use Rattle.lsp_client.specs.Step.{State, Sending, Refusal, wrong_phase, store, Order, opens, edits, Delivery, DeliveredData, sends, noted, ignored, bad_server}
 
 -- ---- what is asked
 

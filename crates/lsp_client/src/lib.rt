@@ -31,7 +31,7 @@
 //! ```
 //!
 //! and where the server asked for whole texts one change without a range, with the text `aXc`. A client and a server of `lsp_server` talk in
-//! `src/tests/session.rt`.
+//! the tests, `lsp_client_tests/src/tests/session.rt`.
 //!
 //! A call is refused, and changes nothing, where the phase is another ([`ClientFault::WrongPhase`]), where the documents don't admit it or
 //! the message would be too long ([`ClientFault::Store`]), and where memory runs out. What a server sends that no session can go on with
@@ -52,8 +52,6 @@ mod documents;
 mod fault;
 mod framed;
 mod phase;
-#[cfg(test)]
-mod tests;
 
 pub use client::Client;
 pub use delivered::Delivered;

@@ -1,6 +1,5 @@
 use Rattle.std.proofs.Common.{◌≡◌, ◌∙◌, ℕ, List, [], ◌∷◌, ap, sym, map, rules, w32, to_z, of_z, string_bytes}
 use Rattle.std.proofs.lemmas.Int.{to_z-of_z}
-use Rattle.lsp_text.specs.Units.{units_in}
 use Rattle.lsp_edit.specs.Edited.{edit_of}
 use Rattle.lsp_store.specs.Opened.{StoreData}
 use Rattle.lsp_client.specs.inside.Orders.{whole_change}

@@ -1,7 +1,6 @@
 use Rattle.std.proofs.Common.{◌∙◌, ap, sym}
 use Rattle.std.proofs.lemmas.Result.{err_from_is_err_and}
 use Rattle.lsp_client.specs.Step.{State, closes}
-use Rattle.lsp_client.specs.Seen.{open_order, edit_order}
 use Rattle.lsp_client.proofs.SentLemmas.{order_fault}
 use Rattle.lsp_client.proofs.client.Client.close.Goals as goal
 

@@ -2,7 +2,7 @@ use Rattle.std.proofs.Common.{◌≡◌, ◌∙◌, ap, sym, rules, w32, to_z, o
 use Rattle.std.proofs.lemmas.Int.{to_z-of_z}
 use Rattle.std.proofs.lemmas.Result.{err_from_is_err_and}
 use Rattle.lsp_client.specs.Step.{State}
-use Rattle.lsp_client.specs.Seen.{open_order, edit_order}
+use Rattle.lsp_client.specs.Seen.{edit_order}
 use Rattle.lsp_client.proofs.SentLemmas.{order_fault}
 use Rattle.lsp_client.proofs.client.Client.edit.Goals as goal
 

@@ -1,4 +1,4 @@
-use Rattle.std.proofs.Common.{◌≡◌, ◌∙◌, ℕ, List, ap, sym, None}
+use Rattle.std.proofs.Common.{◌≡◌, ◌∙◌, ap, sym, None}
 use Rattle.std.proofs.lemmas.Result.{err_from_is_err_and}
 use Rattle.lsp_frame.specs.Frame.{frame}
 use Rattle.lsp_store.specs.Table as documents

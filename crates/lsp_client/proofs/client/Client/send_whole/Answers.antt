@@ -1,4 +1,4 @@
-use Rattle.std.proofs.Common.{◌≡◌, ◌∙◌, ap, sym, map, rules, w32, to_z, of_z, string_bytes, None}
+use Rattle.std.proofs.Common.{◌≡◌, ◌∙◌, ap, map, rules, w32, to_z, of_z, string_bytes, None}
 use Rattle.std.proofs.lemmas.Int.{to_z-of_z}
 use Rattle.std.proofs.lemmas.Result.{err_from_is_err_and}
 use Rattle.lsp_frame.specs.Frame.{frame}

@@ -1,10 +1,10 @@
 //! Every pair of phase and call, and of phase and kind of body.
 
-use super::{
-    ACCEPTED, Ask, CHANGE, CLOSE, EXIT, INITIALIZE, INITIALIZED, SHUT_DOWN, SHUTDOWN, answer_to,
-    is_answer, new_client,
+use super::{Ask, answer_to, is_answer, new_client};
+use lsp_client::{Client, Phase, Reason};
+use lsp_samples::bodies::{
+    ACCEPTED, CHANGE, CLOSE, EXIT, INITIALIZE, INITIALIZED, SHUT_DOWN, SHUTDOWN,
 };
-use crate::{Client, Phase, Reason};
 use std::alloc::Global;
 use std::test::Fail;
 

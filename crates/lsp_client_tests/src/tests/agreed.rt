@@ -1,8 +1,9 @@
 //! What the answer to `initialize` settles, and what edits send then.
 
-use super::{Ask, CHANGE, INITIALIZED, OPEN, URI, answer_to, client_with, is_answer};
-use crate::Client;
+use super::{Ask, URI, answer_to, client_with, is_answer};
+use lsp_client::Client;
 use lsp_message::Offers;
+use lsp_samples::bodies::{CHANGE, INITIALIZED, OPEN, WHOLE};
 use lsp_text::Encoding;
 use std::alloc::{AllocError, Global};
 use std::test::Fail;
@@ -169,7 +170,7 @@ static EDITS: [(&str, &str, Ask, &str); 9] = [
         r#"{"textDocumentSync":1}"#,
         "abc",
         Ask::Edit(2, 1, 2, "X"),
-        r#"{"jsonrpc":"2.0","method":"textDocument/didChange","params":{"contentChanges":[{"text":"aXc"}],"textDocument":{"uri":"file:///a","version":2}}}"#,
+        WHOLE,
     ),
     (
         r#"{"positionEncoding":"utf-8","textDocumentSync":1}"#,

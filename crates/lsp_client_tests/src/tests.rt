@@ -5,7 +5,7 @@ mod phases;
 mod refused;
 mod session;
 
-use crate::{Client, ClientFault, Delivered, Phase, Reason};
+use lsp_client::{Client, ClientFault, Delivered, Phase, Reason};
 use lsp_edit::{Change, EditFault};
 use lsp_frame::{Limits, frame};
 use lsp_message::Offers;
@@ -15,29 +15,6 @@ use std::alloc::{AllocError, Global};
 use std::test::Fail;
 
 pub(super) const URI: &str = "file:///a";
-
-pub(super) const INITIALIZE: &str =
-    r#"{"id":1,"jsonrpc":"2.0","method":"initialize","params":{"capabilities":{"general":{"positionEncodings":["utf-16"]}},"processId":null,"rootUri":null}}"#;
-
-pub(super) const ACCEPTED: &str =
-    r#"{"id":1,"jsonrpc":"2.0","result":{"capabilities":{"positionEncoding":"utf-16","textDocumentSync":{"change":2,"openClose":true}}}}"#;
-
-pub(super) const INITIALIZED: &str = r#"{"jsonrpc":"2.0","method":"initialized","params":{}}"#;
-
-pub(super) const OPEN: &str =
-    r#"{"jsonrpc":"2.0","method":"textDocument/didOpen","params":{"textDocument":{"languageId":"plaintext","text":"abc","uri":"file:///a","version":1}}}"#;
-
-pub(super) const CHANGE: &str =
-    r#"{"jsonrpc":"2.0","method":"textDocument/didChange","params":{"contentChanges":[{"range":{"end":{"character":2,"line":0},"start":{"character":1,"line":0}},"text":"X"}],"textDocument":{"uri":"file:///a","version":2}}}"#;
-
-pub(super) const CLOSE: &str =
-    r#"{"jsonrpc":"2.0","method":"textDocument/didClose","params":{"textDocument":{"uri":"file:///a"}}}"#;
-
-pub(super) const SHUTDOWN: &str = r#"{"id":2,"jsonrpc":"2.0","method":"shutdown"}"#;
-
-pub(super) const SHUT_DOWN: &str = r#"{"id":2,"jsonrpc":"2.0","result":null}"#;
-
-pub(super) const EXIT: &str = r#"{"jsonrpc":"2.0","method":"exit"}"#;
 
 /// A client that offers UTF-16 alone, with wide limits.
 pub(super) fn new_client(alloc: Global) -> Result<Client, Fail> {

@@ -1,12 +1,12 @@
-//! A whole session, call by call, with the exact bytes of each frame; and the example of the crate's front page.
+//! A whole session, call by call, with the exact bytes of each frame; and a client and a server that talk.
 
-use super::{
-    ACCEPTED, Ask, CHANGE, CLOSE, EXIT, INITIALIZE, INITIALIZED, OPEN, SHUT_DOWN, SHUTDOWN, URI,
-    answer_to, change, is_answer, new_client, open_as,
-};
-use crate::{Client, ClientFault, Delivered, Phase};
+use super::{Ask, URI, answer_to, change, is_answer, new_client, open_as};
+use lsp_client::{Client, ClientFault, Delivered, Phase};
 use lsp_frame::{Framer, Limits};
 use lsp_message::Offers;
+use lsp_samples::bodies::{
+    ACCEPTED, CHANGE, CLOSE, EXIT, INITIALIZE, INITIALIZED, OPEN, SHUT_DOWN, SHUTDOWN,
+};
 use lsp_server::{Answer, Config, EncodingChoice, Server, Sync};
 use lsp_store::StoreFault;
 use lsp_text::Encoding;
@@ -105,7 +105,7 @@ fn too_long(len: usize) -> Option<ClientFault> {
     Some(ClientFault::Store(StoreFault::BodyTooLong { len }))
 }
 
-/// The letters of a text to open, and the length of a body that is too long. 142 bytes stand around the text.
+/// The letters of a text to open, and the length of a body that is too long. 142 bytes are around the text.
 static OPENED: [(usize, Option<usize>); 3] = [
     (3_954, None),
     (3_955, Some(4_097)),
@@ -133,7 +133,7 @@ fn a_body_over_the_limit_is_not_opened(rt: HostRuntime) -> Result<(), Fail> {
 const FULL: &str = r#"{"id":1,"jsonrpc":"2.0","result":{"capabilities":{"textDocumentSync":1}}}"#;
 
 /// What the server answered, the letters of a text and of an edit of it, and the length of a body that is too long. Under Full 140 bytes
-/// stand around the text.
+/// are around the text.
 static EDITED: [(&str, usize, usize, Option<usize>); 3] = [
     (FULL, 3_953, 3, None),
     (FULL, 3_953, 4, Some(4_097)),
@@ -163,7 +163,7 @@ fn a_body_over_the_limit_is_no_edit(rt: HostRuntime) -> Result<(), Fail> {
     Ok(())
 }
 
-// ---- the front page
+// ---- both ends
 
 /// Both ends of a session, in one program.
 #[derive(Drop)]

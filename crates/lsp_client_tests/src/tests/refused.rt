@@ -1,7 +1,8 @@
 //! Calls that run out of memory once, and are made again.
 
-use super::{ACCEPTED, Ask, SHUT_DOWN, URI, answer_to, new_client};
-use crate::{Client, ClientFault, Delivered, Phase};
+use super::{Ask, URI, answer_to, new_client};
+use lsp_client::{Client, ClientFault, Delivered, Phase};
+use lsp_samples::bodies::{ACCEPTED, SHUT_DOWN};
 use std::alloc::Global;
 use std::process::Abort;
 use std::test::Fail;
