@@ -97,12 +97,49 @@ fn what_a_server_may_announce(rt: HostRuntime) -> Result<(), Fail> {
     Ok(())
 }
 
-/// What a client offers, and the names in its `initialize`.
-static OFFERS: [(bool, bool, &str); 4] = [
-    (false, false, r#"["utf-16"]"#),
-    (true, false, r#"["utf-8","utf-16"]"#),
-    (false, true, r#"["utf-16","utf-32"]"#),
-    (true, true, r#"["utf-8","utf-16","utf-32"]"#),
+/// A client that offers UTF-8 in place of UTF-32, too, takes no other.
+#[test]
+fn an_encoding_that_was_not_offered(rt: HostRuntime) -> Result<(), Fail> {
+    let alloc = rt.alloc();
+    let mut client = client_with(alloc, Offers::new(true, false))?;
+    let _initialize = client.start()?;
+    let capabilities = r#"{"positionEncoding":"utf-32","textDocumentSync":2}"#;
+    let given = client.deliver(answer_with(alloc, capabilities)?.as_bytes());
+    assert!(rt; is_answer(alloc, &given, "bad encoding")?);
+    assert_eq!(rt; client.encoding(), None);
+    Ok(())
+}
+
+/// What a client offers, the names in its `initialize`, the header in front of it, and how long the frame is.
+static OFFERS: [(bool, bool, &str, &str, usize); 4] = [
+    (
+        false,
+        false,
+        r#"["utf-16"]"#,
+        "Content-Length: 149\r\n\r\n{",
+        172,
+    ),
+    (
+        true,
+        false,
+        r#"["utf-8","utf-16"]"#,
+        "Content-Length: 157\r\n\r\n{",
+        180,
+    ),
+    (
+        false,
+        true,
+        r#"["utf-16","utf-32"]"#,
+        "Content-Length: 158\r\n\r\n{",
+        181,
+    ),
+    (
+        true,
+        true,
+        r#"["utf-8","utf-16","utf-32"]"#,
+        "Content-Length: 166\r\n\r\n{",
+        189,
+    ),
 ];
 
 fn is_offered(alloc: Global, offers: Offers, names: &str) -> Result<bool, Fail> {
@@ -114,14 +151,20 @@ fn is_offered(alloc: Global, offers: Offers, names: &str) -> Result<bool, Fail> 
     Ok(is_answer(alloc, &given, &body)?)
 }
 
+/// Does the first frame begin with this header, and has it this length?
+fn is_framed(alloc: Global, offers: Offers, header: &str, len: usize) -> Result<bool, Fail> {
+    let mut client = client_with(alloc, offers)?;
+    let frame = client.start()?;
+    Ok(frame.starts_with(header.as_bytes()) && frame.len() == len)
+}
+
 #[test]
 fn what_a_client_offers(rt: HostRuntime) -> Result<(), Fail> {
-    for (utf8, utf32, names) in &OFFERS {
+    for (utf8, utf32, names, header, len) in &OFFERS {
         let offers = Offers::new(*utf8, *utf32);
         assert!(rt; is_offered(rt.alloc(), offers, names)?, "{names}");
+        assert!(rt; is_framed(rt.alloc(), offers, header, *len)?, "{header}");
     }
-    let mut client = client_with(rt.alloc(), Offers::new(true, true))?;
-    assert!(rt; client.start()?.starts_with(b"Content-Length: 166\r\n\r\n"));
     Ok(())
 }
 

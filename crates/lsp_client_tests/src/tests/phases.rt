@@ -77,7 +77,7 @@ const NOT_FOUND_Q: &str =
     r#"{"error":{"code":-32601,"message":"method not found"},"id":"q","jsonrpc":"2.0"}"#;
 
 /// What is asked, and what is wanted in New, Asked, Ready, Closing, Closed, Done and Failed.
-static TABLE: [(Ask, [&str; 7]); 25] = [
+static TABLE: [(Ask, [&str; 7]); 27] = [
     (
         Ask::Start,
         [INITIALIZE, ASKED, READY, CLOSING, CLOSED, DONE, FAULTY],
@@ -112,6 +112,14 @@ static TABLE: [(Ask, [&str; 7]); 25] = [
     ),
     (
         Ask::Deliver(r#"{"id":1,"result":null}"#),
+        [NEW, BAD, BAD, BAD, BAD, DONE, FAULTY],
+    ),
+    (
+        Ask::Deliver(r#"{"jsonrpc":"2.0","result":null}"#),
+        [NEW, BAD, BAD, BAD, BAD, DONE, FAULTY],
+    ),
+    (
+        Ask::Deliver(r#"{"id":null,"jsonrpc":"2.0","method":"exit"}"#),
         [NEW, BAD, BAD, BAD, BAD, DONE, FAULTY],
     ),
     // What the server asks and says.

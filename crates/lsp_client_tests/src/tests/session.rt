@@ -5,7 +5,7 @@ use lsp_client::{Client, ClientFault, Delivered, Phase};
 use lsp_frame::{Framer, Limits};
 use lsp_message::Offers;
 use lsp_samples::bodies::{
-    ACCEPTED, CHANGE, CLOSE, EXIT, INITIALIZE, INITIALIZED, OPEN, SHUT_DOWN, SHUTDOWN,
+    ACCEPTED, CHANGE, CLOSE, EXIT, INITIALIZE, INITIALIZED, OPEN, SHUT_DOWN, SHUTDOWN, WHOLE,
 };
 use lsp_server::{Answer, Config, EncodingChoice, Server, Sync};
 use lsp_store::StoreFault;
@@ -45,11 +45,12 @@ fn a_session_from_start_to_exit(rt: HostRuntime) -> Result<(), Fail> {
 }
 
 /// The lengths of what a client sends, as others count them.
-static LENGTHS: [(&str, usize); 7] = [
+static LENGTHS: [(&str, usize); 8] = [
     (INITIALIZE, 149),
     (INITIALIZED, 52),
     (OPEN, 145),
     (CHANGE, 215),
+    (WHOLE, 143),
     (CLOSE, 96),
     (SHUTDOWN, 44),
     (EXIT, 33),
@@ -160,6 +161,24 @@ fn a_body_over_the_limit_is_no_edit(rt: HostRuntime) -> Result<(), Fail> {
     for row in &EDITED {
         assert!(rt; is_edited(row, rt.alloc())?, "{} {}", row.1, row.2);
     }
+    Ok(())
+}
+
+fn refused_for(fault: StoreFault) -> Option<ClientFault> {
+    Some(ClientFault::Store(fault))
+}
+
+#[test]
+fn the_documents_refuse_before_the_body_is_measured(rt: HostRuntime) -> Result<(), Fail> {
+    let alloc = rt.alloc();
+    let mut client = small(alloc, ACCEPTED)?;
+    let long = letters(alloc, 5_000)?;
+    assert_eq!(rt; client.close(&long).err(), refused_for(StoreFault::NotOpen));
+    assert_eq!(rt; open_fault(alloc, &mut client, 3)?, None);
+    let fault = open_fault(alloc, &mut client, 5_000)?;
+    assert_eq!(rt; fault, refused_for(StoreFault::AlreadyOpen));
+    let fault = open_as(alloc, &mut client, "file:///b", &long).err();
+    assert_eq!(rt; fault, refused_for(StoreFault::TooManyDocuments));
     Ok(())
 }
 
