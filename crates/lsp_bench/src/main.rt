@@ -2,6 +2,7 @@
 //! given: the times go to standard error, and what was read to standard output. Words as `text=64` give the
 //! other sizes: megabytes of `text`, `lookups` in each text, `lines` of the text that is edited, `edits` at each place.
 //! `lsp_bench edits` changes texts, and `lsp_bench documents` open documents, of which the first form makes a few changes.
+//! `lsp_bench pairs` makes a million keystrokes through both ends of a session, the first form two thousand.
 //! `lsp_bench parse` frames and parses what standard input has, and tells how much that was.
 #![tactic(auto)]
 
@@ -10,6 +11,7 @@ mod edits;
 mod frames;
 mod lines;
 mod messages;
+mod pairs;
 mod parsing;
 
 use anyhow::{Context, Result};
@@ -31,6 +33,7 @@ fn main(rt: HostRuntime) -> Result<()> {
         match word.as_str() {
             "edits" => return edits::run(&rt),
             "documents" => return documents::run(&rt, 1_000),
+            "pairs" => return pairs::run(&rt, 1_000_000),
             "parse" => return parse(&rt),
             _number => {}
         }
@@ -47,7 +50,8 @@ fn main(rt: HostRuntime) -> Result<()> {
         },
     )?;
     time_messages(&rt, megabytes)?;
-    documents::run(&rt, 10)
+    documents::run(&rt, 10)?;
+    pairs::run(&rt, 2_000)
 }
 
 /// Frames and parses what standard input has.

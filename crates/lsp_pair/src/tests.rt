@@ -82,15 +82,15 @@ fn one_change(alloc: Global, start: u32, stop: u32, text: &str) -> Result<Vec<Ch
 
 fn has(store: &Store, wanted: Open) -> bool {
     match (store.get(URI), wanted) {
-        (None, None) => true,
+        (None, None) => store.len() == 0,
         (Some(document), Some((version, text))) => {
-            document.version() == version && document.text() == text
+            store.len() == 1 && document.version() == version && document.text() == text
         }
         _ => false,
     }
 }
 
-/// Does each end have this document?
+/// Does each end have this document, and no other?
 pub(super) fn ends_have(pair: &Pair, client: Open, server: Open) -> bool {
     has(pair.client().store(), client) && has(pair.server().store(), server)
 }

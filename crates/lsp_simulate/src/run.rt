@@ -1,6 +1,6 @@
 //! The program over any reader and writers.
 
-ghost use Rattle.std.specs.Prelude.{◌≡◌};
+ghost use Rattle.std.specs.Prelude.{◌≡◌, ◌≢◌, ◌↔◌};
 ghost use Rattle.lsp_simulate.specs.Words.{status_of};
 
 use crate::command_line::{Setting, parse};
@@ -152,7 +152,10 @@ fn document_line(alloc: Global, document: &Document<'_>) -> Result<Vec<u8>, Allo
     Ok(writer.into_inner())
 }
 
-fn read_fault(kind: ErrorKind) -> RunFault {
+fn read_fault(kind: ErrorKind) -> RunFault
+    ensures memory { (result ≡ RunFault.NoMemory) ↔ (kind ≡ ErrorKind.OutOfMemory) }
+    ensures read { (result ≡ RunFault.Read) ↔ (kind ≢ ErrorKind.OutOfMemory) }
+{
     match kind {
         ErrorKind::OutOfMemory => RunFault::NoMemory,
         _ => RunFault::Read,
@@ -202,7 +205,10 @@ fn flush<W: Write>(output: &mut W) -> Result<(), RunFault> {
 }
 
 /// Prints why the words of a call or the buffers could not be had: out of memory, or a word that is no text. Returns the status.
-pub fn refuse<E: Write>(kind: ErrorKind, errors: &mut E) -> u8 {
+pub fn refuse<E: Write>(kind: ErrorKind, errors: &mut E) -> u8
+    ensures memory { (result ≡ 4) ↔ (kind ≡ ErrorKind.OutOfMemory) }
+    ensures words { (result ≡ 2) ↔ (kind ≢ ErrorKind.OutOfMemory) }
+{
     if kind == ErrorKind::OutOfMemory {
         return report(RunFault::NoMemory, errors);
     }

@@ -80,13 +80,17 @@ static PREFERRED: &[(Encoding, bool, Encoding)] = &[
     (Encoding::Utf32, false, Encoding::Utf16),
 ];
 
-fn is_agreed(alloc: Global, row: &(Encoding, bool, Encoding)) -> Result<bool, Fail> {
+fn is_agreed(
+    alloc: Global,
+    row: &(Encoding, bool, Encoding),
+    sync: Sync,
+) -> Result<bool, Fail> {
     let offers = Offers {
         utf8: true,
         utf32: row.1,
     };
     let choice = EncodingChoice::Negotiated { prefer: row.0 };
-    let mut pair = new_pair(alloc, offers, choice, Sync::Incremental)?;
+    let mut pair = new_pair(alloc, offers, choice, sync)?;
     if !are_rows(&mut pair, alloc, OPENED)? {
         return Ok(false);
     }
@@ -113,7 +117,8 @@ fn are_rows(pair: &mut Pair, alloc: Global, rows: &[Row]) -> Result<bool, AllocE
 #[test]
 fn what_the_server_prefers(rt: HostRuntime) -> Result<(), Fail> {
     for row in PREFERRED {
-        assert!(rt; is_agreed(rt.alloc(), row)?, "{:?}", row.0);
+        assert!(rt; is_agreed(rt.alloc(), row, Sync::Incremental)?, "{:?}", row.0);
+        assert!(rt; is_agreed(rt.alloc(), row, Sync::Full)?, "{:?}", row.0);
     }
     Ok(())
 }
