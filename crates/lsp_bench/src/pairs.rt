@@ -69,12 +69,7 @@ fn at_once<R: Runtime + AllocGlobal>(rt: &R, count: u32) -> Result<()> {
         let made = handle_each(&mut server, &bodies)?;
         alone.took(start.elapsed(rt)?, made);
     }
-    report(
-        rt,
-        "Pair::step, each delivered at once",
-        count,
-        &together,
-    )?;
+    report(rt, "Pair::step, each delivered at once", count, &together)?;
     report(rt, "Server::handle of the same messages", count, &alone)?;
     let percent = together.time.saturating_mul(100) / alone.time.max(1);
     eprintln!(rt; "Pair::step to Server::handle: {percent}%")?;
@@ -118,7 +113,7 @@ fn config(limits: Limits) -> Config {
 }
 
 fn opened_text(alloc: Global) -> Result<String, AllocError> {
-    made_text(alloc, LINES * LINE.len())
+    made_text(alloc, LINES.saturating_mul(LINE.len()))
 }
 
 /// A pair in which both ends have the document.

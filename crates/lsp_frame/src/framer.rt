@@ -155,8 +155,3 @@ impl Framer {
         self.place = self.place.saturating_add(n);
     }
 }
-
-#[cfg(test)]
-mod refused;
-#[cfg(test)]
-mod tests;

@@ -17,8 +17,6 @@ mod notes;
 mod shape;
 mod stage;
 mod stream;
-#[cfg(test)]
-mod tests;
 mod words;
 mod written;
 

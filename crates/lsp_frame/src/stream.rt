@@ -103,27 +103,3 @@ fn take_frame(
     }
     Ok(())
 }
-
-#[cfg(test)]
-mod tests {
-    use super::*;
-    use std::test::Fail;
-
-    #[test]
-    fn frames_up_to_a_fault(rt: HostRuntime) -> Result<(), Fail> {
-        let limits = Limits::new(4_096, 0, 1, 1)?;
-        let stream = b"Content-Length: 2\r\n\r\n[]Content-Length: 3\r\n\r\n[1]\r\n";
-        for size in [1, 20, 23, 24, 100] {
-            let mut pieces = Vec::new(rt.alloc());
-            for piece in stream.chunks(size) {
-                pieces.push(Vec::from_slice(rt.alloc(), piece)?)?;
-            }
-            let frames = read_frames(rt.alloc(), limits, &pieces)?;
-            assert_eq!(rt; frames.bodies.len(), 2);
-            assert!(rt; frames.bodies[0].as_slice() == b"[]".as_slice());
-            assert!(rt; frames.bodies[1].as_slice() == b"[1]".as_slice());
-            assert!(rt; frames.fault == Some(FrameFault::MissingLength { place: 48 }));
-        }
-        Ok(())
-    }
-}

@@ -119,33 +119,3 @@ pub fn encode(alloc: Global, limits: &Limits, body: &[u8]) -> Result<Vec<u8>, En
     }
     Ok(frame(alloc, body)?)
 }
-
-#[cfg(test)]
-mod tests {
-    use super::*;
-    use std::test::Fail;
-
-    #[test]
-    fn frame_of_129_bytes(rt: HostRuntime) -> Result<(), Fail> {
-        let body = vec![in rt.alloc(); b' '; 129]?;
-        let bytes = frame(rt.alloc(), &body)?;
-        assert_eq!(rt; bytes.len(), 152);
-        assert!(rt; bytes.starts_with(b"Content-Length: 129\r\n\r\n "));
-        let empty = frame(rt.alloc(), b"")?;
-        assert_eq!(rt; empty.as_slice(), b"Content-Length: 0\r\n\r\n".as_slice());
-        Ok(())
-    }
-
-    #[test]
-    fn encode_stops_above_the_limit(rt: HostRuntime) -> Result<(), Fail> {
-        let limits = Limits::new(4_096, 0, 1, 1)?;
-        let body = vec![in rt.alloc(); b'x'; 4_097]?;
-        assert_eq!(rt; body.len(), 4_097);
-        let taken = encode(rt.alloc(), &limits, &body[..4_096])?;
-        assert_eq!(rt; taken.len(), 4_120);
-        assert!(rt; taken.starts_with(b"Content-Length: 4096\r\n\r\nx"));
-        let refused = encode(rt.alloc(), &limits, &body);
-        assert!(rt; refused == Err(EncodeFault::BodyTooLong { len: 4_097 }));
-        Ok(())
-    }
-}

@@ -1,9 +1,16 @@
 //! An open document as a caller reads it.
 
-ghost use Rattle.std.specs.Prelude.{◌≡◌};
+ghost use Rattle.std.specs.Prelude.{◌≡◌, ◌≤◌, ℕ, IfNone, IfOk, IfSome, Some, length, option_map};
+ghost use Rattle.std.specs.Result.{result_ok};
+ghost use Rattle.std.specs.Str.{IsCharBoundary, chars};
+ghost use Rattle.lsp_text.specs.LineStarts.{Indexes, IsPlace};
+ghost use Rattle.lsp_text.specs.Positions.{denoted, exact_position};
+ghost use Rattle.lsp_text.specs.Text.{place_of};
+ghost use Rattle.lsp_text.specs.Units.{units_in};
 ghost use Rattle.lsp_store.specs.Opened.{entry_under};
 
 use crate::held::Held;
+use lsp_text::{Encoding, InsideCharacter, Lines, Position};
 use std::marker::Model;
 
 /// An open document (LSP 3.17, TextDocumentItem). It borrows from the store.
@@ -56,5 +63,41 @@ impl<'a> Document<'a> {
         ensures { result.now ≡ self.now.text }
     {
         self.held.text.text()
+    }
+
+    /// The lines of the text, which the store keeps up to date: for [`Lines::count`], and for many look-ups at once. Costs one step.
+    pub fn lines(&self) -> &'a Lines
+        ensures { Indexes result.now self.now.text }
+    {
+        self.held.text.lines()
+    }
+
+    /// The byte offset that a position denotes in the text (LSP 3.17, Position): the end of the text, if it has no such line; the end of
+    /// the line's content, if that has no more units than the position's character. Refused where the position lies inside a
+    /// character. Costs the line's text up to the character, in UTF-8 nothing.
+    pub fn resolve(&self, encoding: Encoding, position: Position) -> Result<usize, InsideCharacter>
+        ensures value { result_ok result ≡ option_map (place_of (chars self.now.text))
+            (denoted (units_in encoding) (chars self.now.text) position) }
+        ensures place { IfOk result (IsPlace (chars self.now.text)) }
+        ensures boundary { IfOk result (IsCharBoundary self.now.text) }
+    {
+        self.held.text.lines().resolve(self.text(), encoding, position)
+    }
+
+    /// The exact position of a byte offset of the text; none where no position can be: past the end, inside a character, or between
+    /// the two characters of a CRLF. Costs a binary search over the lines, and the line's text up to the offset, in UTF-8 the search
+    /// alone.
+    pub fn position(&self, encoding: Encoding, offset: usize) -> Option<Position>
+        ensures exact { IfSome result (λ position. (k : ℕ) → k ≤ length (chars self.now.text)
+            → place_of (chars self.now.text) k ≡ offset
+            → position ≡ exact_position (units_in encoding) (chars self.now.text) k) }
+        ensures resolves { IfSome result (λ position. option_map (place_of (chars self.now.text))
+            (denoted (units_in encoding) (chars self.now.text) position) ≡ Some offset) }
+        ensures none { IfNone result (IsPlace (chars self.now.text) offset → ⊥) }
+    {
+        let (text, lines) = (self.text(), self.lines());
+        lines
+            .is_place(text, offset)
+            .then(|| lines.position(text, encoding, offset))
     }
 }

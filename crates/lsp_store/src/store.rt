@@ -1,6 +1,6 @@
 //! The open documents, in order of opening.
 
-ghost use Rattle.std.specs.Prelude.{◌≡◌, ◌≢◌, ◌≤◌, ℕ, ℤ, List, [], Some, None, Err, option_map, IfErr, OnErr, OnOk, map, length, slice_get, string_bytes};
+ghost use Rattle.std.specs.Prelude.{◌≡◌, ◌≢◌, ◌≤◌, ◌↔◌, ℕ, IsTrue, ℤ, List, [], Some, None, Err, option_map, IfErr, OnErr, OnOk, map, length, slice_get, string_bytes};
 ghost use Rattle.lsp_edit.specs.Edited.{edit_of};
 ghost use Rattle.lsp_store.specs.declared.fault.StoreFault.TheVariants.{NotOpen, NoMemory};
 ghost use Rattle.lsp_store.specs.Table.{Entry, entry_at, open_refusal, opens, changes as changing, closes};
@@ -58,6 +58,13 @@ impl Store {
         ensures { result ≡ length self.now.table }
     {
         self.documents.len()
+    }
+
+    /// Whether no document is open. Costs one step.
+    pub fn is_empty(&self) -> bool
+        ensures { IsTrue result ↔ (self.now.table ≡ []) }
+    {
+        self.documents.is_empty()
     }
 
     /// The open document of a URI, which is compared byte for byte; none where it isn't open. Costs a hash look-up, however many are open.

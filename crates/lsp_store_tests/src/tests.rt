@@ -5,6 +5,7 @@ mod documents;
 mod faults;
 mod limits;
 mod made_again;
+mod positions;
 mod refused;
 mod squash;
 

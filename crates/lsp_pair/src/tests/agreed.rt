@@ -80,11 +80,7 @@ static PREFERRED: &[(Encoding, bool, Encoding)] = &[
     (Encoding::Utf32, false, Encoding::Utf16),
 ];
 
-fn is_agreed(
-    alloc: Global,
-    row: &(Encoding, bool, Encoding),
-    sync: Sync,
-) -> Result<bool, Fail> {
+fn is_agreed(alloc: Global, row: &(Encoding, bool, Encoding), sync: Sync) -> Result<bool, Fail> {
     let offers = Offers {
         utf8: true,
         utf32: row.1,
@@ -117,7 +113,11 @@ fn are_rows(pair: &mut Pair, alloc: Global, rows: &[Row]) -> Result<bool, AllocE
 #[test]
 fn what_the_server_prefers(rt: HostRuntime) -> Result<(), Fail> {
     for row in PREFERRED {
-        assert!(rt; is_agreed(rt.alloc(), row, Sync::Incremental)?, "{:?}", row.0);
+        assert!(rt;
+            is_agreed(rt.alloc(), row, Sync::Incremental)?,
+            "{:?}",
+            row.0
+        );
         assert!(rt; is_agreed(rt.alloc(), row, Sync::Full)?, "{:?}", row.0);
     }
     Ok(())

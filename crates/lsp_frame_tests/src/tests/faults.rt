@@ -1,6 +1,6 @@
 //! The text of each fault.
 
-use crate::{BadLimits, EncodeFault, FrameFault};
+use lsp_frame::{BadLimits, EncodeFault, FrameFault};
 use std::alloc::{AllocError, Global};
 use std::process::Abort;
 use std::test::Fail;

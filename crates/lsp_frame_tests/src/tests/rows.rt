@@ -1,9 +1,9 @@
 //! Streams that were worked out by hand, under a `max_body` of 4,096 bytes.
 
-use crate::fault::FrameFault;
+use lsp_frame::FrameFault;
 
 /// Streams of one frame, whose body is `[]`.
-pub const FRAMES: [&[u8]; 17] = [
+pub static FRAMES: [&[u8]; 17] = [
     b"Content-Length: 2\r\n\r\n[]",
     b"Content-Length: 02\r\n\r\n[]",
     b"Content-Length: 0000000000000000000000002\r\n\r\n[]",
@@ -24,7 +24,7 @@ pub const FRAMES: [&[u8]; 17] = [
 ];
 
 /// Streams that begin with no header.
-pub const BAD_HEADERS: [(&[u8], u64); 23] = [
+pub static BAD_HEADERS: [(&[u8], u64); 23] = [
     (b"Content-Length 2", 14),
     (b"Content-Length : 2", 14),
     (b"Content-Length\r: 2", 14),
@@ -51,7 +51,7 @@ pub const BAD_HEADERS: [(&[u8], u64); 23] = [
 ];
 
 /// Streams that begin with a header in which something is wrong.
-pub const FAULTS: [(&[u8], FrameFault); 24] = [
+pub static FAULTS: [(&[u8], FrameFault); 24] = [
     (b"\r\n", FrameFault::MissingLength { place: 1 }),
     (b"a: 2\r\n\r\n", FrameFault::MissingLength { place: 7 }),
     (
@@ -150,17 +150,17 @@ pub struct Run {
     pub before: &'static [u8],
     pub byte: u8,
     pub count: usize,
-    pub behind: &'static [u8],
+    pub after: &'static [u8],
 }
 
 /// Streams of one frame, and the length of its body.
-pub const LONG_FRAMES: [(Run, usize); 3] = [
+pub static LONG_FRAMES: [(Run, usize); 3] = [
     (
         Run {
             before: b"Content-Length: 2\r\na:",
             byte: b'x',
             count: 8_167,
-            behind: b"\r\n\r\n[]",
+            after: b"\r\n\r\n[]",
         },
         2,
     ),
@@ -169,7 +169,7 @@ pub const LONG_FRAMES: [(Run, usize); 3] = [
             before: b"Content-Length: ",
             byte: b'0',
             count: 8_000,
-            behind: b"2\r\n\r\n[]",
+            after: b"2\r\n\r\n[]",
         },
         2,
     ),
@@ -178,20 +178,20 @@ pub const LONG_FRAMES: [(Run, usize); 3] = [
             before: b"Content-Length: 4096\r\n\r\n",
             byte: b'x',
             count: 4_096,
-            behind: b"",
+            after: b"",
         },
         4_096,
     ),
 ];
 
 /// Streams that begin with no frame.
-pub const LONG_FAULTS: [(Run, FrameFault); 5] = [
+pub static LONG_FAULTS: [(Run, FrameFault); 5] = [
     (
         Run {
             before: b"Content-Length: 2\r\na:",
             byte: b'x',
             count: 8_168,
-            behind: b"\r\n\r\n[]",
+            after: b"\r\n\r\n[]",
         },
         FrameFault::HeaderTooLong { place: 8_191 },
     ),
@@ -200,7 +200,7 @@ pub const LONG_FAULTS: [(Run, FrameFault); 5] = [
             before: b"Content-Length: ",
             byte: b'0',
             count: 8_173,
-            behind: b"\r\n\r\n",
+            after: b"\r\n\r\n",
         },
         FrameFault::HeaderTooLong { place: 8_191 },
     ),
@@ -209,7 +209,7 @@ pub const LONG_FAULTS: [(Run, FrameFault); 5] = [
             before: b"Content-Length: 2\r\n",
             byte: b'a',
             count: 8_173,
-            behind: b"",
+            after: b"",
         },
         FrameFault::HeaderTooLong { place: 8_191 },
     ),
@@ -218,7 +218,7 @@ pub const LONG_FAULTS: [(Run, FrameFault); 5] = [
             before: b"Content-Length: 2\r\n",
             byte: b'a',
             count: 8_172,
-            behind: b" ",
+            after: b" ",
         },
         FrameFault::BadHeader { place: 8_191 },
     ),
@@ -227,7 +227,7 @@ pub const LONG_FAULTS: [(Run, FrameFault); 5] = [
             before: b"Content-Length: ",
             byte: b'9',
             count: 8_000,
-            behind: b"\r\n\r\n",
+            after: b"\r\n\r\n",
         },
         FrameFault::BodyTooLong { place: 8_019 },
     ),

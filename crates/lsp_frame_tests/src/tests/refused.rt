@@ -1,0 +1,178 @@
+//! Each call that can run out of memory, with one request for memory refused: the object reads as before, the same call again succeeds,
+//! and all goes on. `.ci/refused` runs these.
+
+use super::narrow;
+use lsp_frame::{EncodeFault, FrameFault, Framer, encode, frame, read_frames};
+use std::alloc::{AllocError, Global};
+use std::test::Fail;
+
+const STREAM: &[u8] =
+    b"Content-Length:  012\r\n\r\n[10,2,3,4,5]content-type: text/x; charset=\"UTF8\"\r\nContent-Length: 2\r\n\r\n[]";
+
+/// Lengths of pieces.
+static SIZES: [usize; 3] = [1, 7, 200];
+
+/// What was fed: how many growths were refused, and the sum of the bodies' lengths.
+#[derive(Drop)]
+struct Fed {
+    refused: usize,
+    total: usize,
+}
+
+/// Feeds bytes; where memory ran out the framer is as it was, and the same bytes are fed again.
+fn feed_again(framer: &mut Framer, rest: &[u8], fed: &mut Fed) -> Option<usize> {
+    let at_rest = framer.at_rest();
+    match framer.feed(rest) {
+        Ok(taken) => Some(taken),
+        Err(FrameFault::NoMemory) => {
+            fed.refused = fed.refused.saturating_add(1);
+            if framer.at_rest() != at_rest || framer.body().is_some() {
+                return None;
+            }
+            framer.feed(rest).ok()
+        }
+        Err(_) => None,
+    }
+}
+
+/// Feeds a piece to its end. Is none of it refused twice?
+fn feed_piece(framer: &mut Framer, piece: &[u8], fed: &mut Fed) -> bool {
+    let mut rest = piece;
+    for _ in 0..4 {
+        let Some(taken) = feed_again(framer, rest, fed) else {
+            return false;
+        };
+        rest = rest.get(taken..).unwrap_or(b"");
+        if let Some(body) = framer.body() {
+            fed.total = fed.total.saturating_add(body.len());
+            framer.next();
+        }
+    }
+    true
+}
+
+/// Feeds the stream in pieces of `size` bytes. Is the framer at rest then?
+fn feed_all(framer: &mut Framer, size: usize, fed: &mut Fed) -> bool {
+    if size == 0 {
+        return false;
+    }
+    for piece in STREAM.chunks(size) {
+        if !feed_piece(framer, piece, fed) {
+            return false;
+        }
+    }
+    framer.at_rest()
+}
+
+#[test]
+fn refused_feed(rt: HostRuntime) -> Result<(), Fail> {
+    let mut fed = Fed {
+        refused: 0,
+        total: 0,
+    };
+    for size in &SIZES {
+        let mut framer = Framer::new(rt.alloc(), narrow()?);
+        assert!(rt; feed_all(&mut framer, *size, &mut fed), "{size}");
+    }
+    assert_eq!(rt; fed.total, 3 * 14);
+    println!(rt; "refused {}", fed.refused)?;
+    Ok(())
+}
+
+fn frame_again(alloc: Global, refused: &mut usize) -> Result<Vec<u8>, AllocError> {
+    match frame(alloc, b"[]") {
+        Ok(bytes) => Ok(bytes),
+        Err(_) => {
+            *refused = refused.saturating_add(1);
+            frame(alloc, b"[]")
+        }
+    }
+}
+
+#[test]
+fn refused_frame(rt: HostRuntime) -> Result<(), Fail> {
+    let mut refused: usize = 0;
+    let bytes = frame_again(rt.alloc(), &mut refused)?;
+    assert!(rt; bytes.as_slice() == b"Content-Length: 2\r\n\r\n[]".as_slice());
+    println!(rt; "refused {refused}")?;
+    Ok(())
+}
+
+fn encode_again(alloc: Global, refused: &mut usize) -> Result<Vec<u8>, Fail> {
+    let limits = narrow()?;
+    match encode(alloc, &limits, b"[]") {
+        Err(EncodeFault::NoMemory) => {
+            *refused = refused.saturating_add(1);
+            Ok(encode(alloc, &limits, b"[]")?)
+        }
+        other => Ok(other?),
+    }
+}
+
+#[test]
+fn refused_encode(rt: HostRuntime) -> Result<(), Fail> {
+    let mut refused: usize = 0;
+    let bytes = encode_again(rt.alloc(), &mut refused)?;
+    assert!(rt; bytes.as_slice() == b"Content-Length: 2\r\n\r\n[]".as_slice());
+    println!(rt; "refused {refused}")?;
+    Ok(())
+}
+
+fn piece_again(alloc: Global, piece: &[u8], refused: &mut usize) -> Result<Vec<u8>, AllocError> {
+    match Vec::from_slice(alloc, piece) {
+        Ok(owned) => Ok(owned),
+        Err(_) => {
+            *refused = refused.saturating_add(1);
+            Vec::from_slice(alloc, piece)
+        }
+    }
+}
+
+fn push_again(
+    pieces: &mut Vec<Vec<u8>>,
+    piece: Vec<u8>,
+    refused: &mut usize,
+) -> Result<(), AllocError> {
+    if let Err(back) = pieces.push(piece) {
+        *refused = refused.saturating_add(1);
+        pieces.push(back.value)?;
+    }
+    Ok(())
+}
+
+fn pieces(alloc: Global, refused: &mut usize) -> Result<Vec<Vec<u8>>, AllocError> {
+    let mut pieces = Vec::new(alloc);
+    for piece in STREAM.chunks(40) {
+        push_again(&mut pieces, piece_again(alloc, piece, refused)?, refused)?;
+    }
+    Ok(pieces)
+}
+
+/// How many frames the pieces have, if they end in no fault.
+fn frames_again(
+    alloc: Global,
+    pieces: &[Vec<u8>],
+    refused: &mut usize,
+) -> Result<Option<usize>, Fail> {
+    let limits = narrow()?;
+    let frames = match read_frames(alloc, limits, pieces) {
+        Ok(frames) => frames,
+        Err(_) => {
+            *refused = refused.saturating_add(1);
+            read_frames(alloc, limits, pieces)?
+        }
+    };
+    if frames.fault.is_some() {
+        return Ok(None);
+    }
+    Ok(Some(frames.bodies.len()))
+}
+
+#[test]
+fn refused_read_frames(rt: HostRuntime) -> Result<(), Fail> {
+    let mut refused: usize = 0;
+    let pieces = pieces(rt.alloc(), &mut refused)?;
+    assert_eq!(rt; frames_again(rt.alloc(), &pieces, &mut refused)?, Some(2));
+    println!(rt; "refused {refused}")?;
+    Ok(())
+}

@@ -1,0 +1,65 @@
+//! Positions and offsets of a document that was changed.
+
+use super::{URI, narrow, store_of};
+use lsp_samples::edits::{Edit, batch};
+use lsp_store::{Document, Store};
+use lsp_text::{Encoding, Position};
+use std::alloc::Global;
+use std::test::Fail;
+
+/// What makes `a\r\n😀b` of `ab`.
+static EDIT: &[Edit] = &[(0, 1, 0, 1, "\r\n\u{1F600}")];
+
+/// A position, and the offset that it denotes in that text.
+static DENOTED: [(Encoding, u32, u32, Option<usize>); 8] = [
+    (Encoding::Utf16, 0, 0, Some(0)),
+    (Encoding::Utf16, 0, 9, Some(1)),
+    (Encoding::Utf16, 1, 1, None),
+    (Encoding::Utf16, 1, 2, Some(7)),
+    (Encoding::Utf8, 1, 4, Some(7)),
+    (Encoding::Utf32, 1, 1, Some(7)),
+    (Encoding::Utf32, 1, 2, Some(8)),
+    (Encoding::Utf16, 2, 0, Some(8)),
+];
+
+/// An offset of that text, and its exact position.
+static EXACT: [(Encoding, usize, Option<(u32, u32)>); 8] = [
+    (Encoding::Utf16, 0, Some((0, 0))),
+    (Encoding::Utf16, 1, Some((0, 1))),
+    (Encoding::Utf16, 2, None),
+    (Encoding::Utf16, 3, Some((1, 0))),
+    (Encoding::Utf16, 5, None),
+    (Encoding::Utf16, 7, Some((1, 2))),
+    (Encoding::Utf32, 8, Some((1, 2))),
+    (Encoding::Utf8, 9, None),
+];
+
+/// A store whose document has that text.
+fn edited(alloc: Global) -> Result<Store, Fail> {
+    let mut store = store_of(alloc, narrow(1, 1)?, 1, "ab")?;
+    store.change(URI, 2, Encoding::Utf16, &batch(alloc, EDIT)?)?;
+    Ok(store)
+}
+
+fn is_denoted(document: Document, row: (Encoding, u32, u32, Option<usize>)) -> bool {
+    let (encoding, line, character, offset) = row;
+    document.resolve(encoding, Position { line, character }).ok() == offset
+}
+
+fn is_exact(document: Document, row: (Encoding, usize, Option<(u32, u32)>)) -> bool {
+    let (encoding, offset, wanted) = row;
+    let found = document.position(encoding, offset);
+    found.map(|position| (position.line, position.character)) == wanted
+}
+
+#[test]
+fn positions_of_a_changed_document(rt: HostRuntime) -> Result<(), Fail> {
+    let store = edited(rt.alloc())?;
+    for row in &DENOTED {
+        assert!(rt; store.get(URI).is_some_and(|it| is_denoted(it, *row)), "{}", row.2);
+    }
+    for row in &EXACT {
+        assert!(rt; store.get(URI).is_some_and(|it| is_exact(it, *row)), "{}", row.1);
+    }
+    Ok(())
+}
