@@ -1,7 +1,7 @@
 //! Calls that run out of memory once, and are made again.
 ghost use Rattle.std.specs.Prelude.{◌≤◌, length};
 
-use crate::{Lines, Starts};
+use lsp_text::{Lines, Starts};
 use std::alloc::{AllocError, Global};
 use std::process::Abort;
 use std::test::Fail;

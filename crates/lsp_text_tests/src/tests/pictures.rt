@@ -1,7 +1,7 @@
 //! The pictures of docs/FORMATS.md: what each position of a line denotes.
 
 use super::{UTF8, UTF16, UTF32, positioned, resolved};
-use crate::Encoding;
+use lsp_text::Encoding;
 use std::test::Fail;
 
 /// Characters of 1, 2, 3, 4 bytes and 1 byte.

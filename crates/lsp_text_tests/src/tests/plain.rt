@@ -3,7 +3,7 @@ ghost use Rattle.std.specs.Prelude.{◌≡◌, ◌≤◌, IfOk, length, encode_u
 ghost use Rattle.lsp_text.specs.LineStarts.{Indexes};
 
 use super::{UTF8, UTF16, UTF32};
-use crate::{Encoding, Lines, Position, plain};
+use lsp_text::{Encoding, Lines, Position, plain};
 use std::alloc::{AllocError, Global};
 use std::test::Fail;
 

@@ -1,6 +1,6 @@
 //! The text of the fault.
 
-use crate::InsideCharacter;
+use lsp_text::InsideCharacter;
 use std::process::Abort;
 use std::test::Fail;
 

@@ -6,7 +6,7 @@ mod pictures;
 mod plain;
 mod refused;
 
-use crate::{Encoding, Lines, Position, Starts, Units, Utf8, Utf16, Utf32, line_of};
+use lsp_text::{Encoding, Lines, Position, Starts, Units, Utf8, Utf16, Utf32, line_of};
 use std::alloc::{AllocError, Global};
 use std::process::Abort;
 use std::test::Fail;
