@@ -25,8 +25,6 @@ mod position;
 mod resolve;
 mod splice;
 mod starts;
-#[cfg(test)]
-mod tests;
 mod units;
 
 pub use encoding::Encoding;

@@ -1,9 +1,9 @@
 //! Calls that run out of memory once, and are made again.
 ghost use Rattle.std.specs.Prelude.{◌≤◌, length};
 
-use crate::{Lines, Starts};
+use super::edited;
+use lsp_text::{Lines, Starts};
 use std::alloc::{AllocError, Global};
-use std::process::Abort;
 use std::test::Fail;
 
 /// Texts and their line starts: enough that `new` takes memory more often than the edits below do.
@@ -66,59 +66,83 @@ static EDITS: [Edit; 3] = [
 ];
 
 /// Whether these are the line starts.
-fn starts_are(rt: &impl Abort, lines: &Lines, starts: &[usize]) -> bool {
+fn starts_are(lines: &Lines, starts: &[usize]) -> bool {
     let mut looks = lines.looks();
     if looks.len() != starts.len() {
         return false;
     }
     for (line, start) in starts.iter().enumerate() {
-        assert!(rt; line < looks.len());
-        if looks.at(line) != *start {
+        if line >= looks.len() || looks.at(line) != *start {
             return false;
         }
     }
     true
 }
 
-/// The lines of a text, and how many times `new` ran out of memory.
-fn made(alloc: Global, text: &str) -> Result<(Lines, usize), AllocError>
+/// The lines of a text; made again where memory ran out, which is counted.
+fn made(alloc: Global, text: &str, refused: &mut usize) -> Result<Lines, AllocError>
     requires { length text.now ≤ 1000 }
 {
     match Lines::new(alloc, text) {
-        Ok(lines) => Ok((lines, 0)),
-        Err(_) => Ok((Lines::new(alloc, text)?, 1)),
+        Ok(lines) => Ok(lines),
+        Err(_) => {
+            *refused = refused.saturating_add(1);
+            Lines::new(alloc, text)
+        }
     }
+}
+
+/// Has a text these line starts?
+fn has_starts(
+    alloc: Global,
+    text: &str,
+    starts: &[usize],
+    refused: &mut usize,
+) -> Result<bool, AllocError> {
+    if text.len() > 1000 {
+        return Ok(false);
+    }
+    Ok(starts_are(&made(alloc, text, refused)?, starts))
 }
 
 #[test]
 fn refused_lines_new(rt: HostRuntime) -> Result<(), Fail> {
     let mut refused: usize = 0;
     for (text, starts) in &TEXTS {
-        assert!(rt; text.len() <= 1000);
-        let (lines, again) = made(rt.alloc(), text)?;
-        refused = refused.saturating_add(again);
-        assert!(rt; starts_are(&rt, &lines, starts), "{text:?}");
+        assert!(rt;
+            has_starts(rt.alloc(), text, starts, &mut refused)?,
+            "{text:?}"
+        );
     }
     println!(rt; "refused {refused}")?;
     Ok(())
 }
 
-/// The lines after an edit, and how many times `splice` ran out of memory.
-fn spliced(rt: &impl Abort, alloc: Global, edit: &Edit) -> Result<(Lines, usize), AllocError> {
+/// Does an edit leave its line starts? Where `splice` runs out of memory nothing changes, and it is called again.
+fn is_spliced(alloc: Global, edit: &Edit, refused: &mut usize) -> Result<bool, AllocError> {
     let (old, from, to, len) = (edit.text, edit.from, edit.to, edit.inserted.len());
-    assert!(rt; old.len() <= 1000 && len <= 1000);
-    assert!(rt; from <= to && old.is_char_boundary(from) && old.is_char_boundary(to));
+    if old.len() > 1000 || len > 1000 {
+        return Ok(false);
+    }
+    let text = edited(alloc, old, from, to, edit.inserted)?;
     let mut lines = Lines::new(alloc, old)?;
-    let mut text = String::new(alloc);
-    text.push_str(&old[..from])?;
-    text.push_str(edit.inserted)?;
-    text.push_str(&old[to..])?;
-    match lines.splice(text.as_str(), from, to, len) {
-        Ok(()) => Ok((lines, 0)),
+    if lines.splice(&text, from, to, len).is_err() {
+        *refused = refused.saturating_add(1);
+        if !starts_are(&lines, edit.starts) {
+            return Ok(false);
+        }
+        lines.splice(&text, from, to, len)?;
+    }
+    Ok(starts_are(&lines, edit.then))
+}
+
+/// The same; all is made again where anything else runs out of memory.
+fn is_spliced_again(alloc: Global, edit: &Edit, refused: &mut usize) -> Result<bool, AllocError> {
+    match is_spliced(alloc, edit, refused) {
+        Ok(answer) => Ok(answer),
         Err(_) => {
-            assert!(rt; starts_are(rt, &lines, edit.starts));
-            lines.splice(text.as_str(), from, to, len)?;
-            Ok((lines, 1))
+            *refused = refused.saturating_add(1);
+            is_spliced(alloc, edit, refused)
         }
     }
 }
@@ -127,14 +151,11 @@ fn spliced(rt: &impl Abort, alloc: Global, edit: &Edit) -> Result<(Lines, usize)
 fn refused_splice(rt: HostRuntime) -> Result<(), Fail> {
     let mut refused: usize = 0;
     for edit in &EDITS {
-        let mut outcome = spliced(&rt, rt.alloc(), edit);
-        if outcome.is_err() {
-            refused = refused.saturating_add(1);
-            outcome = spliced(&rt, rt.alloc(), edit);
-        }
-        let (lines, again) = outcome?;
-        refused = refused.saturating_add(again);
-        assert!(rt; starts_are(&rt, &lines, edit.then), "{:?}", edit.text);
+        assert!(rt;
+            is_spliced_again(rt.alloc(), edit, &mut refused)?,
+            "{:?}",
+            edit.text
+        );
     }
     println!(rt; "refused {refused}")?;
     Ok(())

@@ -1,14 +1,15 @@
 //! Positions of small texts in the three encodings, and lines after an edit, against lines made from scratch.
-ghost use Rattle.std.specs.Prelude.{◌≤◌, length};
+ghost use Rattle.std.specs.Prelude.{◌≤◌, ◌+◌, IfOk, length, string_bytes};
+ghost use Rattle.lsp_text.specs.LineStarts.{Indexes};
+ghost use Rattle.lsp_text.specs.Splice.{IsReplaced};
 
 mod faults;
 mod pictures;
 mod plain;
 mod refused;
 
-use crate::{Encoding, Lines, Position, Starts, Units, Utf8, Utf16, Utf32, line_of};
+use lsp_text::{Encoding, Lines, Position, Starts, Units, Utf8, Utf16, Utf32, line_of};
 use std::alloc::{AllocError, Global};
-use std::process::Abort;
 use std::test::Fail;
 
 const UTF8: Encoding = Encoding::Utf8;
@@ -167,15 +168,31 @@ fn characters_have_units(rt: HostRuntime) {
     }
 }
 
-#[test]
-fn encodings_have_names(rt: HostRuntime) -> Result<(), Fail> {
-    for encoding in [UTF8, UTF16, UTF32] {
-        assert_eq!(rt; Encoding::of_name(encoding.name()), Some(encoding));
+/// Names, and the encodings that have them.
+static NAMES: [(&str, Option<Encoding>); 6] = [
+    ("utf-8", Some(UTF8)),
+    ("utf-16", Some(UTF16)),
+    ("utf-32", Some(UTF32)),
+    ("UTF-8", None),
+    ("utf-8 ", None),
+    ("", None),
+];
+
+fn is_name_of(name: &str, encoding: Option<Encoding>) -> bool {
+    if Encoding::of_name(name) != encoding {
+        return false;
     }
-    assert_eq!(rt; Encoding::of_name("UTF-8"), None);
-    assert_eq!(rt; Encoding::of_name("utf-8 "), None);
-    assert_eq!(rt; Encoding::of_name(""), None);
-    Ok(())
+    match encoding {
+        Some(encoding) => encoding.name() == name,
+        None => true,
+    }
+}
+
+#[test]
+fn encodings_have_names(rt: HostRuntime) {
+    for (name, encoding) in &NAMES {
+        assert!(rt; is_name_of(name, *encoding), "{name}");
+    }
 }
 
 /// A text, a byte offset, its line, and how many line starts may be read to find it.
@@ -225,37 +242,54 @@ fn a_line_is_found_with_few_looks(rt: HostRuntime) -> Result<(), Fail> {
     Ok(())
 }
 
-/// The lines of `old` after an edit, and the text then.
-fn spliced(
-    rt: &impl Abort,
+/// A text, where an edit begins and ends, what is put in, and how many lines there are then.
+type Splice = (&'static str, usize, usize, &'static str, usize);
+
+static SPLICES: [Splice; 10] = [
+    ("a\rX\nb", 2, 3, "", 2),
+    ("a\r\nb", 3, 3, "Q", 2),
+    ("a\r\nb", 2, 2, "X", 3),
+    ("a\r", 2, 2, "\n", 2),
+    ("\r\n", 0, 1, "", 2),
+    ("a\nb", 0, 3, "", 1),
+    ("\nb", 0, 0, "\r", 2),
+    ("a\nb\nc", 2, 3, "\r", 3),
+    ("a\nb\nc", 1, 4, "x\ny\r\nz\r", 4),
+    ("a\u{1F600}\r\n\u{1F600}b", 5, 7, "\u{1F600}", 1),
+];
+
+/// The text after an edit.
+fn edited(
     alloc: Global,
     old: &str,
     from: usize,
     to: usize,
     inserted: &str,
-) -> Result<(Lines, String), AllocError>
-    requires old { length old.now ≤ 100000 }
-    requires inserted { length inserted.now ≤ 100000 }
+) -> Result<String, AllocError>
+    ensures replaced { IfOk result (λ text. IsReplaced old.now (string_bytes text) from to (length inserted.now)) }
+    ensures size { IfOk result (λ text. length (string_bytes text) ≤ length old.now + length inserted.now) }
 {
-    assert!(rt; from <= to && old.is_char_boundary(from) && old.is_char_boundary(to));
-    let mut lines = Lines::new(alloc, old)?;
+    if from > to || !old.is_char_boundary(from) || !old.is_char_boundary(to) {
+        return Err(AllocError);
+    }
     let mut text = String::new(alloc);
     text.push_str(&old[..from])?;
     text.push_str(inserted)?;
     text.push_str(&old[to..])?;
-    lines.splice(text.as_str(), from, to, inserted.len())?;
-    Ok((lines, text))
+    Ok(text)
 }
 
 /// Whether both have the same starts.
-fn same_lines(rt: &impl Abort, lines: &Lines, others: &Lines) -> bool {
+fn same_lines(lines: &Lines, others: &Lines) -> bool {
     let mut looks = lines.looks();
     let mut other_looks = others.looks();
     if lines.count() != others.count() {
         return false;
     }
     for line in 0..lines.count() {
-        assert!(rt; line < looks.len() && line < other_looks.len());
+        if line >= looks.len() || line >= other_looks.len() {
+            return false;
+        }
         if looks.at(line) != other_looks.at(line) {
             return false;
         }
@@ -263,61 +297,94 @@ fn same_lines(rt: &impl Abort, lines: &Lines, others: &Lines) -> bool {
     true
 }
 
+/// Does an edit leave the lines of the new text?
+fn is_spliced(alloc: Global, row: &Splice) -> Result<bool, AllocError> {
+    let (old, from, to, inserted, count) = *row;
+    if old.len() > 1000 || inserted.len() > 1000 {
+        return Ok(false);
+    }
+    let text = edited(alloc, old, from, to, inserted)?;
+    let mut lines = Lines::new(alloc, old)?;
+    lines.splice(&text, from, to, inserted.len())?;
+    if lines.count() != count {
+        return Ok(false);
+    }
+    Ok(same_lines(&lines, &Lines::new(alloc, &text)?))
+}
+
 #[test]
 fn spliced_lines_are_those_of_the_new_text(rt: HostRuntime) -> Result<(), Fail> {
-    let cases = [
-        ("a\rX\nb", 2, 3, "", 2),
-        ("a\r\nb", 3, 3, "Q", 2),
-        ("a\r\nb", 2, 2, "X", 3),
-        ("a\r", 2, 2, "\n", 2),
-        ("\r\n", 0, 1, "", 2),
-        ("a\nb", 0, 3, "", 1),
-        ("\nb", 0, 0, "\r", 2),
-        ("a\nb\nc", 2, 3, "\r", 3),
-        ("a\nb\nc", 1, 4, "x\ny\r\nz\r", 4),
-        ("a\u{1F600}\r\n\u{1F600}b", 5, 7, "\u{1F600}", 1),
-    ];
-    for (old, from, to, inserted, count) in cases {
-        assert!(rt; old.len() <= 1000 && inserted.len() <= 1000);
-        let (lines, text) = spliced(&rt, rt.alloc(), old, from, to, inserted)?;
-        assert!(rt; text.len() <= 100000);
-        let made = Lines::new(rt.alloc(), text.as_str())?;
-        assert_eq!(rt; lines.count(), count, "{old:?} {from} {to} {inserted:?}");
-        assert!(rt;
-            same_lines(&rt, &lines, &made),
-            "{old:?} {from} {to} {inserted:?}"
-        );
+    for row in &SPLICES {
+        assert!(rt; is_spliced(rt.alloc(), row)?, "{row:?}");
     }
     Ok(())
 }
 
-#[test]
-fn a_long_line_is_counted_in_blocks(rt: HostRuntime) -> Result<(), Fail> {
-    let mut text = String::new(rt.alloc());
+/// 20 bytes, again and again.
+fn long_line(alloc: Global) -> Result<String, AllocError> {
+    let mut text = String::new(alloc);
     for _ in 0..50000 {
         text.push_str("abcdefgh\u{E9}\u{6F22}\u{1F600}xyz")?;
     }
-    assert!(rt; text.len() <= 2147483648);
-    let lines = Lines::new(rt.alloc(), text.as_str())?;
-    for (encoding, units) in [(UTF8, 20), (UTF16, 15), (UTF32, 14)] {
-        for turns in [0, 1, 3, 7, 49999, 50000] {
-            let position = Position {
-                line: 0,
-                character: turns * units,
-            };
-            let place = turns as usize * 20;
-            assert_eq!(rt;
-                lines.resolve(text.as_str(), encoding, position).ok(),
-                Some(place)
-            );
-            assert!(rt; lines.is_place(text.as_str(), place));
-            assert_eq!(rt; lines.position(text.as_str(), encoding, place), position);
+    Ok(text)
+}
+
+/// An encoding, and the units of these 20 bytes.
+static BLOCKS: [(Encoding, u32); 3] = [(UTF8, 20), (UTF16, 15), (UTF32, 14)];
+
+/// How many times they come before a position.
+static TURNS: [u32; 6] = [0, 1, 3, 7, 49999, 50000];
+
+/// Is the place after so many turns at so many units, and back?
+fn is_counted(lines: &Lines, text: &str, encoding: Encoding, units: u32, turns: u32) -> bool
+    requires indexed { Indexes lines.now text.now }
+    requires size { length text.now ≤ 2147483648 }
+{
+    let position = Position {
+        line: 0,
+        character: turns.saturating_mul(units),
+    };
+    let place = (turns as usize).saturating_mul(20);
+    lines.resolve(text, encoding, position).ok() == Some(place)
+        && lines.is_place(text, place)
+        && lines.position(text, encoding, place) == position
+}
+
+/// The first encoding and turns that are counted wrongly.
+fn wrong_count(lines: &Lines, text: &str) -> Option<(Encoding, u32)>
+    requires indexed { Indexes lines.now text.now }
+    requires size { length text.now ≤ 2147483648 }
+{
+    for (encoding, units) in &BLOCKS {
+        for turns in &TURNS {
+            if !is_counted(lines, text, *encoding, *units, *turns) {
+                return Some((*encoding, *turns));
+            }
         }
     }
-    let inside = Position {
-        line: 0,
-        character: 49999 * 15 + 11,
-    };
-    assert!(rt; lines.resolve(text.as_str(), UTF16, inside).is_err());
+    None
+}
+
+const INSIDE: Position = Position {
+    line: 0,
+    character: 49999 * 15 + 11,
+};
+
+/// Is a long line counted in blocks, also up to a position inside a character?
+fn counts_blocks(alloc: Global, text: &str) -> Result<bool, AllocError> {
+    if text.len() > 2147483648 {
+        return Ok(false);
+    }
+    let lines = Lines::new(alloc, text)?;
+    if wrong_count(&lines, text).is_some() {
+        return Ok(false);
+    }
+    Ok(lines.resolve(text, UTF16, INSIDE).is_err())
+}
+
+#[test]
+fn a_long_line_is_counted_in_blocks(rt: HostRuntime) -> Result<(), Fail> {
+    let text = long_line(rt.alloc())?;
+    assert!(rt; counts_blocks(rt.alloc(), &text)?);
     Ok(())
 }

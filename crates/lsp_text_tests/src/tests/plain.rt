@@ -3,23 +3,33 @@ ghost use Rattle.std.specs.Prelude.{◌≡◌, ◌≤◌, IfOk, length, encode_u
 ghost use Rattle.lsp_text.specs.LineStarts.{Indexes};
 
 use super::{UTF8, UTF16, UTF32};
-use crate::{Encoding, Lines, Position, plain};
+use lsp_text::{Encoding, Lines, Position, plain};
 use std::alloc::{AllocError, Global};
 use std::test::Fail;
 
 /// What the texts are made of: line ends of one and of two characters, and characters of 1, 2, 3 and 4 bytes.
-const PARTS: [&str; 7] = ["a", "\n", "\r", "\r\n", "e\u{301}", "\u{20AC}", "\u{1F600}"];
+static PARTS: [&str; 7] = ["a", "\n", "\r", "\r\n", "e\u{301}", "\u{20AC}", "\u{1F600}"];
+
+static ENCODINGS: [Encoding; 3] = [UTF8, UTF16, UTF32];
 
 const PARTS_OF_A_TEXT: u32 = 3;
 
 /// How many texts there are: 7 * 7 * 7.
 const TEXTS: u32 = 343;
 
+/// The part of a number's last digit to the base of 7.
+fn part(number: u32) -> &'static str {
+    match PARTS.get((number % 7) as usize) {
+        Some(part) => part,
+        None => "",
+    }
+}
+
 fn text_of(alloc: Global, number: u32) -> Result<String, AllocError> {
     let mut text = String::new(alloc);
     let mut rest = number;
     for _ in 0..PARTS_OF_A_TEXT {
-        text.push_str(PARTS[rest as usize % PARTS.len()])?;
+        text.push_str(part(rest))?;
         rest /= 7;
     }
     Ok(text)
@@ -97,28 +107,36 @@ fn has_plain_lines(lines: &Lines, chars: &[char]) -> bool {
     lines.count() == plain::line_ends(chars).saturating_add(1)
 }
 
+/// Whether all is as in the plain program, in each encoding.
+fn is_plain(lines: &Lines, text: &str, chars: &[char]) -> bool
+    requires indexed { Indexes lines.now text.now }
+    requires size { length (encode_utf8_all chars.now) ≤ 2147483648 }
+{
+    for encoding in &ENCODINGS {
+        if !resolves_plainly(lines, text, chars, *encoding)
+            || !has_plain_positions(lines, text, chars, *encoding)
+            || !has_plain_places(lines, text, chars, *encoding)
+        {
+            return false;
+        }
+    }
+    has_plain_lines(lines, chars)
+}
+
+fn has_plain_text(alloc: Global, text: &str) -> Result<bool, AllocError> {
+    if text.len() > 1000 {
+        return Ok(false);
+    }
+    let chars = characters(alloc, text)?;
+    let lines = Lines::new(alloc, text)?;
+    Ok(is_plain(&lines, text, &chars))
+}
+
 #[test]
 fn positions_are_those_of_the_plain_program(rt: HostRuntime) -> Result<(), Fail> {
     for number in 0..TEXTS {
         let text = text_of(rt.alloc(), number)?;
-        assert!(rt; text.len() <= 1000);
-        let chars = characters(rt.alloc(), &text)?;
-        let lines = Lines::new(rt.alloc(), text.as_str())?;
-        assert!(rt; has_plain_lines(&lines, &chars), "{text:?}");
-        for encoding in [UTF8, UTF16, UTF32] {
-            assert!(rt;
-                resolves_plainly(&lines, text.as_str(), &chars, encoding),
-                "{text:?}"
-            );
-            assert!(rt;
-                has_plain_positions(&lines, text.as_str(), &chars, encoding),
-                "{text:?}"
-            );
-            assert!(rt;
-                has_plain_places(&lines, text.as_str(), &chars, encoding),
-                "{text:?}"
-            );
-        }
+        assert!(rt; has_plain_text(rt.alloc(), &text)?, "{text:?}");
     }
     Ok(())
 }
