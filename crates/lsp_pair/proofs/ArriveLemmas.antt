@@ -15,7 +15,7 @@ use Rattle.lsp_store.specs.Laws.{AllWithin}
 use Rattle.lsp_server.specs.declared.phase.Phase.{Phase}
 use Rattle.lsp_server.specs.declared.phase.Phase.TheVariants.{New, Running, Down, Ended}
 use Rattle.lsp_server.specs.Answer as answer
-use Rattle.lsp_server.specs.Incoming as asked
+use Rattle.lsp_server.specs.Incoming as incoming
 use Rattle.lsp_server.specs.Step as server
 use Rattle.lsp_server.specs.Step.{State, Step, step_on, step_in, step, begins}
 use Rattle.lsp_client.specs.Step.{sent_body}
@@ -84,7 +84,7 @@ life_written : (s : State) (m : OutgoingData) → IsProper m → step s (reading
 life_written s m proper = ap (step s) (reading-body_of m proper)
 
 begins_given : (s : State) (offers : Offers) → step_in New s (incoming_of (lifecycle (outgoing.initialize offers))) ≡ begins s (whole (pos 1)) offers
-begins_given s offers = ap (λ o. step_in New s (asked.initialize (whole (pos 1)) o)) (is_read_back (outgoing.initialize offers) tt)
+begins_given s offers = ap (λ o. step_in New s (incoming.initialize (whole (pos 1)) o)) (is_read_back (outgoing.initialize offers) tt)
 
 least : (setting : Setting) (n : ℕ) → IsSound setting → n ≤ 4096 → n ≤ setting.limits.max_body
 least setting n sound h = let r = sound.ranges in omega (arith, r.least_body, h)

@@ -166,14 +166,14 @@ run_close s p running = ap (λ (phase : Phase). step_in phase s (incoming.did_cl
 
 -- ---- what is read
 
-read_open : (p : OpenData) → IsProperOpen p → incoming.asked (reading (body_of (did_open p))) ≡ incoming.did_open (Some p)
-read_open p is = ap incoming.asked (reading-body_of (did_open p) is) ∙ ap incoming.did_open (is_read_back (did_open p) is)
+read_open : (p : OpenData) → IsProperOpen p → incoming.incoming_of (reading (body_of (did_open p))) ≡ incoming.did_open (Some p)
+read_open p is = ap incoming.incoming_of (reading-body_of (did_open p) is) ∙ ap incoming.did_open (is_read_back (did_open p) is)
 
-read_change : (p : ChangeData) → IsProperChange p → incoming.asked (reading (body_of (did_change p))) ≡ incoming.did_change (Some p)
-read_change p is = ap incoming.asked (reading-body_of (did_change p) is) ∙ ap incoming.did_change (is_read_back (did_change p) is)
+read_change : (p : ChangeData) → IsProperChange p → incoming.incoming_of (reading (body_of (did_change p))) ≡ incoming.did_change (Some p)
+read_change p is = ap incoming.incoming_of (reading-body_of (did_change p) is) ∙ ap incoming.did_change (is_read_back (did_change p) is)
 
-read_close : (p : CloseData) → IsUtf8 p.uri → incoming.asked (reading (body_of (did_close p))) ≡ incoming.did_close (Some p)
-read_close p is = ap incoming.asked (reading-body_of (did_close p) is) ∙ ap incoming.did_close (is_read_back (did_close p) is)
+read_close : (p : CloseData) → IsUtf8 p.uri → incoming.incoming_of (reading (body_of (did_close p))) ≡ incoming.did_close (Some p)
+read_close p is = ap incoming.incoming_of (reading-body_of (did_close p) is) ∙ ap incoming.did_close (is_read_back (did_close p) is)
 
 -- ---- a command that was said is done
 

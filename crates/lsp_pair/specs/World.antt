@@ -183,7 +183,7 @@ incoming_of (commands (changes uri version encoding batch)) =
       changes = map written_edit batch;
     }))
 incoming_of (commands (closes uri)) = incoming.did_close (Some (record { uri = uri }))
-incoming_of (lifecycle m) = incoming.asked (message (sent m))
+incoming_of (lifecycle m) = incoming.incoming_of (message (sent m))
 
 -- One more message of `out` is delivered, and a reply goes last into `back`.
 abbrev pub turn_of_step : World → server.Step → Turn

@@ -18,7 +18,7 @@ use Rattle.lsp_message.specs.Message as msg
 use Rattle.lsp_message.specs.Message.{IdData, whole, text, Reading, MessageData, id_in, value_of, message_of, call_of, answer_of, outcome_of, message_with, message_by, is_version_two, reading}
 use Rattle.lsp_message.specs.Params.{OpenData, EditData, ChangeData, open_of, open_by, change_of, change_by, document_in, document_and_changes, edit_by, edit_in, edits_in, range_of, version_in, within_version}
 use Rattle.lsp_message.specs.Sent.{IsProperId}
-use Rattle.lsp_server.specs.Incoming.{IncomingData, not_json, not_a_message, response, initialize, shutdown, other_request, exit, did_open, did_change, did_close, other_notification, asked_by, asked}
+use Rattle.lsp_server.specs.Incoming.{IncomingData, not_json, not_a_message, response, initialize, shutdown, other_request, exit, did_open, did_change, did_close, other_notification, incoming_by, incoming_of}
 use Rattle.lsp_server.specs.Step.{edit_of}
 use Rattle.lsp_store.specs.Message.{AreTexts}
 use Rattle.lsp_replay.proofs.ReadLemmas.{OnSome, on_then, NumFits, IsHeld, ItemsAreHeld, MembersAreHeld, read_held}
@@ -245,35 +245,35 @@ changed_held params held = on_then AreBothHeld IsProperAsked (λ p. change_by p.
 abbrev pub IsProperIncoming : IncomingData → Type 0
 IsProperIncoming not_json = ⊤
 IsProperIncoming (not_a_message id) = ⊤
-IsProperIncoming (response id outcome) = ⊤
+IsProperIncoming (response id) = ⊤
 IsProperIncoming (initialize id offers) = IsProperId id
 IsProperIncoming (shutdown id) = ⊤
-IsProperIncoming (other_request id method params) = ⊤
+IsProperIncoming (other_request id method) = ⊤
 IsProperIncoming exit = ⊤
 IsProperIncoming (did_open params) = OnSome IsTextOpened params
 IsProperIncoming (did_change params) = OnSome IsProperAsked params
 IsProperIncoming (did_close params) = ⊤
-IsProperIncoming (other_notification method params) = ⊤
+IsProperIncoming (other_notification method) = ⊤
 
 either_asked : (b : Bool) (x y : IncomingData) → IsProperIncoming x → IsProperIncoming y → IsProperIncoming (if b then x else y)
 either_asked true x y p q = p
 either_asked false x y p q = q
 
-asked_message : (m : MessageData) → IsProperMessage m → IsProperIncoming (asked_by m)
+asked_message : (m : MessageData) → IsProperMessage m → IsProperIncoming (incoming_by m)
 asked_message (msg.request id method params) proper =
-    either_asked (bytes_eq method (codes "initialize")) _ _ proper.0 (either_asked (bytes_eq method (codes "shutdown")) (shutdown id) (other_request id method params) tt tt)
+    either_asked (bytes_eq method (codes "initialize")) _ _ proper.0 (either_asked (bytes_eq method (codes "shutdown")) (shutdown id) (other_request id method) tt tt)
 asked_message (msg.notification method params) proper =
     either_asked (bytes_eq method (codes "exit")) exit _ tt
     (either_asked (bytes_eq method (codes "textDocument/didOpen")) (did_open (open_of params)) _ (opened_held params proper)
     (either_asked (bytes_eq method (codes "textDocument/didChange")) (did_change (change_of params)) _ (changed_held params proper)
-    (either_asked (bytes_eq method (codes "textDocument/didClose")) (did_close _) (other_notification method params) tt tt)))
+    (either_asked (bytes_eq method (codes "textDocument/didClose")) (did_close _) (other_notification method) tt tt)))
 asked_message (msg.response id outcome) proper = tt
 
-asked_reading : (r : Reading) → IsProperReading r → IsProperIncoming (asked r)
+asked_reading : (r : Reading) → IsProperReading r → IsProperIncoming (incoming_of r)
 asked_reading msg.not_json proper = tt
 asked_reading (msg.not_a_message id) proper = tt
 asked_reading (msg.message m) proper = asked_message m proper
 
 -- What a body asks is proper.
-pub asked_proper : (body : List ℕ) → IsProperIncoming (asked (reading body))
+pub asked_proper : (body : List ℕ) → IsProperIncoming (incoming_of (reading body))
 asked_proper body = asked_reading (reading body) (reading_proper body)

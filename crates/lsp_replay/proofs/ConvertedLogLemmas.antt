@@ -9,7 +9,7 @@ use Rattle.lsp_frame.proofs.WrittenLemmas.{written_spells}
 use Rattle.lsp_message.specs.Message.{IdData, reading}
 use Rattle.lsp_message.specs.Outgoing.{OutgoingData, body_of}
 use Rattle.lsp_server.specs.Answer.{AnswerData, Sent, reply, changed, dropped, ignored, already_ended, refused, exits, as_sent, sent}
-use Rattle.lsp_server.specs.Incoming.{asked}
+use Rattle.lsp_server.specs.Incoming.{incoming_of}
 use Rattle.lsp_server.specs.Step.{State, step_on}
 use Rattle.lsp_stream.specs.declared.fault.EngineFault.TheVariants.{BadLog}
 use Rattle.lsp_log.specs.declared.record.Version.{Version}
@@ -71,7 +71,7 @@ good_gives r (answered answer) g e = tt
 good_gives r recorded g e = tt
 good_gives r bad g e = let wrong : Some (Err (BadLog r.head.place)) ≡ None = e in absurd (cc)
 
-judged_client : (s : Session) (r : Record) → r.head.line_due ≡ false → r.head.side ≡ Client → judge s r ≡ counted (judge_incoming s (asked (reading r.body)))
+judged_client : (s : Session) (r : Record) → r.head.line_due ≡ false → r.head.side ≡ Client → judge s r ≡ counted (judge_incoming s (incoming_of (reading r.body)))
 judged_client s r due side = ap (λ d. counted (judge_from (versioned s d) r.head.side r.body)) due ∙ ap (λ k. counted (judge_from s k r.body)) side
 
 module _ (limits : Bounds) (ranges : AreInRange limits) where
@@ -172,7 +172,7 @@ module _ (limits : Bounds) (ranges : AreInRange limits) where
   unfolding client_at
   converted_log at before due s version n [] one none told counts each goes short = record { qs = []; are = tt; out = refl; same = refl }
   converted_log at before due s version n (r ∷ rs) one none told counts each goes short =
-      let m = asked (reading r.body) in
+      let m = incoming_of (reading r.body) in
       let step = step_on s.server m in
       let g = gives (line_before s ++ codes ">" ++ r.spelling ++ reply_record (judge s r).verdict) in
       let on = went_on (unless_bad r (judge s r).verdict g).out (unless_bad r (judge s r).verdict g).end (course_in converting (judge s r).session rs) goes in

@@ -10,7 +10,7 @@ use Rattle.lsp_message.specs.Agreement.{announced_of}
 use Rattle.lsp_message.specs.Message.{IdData, reading}
 use Rattle.lsp_message.specs.Params.{ChangeData}
 use Rattle.lsp_server.specs.Answer.{AnswerData, Sent, reply, changed, dropped, ignored, already_ended, refused, exits, as_sent}
-use Rattle.lsp_server.specs.Incoming.{IncomingData, not_json, not_a_message, response, initialize, shutdown, other_request, exit, did_open, did_change, did_close, other_notification, asked}
+use Rattle.lsp_server.specs.Incoming.{IncomingData, not_json, not_a_message, response, initialize, shutdown, other_request, exit, did_open, did_change, did_close, other_notification, incoming_of}
 use Rattle.lsp_server.specs.Step.{State, Step, step_on, settled}
 use Rattle.lsp_log.specs.declared.record.Version.{Version}
 use Rattle.lsp_log.specs.declared.record.Version.TheVariants.{One, Two}
@@ -55,7 +55,7 @@ module _ (P : Judged → Type 0) (s : Session) where
       (both P (is_early s m) (judged bad s) (handled s m (step_on s.server m).state (as_sent (step_on s.server m).answer)) refuses goes)
 
 from_version : (s : Session) (side : Side) (body : List ℕ) → (judge_from s side body).session.version ≡ s.version
-from_version s Client body = of_incoming (λ (j : Judged). j.session.version ≡ s.version) s (asked (reading body)) refl refl
+from_version s Client body = of_incoming (λ (j : Judged). j.session.version ≡ s.version) s (incoming_of (reading body)) refl refl
 from_version s Server body = of_heard (λ (j : Judged). j.session.version ≡ s.version) s refl refl (λ encoding. refl) s.expected body
 
 -- the version of a log at a record, which the line tells
@@ -72,7 +72,7 @@ judged_version version s head body is = from_version (versioned s head.line_due)
 
 from_held : (limits : Bounds) (s : Session) (side : Side) (body : List ℕ) → IsHeldState limits s.server → IsHeldState limits (judge_from s side body).session.server
 from_held limits s Client body held =
-    of_incoming (λ (j : Judged). IsHeldState limits j.session.server) s (asked (reading body)) held (step_on_held limits s.server (asked (reading body)) (asked_proper body) held)
+    of_incoming (λ (j : Judged). IsHeldState limits j.session.server) s (incoming_of (reading body)) held (step_on_held limits s.server (incoming_of (reading body)) (asked_proper body) held)
 from_held limits s Server body held =
     of_heard (λ (j : Judged). IsHeldState limits j.session.server) s held held (λ encoding. record { limit = held.limit; table = held.table }) s.expected body
 
@@ -116,14 +116,14 @@ asks_change : (m : IncomingData) (p : ChangeData) → change_in m ≡ Some p →
 asks_change (did_change params) p e = ap did_change e
 asks_change not_json p e = no_change not_json p e
 asks_change (not_a_message id) p e = no_change (not_a_message id) p e
-asks_change (response id outcome) p e = no_change (response id outcome) p e
+asks_change (response id) p e = no_change (response id) p e
 asks_change (initialize id offers) p e = no_change (initialize id offers) p e
 asks_change (shutdown id) p e = no_change (shutdown id) p e
-asks_change (other_request id method params) p e = no_change (other_request id method params) p e
+asks_change (other_request id method) p e = no_change (other_request id method) p e
 asks_change exit p e = no_change exit p e
 asks_change (did_open params) p e = no_change (did_open params) p e
 asks_change (did_close params) p e = no_change (did_close params) p e
-asks_change (other_notification method params) p e = no_change (other_notification method params) p e
+asks_change (other_notification method) p e = no_change (other_notification method) p e
 
 case_of : (server : State) (m : IncomingData) (verdict : Verdict) (body : List ℕ) → normal_if server (change_in m) verdict ≡ Some body → IsNormalCase server m verdict body
 case_of server m verdict body e =
@@ -155,13 +155,13 @@ again_incoming s p again same =
 -- a body is judged as another, and it is its own canonical body
 abbrev IsJudgedAgain : Session → Side → List ℕ → List ℕ → Type 0
 IsJudgedAgain s side body again =
-    (judge_from s side again ≡ judge_from s side body) × (normal_if s.server (change_in (asked (reading again))) (judge_from s side body).verdict ≡ Some again)
+    (judge_from s side again ≡ judge_from s side body) × (normal_if s.server (change_in (incoming_of (reading again))) (judge_from s side body).verdict ≡ Some again)
 
 module _ (limits : Bounds) (ranges : AreInRange limits) where
-  again_client : (s : Session) (body again : List ℕ) → IsHeldState limits s.server → normal_if s.server (change_in (asked (reading body))) (judge_from s Client body).verdict ≡ Some again
+  again_client : (s : Session) (body again : List ℕ) → IsHeldState limits s.server → normal_if s.server (change_in (incoming_of (reading body))) (judge_from s Client body).verdict ≡ Some again
       → length again ≤ limits.max_body → IsJudgedAgain s Client body again
   again_client s body again held normal fits =
-      let m = asked (reading body) in
+      let m = incoming_of (reading body) in
       let c = case_of s.server m (judge_incoming s m).verdict again normal in
       let p = c.change in
       let proper : IsProperIncoming (did_change (Some p)) = subst IsProperIncoming c.asks (asked_proper body) in
@@ -170,21 +170,21 @@ module _ (limits : Bounds) (ranges : AreInRange limits) where
       let own : IsHeldState s.server.config.limits s.server = subst (λ (l : Bounds). IsHeldState l s.server) (sym held.limit) held in
       let short : length (normal_body s.server p) ≤ s.server.config.limits.max_body = omega (arith, fits, ap length c.is, ap (λ (l : Bounds). l.max_body) held.limit) in
       let set : IsSettledChange s.server p = settled_change s.server p here own proper (accepted s p told) short in
-      let asks : asked (reading again) ≡ did_change (Some set.again) = ap (λ b. asked (reading b)) c.is ∙ set.asks in (
+      let asks : incoming_of (reading again) ≡ did_change (Some set.again) = ap (λ b. incoming_of (reading b)) c.is ∙ set.asks in (
         ap (judge_incoming s) asks ∙ again_incoming s p set.again set.same_step ∙ ap (judge_incoming s) (sym c.asks),
         ap (λ (x : IncomingData). normal_if s.server (change_in x) (judge_incoming s m).verdict) asks ∙ ap (normal_if s.server (Some set.again)) c.told ∙ ap Some (set.same_body ∙ sym c.is),
       )
 
-  again_from : (s : Session) (side : Side) (body again : List ℕ) → IsHeldState limits s.server → normal_if s.server (change_in (asked (reading body))) (judge_from s side body).verdict ≡ Some again
+  again_from : (s : Session) (side : Side) (body again : List ℕ) → IsHeldState limits s.server → normal_if s.server (change_in (incoming_of (reading body))) (judge_from s side body).verdict ≡ Some again
       → length again ≤ limits.max_body → IsJudgedAgain s side body again
   again_from s Client body again held normal fits = again_client s body again held normal fits
   again_from s Server body again held normal fits =
-      let none : None ≡ Some again = sym (heard_has_none s.server (change_in (asked (reading body))) s s.expected body) ∙ normal in absurd (cc)
+      let none : None ≡ Some again = sym (heard_has_none s.server (change_in (incoming_of (reading body))) s s.expected body) ∙ normal in absurd (cc)
 
   again_at : (s : Session) (line_due : Bool) (side : Side) (body again : List ℕ) → IsHeldState limits s.server
-      → normal_if s.server (change_in (asked (reading body))) (judge_from (versioned s line_due) side body).verdict ≡ Some again → length again ≤ limits.max_body
+      → normal_if s.server (change_in (incoming_of (reading body))) (judge_from (versioned s line_due) side body).verdict ≡ Some again → length again ≤ limits.max_body
       → (judge_from (versioned s line_due) side again ≡ judge_from (versioned s line_due) side body)
-      × (normal_if s.server (change_in (asked (reading again))) (judge_from (versioned s line_due) side body).verdict ≡ Some again)
+      × (normal_if s.server (change_in (incoming_of (reading again))) (judge_from (versioned s line_due) side body).verdict ≡ Some again)
   again_at s true side body again held normal fits = again_from (record s { version = Two }) side body again held normal fits
   again_at s false side body again held normal fits = again_from s side body again held normal fits
 

@@ -21,7 +21,7 @@ use Rattle.lsp_store.proofs.MessageLemmas.{Accepts, accepted_parts, body_within,
 use Rattle.lsp_store.proofs.ScalarLemmas.{canonical_texts}
 use Rattle.lsp_server.specs.declared.phase.Phase.{Phase}
 use Rattle.lsp_server.specs.declared.phase.Phase.TheVariants.{New, Running, Down, Ended}
-use Rattle.lsp_server.specs.Incoming.{did_change, asked}
+use Rattle.lsp_server.specs.Incoming.{did_change, incoming_of}
 use Rattle.lsp_server.specs.Step.{State, step_in, step_on, obeyed, edit_of, encoding_of}
 use Rattle.lsp_replay.specs.Engines.{normal_body}
 use Rattle.lsp_replay.proofs.NormalLemmas.{within}
@@ -52,15 +52,15 @@ edits_back (change ∷ batch) texts =
     rw (same, edits_back batch texts.1) refl
 
 asks_back : (uri : List ℕ) (version : ℤ) (batch : List Edit) → IsReadAs uri version batch
-    → asked (reading (change_body uri version batch)) ≡ did_change (Some (record { uri = uri; version = version; changes = map written_edit batch }))
+    → incoming_of (reading (change_body uri version batch)) ≡ did_change (Some (record { uri = uri; version = version; changes = map written_edit batch }))
 unfolding change_body
-asks_back uri version batch read = ap asked read.as_sent ∙ ap did_change read.back
+asks_back uri version batch read = ap incoming_of read.as_sent ∙ ap did_change read.back
 
 -- ---- the change that a canonical message asks for
 
 pub record IsSettledChange (server : State) (p : ChangeData) : Type 0 where
   pub again : ChangeData
-  pub asks : asked (reading (normal_body server p)) ≡ did_change (Some again)
+  pub asks : incoming_of (reading (normal_body server p)) ≡ did_change (Some again)
   pub same_step : step_on server (did_change (Some again)) ≡ step_on server (did_change (Some p))
   pub same_body : normal_body server again ≡ normal_body server p
 

@@ -114,39 +114,39 @@ step_held : (limits : Bounds) (phase : Phase) (s : State) (m : IncomingData) →
 step_held limits Ended s m proper held = held
 step_held limits New s not_json proper held = held
 step_held limits New s (not_a_message id) proper held = held
-step_held limits New s (response id outcome) proper held = held
+step_held limits New s (response id) proper held = held
 step_held limits New s exit proper held = record { limit = held.limit; table = held.table }
 step_held limits New s (initialize id None) proper held = held
 step_held limits New s (initialize id (Some offers)) proper held = record { limit = held.limit; table = held.table }
 step_held limits New s (shutdown id) proper held = held
-step_held limits New s (other_request id method params) proper held = held
+step_held limits New s (other_request id method) proper held = held
 step_held limits New s (did_open params) proper held = held
 step_held limits New s (did_change params) proper held = held
 step_held limits New s (did_close params) proper held = held
-step_held limits New s (other_notification method params) proper held = held
+step_held limits New s (other_notification method) proper held = held
 step_held limits Running s not_json proper held = held
 step_held limits Running s (not_a_message id) proper held = held
-step_held limits Running s (response id outcome) proper held = held
+step_held limits Running s (response id) proper held = held
 step_held limits Running s exit proper held = record { limit = held.limit; table = held.table }
 step_held limits Running s (initialize id offers) proper held = held
 step_held limits Running s (shutdown id) proper held = record { limit = held.limit; table = held.table }
-step_held limits Running s (other_request id method params) proper held = held
+step_held limits Running s (other_request id method) proper held = held
 step_held limits Running s (did_open params) proper held = open_step limits s params proper held
 step_held limits Running s (did_change params) proper held = change_step limits s params proper held
 step_held limits Running s (did_close None) proper held = held
 step_held limits Running s (did_close (Some p)) proper held = obeyed_held limits s (close_refusal s.table p.uri) _ held (λ e. held_close limits s.table p.uri held.table)
-step_held limits Running s (other_notification method params) proper held = held
+step_held limits Running s (other_notification method) proper held = held
 step_held limits Down s not_json proper held = held
 step_held limits Down s (not_a_message id) proper held = held
-step_held limits Down s (response id outcome) proper held = held
+step_held limits Down s (response id) proper held = held
 step_held limits Down s exit proper held = record { limit = held.limit; table = held.table }
 step_held limits Down s (initialize id offers) proper held = held
 step_held limits Down s (shutdown id) proper held = held
-step_held limits Down s (other_request id method params) proper held = held
+step_held limits Down s (other_request id method) proper held = held
 step_held limits Down s (did_open params) proper held = held
 step_held limits Down s (did_change params) proper held = held
 step_held limits Down s (did_close params) proper held = held
-step_held limits Down s (other_notification method params) proper held = held
+step_held limits Down s (other_notification method) proper held = held
 
 pub step_on_held : (limits : Bounds) (s : State) (m : IncomingData) → IsProperIncoming m → IsHeldState limits s → IsHeldState limits (step_on s m).state
 step_on_held limits s m proper held = step_held limits s.phase s m proper held

@@ -17,7 +17,7 @@ use Rattle.lsp_store.specs.declared.fault.StoreFault.{StoreFault}
 use Rattle.lsp_store.specs.declared.fault.StoreFault.TheVariants.{AlreadyOpen, TooManyDocuments, TextTooLong, NotOpen, StaleVersion, TooManyChanges, Edit}
 use Rattle.lsp_server.specs.declared.answer.Refusal.{Refusal}
 use Rattle.lsp_server.specs.declared.answer.Refusal.TheVariants.{InvalidParams as BadParams, Store}
-use Rattle.lsp_server.specs.Incoming.{IncomingData, asked, did_change}
+use Rattle.lsp_server.specs.Incoming.{IncomingData, incoming_of, did_change}
 use Rattle.lsp_server.specs.Step.{State, encoding_of, edit_of}
 use Rattle.lsp_server.specs.Answer.{AnswerData, reply, changed, dropped, ignored, refused, exits, already_ended, Sent}
 use Rattle.lsp_replay.specs.declared.outcome.Outcome.{Outcome}
@@ -184,7 +184,7 @@ normal_if server (Some p) (answered changed) = Some (normal_body server p)
 normal_if server change verdict = None
 
 abbrev pub normal_of : Session → List ℕ → Verdict → Option (List ℕ)
-normal_of s body verdict = normal_if s.server (change_in (asked (reading body))) verdict
+normal_of s body verdict = normal_if s.server (change_in (incoming_of (reading body))) verdict
 
 -- A record is written with its own frame, or with the frame of its canonical body, unless that is too long.
 abbrev pub written : ℕ → Record → List ℕ → Option (List ℕ) → Gives

@@ -12,7 +12,7 @@ use Rattle.lsp_message.specs.Message as read
 use Rattle.lsp_message.specs.Agreement.{announced_of}
 use Rattle.lsp_server.specs.declared.phase.Phase.{Phase}
 use Rattle.lsp_server.specs.declared.phase.Phase.TheVariants.{New, Running, Ended}
-use Rattle.lsp_server.specs.Incoming.{IncomingData, asked, did_change, initialize}
+use Rattle.lsp_server.specs.Incoming.{IncomingData, incoming_of, did_change, initialize}
 use Rattle.lsp_server.specs.Answer.{AnswerData, reply, refused, exits, Sent, as_sent}
 use Rattle.lsp_server.specs.declared.config.Config.{Config}
 use Rattle.lsp_server.specs.Step.{State, start, step_on, settled}
@@ -144,7 +144,7 @@ hear_for s (Some id) body = heard s (result_for id (reading body))
 -- ---- any record
 
 abbrev pub judge_from : Session → Side → List ℕ → Judged
-judge_from s Client body = judge_incoming s (asked (reading body))
+judge_from s Client body = judge_incoming s (incoming_of (reading body))
 judge_from s Server body = hear_for s s.expected body
 
 -- The first record of a log of version 2 tells its version.

@@ -148,7 +148,7 @@ impl Session {
         self.see_version(head.line_due);
         let verdict = match head.side {
             Side::Client => {
-                let incoming = Incoming::read(self.alloc, body)?;
+                let incoming = self.server.read(body)?;
                 self.take(incoming)?
             }
             Side::Server => self.hear(body)?,
@@ -189,7 +189,7 @@ impl Session {
     {
         match side {
             Side::Client => {
-                let incoming = Incoming::read(self.alloc, body)?;
+                let incoming = self.server.read(body)?;
                 self.take_and_write(incoming)
             }
             Side::Server => Ok((self.hear(body)?, None)),

@@ -5,7 +5,7 @@ use Rattle.serde_json.specs.Data.{Data}
 use Rattle.lsp_message.specs.declared.agreement.Offers.{Offers}
 use Rattle.lsp_message.specs.declared.outgoing.ErrorCode.TheVariants.{InvalidRequest, MethodNotFound, InvalidParams, ServerNotInitialized}
 use Rattle.lsp_message.specs.Agreement.{is_offered, offers_of}
-use Rattle.lsp_message.specs.Message.{IdData, OutcomeData}
+use Rattle.lsp_message.specs.Message.{IdData}
 use Rattle.lsp_message.specs.Outgoing.{OutgoingData, initialize_result, shutdown_result, error_reply}
 use Rattle.lsp_message.specs.Params.{open_of, change_of, close_of}
 use Rattle.lsp_text.specs.declared.encoding.Encoding.{Encoding}
@@ -17,7 +17,7 @@ use Rattle.lsp_server.specs.declared.phase.Phase.{Phase}
 use Rattle.lsp_server.specs.declared.phase.Phase.TheVariants.{New, Running, Down, Ended}
 use Rattle.lsp_server.specs.Answer.{AnswerData, reply, changed, exits}
 use Rattle.lsp_server.specs.Choice.{chosen, kind_of}
-use Rattle.lsp_server.specs.Incoming.{IncomingData, response, initialize, shutdown, other_request, exit, did_open, did_change, did_close, other_notification, request_of, notification_of}
+use Rattle.lsp_reader.specs.Incoming.{IncomingData, response, initialize, shutdown, other_request, exit, did_open, did_change, did_close, other_notification, request_of, notification_of}
 use Rattle.lsp_server.specs.Laws.{RepliesTo, way_of, IsRefusal}
 use Rattle.lsp_server.specs.Step.{State, Step, stays, goes, begins, obeyed, step_in}
 
@@ -27,7 +27,7 @@ use Rattle.lsp_server.specs.Step.{State, Step, stays, goes, begins, obeyed, step
 abbrev pub IsRequestOf : IdData → IncomingData → Type 0
 IsRequestOf id (initialize other offers) = other ≡ id
 IsRequestOf id (shutdown other) = other ≡ id
-IsRequestOf id (other_request other method params) = other ≡ id
+IsRequestOf id (other_request other method) = other ≡ id
 IsRequestOf id m = ⊥
 
 one_of : (id : IdData) (a b : Bool) (x y z : IncomingData) → IsRequestOf id x → IsRequestOf id y → IsRequestOf id z
@@ -39,7 +39,7 @@ one_of id false false x y z p q r = r
 pub request_of-is : (id : IdData) (method : List ℕ) (params : Option Data) → IsRequestOf id (request_of id method params)
 request_of-is id method params =
     one_of id (bytes_eq method (codes "initialize")) (bytes_eq method (codes "shutdown")) (initialize id (offers_of params)) (shutdown id)
-    (other_request id method params) refl refl refl
+    (other_request id method) refl refl refl
 
 pub replied : (p : Phase) (s : State) (id : IdData) (m : IncomingData) → IsRequestOf id m → p ≢ Ended → RepliesTo id (step_in p s m).answer
 replied Ended s id m is live = absurd (live refl)
@@ -47,13 +47,13 @@ replied New s id (initialize other None) is live = (error_reply (Some other) Inv
 replied New s id (initialize other (Some offers)) is live =
     (initialize_result other (chosen s.config.choice offers) (kind_of s.config.sync), refl, ap Some is)
 replied New s id (shutdown other) is live = (error_reply (Some other) ServerNotInitialized, refl, ap Some is)
-replied New s id (other_request other method params) is live = (error_reply (Some other) ServerNotInitialized, refl, ap Some is)
+replied New s id (other_request other method) is live = (error_reply (Some other) ServerNotInitialized, refl, ap Some is)
 replied Running s id (initialize other offers) is live = (error_reply (Some other) InvalidRequest, refl, ap Some is)
 replied Running s id (shutdown other) is live = (shutdown_result other, refl, ap Some is)
-replied Running s id (other_request other method params) is live = (error_reply (Some other) MethodNotFound, refl, ap Some is)
+replied Running s id (other_request other method) is live = (error_reply (Some other) MethodNotFound, refl, ap Some is)
 replied Down s id (initialize other offers) is live = (error_reply (Some other) InvalidRequest, refl, ap Some is)
 replied Down s id (shutdown other) is live = (error_reply (Some other) InvalidRequest, refl, ap Some is)
-replied Down s id (other_request other method params) is live = (error_reply (Some other) InvalidRequest, refl, ap Some is)
+replied Down s id (other_request other method) is live = (error_reply (Some other) InvalidRequest, refl, ap Some is)
 replied p s id m is live = absurd is
 
 -- ---- notifications
@@ -63,7 +63,7 @@ IsNotification exit = Unit {0}
 IsNotification (did_open params) = Unit {0}
 IsNotification (did_change params) = Unit {0}
 IsNotification (did_close params) = Unit {0}
-IsNotification (other_notification method params) = Unit {0}
+IsNotification (other_notification method) = Unit {0}
 IsNotification m = ⊥
 
 one_of_five : (a b c d : Bool) (v w x y z : IncomingData)
@@ -79,7 +79,7 @@ pub notification_of-is : (method : List ℕ) (params : Option Data) → IsNotifi
 notification_of-is method params =
     one_of_five (bytes_eq method (codes "exit")) (bytes_eq method (codes "textDocument/didOpen")) (bytes_eq method (codes "textDocument/didChange"))
     (bytes_eq method (codes "textDocument/didClose")) exit (did_open (open_of params)) (did_change (change_of params)) (did_close (close_of params))
-    (other_notification method params) tt tt tt tt tt
+    (other_notification method) tt tt tt tt tt
 
 obeyed_quietly : (s : State) (result : Result (List Entry) table.Refusal) (m : OutgoingData) → (obeyed s result).answer ≢ reply m
 obeyed_quietly s (Ok next) m = λ e. cc
@@ -91,7 +91,7 @@ unreplied New s exit m is = λ e. cc
 unreplied New s (did_open params) m is = λ e. cc
 unreplied New s (did_change params) m is = λ e. cc
 unreplied New s (did_close params) m is = λ e. cc
-unreplied New s (other_notification method params) m is = λ e. cc
+unreplied New s (other_notification method) m is = λ e. cc
 unreplied Running s exit m is = λ e. cc
 unreplied Running s (did_open None) m is = λ e. cc
 unreplied Running s (did_change None) m is = λ e. cc
@@ -99,20 +99,20 @@ unreplied Running s (did_close None) m is = λ e. cc
 unreplied Running s (did_open (Some p)) m is = obeyed_quietly s _ m
 unreplied Running s (did_change (Some p)) m is = obeyed_quietly s _ m
 unreplied Running s (did_close (Some p)) m is = obeyed_quietly s _ m
-unreplied Running s (other_notification method params) m is = λ e. cc
+unreplied Running s (other_notification method) m is = λ e. cc
 unreplied Down s exit m is = λ e. cc
 unreplied Down s (did_open params) m is = λ e. cc
 unreplied Down s (did_change params) m is = λ e. cc
 unreplied Down s (did_close params) m is = λ e. cc
-unreplied Down s (other_notification method params) m is = λ e. cc
+unreplied Down s (other_notification method) m is = λ e. cc
 unreplied p s n m is = absurd is
 
-pub unanswered : (p : Phase) (s : State) (id : Option IdData) (outcome : OutcomeData) (m : OutgoingData)
-    → (step_in p s (response id outcome)).answer ≢ reply m
-unanswered Ended s id outcome m = λ e. cc
-unanswered New s id outcome m = λ e. cc
-unanswered Running s id outcome m = λ e. cc
-unanswered Down s id outcome m = λ e. cc
+pub unanswered : (p : Phase) (s : State) (id : Option IdData) (m : OutgoingData)
+    → (step_in p s (response id)).answer ≢ reply m
+unanswered Ended s id m = λ e. cc
+unanswered New s id m = λ e. cc
+unanswered Running s id m = λ e. cc
+unanswered Down s id m = λ e. cc
 
 -- ---- what stays
 

@@ -1,4 +1,4 @@
-pub mod Incoming
+pub use Rattle.lsp_reader.specs.Incoming
 pub mod Choice
 pub mod Answer
 pub mod Step

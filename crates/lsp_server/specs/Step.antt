@@ -20,7 +20,7 @@ use Rattle.lsp_server.specs.declared.phase.Phase.{Phase}
 use Rattle.lsp_server.specs.declared.phase.Phase.TheVariants.{New, Running, Down, Ended}
 use Rattle.lsp_server.specs.Answer.{AnswerData, reply, changed, dropped, ignored, already_ended, refused, exits}
 use Rattle.lsp_server.specs.Choice.{chosen, kind_of}
-use Rattle.lsp_server.specs.Incoming.{IncomingData, not_json, not_a_message, response, initialize, shutdown, other_request, exit, did_open, did_change, did_close, other_notification, asked}
+use Rattle.lsp_reader.specs.Incoming.{IncomingData, not_json, not_a_message, response, initialize, shutdown, other_request, exit, did_open, did_change, did_close, other_notification, incoming_of}
 
 -- A server: how it was set up, where its session stands, the encoding that was chosen, if one was, and the open documents.
 pub record State : Type 0 where
@@ -100,7 +100,7 @@ step_in Ended s m = stays s already_ended
 step_in phase s not_json = fails s None ParseError
 step_in phase s (not_a_message id) = fails s id InvalidRequest
 -- The server asks nothing, so it ignores answers.
-step_in phase s (response id outcome) = stays s ignored
+step_in phase s (response id) = stays s ignored
 -- `exit` ends the session: with status 0 after `shutdown`, else with 1 (Exit Notification).
 step_in Down s exit = goes s Ended (exits 0)
 step_in phase s exit = goes s Ended (exits 1)
@@ -109,14 +109,14 @@ step_in New s (initialize id None) = fails s (Some id) InvalidParams
 step_in New s (initialize id (Some offers)) = begins s id offers
 -- Before it any other request is an error, and notifications are dropped (Initialize Request).
 step_in New s (shutdown id) = fails s (Some id) ServerNotInitialized
-step_in New s (other_request id method params) = fails s (Some id) ServerNotInitialized
+step_in New s (other_request id method) = fails s (Some id) ServerNotInitialized
 step_in New s notification = stays s dropped
 -- `initialize` may come only once (Initialize Request).
 step_in Running s (initialize id offers) = fails s (Some id) InvalidRequest
 -- `shutdown` is answered, and from then on only `exit` is waited for (Shutdown Request).
 step_in Running s (shutdown id) = goes s Down (reply (shutdown_result id))
 -- No other request is known.
-step_in Running s (other_request id method params) = fails s (Some id) MethodNotFound
+step_in Running s (other_request id method) = fails s (Some id) MethodNotFound
 -- The document notifications are taken whether or not `initialized` came (DidOpen, DidChange, DidClose Text Document Notification).
 step_in Running s (did_open (Some p)) = obeys s (open_command p)
 step_in Running s (did_change (Some p)) = obeys s (change_command s p)
@@ -125,11 +125,11 @@ step_in Running s (did_open None) = stays s (refused params_invalid)
 step_in Running s (did_change None) = stays s (refused params_invalid)
 step_in Running s (did_close None) = stays s (refused params_invalid)
 -- Any other notification is ignored, those that may be ignored by their name (`$/`) too.
-step_in Running s (other_notification method params) = stays s ignored
+step_in Running s (other_notification method) = stays s ignored
 -- After `shutdown` requests are errors, and notifications are dropped (Shutdown Request).
 step_in Down s (initialize id offers) = fails s (Some id) InvalidRequest
 step_in Down s (shutdown id) = fails s (Some id) InvalidRequest
-step_in Down s (other_request id method params) = fails s (Some id) InvalidRequest
+step_in Down s (other_request id method) = fails s (Some id) InvalidRequest
 step_in Down s notification = stays s dropped
 
 -- What a server answers to what is asked of it, and what it is afterwards.
@@ -138,4 +138,4 @@ step_on s m = step_in s.phase s m
 
 -- What a server answers to a body, and what it is afterwards, by what the body is read as.
 abbrev pub step : State → Reading → Step
-step s body = step_on s (asked body)
+step s body = step_on s (incoming_of body)

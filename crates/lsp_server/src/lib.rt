@@ -44,7 +44,7 @@
 //! **A feature of your own**, as hover: read the body yourself, answer what is yours, and hand all else on.
 //!
 //! ```text
-//! let incoming = Incoming::read(alloc, body)?;
+//! let incoming = server.read(body)?;
 //! if server.phase() == Phase::Running && is_hover(&incoming) {
 //!     return hover(alloc, server.store(), incoming);
 //! }
@@ -55,7 +55,6 @@
 //! `server.store().get(uri)` lends the document as it is now; `lsp_text` turns its positions, in `server.encoding()`, into places.
 //!
 //! - `server`: the server, and the table of its steps.
-//! - `incoming`: what a body asks, its parameters read.
 //! - `answer`: what comes back.
 //! - `config`: limits, the choice of an encoding, how changes are asked for.
 //! - `phase`: where a session stands.
@@ -64,14 +63,13 @@
 
 mod answer;
 mod config;
-mod incoming;
 mod laws;
 mod phase;
 mod server;
 
 pub use answer::{Answer, Refusal, ServerFault};
 pub use config::{Config, EncodingChoice, Sync};
-pub use incoming::Incoming;
 pub use laws::step_laws;
+pub use lsp_reader::Incoming;
 pub use phase::Phase;
 pub use server::Server;

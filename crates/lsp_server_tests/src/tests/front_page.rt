@@ -68,7 +68,7 @@ fn from_frames_to_replies(rt: HostRuntime) -> Result<(), Fail> {
 
 /// Answers hover with the length of the document's text, and hands all else on.
 fn serve_hover(alloc: Global, server: &mut Server, body: &[u8]) -> Result<Option<Vec<u8>>, Fail> {
-    let incoming = Incoming::read(alloc, body)?;
+    let incoming = server.read(body)?;
     if server.phase() == Phase::Running && is_hover(&incoming) {
         return hover(alloc, server, incoming);
     }

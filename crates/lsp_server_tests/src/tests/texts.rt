@@ -122,8 +122,8 @@ fn nested(alloc: Global, depth: usize) -> Result<String, AllocError> {
 static OPENED: [Row; 2] = [(INITIALIZE, ACCEPTED), (OPEN, "changed")];
 
 /// Is the body of a change read as one to version 2, and changes it the document then?
-fn change_is_read_first(alloc: Global, server: &mut Server) -> Result<bool, Fail> {
-    let incoming = Incoming::read(alloc, CHANGE.as_bytes())?;
+fn change_is_read_first(server: &mut Server) -> Result<bool, Fail> {
+    let incoming = server.read(CHANGE.as_bytes())?;
     if !matches!(&incoming, Incoming::DidChange(Some(params)) if params.version == 2) {
         return Ok(false);
     }
@@ -159,7 +159,7 @@ fn an_engine_reads_a_message_first(rt: HostRuntime) -> Result<(), Fail> {
     let alloc = rt.alloc();
     let mut server = new_server(alloc)?;
     assert_eq!(rt; wrong_row(alloc, &mut server, &OPENED)?, None);
-    assert!(rt; change_is_read_first(alloc, &mut server)?);
+    assert!(rt; change_is_read_first(&mut server)?);
     assert!(rt; request_is_read_first(alloc, &mut server)?);
     Ok(())
 }
