@@ -83,8 +83,12 @@ next_byte shape.Return part b is line_open =
     elim (cases_eq b 10) [
       | inl feed ↦ inl (
         shape.Whole,
-        (is.0, is.1, ap (λ (p : List ℕ). p ++ b ∷ []) is.2 ∙ append_assoc is.0.name (58 ∷ (is.0.value ++ (13 ∷ []))) (b ∷ [])
-            ∙ ap (λ (x : List ℕ). is.0.name ++ (58 ∷ x)) (append_assoc is.0.value (13 ∷ []) (b ∷ [])) ∙ ap (λ (c : ℕ). is.0.name ++ (58 ∷ (is.0.value ++ (13 ∷ c ∷ [])))) feed),
+        (
+          is.0,
+          is.1,
+          ap (λ (p : List ℕ). p ++ b ∷ []) is.2 ∙ append_assoc is.0.name (58 ∷ (is.0.value ++ (13 ∷ []))) (b ∷ [])
+              ∙ ap (λ (x : List ℕ). is.0.name ++ (58 ∷ x)) (append_assoc is.0.value (13 ∷ []) (b ∷ [])) ∙ ap (λ (c : ℕ). is.0.name ++ (58 ∷ (is.0.value ++ (13 ∷ c ∷ [])))) feed,
+        ),
       )
       | inr no_feed ↦ inr (stops_at_return shape.Return b refl no_feed part is)
     ]
@@ -141,14 +145,14 @@ after_byte lines part rest shape.End each is on whole =
 header_decided : (rest : List ℕ) (lines : List Line) (s : Shape) (part : List ℕ) → AreLines lines → IsPartOfLine s part → is_over s ≡ false → IsHeaderDecided (lines_bytes lines ++ (part ++ rest))
 header_decided [] lines s part each is line_open =
     inr (λ others more all e. begins_none others more all
-        (subst BeginsHeader (ap (λ (x : List ℕ). lines_bytes lines ++ x) (sym (append-nil part)) ∙ e) (begins_behind lines part each (begins_part s part is line_open))))
+    (subst BeginsHeader (ap (λ (x : List ℕ). lines_bytes lines ++ x) (sym (append-nil part)) ∙ e) (begins_behind lines part each (begins_part s part is line_open))))
 header_decided (b ∷ rest) lines s part each is line_open =
     let moved : lines_bytes lines ++ ((part ++ b ∷ []) ++ rest) ≡ lines_bytes lines ++ (part ++ (b ∷ rest)) = ap (λ (x : List ℕ). lines_bytes lines ++ x) (append_assoc part (b ∷ []) rest) in
     elim (next_byte s part b is line_open) [
       | inl next ↦ subst IsHeaderDecided moved (after_byte lines (part ++ b ∷ []) rest next.0 each next.1 (header_decided rest lines next.0 (part ++ b ∷ []) each next.1)
-        (λ line is_line e. subst IsHeaderDecided (with_line line e) (header_decided rest (lines ++ line ∷ []) shape.Start [] (AreLines-append lines (line ∷ []) each (is_line, tt)) refl refl)))
+          (λ line is_line e. subst IsHeaderDecided (with_line line e) (header_decided rest (lines ++ line ∷ []) shape.Start [] (AreLines-append lines (line ∷ []) each (is_line, tt)) refl refl)))
       | inr stops ↦ inr (λ others more all e. none_stopped (lines_bytes lines ++ part) rest b (begins_behind lines part each (begins_part s part is line_open))
-        (subst StopsHeader (sym (append_assoc (lines_bytes lines) part (b ∷ []))) (stops_behind lines (part ++ b ∷ []) each stops)) others more all (append_assoc (lines_bytes lines) part (b ∷ rest) ∙ e))
+          (subst StopsHeader (sym (append_assoc (lines_bytes lines) part (b ∷ []))) (stops_behind lines (part ++ b ∷ []) each stops)) others more all (append_assoc (lines_bytes lines) part (b ∷ rest) ∙ e))
     ]
   where
     with_line : (line : Line) → part ++ b ∷ [] ≡ line_bytes line → lines_bytes (lines ++ line ∷ []) ++ rest ≡ lines_bytes lines ++ ((part ++ b ∷ []) ++ rest)
@@ -177,9 +181,9 @@ frame_decided max_body bytes front =
     judged short (Ok wanted) is =
         elim (cases_lt (length front.rest) wanted) [
           | inl few ↦ inr (λ frame body more s e.
-            let both : Ok wanted ≡ Ok (length body) = sym is ∙ ap (judge max_body) (same frame body more s e).0 ∙ s.good in
-            let len : wanted ≡ length body = cc in
-            omega (arith, few, len, ap length (same frame body more s e).1, length-append body more))
+              let both : Ok wanted ≡ Ok (length body) = sym is ∙ ap (judge max_body) (same frame body more s e).0 ∙ s.good in
+              let len : wanted ≡ length body = cc in
+              omega (arith, few, len, ap length (same frame body more s e).1, length-append body more))
           | inr enough ↦ inl (record {
             frame = header_of front.lines ++ take wanted front.rest;
             body = take wanted front.rest;

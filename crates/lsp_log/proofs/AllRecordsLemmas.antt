@@ -1,5 +1,5 @@
 -- Each input has a list of all records that are whole in it.
-use Rattle.std.proofs.Common.{◌≡◌, ◌≢◌, ℕ, zero, suc, ◌+◌, ◌≤◌, Bool, true, false, List, [], ◌∷◌, ◌++◌, length, drop, refl, sym, ◌∙◌, ap, subst, append_assoc, arith, inl, inr}
+use Rattle.std.proofs.Common.{◌≡◌, ◌≢◌, ℕ, zero, suc, ◌+◌, ◌≤◌, Bool, true, false, List, [], ◌∷◌, ◌++◌, length, drop, refl, sym, ◌∙◌, ap, append_assoc, arith, inl, inr}
 use Rattle.std.specs.Prelude.{◌⊎◌, nat_eq}
 use Rattle.std.specs.List.{starts_with}
 use Rattle.std.proofs.lemmas.Bool.{cases_Bool, cases_eq}
@@ -129,7 +129,7 @@ module _ (decision : DecisionLaw) where
   all_within (suc n) max_body place version due bytes within =
       elim (next_record max_body version bytes) [
         | inl next ↦ with_first max_body place version due bytes next
-          (all_within n max_body (place + length (record_bytes version (record_of max_body place version due bytes next))) version false next.more (omega (arith, within, shorter max_body version bytes next)))
+            (all_within n max_body (place + length (record_bytes version (record_of max_body place version due bytes next))) version false next.more (omega (arith, within, shorter max_body version bytes next)))
         | inr ends ↦ record { records = []; rest = bytes; is = refl; each = tt; ends = ends }
       ]
 
