@@ -110,7 +110,8 @@ impl IndexedText {
         requires fits { sum_by (λ change. string_len change.text) changes.now ≤ MAX_NEW_TEXT }
         ensures utf8 { OnOk result (IsUtf8 self.now) }
         ensures means { IfOk result (λ pieces.
-            Means (chars self.now) (meaning (units_in encoding) (chars self.now) (map edit_of changes.now)) (length changes.now) pieces.edited) }
+            Means (chars self.now) (meaning (units_in encoding) (chars self.now)
+            (map edit_of changes.now)) (length changes.now) pieces.edited) }
         ensures within { IfOk result (λ pieces. length (edited_bytes pieces.edited) ≤ max_len) }
         ensures ok { OnOk result (IsOk (text_within max_len self.now
             (meaning (units_in encoding) (chars self.now) (map edit_of changes.now)))) }
