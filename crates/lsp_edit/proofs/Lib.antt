@@ -15,6 +15,7 @@ pub mod PutLemmas
 pub mod MergedLemmas
 pub mod EndLemmas
 pub mod EditedLemmas
+pub mod SpannedLemmas
 pub mod AppliedLemmas
 pub mod RoomLemmas
 pub mod WalkLemmas

@@ -17,6 +17,11 @@ pub record Edited : Type 0 where
   pub items : List Item
   pub changes : ℕ
 
+-- The same, and the parts that its spans stand for.
+pub record Spanned : Type 0 where
+  pub edited : Edited
+  pub parts : List Part
+
 -- the text as it is now, and its bytes
 abbrev pub edited_text : Edited → List ℕ
 edited_text edited = text_of edited.before edited.items

@@ -23,12 +23,16 @@ fn apply_all<'a>(
     encoding: Encoding,
     changes: &'a [Change],
 ) -> Result<Pieces<'a>, EditFault>
-    requires fresh { pieces.changes ≡ 0 }
-    requires room { length (edited_bytes pieces) + sum_by (λ change. string_len change.text) changes.now ≤ MAX_TEXT }
+    requires fresh { pieces.edited.changes ≡ 0 }
+    requires room { length (edited_bytes pieces.edited) + sum_by
+        (λ change. string_len change.text) changes.now ≤ MAX_TEXT }
     ensures { MatchResult result
-        (λ made. Means pieces.entry.before
-        (after_changes (units_in encoding) pieces.entry.before 0 pieces.entry.items (map edit_of changes.now)) (length changes.now) made)
-        (λ fault. TellsBatchFault (after_changes (units_in encoding) pieces.entry.before 0 pieces.entry.items (map edit_of changes.now)) fault) }
+        (λ made. Means pieces.entry.edited.before
+        (after_changes (units_in encoding) pieces.entry.edited.before 0 pieces.entry.edited.items
+        (map edit_of changes.now)) (length changes.now) made.edited)
+        (λ fault. TellsBatchFault (after_changes
+        (units_in encoding) pieces.entry.edited.before 0 pieces.entry.edited.items
+        (map edit_of changes.now)) fault) }
 {
     let mut pieces = pieces;
     for change in changes {
@@ -48,7 +52,8 @@ pub fn compose<'a>(
     requires size { length before.now ≤ MAX_OLD_TEXT }
     requires fits { sum_by (λ change. string_len change.text) changes.now ≤ MAX_NEW_TEXT }
     ensures { MatchResult result
-        (λ pieces. Means (chars before.now) (meaning (units_in encoding) (chars before.now) (map edit_of changes.now)) (length changes.now) pieces)
+        (λ pieces. Means (chars before.now) (meaning (units_in encoding) (chars before.now)
+        (map edit_of changes.now)) (length changes.now) pieces.edited)
         (λ fault. TellsBatchFault (meaning (units_in encoding) (chars before.now) (map edit_of changes.now)) fault) }
 {
     let pieces = Pieces::start(alloc, before)?;
@@ -67,7 +72,8 @@ pub fn compose_over<'a>(
     requires size { length before.now ≤ MAX_OLD_TEXT }
     requires fits { sum_by (λ change. string_len change.text) changes.now ≤ MAX_NEW_TEXT }
     ensures { MatchResult result
-        (λ pieces. Means (chars before.now) (meaning (units_in encoding) (chars before.now) (map edit_of changes.now)) (length changes.now) pieces)
+        (λ pieces. Means (chars before.now) (meaning (units_in encoding) (chars before.now)
+        (map edit_of changes.now)) (length changes.now) pieces.edited)
         (λ fault. TellsBatchFault (meaning (units_in encoding) (chars before.now) (map edit_of changes.now)) fault) }
 {
     let pieces = Pieces::over(alloc, before, lines);

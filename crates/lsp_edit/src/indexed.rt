@@ -110,8 +110,9 @@ impl IndexedText {
         requires fits { sum_by (λ change. string_len change.text) changes.now ≤ MAX_NEW_TEXT }
         ensures utf8 { OnOk result (IsUtf8 self.now) }
         ensures means { IfOk result (λ pieces.
-            Means (chars self.now) (meaning (units_in encoding) (chars self.now) (map edit_of changes.now)) (length changes.now) pieces) }
-        ensures within { IfOk result (λ pieces. length (edited_bytes pieces) ≤ max_len) }
+            Means (chars self.now) (meaning (units_in encoding) (chars self.now)
+            (map edit_of changes.now)) (length changes.now) pieces.edited) }
+        ensures within { IfOk result (λ pieces. length (edited_bytes pieces.edited) ≤ max_len) }
         ensures ok { OnOk result (IsOk (text_within max_len self.now
             (meaning (units_in encoding) (chars self.now) (map edit_of changes.now)))) }
         ensures told { IfErr result (λ fault. (fault ≡ NoMemory)
@@ -251,9 +252,9 @@ impl IndexedText {
 
 /// Whether the text of pieces has at most `max_len` bytes. Takes no memory.
 fn may_have_len(pieces: &Pieces<'_>, max_len: usize) -> Result<(), TextFault>
-    ensures ok { OnOk result (length (edited_bytes pieces.now) ≤ max_len) }
+    ensures ok { OnOk result (length (edited_bytes pieces.now.edited) ≤ max_len) }
     ensures error { IfErr result (λ fault. (fault ≡ TooLong)
-        × (max_len < length (edited_bytes pieces.now))) }
+        × (max_len < length (edited_bytes pieces.now.edited))) }
 {
     if pieces.text_len() > max_len {
         return Err(TextFault::TooLong);

@@ -48,14 +48,17 @@ impl<'a> Model for Pieces<'a> {
     ghost use Rattle.std.specs.Str.{chars};
     ghost use Rattle.lsp_edit.specs.Parts.{items_of, parts_of, bytes_of};
     ghost use Rattle.lsp_edit.specs.Spans.{spans_in};
-    ghost use Rattle.lsp_edit.specs.Edited.{Edited, ArePieces, IsCurrent, lines_of};
+    ghost use Rattle.lsp_edit.specs.Edited.{Spanned, ArePieces, IsCurrent, lines_of};
 
-    ghost Value = { Edited };
+    ghost Value = { Spanned };
 
     ghost view = { λ pieces. record {
-      before = chars pieces.before.now;
-      items = items_of (chars pieces.before.now) (parts_of (spans_in pieces.spans));
-      changes = pieces.changes;
+      edited = record {
+        before = chars pieces.before.now;
+        items = items_of (chars pieces.before.now) (parts_of (spans_in pieces.spans));
+        changes = pieces.changes;
+      };
+      parts = parts_of (spans_in pieces.spans);
     } };
 
     ghost invariant = { λ pieces. ArePieces pieces.before.now (lines_of pieces.lines) (parts_of (spans_in pieces.spans)) pieces.len pieces.changes
@@ -66,7 +69,11 @@ impl<'a> Pieces<'a> {
     /// Nothing changed yet, over lines of the text.
     fn begin(alloc: Global, before: &'a str, lines: KeptLines<'a>) -> Self
         requires { Indexes (lines_of lines) before.now }
-        ensures { result ≡ record { before = chars before.now; items = plain (chars before.now); changes = 0 } }
+        ensures { result.edited ≡ record {
+          before = chars before.now;
+          items = plain (chars before.now);
+          changes = 0;
+        } }
     {
         Pieces {
             alloc,
@@ -82,7 +89,8 @@ impl<'a> Pieces<'a> {
     /// A text before any change. Costs a search through the text for its lines.
     pub fn start(alloc: Global, before: &'a str) -> Result<Self, AllocError>
         requires { length before.now ≤ MAX_TEXT }
-        ensures { IfOk result (λ pieces. pieces ≡ record { before = chars before.now; items = plain (chars before.now); changes = 0 }) }
+        ensures { IfOk result (λ pieces. pieces.edited
+            ≡ record { before = chars before.now; items = plain (chars before.now); changes = 0 }) }
     {
         let lines = Lines::new(alloc, before)?;
         Ok(Self::begin(alloc, before, KeptLines::Own(lines)))
@@ -91,7 +99,11 @@ impl<'a> Pieces<'a> {
     /// A text before any change, whose lines the caller keeps. Takes no memory, and costs nothing that grows with the text.
     pub fn over(alloc: Global, before: &'a str, lines: &'a Lines) -> Self
         requires { Indexes lines.now before.now }
-        ensures { result ≡ record { before = chars before.now; items = plain (chars before.now); changes = 0 } }
+        ensures { result.edited ≡ record {
+          before = chars before.now;
+          items = plain (chars before.now);
+          changes = 0;
+        } }
     {
         Self::begin(alloc, before, KeptLines::Lent(lines))
     }
@@ -105,17 +117,20 @@ impl<'a> Pieces<'a> {
     ) -> Result<Pieces<'c>, AllocError>
     where
         'b: 'c,
-        requires { second.now.before ≡ edited_text first.now }
-        ensures composed { IfOk result (λ pieces. pieces ≡ record {
-          before = first.now.before;
-          items = then_items first.now.items second.now.items;
-          changes = both_counts first.now.changes second.now.changes;
+        requires { second.now.edited.before ≡ edited_text first.now.edited }
+        ensures composed { IfOk result (λ pieces. pieces.edited ≡ record {
+          before = first.now.edited.before;
+          items = then_items first.now.edited.items second.now.edited.items;
+          changes = both_counts first.now.edited.changes second.now.edited.changes;
         }) }
-        ensures means { (units : ℕ → ℕ) (batch next : List Edit) → meaning units first.now.before batch ≡ Ok first.now.items
-            → meaning units second.now.before next ≡ Ok second.now.items
-            → meaning units first.now.before (batch ++ next) ≡ Ok (then_items first.now.items second.now.items) }
-        ensures associative { (third : List Item) → then_items (then_items first.now.items second.now.items) third
-            ≡ then_items first.now.items (then_items second.now.items third) }
+        ensures means { (units : ℕ → ℕ) (batch next : List Edit)
+            → meaning units first.now.edited.before batch ≡ Ok first.now.edited.items
+            → meaning units second.now.edited.before next ≡ Ok second.now.edited.items
+            → meaning units first.now.edited.before (batch ++ next) ≡ Ok
+            (then_items first.now.edited.items second.now.edited.items) }
+        ensures associative { (third : List Item) → then_items
+            (then_items first.now.edited.items second.now.edited.items) third
+            ≡ then_items first.now.edited.items (then_items second.now.edited.items third) }
     {
         let spans = spans_through(alloc, first.spans.as_slice(), second.spans.as_slice())?;
         Ok(Pieces {
@@ -131,14 +146,15 @@ impl<'a> Pieces<'a> {
 
     /// Whether the text as it is now and the change's text have together at most 2,147,483,648 bytes.
     pub fn has_room(&self, change: &Change) -> bool
-        ensures { IsTrue result ↔ (length (edited_bytes self.now) + string_len change.now.text ≤ MAX_TEXT) }
+        ensures { IsTrue result ↔ (length (edited_bytes self.now.edited)
+            + string_len change.now.text ≤ MAX_TEXT) }
     {
         self.len + change.text.len() <= MAX_TEXT
     }
 
     /// How many bytes the text as it is now has.
     pub fn text_len(&self) -> usize
-        ensures { result ≡ length (edited_bytes self.now) }
+        ensures { result ≡ length (edited_bytes self.now.edited) }
     {
         self.len
     }
@@ -146,8 +162,10 @@ impl<'a> Pieces<'a> {
     /// The places of a range's two ends in the text as it is now. `change` is the number that a fault tells.
     fn places(&mut self, encoding: Encoding, range: Range) -> Result<(usize, usize), EditFault>
         ensures same { self.new ≡ self.old }
-        ensures memory { result ≡ Err NoMemory → self.old.changes ≢ 0 }
-        ensures places { IsPlaces result (places_at self.old.changes (edited_text self.old) (ends_of (units_in encoding) (edited_text self.old) range)) }
+        ensures memory { result ≡ Err NoMemory → self.old.edited.changes ≢ 0 }
+        ensures places { IsPlaces result (places_at self.old.edited.changes
+            (edited_text self.old.edited) (ends_of (units_in encoding)
+            (edited_text self.old.edited) range)) }
     {
         if self.changes == 0 {
             return ends(self.lines.get(), self.before, encoding, range, 0);
@@ -166,8 +184,9 @@ impl<'a> Pieces<'a> {
 
     /// Puts a new text in place of all that is there.
     fn apply_to_all(&mut self, text: &'a str)
-        requires { length (edited_bytes self.old) + length text.now ≤ MAX_TEXT }
-        ensures { (units : ℕ → ℕ) → Applied units self.old (record { range = None; text = chars text.now }) self.new }
+        requires { length (edited_bytes self.old.edited) + length text.now ≤ MAX_TEXT }
+        ensures { (units : ℕ → ℕ) → Applied units self.old.edited
+            (record { range = None; text = chars text.now }) self.new.edited }
     {
         self.spans = Spans::all_new(self.alloc, text);
         self.len = text.len();
@@ -182,13 +201,15 @@ impl<'a> Pieces<'a> {
         range: Range,
         text: &'a str,
     ) -> Result<(), EditFault>
-        requires { length (edited_bytes self.old) + length text.now ≤ MAX_TEXT }
-        ensures applied { OnOk result (Applied (units_in encoding) self.old (record { range = Some range; text = chars text.now }) self.new) }
+        requires { length (edited_bytes self.old.edited) + length text.now ≤ MAX_TEXT }
+        ensures applied { OnOk result (Applied (units_in encoding) self.old.edited
+            (record { range = Some range; text = chars text.now }) self.new.edited) }
         ensures same { OnErr result (self.new ≡ self.old) }
-        ensures told { IfErr result (λ fault. TellsFault self.old.changes
-            (after_change (units_in encoding) self.old.before self.old.items (record { range = Some range; text = chars text.now })) fault) }
-        ensures memory { result ≡ Err NoMemory → self.old.changes ≡ 0
-            → IsOk (after_change (units_in encoding) self.old.before self.old.items
+        ensures told { IfErr result (λ fault. TellsFault self.old.edited.changes
+            (after_change (units_in encoding) self.old.edited.before self.old.edited.items
+            (record { range = Some range; text = chars text.now })) fault) }
+        ensures memory { result ≡ Err NoMemory → self.old.edited.changes ≡ 0
+            → IsOk (after_change (units_in encoding) self.old.edited.before self.old.edited.items
             (record { range = Some range; text = chars text.now })) }
     {
         let (start, stop) = self.places(encoding, range)?;
@@ -207,14 +228,16 @@ impl<'a> Pieces<'a> {
     /// tells how many changes were applied before. Costs a walk over the spans from the last change to this one and one move of those behind
     /// it; from the second change with a range on also one move of the text and of the line starts behind it (at the second, one copy of the text).
     pub fn apply(&mut self, encoding: Encoding, change: &'a Change) -> Result<(), EditFault>
-        requires { length (edited_bytes self.old) + string_len change.now.text ≤ MAX_TEXT }
-        ensures applied { OnOk result (Applied (units_in encoding) self.old (edit_of change.now) self.new) }
+        requires { length (edited_bytes self.old.edited) + string_len change.now.text ≤ MAX_TEXT }
+        ensures applied { OnOk result (Applied (units_in encoding) self.old.edited
+            (edit_of change.now) self.new.edited) }
         ensures same { OnErr result (self.new ≡ self.old) }
-        ensures told { IfErr result (λ fault. TellsFault self.old.changes
-            (after_change (units_in encoding) self.old.before self.old.items (edit_of change.now)) fault) }
+        ensures told { IfErr result (λ fault. TellsFault self.old.edited.changes
+            (after_change (units_in encoding) self.old.edited.before self.old.edited.items
+            (edit_of change.now)) fault) }
         // Before the first change its range is resolved without memory.
-        ensures memory { result ≡ Err NoMemory → self.old.changes ≡ 0
-            → IsOk (after_change (units_in encoding) self.old.before self.old.items
+        ensures memory { result ≡ Err NoMemory → self.old.edited.changes ≡ 0
+            → IsOk (after_change (units_in encoding) self.old.edited.before self.old.edited.items
             (edit_of change.now)) }
     {
         match change.range {
@@ -228,12 +251,18 @@ impl<'a> Pieces<'a> {
     /// the last gap to the first. It makes the same of the old text, character by character, and each of its ranges denotes in the text
     /// that it meets what it denotes in the old text. Costs the spans, and one exact position for each end of a changed gap.
     pub fn canonical(&self, encoding: Encoding) -> Result<Vec<Change>, AllocError>
-        ensures batch { IfOk result (λ changes. map edit_of changes.items ≡ canonical (units_in encoding) self.now.before self.now.items) }
-        ensures means { meaning (units_in encoding) self.now.before (canonical (units_in encoding) self.now.before self.now.items) ≡ Ok self.now.items }
-        ensures ranges { RangesStay (units_in encoding) self.now.before (plain self.now.before) (canonical (units_in encoding) self.now.before self.now.items) }
-        ensures pairs { KeepsPairs self.now.before self.now.items }
-        ensures law { (batch : List Edit) → meaning (units_in encoding) self.now.before batch ≡ Ok self.now.items
-            → IsCanonical (units_in encoding) self.now.before batch self.now.items }
+        ensures batch { IfOk result (λ changes. map edit_of changes.items ≡ canonical
+            (units_in encoding) self.now.edited.before self.now.edited.items) }
+        ensures means { meaning (units_in encoding) self.now.edited.before
+            (canonical (units_in encoding) self.now.edited.before self.now.edited.items)
+            ≡ Ok self.now.edited.items }
+        ensures ranges { RangesStay (units_in encoding) self.now.edited.before
+            (plain self.now.edited.before) (canonical
+            (units_in encoding) self.now.edited.before self.now.edited.items) }
+        ensures pairs { KeepsPairs self.now.edited.before self.now.edited.items }
+        ensures law { (batch : List Edit) → meaning (units_in encoding) self.now.edited.before batch
+            ≡ Ok self.now.edited.items
+            → IsCanonical (units_in encoding) self.now.edited.before batch self.now.edited.items }
     {
         canonical_of(
             self.alloc,
@@ -247,26 +276,29 @@ impl<'a> Pieces<'a> {
     /// The spans that stand for the text as it is now: runs of the old text in order, and texts of the changes or parts of them, none cut
     /// inside a character. None is empty, two of the old text that touch are one, and there are at most two more than one for each change.
     pub fn spans(&self) -> &[Span<'a>]
-        ensures items { items_of self.now.before (parts_of result.now) ≡ self.now.items }
-        ensures are { AreParts (before_bytes self.now) (parts_of result.now) }
+        ensures parts { parts_of result.now ≡ self.now.parts }
+        ensures items { items_of self.now.edited.before (parts_of result.now)
+            ≡ self.now.edited.items }
+        ensures are { AreParts (before_bytes self.now.edited) (parts_of result.now) }
         ensures order { Ascend 0 (parts_of result.now) }
         ensures some { NoneEmpty (parts_of result.now) }
         ensures merged { NoneTouch (parts_of result.now) }
-        ensures few { length result.now ≤ 1 + 2 * self.now.changes }
+        ensures few { length result.now ≤ 1 + 2 * self.now.edited.changes }
     {
         self.spans.as_slice()
     }
 
     /// The text as it is now. Costs one copy.
     pub fn text(&self) -> Result<String, AllocError>
-        ensures { IfOk result (λ text. string_bytes text ≡ edited_bytes self.now) }
+        ensures { IfOk result (λ text. string_bytes text ≡ edited_bytes self.now.edited) }
     {
         text_of_spans(self.alloc, self.before, self.spans.as_slice(), self.len)
     }
 
     /// The text as it is now and its lines, handed over. After one change they are made, in one copy; after more they are there already.
     pub fn into_text(self) -> Result<(String, Lines), AllocError>
-        ensures { IfOk result (λ made. (string_bytes made.0 ≡ edited_bytes self.entry) × Indexes made.1 (string_bytes made.0)) }
+        ensures { IfOk result (λ made. (string_bytes made.0 ≡ edited_bytes self.entry.edited)
+            × Indexes made.1 (string_bytes made.0)) }
     {
         let Pieces {
             alloc,

@@ -8,4 +8,5 @@ pub mod StreamLemmas
 pub mod WordLemmas
 pub mod WrittenLemmas
 pub mod WrittenHeaderLemmas
+pub mod DecisionLemmas
 pub mod LawLemmas

@@ -1,6 +1,6 @@
 -- Laws over frames, streams and faults, whatever the limit on bodies is.
-use Rattle.std.specs.Prelude.{ℕ, ◌≡◌, ◌+◌, ◌^◌, ◌≤◌, ◌<◌, List, [], ◌++◌, length, Option}
-use Rattle.lsp_frame.specs.Frame.{frame, Spells, IsHopeless}
+use Rattle.std.specs.Prelude.{ℕ, ◌≡◌, ◌⊎◌, ◌+◌, ◌^◌, ◌≤◌, ◌<◌, List, [], ◌++◌, length, Option}
+use Rattle.lsp_frame.specs.Frame.{frame, Spells, HasNoFrame, IsHopeless}
 use Rattle.lsp_frame.specs.Faults.{IsDecidedAt}
 use Rattle.lsp_frame.specs.Stream.{HasFrames, IsRead}
 use Rattle.lsp_frame.specs.declared.fault.HeaderFault.{HeaderFault}
@@ -15,6 +15,28 @@ SpellingLaw =
 -- A frame has at most 8,192 bytes more than the limit.
 abbrev pub BoundLaw : Type 0
 BoundLaw = (max_body : ℕ) (spelling body : List ℕ) → Spells max_body spelling body → length spelling ≤ 8192 + max_body
+
+-- a whole frame at the beginning of these bytes, its body, and what follows it
+pub record BeginsFrame (max_body : ℕ) (bytes : List ℕ) : Type 0 where
+  pub frame : List ℕ
+  pub body : List ℕ
+  pub rest : List ℕ
+  pub is_frame : Spells max_body frame body
+  pub is : bytes ≡ frame ++ rest
+
+-- A whole frame begins here, or none does: the bytes decide which.
+abbrev pub DecisionLaw : Type 0
+DecisionLaw = (max_body : ℕ) (bytes : List ℕ) → BeginsFrame max_body bytes ⊎ HasNoFrame max_body bytes
+
+-- all frames of a stream
+pub record AllFrames (max_body : ℕ) (stream : List ℕ) : Type 0 where
+  pub bodies : List (List ℕ)
+  pub rest : List ℕ
+  pub frames : HasFrames max_body stream bodies rest
+
+-- Each stream has a list of frames.
+abbrev pub AllFramesLaw : Type 0
+AllFramesLaw = (max_body : ℕ) (stream : List ℕ) → AllFrames max_body stream
 
 -- The frames of a stream are one list, and what is left behind them is one.
 abbrev pub FramesLaw : Type 0

@@ -1,14 +1,16 @@
 //! Laws over the definitions alone, that no call of this crate makes by itself.
 
-ghost use Rattle.lsp_frame.specs.Laws.{SpellingLaw, BoundLaw, FramesLaw, ReadingLaw, FaultLaw, StayingLaw, HopelessLaw, WrittenLaw, InjectiveLaw};
+ghost use Rattle.lsp_frame.specs.Laws.{SpellingLaw, BoundLaw, DecisionLaw, AllFramesLaw, FramesLaw, ReadingLaw, FaultLaw, StayingLaw, HopelessLaw, WrittenLaw, InjectiveLaw};
 
 /// What holds of every frame and stream, whatever the limit on bodies is (LSP 3.17, Base Protocol). It does nothing: its contract
-/// says that no spelling of a frame is a proper front of another, that a spelling has one body, and how long it is at most; that the
-/// frames of a stream are one list, and its fault is one; that a fault is decided at one byte alone, whatever follows it, and that no
-/// frame begins there any more; and that a written frame is read as its body, and as no other.
+/// says that no frame is a proper front of another, that a frame has one body, and how long it is at most; that the bytes decide
+/// whether a frame begins; that a stream has exactly one list of frames, and its fault is one; that a fault is decided at one byte
+/// alone, whatever follows it, and that no frame begins there any more; and that a written frame is read as its body, and as no other.
 pub fn frame_laws()
     ensures spelling { SpellingLaw }
     ensures bound { BoundLaw }
+    ensures decision { DecisionLaw }
+    ensures all_frames { AllFramesLaw }
     ensures frames { FramesLaw }
     ensures reading { ReadingLaw }
     ensures fault { FaultLaw }

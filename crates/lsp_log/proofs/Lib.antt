@@ -3,3 +3,4 @@ pub mod SplitLemmas
 pub mod OpeningLemmas
 pub mod UniqueLemmas
 pub mod RestLemmas
+pub mod AllRecordsLemmas

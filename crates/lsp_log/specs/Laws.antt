@@ -1,7 +1,8 @@
 -- What holds of every log.
-use Rattle.std.specs.Prelude.{ℕ, ◌≡◌, Bool, List, [], ◌∷◌, ◌++◌}
+use Rattle.std.specs.Prelude.{ℕ, ◌≡◌, Bool, true, List, [], ◌∷◌, ◌++◌}
 use Rattle.lsp_frame.specs.Frame.{Spells}
 use Rattle.lsp_log.specs.declared.record.Version.{Version}
+use Rattle.lsp_log.specs.declared.record.Version.TheVariants.{One}
 use Rattle.lsp_log.specs.declared.splitter.Splitter.{Splitter}
 use Rattle.lsp_log.specs.Log.{Reading, Record, Log, IsReadAs, HasNoRecord, IsUndecided, IsVersion}
 use Rattle.lsp_log.specs.Splitting.{IsFed, IsReady, Stands, log_at, record_at}
@@ -11,6 +12,18 @@ abbrev pub UniqueLaw : Type 0
 UniqueLaw =
     (reading : Reading) (input : List ℕ) (log other : Log) → IsReadAs reading input log → HasNoRecord reading.max_body log
     → IsReadAs reading input other → HasNoRecord reading.max_body other → log ≡ other
+
+-- All records that are whole in an input.
+pub record AllRecords (reading : Reading) (input : List ℕ) : Type 0 where
+  pub log : Log
+  pub reads : IsReadAs reading input log
+  pub none : HasNoRecord reading.max_body log
+
+-- Each input has such a list, unless it is of version 2 and that is refused.
+abbrev pub AllRecordsLaw : Type 0
+AllRecordsLaw =
+    (reading : Reading) (input : List ℕ) → (reading.only_one ≡ true → IsVersion reading.versions One input)
+    → AllRecords reading input
 
 -- An input has one version.
 abbrev pub VersionLaw : Type 0

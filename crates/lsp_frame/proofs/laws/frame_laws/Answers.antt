@@ -1,6 +1,7 @@
 use Rattle.lsp_frame.proofs.FaultLemmas.{decided_hopeless}
 use Rattle.lsp_frame.proofs.StreamLemmas.{same_read, decided_more}
 use Rattle.lsp_frame.proofs.WrittenLemmas.{written_spells}
+use Rattle.lsp_frame.proofs.DecisionLemmas.{decision_law, all_frames_law}
 use Rattle.lsp_frame.proofs.LawLemmas.{spelling_law, bound_law, frames_law, fault_law, injective_law}
 use Rattle.lsp_frame.proofs.laws.frame_laws.Goals as goal
 
@@ -8,6 +9,8 @@ pub returns : goal.returns
 returns c = record {
   spelling = spelling_law;
   bound = bound_law;
+  decision = decision_law;
+  all_frames = all_frames_law;
   frames = frames_law;
   reading = same_read;
   fault = fault_law;

@@ -3,18 +3,19 @@ use Rattle.std.specs.Str.{chars}
 use Rattle.lsp_text.specs.Units.{units_in}
 use Rattle.lsp_edit.specs.Edited.{Edited, edited_text}
 use Rattle.lsp_edit.proofs.EditedLemmas.{now_chars, fresh_chars, places_told}
+use Rattle.lsp_edit.proofs.SpannedLemmas.{same_edited}
 use Rattle.lsp_edit.proofs.pieces.Pieces.places.Goals as goal
 
 pub returns-then-self-eq0-clause-places : goal.returns-then-self-eq0-clause-places
 returns-then-self-eq0-clause-places c =
-    places_told (units_in c.args.encoding) c.args.range _ c.args.self.now (chars c.self.inside.before.now) 0
-    (sym (ap (λ (e : Edited). e.changes) c.self.view_is) ∙ c.if-self-eq0.true)
-    (sym (ap edited_text c.self.view_is) ∙ sym (fresh_chars _ _ _ _ _ c.self.invariant.0 c.if-self-eq0.true))
+    places_told (units_in c.args.encoding) c.args.range _ c.args.self.now.edited (chars c.self.inside.before.now) 0
+    (sym (ap (λ (e : Edited). e.changes) (same_edited c.self.view_is)) ∙ c.if-self-eq0.true)
+    (sym (ap edited_text (same_edited c.self.view_is)) ∙ sym (fresh_chars _ _ _ _ _ c.self.invariant.0 c.if-self-eq0.true))
     c.ends.ensures
 
 pub returns-clause-places : goal.returns-clause-places
 returns-clause-places c =
-    places_told (units_in c.args.encoding) c.args.range _ c.args.self.now (chars c.deref.result.now) c.self.inside.changes
-    (sym (ap (λ (e : Edited). e.changes) c.self.view_is))
-    (sym (ap edited_text c.self.view_is) ∙ sym (now_chars _ _ _ _ _ c.deref.result.now c.self.invariant.0 c.deref.utf8 (c.deref.ensures ∙ (c.in_ok-current.ensures ∙ rw c.as_slice.ensures refl))))
+    places_told (units_in c.args.encoding) c.args.range _ c.args.self.now.edited (chars c.deref.result.now) c.self.inside.changes
+    (sym (ap (λ (e : Edited). e.changes) (same_edited c.self.view_is)))
+    (sym (ap edited_text (same_edited c.self.view_is)) ∙ sym (now_chars _ _ _ _ _ c.deref.result.now c.self.invariant.0 c.deref.utf8 (c.deref.ensures ∙ (c.in_ok-current.ensures ∙ rw c.as_slice.ensures refl))))
     c.ends-places.ensures

@@ -5,12 +5,13 @@ use Rattle.lsp_edit.specs.Parts.{AreParts, parts_of}
 use Rattle.lsp_edit.specs.Spans.{spans_in}
 use Rattle.lsp_edit.proofs.LawLemmas.{none_empty}
 use Rattle.lsp_edit.proofs.ThenLemmas.{pieces_ascend}
+use Rattle.lsp_edit.proofs.SpannedLemmas.{same_edited}
 use Rattle.lsp_edit.proofs.pieces.Pieces.spans.Goals as goal
 
 pub returns-clause-are : goal.returns-clause-are
 returns-clause-are c =
     rw c.as_slice.ensures
-    (subst (λ (bytes : List ℕ). AreParts bytes (parts_of (spans_in c.self.inside.spans))) (sym (encodes-chars c.self.inside.before.now (IsUtf8-from_is_utf8 c.self.inside.before.now c.self.invariant.0.utf8)) ∙ ap before_bytes c.self.view_is) c.self.invariant.0.are)
+    (subst (λ (bytes : List ℕ). AreParts bytes (parts_of (spans_in c.self.inside.spans))) (sym (encodes-chars c.self.inside.before.now (IsUtf8-from_is_utf8 c.self.inside.before.now c.self.invariant.0.utf8)) ∙ ap before_bytes (same_edited c.self.view_is)) c.self.invariant.0.are)
 
 pub returns-clause-order : goal.returns-clause-order
 returns-clause-order c = rw c.as_slice.ensures (pieces_ascend _ _ _ _ _ c.self.invariant.0)

@@ -5,4 +5,4 @@ use Rattle.lsp_edit.proofs.EditedLemmas.{edited_chars}
 use Rattle.lsp_edit_tests.proofs.tests.pieces.left_by_both.Goals as goal
 
 pub then-requires : goal.then-requires
-then-requires c = c.in_ok-two.ensures.same ∙ (ap chars c.deref.ensures ∙ edited_chars c.in_ok-one.one (string_bytes c.in_ok-middle.middle) (IsUtf8-string_bytes c.in_ok-middle.middle) c.in_ok-middle.ensures)
+then-requires c = c.in_ok-two.ensures.same ∙ (ap chars c.deref.ensures ∙ edited_chars c.in_ok-one.one.edited (string_bytes c.in_ok-middle.middle) (IsUtf8-string_bytes c.in_ok-middle.middle) c.in_ok-middle.ensures)
