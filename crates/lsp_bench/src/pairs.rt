@@ -11,7 +11,7 @@ use lsp_server::{Answer, Config, EncodingChoice, Server, Sync};
 use lsp_text::{Encoding, Position, Range};
 use std::alloc::{AllocError, Global};
 use std::rt::Runtime;
-use std::time::{Duration, Instant};
+use std::time::Instant;
 
 const URI: &str = "file:///home/user/project/src/main.rs";
 
@@ -35,9 +35,9 @@ impl Row {
         Row { time: 0, made: 0 }
     }
 
-    fn took(&mut self, time: Duration, made: u32) {
-        self.time = self.time.saturating_add(time.as_nanos());
-        self.made = self.made.saturating_add(made);
+    fn add(&mut self, row: Row) {
+        self.time = self.time.saturating_add(row.time);
+        self.made = self.made.saturating_add(row.made);
     }
 }
 
@@ -55,19 +55,13 @@ pub fn run<R: Runtime + AllocGlobal>(rt: &R, keystrokes: u32) -> Result<()> {
 
 /// Each keystroke is delivered before the next; in turn with that the server alone handles the same bodies.
 fn at_once<R: Runtime + AllocGlobal>(rt: &R, count: u32) -> Result<()> {
-    let mut pair = opened_pair(rt.alloc())?;
-    let (mut client, mut server) = opened_ends(rt.alloc())?;
+    let mut ends = Ends::opened(rt.alloc())?;
     let mut together = Row::new();
     let mut alone = Row::new();
     for turn in 0..count / TURN {
-        let events = typed(rt.alloc(), turn.saturating_mul(TURN), TURN)?;
-        let bodies = bodies_sent(rt.alloc(), &mut client, &events)?;
-        let start = Instant::now(rt)?;
-        let made = step_each(&mut pair, &events)?;
-        together.took(start.elapsed(rt)?, made);
-        let start = Instant::now(rt)?;
-        let made = handle_each(&mut server, &bodies)?;
-        alone.took(start.elapsed(rt)?, made);
+        let (of_pair, of_server) = ends.turn(rt, turn)?;
+        together.add(of_pair);
+        alone.add(of_server);
     }
     report(rt, "Pair::step, each delivered at once", count, &together)?;
     report(rt, "Server::handle of the same messages", count, &alone)?;
@@ -76,18 +70,81 @@ fn at_once<R: Runtime + AllocGlobal>(rt: &R, count: u32) -> Result<()> {
     Ok(())
 }
 
+/// A pair, and the same two ends without a pair round them.
+#[derive(Drop)]
+struct Ends {
+    pair: Pair,
+    client: Client,
+    server: Server,
+}
+
+impl Ends {
+    /// All ends have the document.
+    fn opened(alloc: Global) -> Result<Self> {
+        let pair = opened_pair(alloc)?;
+        let (client, server) = opened_ends(alloc)?;
+        Ok(Ends {
+            pair,
+            client,
+            server,
+        })
+    }
+
+    /// The keystrokes of a turn: what the pair's steps measured, and what the server alone.
+    fn turn<R: Runtime + AllocGlobal>(&mut self, rt: &R, turn: u32) -> Result<(Row, Row)> {
+        let events = typed(rt.alloc(), turn.saturating_mul(TURN), TURN)?;
+        let of_pair = timed_steps(rt, &mut self.pair, &events)?;
+        let bodies = bodies_sent(rt.alloc(), &mut self.client, &events)?;
+        let of_server = timed_handling(rt, &mut self.server, &bodies)?;
+        Ok((of_pair, of_server))
+    }
+}
+
+fn timed_steps<R: Runtime>(rt: &R, pair: &mut Pair, events: &[Event]) -> Result<Row> {
+    let start = Instant::now(rt)?;
+    let made = step_each(pair, events)?;
+    let time = start.elapsed(rt)?;
+    Ok(Row {
+        time: time.as_nanos(),
+        made,
+    })
+}
+
+fn timed_handling<R: Runtime>(rt: &R, server: &mut Server, bodies: &[Vec<u8>]) -> Result<Row> {
+    let start = Instant::now(rt)?;
+    let made = handle_each(server, bodies)?;
+    let time = start.elapsed(rt)?;
+    Ok(Row {
+        time: time.as_nanos(),
+        made,
+    })
+}
+
+fn timed_calls<R: Runtime>(rt: &R, pair: &mut Pair, events: &[Event]) -> Result<Row> {
+    let start = Instant::now(rt)?;
+    let made = call_each(pair, events)?;
+    let time = start.elapsed(rt)?;
+    Ok(Row {
+        time: time.as_nanos(),
+        made,
+    })
+}
+
+fn timed_deliveries<R: Runtime>(rt: &R, pair: &mut Pair, count: u32) -> Result<Row> {
+    let start = Instant::now(rt)?;
+    let made = deliver_each(pair, count)?;
+    let time = start.elapsed(rt)?;
+    Ok(Row {
+        time: time.as_nanos(),
+        made,
+    })
+}
+
 /// All keystrokes are sent before the first is delivered.
 fn late<R: Runtime + AllocGlobal>(rt: &R, count: u32) -> Result<()> {
     let mut pair = opened_pair(rt.alloc())?;
-    let events = typed(rt.alloc(), 0, count)?;
-    let mut calls = Row::new();
-    let start = Instant::now(rt)?;
-    let made = call_each(&mut pair, &events)?;
-    calls.took(start.elapsed(rt)?, made);
-    let mut deliveries = Row::new();
-    let start = Instant::now(rt)?;
-    let made = deliver_each(&mut pair, count)?;
-    deliveries.took(start.elapsed(rt)?, made);
+    let calls = timed_calls(rt, &mut pair, &typed(rt.alloc(), 0, count)?)?;
+    let deliveries = timed_deliveries(rt, &mut pair, count)?;
     report(rt, "Pair::step, the calls of many", count, &calls)?;
     report(rt, "Pair::step, their deliveries", count, &deliveries)
 }
@@ -116,26 +173,28 @@ fn opened_text(alloc: Global) -> Result<String, AllocError> {
     made_text(alloc, LINES.saturating_mul(LINE.len()))
 }
 
-/// A pair in which both ends have the document.
-fn opened_pair(alloc: Global) -> Result<Pair> {
-    let limits = limits()?;
-    let mut pair = Pair::new(alloc, limits, Offers::new(false, false), config(limits))?;
-    let open = Event::Open {
+fn open_event(alloc: Global) -> Result<Event, AllocError> {
+    Ok(Event::Open {
         uri: String::from_str(alloc, URI)?,
         language: String::from_str(alloc, "rust")?,
         version: 1,
         text: opened_text(alloc)?,
-    };
+    })
+}
+
+/// A pair in which both ends have the document.
+fn opened_pair(alloc: Global) -> Result<Pair> {
+    let limits = limits()?;
     let events = [
         Event::Start,
         Event::ToServer,
         Event::ToClient,
         Event::ToServer,
-        open,
+        open_event(alloc)?,
         Event::ToServer,
     ];
-    let ran = run_pair(&mut pair, &events);
-    if ran.out_of_memory {
+    let mut pair = Pair::new(alloc, limits, Offers::new(false, false), config(limits))?;
+    if run_pair(&mut pair, &events).out_of_memory {
         return Err(AllocError.into());
     }
     Ok(pair)
@@ -146,20 +205,35 @@ fn opened_ends(alloc: Global) -> Result<(Client, Server)> {
     let limits = limits()?;
     let mut client = Client::new(alloc, limits, Offers::new(false, false));
     let mut server = Server::new(alloc, config(limits));
-    let initialize = body_of(alloc, &client.start()?)?;
-    if let Answer::Reply { frame, .. } = server.handle(&initialize)? {
-        let result = body_of(alloc, &frame)?;
-        if let Delivered::Send(frame) = client.deliver(&result)? {
-            let initialized = body_of(alloc, &frame)?;
-            let _ignored = server.handle(&initialized)?;
-        }
+    begin(alloc, &mut client, &mut server)?;
+    let open = open_frame(alloc, &mut client)?;
+    let _changed = handle_frame(alloc, &mut server, &open)?;
+    Ok((client, server))
+}
+
+fn begin(alloc: Global, client: &mut Client, server: &mut Server) -> Result<()> {
+    let reply = handle_frame(alloc, server, &client.start()?)?;
+    let body = body_of(alloc, &reply)?;
+    if let Delivered::Send(frame) = client.deliver(&body)? {
+        let _nothing = handle_frame(alloc, server, &frame)?;
     }
+    Ok(())
+}
+
+fn open_frame(alloc: Global, client: &mut Client) -> Result<Vec<u8>> {
     let uri = String::from_str(alloc, URI)?;
     let language = String::from_str(alloc, "rust")?;
-    let open = client.open(uri, language, 1, opened_text(alloc)?)?;
-    let open = body_of(alloc, &open)?;
-    let _changed = server.handle(&open)?;
-    Ok((client, server))
+    let text = opened_text(alloc)?;
+    Ok(client.open(uri, language, 1, text)?)
+}
+
+/// Hands a frame's body to the server: the frame that it replies, or none.
+fn handle_frame(alloc: Global, server: &mut Server, frame: &[u8]) -> Result<Vec<u8>> {
+    let body = body_of(alloc, frame)?;
+    match server.handle(&body)? {
+        Answer::Reply { frame, .. } => Ok(frame),
+        _ => Ok(Vec::new(alloc)),
+    }
 }
 
 /// The body of a frame, or none of what is no whole frame.
