@@ -15,3 +15,5 @@ pub mod ConvertedLemmas
 pub mod ToldLemmas
 pub mod QuietLemmas
 pub mod ConvertedLogLemmas
+pub mod SquashingLemmas
+pub mod JoiningLemmas

@@ -6,3 +6,5 @@ pub mod Verdicts
 pub mod Engines
 pub mod Laws
 pub mod Told
+pub mod Squashed
+pub mod Joining

@@ -1,6 +1,7 @@
 //! An open document as a caller reads it.
 
 ghost use Rattle.std.specs.Prelude.{◌≡◌};
+ghost use Rattle.std.specs.Str.{IsUtf8};
 ghost use Rattle.lsp_store.specs.Opened.{entry_under};
 
 use crate::held::Held;
@@ -56,5 +57,12 @@ impl<'a> Document<'a> {
         ensures { result.now ≡ self.now.text }
     {
         self.held.text.text()
+    }
+
+    /// Shows that the text is UTF-8; it does nothing else.
+    pub(crate) fn show_utf8(&self)
+        ensures { IsUtf8 self.now.text }
+    {
+        let _text = self.text();
     }
 }
