@@ -17,3 +17,10 @@ pub mod QuietLemmas
 pub mod ConvertedLogLemmas
 pub mod SquashingLemmas
 pub mod JoiningLemmas
+pub mod SquashedLemmas
+pub mod NumberedLemmas
+pub mod PutLemmas
+pub mod CanonicalChangeLemmas
+pub mod OpenRunLemmas
+pub mod ChangeLemmas
+pub mod SquashLawLemmas

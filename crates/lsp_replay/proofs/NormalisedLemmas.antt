@@ -53,7 +53,7 @@ abbrev pub placed : ℕ → Head → Head
 placed at head = record head { place = place_behind 0 at }
 
 -- the record that is written of a record, with its canonical body, if it has one
-abbrev normal_record : ℕ → Record → Option (List ℕ) → Record
+abbrev pub normal_record : ℕ → Record → Option (List ℕ) → Record
 normal_record at r None = record { head = placed at r.head; spelling = r.spelling; body = r.body }
 normal_record at r (Some body) = record { head = placed at r.head; spelling = frame body; body = body }
 
@@ -72,7 +72,7 @@ pub record IsWrittenAs (limits : Bounds) (at : ℕ) (s : Session) (r q : Record)
 module _ (limits : Bounds) (ranges : AreInRange limits) where
   module _ (at : ℕ) (s : Session) (r : Record) (held : IsHeldState limits s.server) (spells : Spells limits.max_body r.spelling r.body)
       (passing : Passes (judge s r).verdict) where
-    kept : normal_of s r.body (judge s r).verdict ≡ None → IsWrittenAs limits at s r (normal_record at r None)
+    pub kept : normal_of s r.body (judge s r).verdict ≡ None → IsWrittenAs limits at s r (normal_record at r None)
     kept none = record {
       spells = spells;
       place = refl;

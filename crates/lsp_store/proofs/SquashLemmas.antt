@@ -173,3 +173,23 @@ module _ (kept : SquashData) (entry : Entry) (version : ℤ) (more : List Edit) 
             ∙ sym (ap (λ (k : SquashData). text_of (chars k.text) k.items) adds.is);
         version = sym (ap (λ (k : SquashData). k.version) adds.is);
       }
+
+-- A batch more, by what is kept of the batches before it.
+pub joins_after : (uri : List ℕ) (limits : Bounds) (encoding : Encoding) (joined next : JoinedData) (before version next_version : ℤ) (kept : SquashData) (more : List Edit) → seen uri limits encoding joined before ≡ kept
+    → add_refusal kept version more ≡ None → IsJoined (units_in encoding) joined more next → next_version ≡ version → IsSquashAfter kept version more (seen uri limits encoding next next_version)
+joins_after uri limits encoding joined next before version next_version kept more view accepted is version_is = record {
+  accepted = accepted;
+  others = is.others;
+  means = more_means;
+  is = next_is;
+  together = λ b p.
+      then_means (units_in kept.encoding) (chars kept.text) b more kept.items is.others p more_means ∙ ap Ok (sym (ap (λ (k : SquashData). k.items) next_is));
+}
+  where
+    more_means : meaning (units_in kept.encoding) (text_of (chars kept.text) kept.items) more ≡ Ok is.others
+    more_means = subst (λ (k : SquashData). meaning (units_in k.encoding) (text_of (chars k.text) k.items) more ≡ Ok is.others) view is.means
+
+    next_is : seen uri limits encoding next next_version ≡ record kept { items = then_items kept.items is.others; version = version }
+    next_is =
+        ap₂ (λ (j : JoinedData) (v : ℤ). seen uri limits encoding j v) is.is version_is
+        ∙ ap (λ (k : SquashData). record k { items = then_items k.items is.others; version = version }) view

@@ -210,17 +210,17 @@ fn squashed_logs_have_these_lengths(rt: HostRuntime) -> Result<(), Fail> {
 static FAULTY: [(Bytes, EngineFault, Bytes); 3] = [
     (
         Bytes::Then(&[INITIALIZE, OPEN, WHOLE, TYPED], b"Content-Length: 9"),
-        EngineFault::Truncated { place: 835 },
+        EngineFault::Truncated { place: 761 },
         Bytes::Frames(&[INITIALIZE, OPEN]),
     ),
     (
         Bytes::Frames(&[INITIALIZE, SHUTDOWN, EXIT, EXIT]),
-        EngineFault::BadLog { place: 306 },
+        EngineFault::BadLog { place: 293 },
         Bytes::Frames(&[INITIALIZE, SHUTDOWN, EXIT]),
     ),
     (
         Bytes::Then(&[INITIALIZE, OPEN, WHOLE, SAVE, TYPED], b"Content-Length: 9"),
-        EngineFault::Truncated { place: 951 },
+        EngineFault::Truncated { place: 878 },
         Bytes::Frames(&[INITIALIZE, OPEN, CANONICAL, SAVE]),
     ),
 ];
