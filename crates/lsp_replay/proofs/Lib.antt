@@ -24,3 +24,6 @@ pub mod CanonicalChangeLemmas
 pub mod OpenRunLemmas
 pub mod ChangeLemmas
 pub mod SquashLawLemmas
+pub mod PendingLemmas
+pub mod SingleLemmas
+pub mod SquashedLogLemmas

@@ -177,10 +177,26 @@ module _ (t : State) (squash : SquashData) (now : State) (from : IsOpenFrom t sq
       newer_still : (a b c : ℤ) → int_le a b ≡ false → int_le b c ≡ false → int_le a c ≡ false
       newer_still a b c over more = omega (arith, over, more)
 
+-- ---- the document that is open now
+
+module _ (t : State) (squash : SquashData) (now : State) (from : IsOpenFrom t squash now) where
+  pub same_encoding : squash.encoding ≡ encoding_of now
+  same_encoding = ap (λ (k : SquashData). k.encoding) from.is ∙ sym (ap encoding_of from.now_is)
+
+  pub same_text : (uri : List ℕ) (entry : Entry) → uri ≡ squash.uri → entry_at now.table uri ≡ Some entry → text_of (chars squash.text) squash.items ≡ chars entry.text
+  same_text uri entry same found =
+      let reached : List ℕ = bytes_after from.entry.text squash.items in
+      let both : Some (record from.entry { version = squash.version; text = reached }) ≡ Some entry =
+      sym (put_at t.table squash.uri squash.version reached from.entry from.found) ∙ sym (ap (λ (s : State). entry_at s.table squash.uri) from.now_is) ∙ ap (entry_at now.table) (sym same) ∙ found in
+      let one : record from.entry { version = squash.version; text = reached } ≡ entry = cc in
+      ap (λ (k : SquashData). text_of (chars k.text) squash.items) from.is
+      ∙ sym (left_chars (units_in (encoding_of t)) from.entry.text from.batch squash.items from.held.utf8 from.texts from.means)
+      ∙ ap (λ (e : Entry). chars e.text) one
+
 -- ---- all batches of a run as one message
 
 module _ (t : State) (squash : SquashData) (now : State) (from : IsOpenFrom t squash now) (ranges : AreInRange t.config.limits) (few : nat_lt t.config.limits.max_changes (length (squash_batch squash)) ≡ false) where
-  one_batch : squash_batch squash ≡ canonical (units_in (encoding_of t)) (chars from.entry.text) squash.items
+  pub one_batch : squash_batch squash ≡ canonical (units_in (encoding_of t)) (chars from.entry.text) squash.items
   one_batch = ap squash_batch from.is
 
   proper_at : IsProperAt t squash.uri squash.version from.entry from.batch squash.items

@@ -83,6 +83,20 @@ IsApart (Some run) uri = bytes_eq uri run.squash.uri ≡ false
 
 -- ---- what is written of the records up to now
 
+-- a run is open
+abbrev pub HasRun : Option Run → Type 0
+HasRun None = ⊥
+HasRun (Some run) = ⊤
+
+-- a run is open, or there are records
+abbrev pub IsAny : Option Run → List Record → Type 0
+IsAny run [] = HasRun run
+IsAny run (r ∷ rs) = ⊤
+
+pub some_behind : (rs more : List Record) → NonEmpty more → NonEmpty (rs ++ more)
+some_behind [] more some = some
+some_behind (r ∷ rs) more some = tt
+
 -- The records that are written of the open run, once it has ended.
 pub record IsEnded (max_body at : ℕ) (version : Version) (due : Bool) (s : Session) (run : Option Run) (t : Session) (before : Option Run) : Type 0 where
   pub us : List Record
@@ -90,6 +104,7 @@ pub record IsEnded (max_body at : ℕ) (version : Version) (due : Bool) (s : Ses
   pub last_run : Option Run
   pub like : IsAlike s last
   pub told : IsVersionAt version (due_behind due us) last
+  pub some : HasRun run → NonEmpty us
   pub same_bytes : end_bytes last_run ≡ end_bytes run
   pub apart : (uri : List ℕ) → IsApart run uri → IsApart last_run uri
   pub are : AreRecords max_body version at due us
@@ -100,6 +115,7 @@ pub record IsEnded (max_body at : ℕ) (version : Version) (due : Bool) (s : Ses
 -- The records that are written of some, with those of the open run.
 pub record IsSquashedAs (max_body at : ℕ) (version : Version) (due : Bool) (s : Session) (run : Option Run) (rs : List Record) (t : Session) (before : Option Run) : Type 0 where
   pub qs : List Record
+  pub some : IsAny run rs → NonEmpty qs
   pub are : AreRecords max_body version at due qs
   pub bytes : total (squashed_in s run rs) ≡ first_line due qs ++ together version qs []
   pub again : total (squashed_in t before qs) ≡ end_bytes before ++ total (squashed_in s run rs)
@@ -118,6 +134,7 @@ module _ (max_body at : ℕ) (version : Version) (due : Bool) (s : Session) (run
       let replay = ap (course_in replaying t) (sym nil) ∙ e.replay [] in
       record {
         qs = e.us;
+        some = e.some;
         are = e.are;
         bytes = append-nil (end_bytes run) ∙ e.bytes;
         again =
@@ -131,7 +148,7 @@ module _ (max_body at : ℕ) (version : Version) (due : Bool) (s : Session) (run
 
   -- The run ends, and others follow that begin with what ends it.
   module _ (r : Record) (rs : List Record) (next : Option Run) (goes : squash_step s run r (judge s r) ≡ record { out = end_bytes run; end = None; run = next }) (not_bad : (judge s r).verdict ≢ bad)
-      (more : IsSquashedAs max_body (at + length (together version e.us [])) version (due_behind due e.us) (judge s r).session next rs e.last e.last_run) where
+      (any : IsAny next rs) (more : IsSquashedAs max_body (at + length (together version e.us [])) version (due_behind due e.us) (judge s r).session next rs e.last e.last_run) where
     first : squashed_in s run (r ∷ rs) ≡ written_first (end_bytes run) (squashed_in (judge s r).session next rs)
     first = step_on s run r rs (end_bytes run) next goes
 
@@ -140,6 +157,7 @@ module _ (max_body at : ℕ) (version : Version) (due : Bool) (s : Session) (run
         let inner = squashed_in (judge s r).session next rs in
         record {
           qs = e.us ++ more.qs;
+          some = λ _. some_behind e.us more.qs (more.some any);
           are = are_more max_body version at due e.us more.qs e.are more.are;
           bytes =
               ap total first ∙ append_assoc (end_bytes run) inner.out (inner.last false)
@@ -224,6 +242,7 @@ module _ (max_body at : ℕ) (version : Version) (due : Bool) (s : Session) (run
     pub others_next : IsSquashedAs max_body at version due s run (r ∷ rs) t before
     others_next = record {
       qs = e.us ++ q ∷ more.qs;
+      some = λ _. some_behind e.us (q ∷ more.qs) tt;
       are = are_more max_body version at due e.us (q ∷ more.qs) e.are (is, more.are);
       bytes = one_bytes;
       again = one_again;
@@ -232,4 +251,24 @@ module _ (max_body at : ℕ) (version : Version) (due : Bool) (s : Session) (run
       to_end = ap (λ (c : Course). c.stop) replay_one ∙ more.to_end;
       status = ap (λ (c : Course). c.outcome.status) replay_one ∙ more.status ∙ sym (ap (λ (c : Course). c.outcome.status) (report_on s r rs not_bad));
       refused = ap (λ (c : Course). c.outcome.refused) replay_one ∙ more.refused ∙ sym (ap (λ (c : Course). c.outcome.refused) (report_on s r rs not_bad));
+    }
+
+-- A record that goes on with the run.
+pub goes_on_next : (max_body at : ℕ) (version : Version) (due : Bool) (s : Session) (run : Option Run) (t : Session) (before next : Option Run) (r : Record) (rs : List Record)
+    → squash_step s run r (judge s r) ≡ record { out = []; end = None; run = next } → (judge s r).verdict ≢ bad → IsAny next rs
+    → IsSquashedAs max_body at version due (judge s r).session next rs t before → IsSquashedAs max_body at version due s run (r ∷ rs) t before
+goes_on_next max_body at version due s run t before next r rs gives not_bad any more =
+    let first = step_on s run r rs [] next gives in
+    let told = report_on s r rs not_bad in
+    record {
+      qs = more.qs;
+      some = λ _. more.some any;
+      are = more.are;
+      bytes = ap total first ∙ more.bytes;
+      again = more.again ∙ ap (λ z. end_bytes before ++ z) (sym (ap total first));
+      goes_on = more.goes_on;
+      documents = λ line_due. more.documents line_due ∙ sym (ap (λ (c : Course). c.last line_due) told);
+      to_end = more.to_end;
+      status = more.status ∙ sym (ap (λ (c : Course). c.outcome.status) told);
+      refused = more.refused ∙ sym (ap (λ (c : Course). c.outcome.refused) told);
     }
