@@ -1,5 +1,5 @@
 -- Which records are accepted changes, and what becomes of them.
-use Rattle.std.proofs.Common.{◌≡◌, ◌≢◌, ◌⊎◌, inl, inr, ℕ, ◌≤◌, Bool, true, false, List, [], ◌∷◌, length, Option, Some, None, refl, sym, ap, ◌∙◌, subst, nat_lt}
+use Rattle.std.proofs.Common.{◌≡◌, ◌≢◌, ◌⊎◌, inl, inr, ℕ, ◌≤◌, Bool, true, false, List, [], ◌∷◌, ◌++◌, length, Option, Some, None, refl, sym, ap, ◌∙◌, subst, nat_lt}
 use Rattle.std.specs.Prelude.{if◌then◌else◌, Err}
 use Rattle.std.proofs.lemmas.Bool.{ltb-false}
 use Rattle.lsp_message.specs.Message.{IdData, reading}
@@ -60,6 +60,13 @@ kind_of server r front run (Some p) (answered changed) e =
     short : (over : Bool) → (if over then faulty (BodyTooLong r.head.place) else change_gives server p front (front ++ frame (normal_body server p)) run).end ≡ None → over ≡ false
     short true f = absurd (let wrong : Some (Err (BodyTooLong r.head.place)) ≡ None = f in cc)
     short false f = refl
+
+-- neither is bad
+pub not_bad_of : (server : State) (r : Record) (front : List ℕ) (run : Option Run) (change : Option ChangeData) (verdict : Verdict) → (step_if server r front run change verdict).end ≡ None → verdict ≢ bad
+not_bad_of server r front run None bad e = absurd (let wrong : Some (Err (BadLog r.head.place)) ≡ None = e in cc)
+not_bad_of server r front run (Some p) bad e = absurd (let wrong : Some (Err (BadLog r.head.place)) ≡ None = e in cc)
+not_bad_of server r front run change recorded e = not_recorded
+not_bad_of server r front run change (answered answer) e = not_bad answer
 
 -- ---- an accepted change
 

@@ -1,6 +1,7 @@
 -- A change that is accepted is joined to the batches of the open run, or begins batches of its own.
-use Rattle.std.proofs.Common.{◌≡◌, ◌≢◌, ◌⊎◌, inl, inr, ℕ, ℤ, Bool, true, false, List, [], ◌∷◌, map, Option, Some, None, bytes_eq, refl, sym, ap, ◌∙◌, subst, ⊎_elim}
-use Rattle.std.specs.Prelude.{⊤, ⊥, if◌then◌else◌, nat_lt, option_map, is_some, Result, Ok, Err}
+use Rattle.std.proofs.Common.{◌≡◌, ◌≢◌, ◌⊎◌, inl, inr, ℕ, ℤ, Bool, true, false, List, [], ◌∷◌, map, length, int_le, ◌||◌, Option, Some, None, bytes_eq, refl, sym, ap, ◌∙◌, subst, ⊎_elim}
+use Rattle.std.specs.Prelude.{⊤, if◌then◌else◌, nat_lt, option_map, is_some, IfOk, Result, Ok, Err}
+use Rattle.std.specs.declared.alloc.AllocError.{AllocError}
 use Rattle.std.proofs.lemmas.Bool.{cases_Bool}
 use Rattle.std.proofs.lemmas.Slice.Eq.{bytes_eq-Decides}
 use Rattle.std.specs.Str.{chars}
@@ -16,7 +17,7 @@ use Rattle.lsp_store.specs.declared.fault.StoreFault.TheVariants.{BodyTooLong}
 use Rattle.lsp_store.specs.Faults.{IsRefusal, fault_of}
 use Rattle.lsp_store.specs.Message.{body_refusal, else_refused}
 use Rattle.lsp_store.specs.Squash.{SquashData, HasReached, IsSquashAfter, squash_of, squash_after}
-use Rattle.lsp_store.specs.Table.{Entry, Refusal, already_open, too_many_documents, not_open, stale_version, edit, body_too_long, text_too_long, too_many_changes, after_change, change_refusal, changed as changed_entry, entry_at, entry_refusal, meaning_refusal, refusal_on}
+use Rattle.lsp_store.specs.Table.{Entry, Refusal, already_open, too_many_documents, not_open, stale_version, edit, body_too_long, text_too_long, too_many_changes, batch_bytes, greatest_batch, after_change, change_refusal, changed as changed_entry, entry_at, entry_refusal, meaning_refusal, refusal_on}
 use Rattle.lsp_store.proofs.LawLemmas.{found_changed}
 use Rattle.lsp_store.proofs.SquashLemmas.{after_is}
 use Rattle.lsp_server.specs.Answer.{changed}
@@ -49,7 +50,10 @@ meaning_not limits text (Ok items) = if_not _ (Some text_too_long) None tt tt
 on_not : (limits : Bounds) (units : ℕ → ℕ) (found : Option Entry) (version : ℤ) (batch : List Edit) → IsNotTooLong (refusal_on limits units found version batch)
 on_not limits units None version batch = tt
 on_not limits units (Some entry) version batch =
-    if_not _ _ _ tt (if_not _ (Some too_many_changes) _ tt (meaning_not limits entry.text (meaning units (chars entry.text) batch)))
+    if_not (int_le version entry.version) (Some (stale_version entry.version))
+    (if nat_lt limits.max_changes (length batch) || nat_lt greatest_batch (batch_bytes batch) then Some too_many_changes else meaning_refusal limits entry.text (meaning units (chars entry.text) batch)) tt
+    (if_not (nat_lt limits.max_changes (length batch) || nat_lt greatest_batch (batch_bytes batch)) (Some too_many_changes) (meaning_refusal limits entry.text (meaning units (chars entry.text) batch)) tt
+    (meaning_not limits entry.text (meaning units (chars entry.text) batch)))
 
 refused_not : (refusal : Option Refusal) (body : Option Refusal) (len : ℕ) → IsNotTooLong refusal → IsRefusal (else_refused refusal body) (BodyTooLong len) → refusal ≡ None
 refused_not None body len not told = refl
@@ -100,6 +104,21 @@ change_open s run p (AsItIs ended) running none is = tt
 change_open s run p TooLong running none is = tt
 change_open s run p (GoesOn canonical batches) running none is = subst (λ (server : State). IsOpenIn server batches) (sym (running_leaves s p running none is.0)) is.3
 change_open s run p (Begins canonical ended batches) running none is = subst (λ (server : State). IsOpenIn server batches) (sym (running_leaves s p running none is.0)) is.5
+
+pub writing_if : (s : Session) (run : Option SquashData) (p : ChangeData) (result : Result Writing AllocError) → s.server.phase ≡ Running → s.expected ≡ None → IfOk result (IsChangeWriting s.server run p)
+    → IfOk result (λ w. (judge_incoming s (did_change (Some p))).verdict ≢ bad → IsWriting s.server run (Some p) (judge_incoming s (did_change (Some p))).verdict w)
+writing_if s run p (Ok w) running none is = λ not_bad. change_writing s run p w running none is
+writing_if s run p (Err fault) running none is = tt
+
+pub open_if : (s : Session) (run : Option SquashData) (p : ChangeData) (result : Result Writing AllocError) → s.server.phase ≡ Running → s.expected ≡ None → IfOk result (IsChangeWriting s.server run p)
+    → IfOk result (λ w. IsOpenAfter (judge_incoming s (did_change (Some p))).session.server w)
+open_if s run p (Ok w) running none is = change_open s run p w running none is
+open_if s run p (Err fault) running none is = tt
+
+-- URIs that aren't equal
+pub not_same : (a b : List ℕ) → b ≢ a → bytes_eq a b ≡ false
+not_same a b not =
+    ⊎_elim (λ (is : bytes_eq a b ≡ true). absurd (not (sym ((bytes_eq-Decides a b).0 is)))) (λ (differ : bytes_eq a b ≡ false). differ) (cases_Bool (bytes_eq a b))
 
 -- a change that is not accepted for the phase or for its encoding
 module _ (s : Session) (p : ChangeData) where

@@ -224,12 +224,12 @@ all_is limits ranges One (r ∷ rs) bytes none = append-nil bytes
 all_is limits ranges Two [] bytes none = ap (λ z. z ++ version_line) (none refl) ∙ sym (append-nil version_line) ∙ ap (λ z. version_line ++ z) (sym (none refl))
 all_is limits ranges Two (r ∷ rs) bytes none = append-nil (version_line ++ bytes)
 
-version_is : (max_body : ℕ) (version : Version) (rs : List Record) (bytes : List ℕ) → AreRecords max_body version (length (line_of version)) (is_line_due version []) rs
+pub version_is : (max_body : ℕ) (version : Version) (rs : List Record) (bytes : List ℕ) → AreRecords max_body version (length (line_of version)) (is_line_due version []) rs
     → bytes ≡ line_of version ++ together version rs [] → IsVersion true version bytes
 version_is max_body One rs bytes are is = λ wanted more e. is_version_one max_body 0 false rs are wanted more (sym is ∙ e)
 version_is max_body Two rs bytes are is = (refl, (together Two rs [], is))
 
-start_at : (settings : Settings) (version : Version) → IsVersionAt version (is_line_due version []) (opened (log_config settings))
+pub start_at : (settings : Settings) (version : Version) → IsVersionAt version (is_line_due version []) (opened (log_config settings))
 start_at settings One = record { told = λ e. absurd (let bad_one : false ≡ true = e in cc); kept = λ e. refl }
 start_at settings Two = record { told = λ e. refl; kept = λ e. absurd (let bad_one : true ≡ false = e in cc) }
 

@@ -31,27 +31,27 @@ module _ (n m : ℕ) where
   alike_if false x y a c p q = q
 
   alike_settle : (s : Session) (encoding : Option Encoding) → AreAlike (settle_in s encoding) (settle_in (numbered n m s) encoding)
-  alike_settle s None = (refl, n, m, refl)
-  alike_settle s (Some encoding) = (refl, n, m, refl)
+  alike_settle s None = (refl, (n, m, refl))
+  alike_settle s (Some encoding) = (refl, (n, m, refl))
 
   alike_announced : (s : Session) (announced : Option Announced) → AreAlike (settle_by s announced) (settle_by (numbered n m s) announced)
-  alike_announced s None = (refl, n, m, refl)
+  alike_announced s None = (refl, (n, m, refl))
   alike_announced s (Some announced) = alike_settle s announced.encoding
 
   alike_result : (s : Session) (result : Option Data) → AreAlike (heard s result) (heard (numbered n m s) result)
-  alike_result s None = (refl, n, m, refl)
+  alike_result s None = (refl, (n, m, refl))
   alike_result s (Some result) = alike_announced s (announced_of result)
 
   alike_heard : (s : Session) (expected : Option IdData) (body : List ℕ) → AreAlike (hear_for s expected body) (hear_for (numbered n m s) expected body)
-  alike_heard s None body = (refl, n, m, refl)
+  alike_heard s None body = (refl, (n, m, refl))
   alike_heard s (Some id) body = alike_result s (result_for id (reading body))
 
   alike_incoming : (s : Session) (x : IncomingData) → AreAlike (judge_incoming s x) (judge_incoming (numbered n m s) x)
   alike_incoming s x =
       let step = step_on s.server x in
       alike_if (is_ended s.server.phase) (judged bad s) (if is_early s x then judged bad s else handled s x step.state (as_sent step.answer))
-      (judged bad (numbered n m s)) (if is_early s x then judged bad (numbered n m s) else handled (numbered n m s) x step.state (as_sent step.answer)) (refl, n, m, refl)
-      (alike_if (is_early s x) (judged bad s) (handled s x step.state (as_sent step.answer)) (judged bad (numbered n m s)) (handled (numbered n m s) x step.state (as_sent step.answer)) (refl, n, m, refl) (refl, n, (handled (numbered n m s) x step.state (as_sent step.answer)).session.messages, refl))
+      (judged bad (numbered n m s)) (if is_early s x then judged bad (numbered n m s) else handled (numbered n m s) x step.state (as_sent step.answer)) (refl, (n, m, refl))
+      (alike_if (is_early s x) (judged bad s) (handled s x step.state (as_sent step.answer)) (judged bad (numbered n m s)) (handled (numbered n m s) x step.state (as_sent step.answer)) (refl, (n, m, refl)) (refl, (n, (handled (numbered n m s) x step.state (as_sent step.answer)).session.messages, refl)))
 
   alike_from : (s : Session) (side : Side) (body : List ℕ) → AreAlike (judge_from s side body) (judge_from (numbered n m s) side body)
   alike_from s Client body = alike_incoming s (asked (reading body))
@@ -62,7 +62,7 @@ module _ (n m : ℕ) where
   alike_versioned s false side body = alike_from s side body
 
 counted_alike : (j k : Judged) → AreAlike j k → AreAlike (counted j) (counted k)
-counted_alike j k is = (is.0, (counted k).session.records, is.1.1, ap (λ (s : Session). record s { records = (counted k).session.records }) is.1.2)
+counted_alike j k is = (is.0, ((counted k).session.records, is.1.1, ap (λ (s : Session). record s { records = (counted k).session.records }) is.1.2))
 
 pub judged_alike : (s t : Session) (r : Record) → IsAlike s t → AreAlike (judge s r) (judge t r)
 judged_alike s t r is =

@@ -2,6 +2,8 @@
 use Rattle.std.proofs.Common.{◌≡◌, ℕ, ℤ, ◌≤◌, true, false, nat_lt, int_le, List, [], ◌∷◌, ◌++◌, map, length, bytes_eq, encode_utf8_all, IsUtf8, Option, Some, None, Ok, refl, sym, ap, ◌∙◌, subst, arith, w32, FitsSigned}
 use Rattle.std.specs.Str.{all_scalars, chars}
 use Rattle.std.proofs.lemmas.Bool.{le-ltb}
+use Rattle.std.proofs.lemmas.Bool.{leb-false, lt-leb}
+use Rattle.std.proofs.Math.IntN.{pos, negsuc}
 use Rattle.std.proofs.lemmas.Slice.Eq.{bytes_eq-Decides}
 use Rattle.std.proofs.lemmas.Str.{chars-encodes, scalars-chars}
 use Rattle.lsp_frame.specs.Limits.{AreInRange}
@@ -107,6 +109,15 @@ module _ (t : State) (p : ChangeData) (entry : Entry) (found : entry_at t.table 
 
 -- ---- a change goes on with it
 
+-- what is newer than a newer version is newer
+newer_still : (a b c : ℤ) → int_le a b ≡ false → int_le b c ≡ false → int_le a c ≡ false
+newer_still (pos a) (pos b) (pos c) over more = lt-leb a c (omega (arith, leb-false a b over, leb-false b c more))
+newer_still (pos a) b (negsuc c) over more = refl
+newer_still (pos a) (negsuc b) (pos c) over more = absurd (let wrong : true ≡ false = more in cc)
+newer_still (negsuc a) (pos b) c over more = absurd (let wrong : true ≡ false = over in cc)
+newer_still (negsuc a) (negsuc b) (pos c) over more = absurd (let wrong : true ≡ false = more in cc)
+newer_still (negsuc a) (negsuc b) (negsuc c) over more = lt-leb c a (omega (arith, leb-false b a over, leb-false c b more))
+
 module _ (t : State) (squash : SquashData) (now : State) (from : IsOpenFrom t squash now) (p : ChangeData) (same : bytes_eq p.uri squash.uri ≡ true) (proper : IsProperAsked p) (may : refusal_of now p ≡ None) where
   abbrev reached_text : List ℕ
   reached_text = bytes_after from.entry.text squash.items
@@ -173,9 +184,6 @@ module _ (t : State) (squash : SquashData) (now : State) (from : IsOpenFrom t sq
         ∙ put_twice t.table squash.uri squash.version p.version reached_text (bytes_after reached_text accepts_now.items)
         ∙ ap (put t.table squash.uri p.version) left_now);
   }
-    where
-      newer_still : (a b c : ℤ) → int_le a b ≡ false → int_le b c ≡ false → int_le a c ≡ false
-      newer_still a b c over more = omega (arith, over, more)
 
 -- ---- the document that is open now
 

@@ -1,6 +1,6 @@
 -- The open run of a log that is squashed, and the records that are written of it.
 use Rattle.std.proofs.Common.{◌≡◌, ◌≢◌, ℕ, ℤ, ◌+◌, ◌≤◌, Bool, true, false, nat_lt, List, [], ◌∷◌, ◌++◌, map, length, Option, Some, None, refl, sym, ap, ap₂, ◌∙◌, subst, arith, append_assoc, append-nil, bytes_eq}
-use Rattle.std.specs.Prelude.{⊤, ⊥, if◌then◌else◌}
+use Rattle.std.specs.Prelude.{⊤, if◌then◌else◌}
 use Rattle.std.specs.Str.{chars}
 use Rattle.std.proofs.lemmas.Bool.{ltb-false, le-ltb}
 use Rattle.lsp_frame.specs.Faults.{place_behind}
@@ -132,6 +132,10 @@ none_ended max_body at version due s t like told = record {
   course = λ more. refl;
   replay = λ more. refl;
 }
+
+pub none_behind : (max_body at : ℕ) (version : Version) (due : Bool) (s t : Session) (like : IsAlike s t) (told : IsVersionAt version due t) → due_behind due (none_ended max_body at version due s t like told).us ≡ due
+unfolding none_ended
+none_behind max_body at version due s t like told = refl
 
 -- ---- the run ends
 
@@ -360,12 +364,12 @@ module _ (limits : Bounds) (ranges : AreInRange limits) (at : ℕ) (version : Ve
     squash = same_squash i;
   }
 
-  leaves : server_after t.server single.again ≡ (judge s r).session.server
-  leaves = single.leaves ∙ ap (λ (server : State). server_after server p) there ∙ sym (ap (λ (u : Session). u.server) done_in.leaves.2)
+  leaves_out : server_after t.server single.again ≡ (judge s r).session.server
+  leaves_out = single.leaves ∙ ap (λ (server : State). server_after server p) there ∙ sym (ap (λ (u : Session). u.server) done_in.leaves.2)
 
   from_here : IsOpenFrom t.server (run_at s r p its_entry).squash (judge s r).session.server
   from_here =
-      subst (IsOpenFrom t.server (run_at s r p its_entry).squash) leaves
+      subst (IsOpenFrom t.server (run_at s r p its_entry).squash) leaves_out
       (subst (λ k. IsOpenFrom t.server k (server_after t.server single.again)) same_squash
       (begins_from t.server single.again its_entry found_out entry_held (proper_change q single.again single.accepted.asks) single.accepted.may))
     where

@@ -1,6 +1,6 @@
 -- What `normalise` writes of a log with squash: a log of which `replay` reports the same documents, and of which the same is written.
 use Rattle.std.proofs.Common.{◌≡◌, ◌≢◌, ℕ, ◌+◌, ◌≤◌, Bool, true, false, List, [], ◌∷◌, ◌++◌, length, Option, Some, None, refl, sym, ap, ◌∙◌, subst, arith, append_assoc, append-nil, bytes_eq, ⊎_elim}
-use Rattle.std.specs.Prelude.{⊤, ⊥, Result}
+use Rattle.std.specs.Prelude.{⊤, Result}
 use Rattle.std.proofs.lemmas.List.{length-append}
 use Rattle.lsp_frame.specs.Faults.{place_behind}
 use Rattle.lsp_frame.specs.Frame.{frame, Spells}
@@ -52,7 +52,7 @@ abbrev pub first_line : Bool → List Record → List ℕ
 first_line due [] = []
 first_line due (r ∷ rs) = line_if due
 
-pub NonEmpty : List Record → Type 0
+abbrev pub NonEmpty : List Record → Type 0
 NonEmpty [] = ⊥
 NonEmpty (r ∷ rs) = ⊤
 
@@ -72,9 +72,9 @@ pub report_on : (s : Session) (r : Record) (rs : List Record) → (judge s r).ve
 report_on s r rs not_bad = by (judge s r).verdict not_bad
   where
     by : (v : Verdict) → v ≢ bad → go_on (unless_bad r v (gives [])).out (unless_bad r v (gives [])).end (course_in replaying (judge s r).session rs) ≡ course_in replaying (judge s r).session rs
-    by bad no = absurd (no refl)
-    by recorded no = refl
-    by (answered answer) no = refl
+    by bad other = absurd (other refl)
+    by recorded other = refl
+    by (answered answer) other = refl
 
 -- no run is open, or one of a document with another URI
 abbrev pub IsApart : Option Run → List ℕ → Type 0
@@ -200,10 +200,10 @@ module _ (max_body at : ℕ) (version : Version) (due : Bool) (s : Session) (run
     replay_one : course_in replaying t (e.us ++ q ∷ more.qs) ≡ course_in replaying (judge e.last q).session more.qs
     replay_one = e.replay (q ∷ more.qs) ∙ report_on e.last q more.qs again_not_bad
 
-    written : List ℕ
+    abbrev written : List ℕ
     written = end_bytes run ++ (front ++ q.spelling)
 
-    inner : Course
+    abbrev inner : Course
     inner = squashed_in (judge s r).session None rs
 
     -- its bytes, behind those of the run

@@ -1,6 +1,6 @@
 -- What `normalise` writes of a log with squash is a log, of which `replay` reports the same, and of which the same is written.
 use Rattle.std.proofs.Common.{◌≡◌, ◌≢◌, ◌⊎◌, inl, inr, ℕ, ◌+◌, Bool, true, false, List, [], ◌∷◌, ◌++◌, length, Option, Some, None, refl, sym, ap, ◌∙◌, subst, arith, append_assoc, append-nil, bytes_eq, ⊎_elim}
-use Rattle.std.specs.Prelude.{⊤}
+use Rattle.std.specs.Prelude.{⊤, Result}
 use Rattle.std.proofs.lemmas.Bool.{cases_Bool}
 use Rattle.lsp_frame.specs.Faults.{place_behind}
 use Rattle.lsp_frame.specs.Limits.{Bounds, AreInRange}
@@ -11,21 +11,23 @@ use Rattle.lsp_server.specs.Incoming.{asked}
 use Rattle.lsp_server.specs.Step.{State}
 use Rattle.lsp_log.specs.declared.record.Version.{Version}
 use Rattle.lsp_log.specs.declared.record.Version.TheVariants.{One, Two}
-use Rattle.lsp_log.specs.Log.{Record, Log, IsRecord, AreRecords, together, record_bytes, mark_of, line_of, is_line_due}
+use Rattle.lsp_log.specs.Log.{Record, Log, IsRecord, AreRecords, together, record_bytes, mark_of, line_of, version_line, is_line_due}
 use Rattle.lsp_log.proofs.LogLemmas.{due_behind}
 use Rattle.lsp_replay.specs.declared.engines.Settings.{Settings}
+use Rattle.lsp_replay.specs.declared.outcome.Outcome.{Outcome}
+use Rattle.lsp_stream.specs.declared.fault.EngineFault.{EngineFault}
 use Rattle.lsp_replay.specs.Course.{Course}
-use Rattle.lsp_replay.specs.Engines.{change_in, front_of, line_if, normal_body, normal_if, log_config}
-use Rattle.lsp_replay.specs.Laws.{SquashedLaw, IsSquashed, all_of}
+use Rattle.lsp_replay.specs.Engines.{change_in, course_in, front_of, go_on, line_if, normal_body, normal_if, log_config, replaying, report}
+use Rattle.lsp_replay.specs.Laws.{SquashedLaw, IsSquashed, LeavesAlike, all_of}
 use Rattle.lsp_replay.specs.Session.{Session, Verdict, answered, bad, judge, opened}
 use Rattle.lsp_replay.specs.Squashed.{Run, Step, squash_step, squashed_in, squashed, end_bytes, other_step}
-use Rattle.lsp_replay.proofs.ChangeLemmas.{IsAccepted, IsOtherKind, IsChangeKind, kind_of, was_accepted}
+use Rattle.lsp_replay.proofs.ChangeLemmas.{IsAccepted, IsOtherKind, IsChangeKind, kind_of, not_bad_of, was_accepted}
 use Rattle.lsp_replay.proofs.JudgeLemmas.{IsVersionAt, judged_held, judged_version}
 use Rattle.lsp_replay.proofs.NormalisedLemmas.{normal_record, went_on, start_at, version_is}
 use Rattle.lsp_replay.proofs.NumberedLemmas.{IsAlike, alike_self, judged_alike}
-use Rattle.lsp_replay.proofs.PendingLemmas.{IsPending, IsBegunRun, IsLongerRun, behind_some, begun_run, later, longer_run, none_ended, same_server, some_ended}
+use Rattle.lsp_replay.proofs.PendingLemmas.{IsPending, IsBegunRun, IsLongerRun, behind_some, begun_run, later, longer_run, none_behind, none_ended, same_server, some_ended}
 use Rattle.lsp_replay.proofs.SquashingLemmas.{step_other}
-use Rattle.lsp_replay.proofs.SquashLawLemmas.{IsApart, IsAny, IsEnded, IsSquashedAs, NonEmpty, at_end, begins_next, first_line, goes_on_next, others_next, total}
+use Rattle.lsp_replay.proofs.SquashLawLemmas.{IsApart, IsAny, IsEnded, IsSquashedAs, NonEmpty, at_end, begins_next, first_line, goes_on_next, others_next, report_on, total}
 use Rattle.lsp_replay.proofs.StateLemmas.{IsHeldState}
 
 -- How far a log and what was written of it have come, between two records.
@@ -41,7 +43,7 @@ module _ (limits : Bounds) (ranges : AreInRange limits) where
   all_ended : (at : ℕ) (version : Version) (due due_in : Bool) (s : Session) (run : Option Run) (t : Session) (before : Option Run) → IsHeldState limits t.server
       → Stands limits.max_body at version due due_in s run t before → AllEnded limits.max_body at version due due_in s run t before
   all_ended at version due due_in s None t before held is =
-      subst (λ (b : Option Run). AllEnded limits.max_body at version due due_in s None t b) (sym is.0) (record { ended = none_ended limits.max_body at version due s t is.1 is.2; same_due = sym is.3 })
+      subst (λ (b : Option Run). AllEnded limits.max_body at version due due_in s None t b) (sym is.0) (record { ended = none_ended limits.max_body at version due s t is.1 is.2; same_due = sym is.3 ∙ sym (none_behind limits.max_body at version due s t is.1 is.2) })
   all_ended at version due due_in s (Some run) t before held is =
       let e = some_ended limits ranges at version due s run t before held.limit is.0 in
       record { ended = e; same_due = is.1 ∙ sym (behind_some due e.us (e.some tt)) }
@@ -152,35 +154,139 @@ module _ (limits : Bounds) (ranges : AreInRange limits) where
           goes_on_next limits.max_body at version due s run t before (Some l.next) r rs gives not_bad (any_some l.next rs)
           (rest at place due (Some l.next) t before held_out (l.pending, refl) (subst (λ (step : Step). (squashed_in (judge s r).session step.run rs).stop ≡ None) gives goes))
 
+    changes : (kind : IsChangeKind s.server (change_in (asked (reading r.body))) (judge s r).verdict) (o : Option Run) → run ≡ o → IsSquashedAs limits.max_body at version due s run (r ∷ rs) t before
+    changes kind None is = begins kind (subst (λ (x : Option Run). IsApart x kind.0.uri) (sym is) tt)
+    changes kind (Some open_run) is =
+        ⊎_elim
+        (λ (same : bytes_eq kind.0.uri open_run.squash.uri ≡ true).
+        let here : Stands limits.max_body at version due due_in s (Some open_run) t before = subst (λ (x : Option Run). Stands limits.max_body at version due due_in s x t before) is stands in
+        goes_on kind open_run is same here.0 here.1)
+        (λ (not : bytes_eq kind.0.uri open_run.squash.uri ≡ false). begins kind (subst (λ (x : Option Run). IsApart x kind.0.uri) (sym is) not))
+        (cases_Bool (bytes_eq kind.0.uri open_run.squash.uri))
+
+    one_record : (squash_step s run r (judge s r)).end ≡ None → IsSquashedAs limits.max_body at version due s run (r ∷ rs) t before
+    one_record none =
+        ⊎_elim (λ (kind : IsOtherKind s.server (change_in (asked (reading r.body))) (judge s r).verdict). others kind)
+        (λ (kind : IsChangeKind s.server (change_in (asked (reading r.body))) (judge s r).verdict). changes kind run refl)
+        (kind_of s.server r (front_of (judge s r).session r) run (change_in (asked (reading r.body))) (judge s r).verdict none)
+
   squashed_log : (rs : List Record) (at place : ℕ) (version : Version) (due due_in : Bool) (s : Session) (run : Option Run) (t : Session) (before : Option Run) → IsHeldState limits s.server → IsHeldState limits t.server
       → IsVersionAt version due_in s → Stands limits.max_body at version due due_in s run t before → AreRecords limits.max_body version place due_in rs → (squashed_in s run rs).stop ≡ None
       → IsSquashedAs limits.max_body at version due s run rs t before
   squashed_log [] at place version due due_in s run t before held held_out told stands each goes =
       at_end limits.max_body at version due s run t before (all_ended at version due due_in s run t before held_out stands).ended
   squashed_log (r ∷ rs) at place version due due_in s run t before held held_out told stands each goes =
-      ⊎_elim
-      (λ (kind : IsOtherKind s.server (change_in (asked (reading r.body))) (judge s r).verdict). others at place version due due_in s run t before r rs held held_out told stands each.0 on.1 rest kind)
-      (λ (kind : IsChangeKind s.server (change_in (asked (reading r.body))) (judge s r).verdict). changes kind run refl)
-      (kind_of s.server r (front_of (judge s r).session r) run (change_in (asked (reading r.body))) (judge s r).verdict on.0)
-    where
-      on : ((squash_step s run r (judge s r)).end ≡ None) × ((squashed_in (judge s r).session (squash_step s run r (judge s r)).run rs).stop ≡ None)
-      on = went_on (squash_step s run r (judge s r)).out (squash_step s run r (judge s r)).end (squashed_in (judge s r).session (squash_step s run r (judge s r)).run rs) goes
+      let on = went_on (squash_step s run r (judge s r)).out (squash_step s run r (judge s r)).end (squashed_in (judge s r).session (squash_step s run r (judge s r)).run rs) goes in
+      let told_later : IsVersionAt version false (judge s r).session = later version (judge s r).session (judged_version version s r.head r.body (fresh version due_in s r each.0.due told)) in
+      one_record at place version due due_in s run t before r rs held held_out told stands each.0 on.1
+      (λ next_at next_place next_due next_run next_t next_before next_held next_stands next_goes.
+      squashed_log rs next_at (place + length (record_bytes version r)) version next_due false (judge s r).session next_run next_t next_before (judged_held limits s r held) next_held told_later next_stands each.1 next_goes)
+      on.0
 
-      told_later : IsVersionAt version false (judge s r).session
-      told_later = later version (judge s r).session (judged_version version s r.head r.body (fresh version due_in s r each.0.due told))
+-- ---- the bytes
 
-      rest : (next_at next_place : ℕ) (due : Bool) (run : Option Run) (t : Session) (before : Option Run) → IsHeldState limits t.server → Stands limits.max_body next_at version due false (judge s r).session run t before
-          → (squashed_in (judge s r).session run rs).stop ≡ None → IsSquashedAs limits.max_body next_at version due (judge s r).session run rs t before
-      rest next_at next_place due run t before held_out stands goes =
-          squashed_log rs next_at (place + length (record_bytes version r)) version due false (judge s r).session run t before (judged_held limits s r held) held_out told_later stands each.1 goes
+-- Its status and counts are those of `replay`.
+same_outcome : (settings : Settings) (rs : List Record) → (squashed settings rs).stop ≡ None → (squashed settings rs).outcome ≡ (report settings rs).outcome
+same_outcome settings rs goes = outcome_on (opened (log_config settings)) None rs goes
+  where
+    outcome_on : (s : Session) (run : Option Run) (rs : List Record) → (squashed_in s run rs).stop ≡ None → (squashed_in s run rs).outcome ≡ (course_in replaying s rs).outcome
+    outcome_on s run [] goes = refl
+    outcome_on s run (r ∷ rs) goes =
+        let step = squash_step s run r (judge s r) in
+        let on = went_on step.out step.end (squashed_in (judge s r).session step.run rs) goes in
+        ap (λ (o : Option (Result Outcome EngineFault)). (go_on step.out o (squashed_in (judge s r).session step.run rs)).outcome) on.0
+        ∙ outcome_on (judge s r).session step.run rs on.1
+        ∙ sym (ap (λ (c : Course). c.outcome) (report_on s r rs (not_bad_of s.server r (front_of (judge s r).session r) run (change_in (asked (reading r.body))) (judge s r).verdict on.0)))
 
-      changes : (kind : IsChangeKind s.server (change_in (asked (reading r.body))) (judge s r).verdict) (o : Option Run) → run ≡ o → IsSquashedAs limits.max_body at version due s run (r ∷ rs) t before
-      changes kind None is = begins at place version due due_in s run t before r rs held held_out told stands each.0 on.1 rest kind (subst (λ (x : Option Run). IsApart x kind.0.uri) (sym is) tt)
-      changes kind (Some open_run) is =
-          ⊎_elim
-          (λ (same : bytes_eq kind.0.uri open_run.squash.uri ≡ true).
-          let here : Stands limits.max_body at version due due_in s (Some open_run) t before = subst (λ (x : Option Run). Stands limits.max_body at version due due_in s x t before) is stands in
-          goes_on at place version due due_in s run t before r rs held held_out told stands each.0 on.1 rest kind open_run is same here.0 here.1)
-          (λ (not : bytes_eq kind.0.uri open_run.squash.uri ≡ false).
-          begins at place version due due_in s run t before r rs held held_out told stands each.0 on.1 rest kind (subst (λ (x : Option Run). IsApart x kind.0.uri) (sym is) not))
-          (cases_Bool (bytes_eq kind.0.uri open_run.squash.uri))
+-- A log with records: what is written begins with its line.
+module _ (settings : Settings) (ranges : AreInRange settings.limits) (log : Log) (r : Record) (rs : List Record) (is : log.records ≡ r ∷ rs)
+    (each : AreRecords settings.limits.max_body log.version (length (line_of log.version)) (is_line_due log.version []) (r ∷ rs)) (goes : (squashed settings (r ∷ rs)).stop ≡ None) where
+  s : Session
+  s = opened (log_config settings)
+
+  start : ℕ
+  start = length (line_of log.version)
+
+  due : Bool
+  due = is_line_due log.version []
+
+  w : IsSquashedAs settings.limits.max_body start log.version due s None (r ∷ rs) s None
+  w =
+      squashed_log settings.limits ranges (r ∷ rs) start start log.version due due s None s None (record { limit = refl; table = tt }) (record { limit = refl; table = tt }) (start_at settings log.version)
+      (refl, alike_self s, start_at settings log.version, refl) each goes
+
+  not_due : (version : Version) (qs : List Record) → NonEmpty qs → is_line_due version qs ≡ false
+  not_due One qs some = refl
+  not_due Two [] some = absurd some
+  not_due Two (q ∷ qs) some = refl
+
+  line_is : (version : Version) (qs : List Record) → NonEmpty qs → first_line (is_line_due version []) qs ≡ line_of version
+  line_is version [] some = absurd some
+  line_is One (q ∷ qs) some = refl
+  line_is Two (q ∷ qs) some = refl
+
+  next : Log
+  next = record { version = log.version; records = w.qs; rest = [] }
+
+  all_is : (xs : List Record) (bytes : List ℕ) → is_line_due log.version xs ≡ false → total (squashed settings xs) ≡ bytes → (squashed settings xs).out ++ (squashed settings xs).last (is_line_due log.version xs) ≡ bytes
+  all_is xs bytes not e = ap (λ b. (squashed settings xs).out ++ (squashed settings xs).last b) not ∙ e
+
+  bytes : List ℕ
+  bytes = (squashed settings (r ∷ rs)).out ++ (squashed settings (r ∷ rs)).last (is_line_due log.version (r ∷ rs))
+
+  bytes_are : bytes ≡ line_of log.version ++ together log.version w.qs []
+  bytes_are = all_is (r ∷ rs) (line_of log.version ++ together log.version w.qs []) (not_due log.version (r ∷ rs) tt) (w.bytes ∙ ap (λ l. l ++ together log.version w.qs []) (line_is log.version w.qs (w.some tt)))
+
+  again : (squashed settings w.qs).out ++ (squashed settings w.qs).last (is_line_due log.version w.qs) ≡ bytes
+  again = all_is w.qs bytes (not_due log.version w.qs (w.some tt)) (w.again ∙ sym (all_is (r ∷ rs) (total (squashed settings (r ∷ rs))) (not_due log.version (r ∷ rs) tt) refl))
+
+  leaves : LeavesAlike settings (r ∷ rs) bytes
+  leaves = record {
+    log = next;
+    reads = record { version = version_is settings.limits.max_body log.version w.qs bytes w.are bytes_are; accepted = λ e. absurd (let wrong : false ≡ true = e in cc); is = bytes_are; each = w.are };
+    whole = refl;
+    to_end = w.to_end;
+    documents = w.documents;
+    status = w.status;
+    refused = w.refused;
+  }
+
+  some_law : IsSquashed settings (r ∷ rs) bytes
+  some_law = record { outcome = same_outcome settings (r ∷ rs) goes; leaves = leaves; goes_on = w.goes_on; again = again }
+
+-- A log without records is its line.
+none_law : (settings : Settings) (version : Version) (max_body : ℕ) → IsSquashed settings [] ((squashed settings []).out ++ (squashed settings []).last (is_line_due version []))
+none_law settings version max_body = record {
+  outcome = refl;
+  leaves = record {
+    log = record { version = version; records = []; rest = [] };
+    reads = record {
+      version = version_is settings.limits.max_body version [] (line_if (is_line_due version [])) tt (line_alone version);
+      accepted = λ e. absurd (let wrong : false ≡ true = e in cc);
+      is = line_alone version;
+      each = tt;
+    };
+    whole = refl;
+    to_end = refl;
+    documents = λ line_due. refl;
+    status = refl;
+    refused = refl;
+  };
+  goes_on = refl;
+  again = refl;
+}
+  where
+    line_alone : (version : Version) → line_if (is_line_due version []) ≡ line_of version ++ []
+    line_alone One = refl
+    line_alone Two = sym (append-nil version_line)
+
+-- What `normalise` writes of a log with squash is a log, of which `replay` reports the same, and of which the same is written.
+pub squashed_law : SquashedLaw
+squashed_law settings ranges input log reads whole goes = by log.records refl
+  where
+    by : (xs : List Record) → log.records ≡ xs → IsSquashed settings log.records (all_of (squashed settings) log)
+    by [] is = subst (λ (xs : List Record). IsSquashed settings xs ((squashed settings xs).out ++ (squashed settings xs).last (is_line_due log.version xs))) (sym is) (none_law settings log.version settings.limits.max_body)
+    by (r ∷ rs) is =
+        subst (λ (xs : List Record). IsSquashed settings xs ((squashed settings xs).out ++ (squashed settings xs).last (is_line_due log.version xs))) (sym is)
+        (some_law settings ranges log r rs is (subst (AreRecords settings.limits.max_body log.version (length (line_of log.version)) (is_line_due log.version [])) is reads.each)
+        (subst (λ (xs : List Record). (squashed settings xs).stop ≡ None) is goes))

@@ -38,7 +38,7 @@ settled view s (r ∷ rs) more answer e =
     settled_on (view.record_gives s r (judge s r)).out (view.record_gives s r (judge s r)).end (course_in view (judge s r).session rs) (course_in view (judge s r).session (rs ++ more)) answer e
     (settled view (judge s r).session rs more answer)
 
-Grows : Course → Course → Type 0
+pub Grows : Course → Course → Type 0
 Grows c longer = (rest : List ℕ) × (longer.out ≡ c.out ++ rest)
 
 grows_on : (out : List ℕ) (end : Option (Result Outcome EngineFault)) (c longer : Course) → Grows c longer → Grows (go_on out end c) (go_on out end longer)

@@ -284,7 +284,7 @@ impl Session {
         ensures session { OnOk result (self.new ≡ (judge_at self.old head body.now).session) }
         ensures writing { IfOk result (λ judged. verdict_view judged.0 ≢ bad →
             IsWriting self.old.server run (change_in (asked (reading body.now))) (verdict_view judged.0) judged.1) }
-        ensures open { IfOk result (λ judged. IsOpenAfter self.new.server judged.1) }
+        ensures reached { IfOk result (λ judged. IsOpenAfter self.new.server judged.1) }
     {
         self.see_version(head.line_due);
         let judged = self.join_from(head.side, body, run)?;
@@ -304,7 +304,7 @@ impl Session {
         ensures session { OnOk result (self.new ≡ (judge_from self.old side body.now).session) }
         ensures writing { IfOk result (λ judged. verdict_view judged.0 ≢ bad →
             IsWriting self.old.server run (change_in (asked (reading body.now))) (verdict_view judged.0) judged.1) }
-        ensures open { IfOk result (λ judged. IsOpenAfter self.new.server judged.1) }
+        ensures reached { IfOk result (λ judged. IsOpenAfter self.new.server judged.1) }
     {
         match side {
             Side::Client => {
@@ -326,7 +326,7 @@ impl Session {
         ensures session { OnOk result (self.new ≡ (judge_incoming self.old (incoming_view incoming)).session) }
         ensures writing { IfOk result (λ judged. verdict_view judged.0 ≢ bad →
             IsWriting self.old.server run (change_in (incoming_view incoming)) (verdict_view judged.0) judged.1) }
-        ensures open { IfOk result (λ judged. IsOpenAfter self.new.server judged.1) }
+        ensures reached { IfOk result (λ judged. IsOpenAfter self.new.server judged.1) }
     {
         let writing = self.join(&incoming, run)?;
         let verdict = self.take(incoming)?;
@@ -339,7 +339,7 @@ impl Session {
         ensures writing { IfOk result (λ writing. (judge_incoming self.now (incoming_view incoming.now)).verdict ≢ bad →
             IsWriting self.now.server run (change_in (incoming_view incoming.now))
             (judge_incoming self.now (incoming_view incoming.now)).verdict writing) }
-        ensures open { IfOk result (λ writing. IsOpenAfter (judge_incoming self.now (incoming_view incoming.now)).session.server writing) }
+        ensures reached { IfOk result (λ writing. IsOpenAfter (judge_incoming self.now (incoming_view incoming.now)).session.server writing) }
     {
         let Incoming::DidChange(params) = incoming else {
             return Ok(Writing::AsItIs(run));
@@ -389,10 +389,10 @@ impl Session {
         document: &Document<'_>,
         params: &ChangeParams,
     ) -> Result<Batches, AllocError>
-        requires open_one { entry_at self.now.server.table (string_bytes params.now.uri) ≡ Some document.now }
+        requires found { entry_at self.now.server.table (string_bytes params.now.uri) ≡ Some document.now }
         requires accepted { refusal_of self.now.server (change_view params.now) ≡ None }
         ensures begun { IfOk result (IsBegun self.now.server (change_view params.now)) }
-        ensures open { IfOk result (IsOpenIn (server_after self.now.server (change_view params.now))) }
+        ensures reached { IfOk result (IsOpenIn (server_after self.now.server (change_view params.now))) }
     {
         let encoding = self.server.encoding().unwrap_or(Encoding::Utf16);
         let limits = self.server.store().limits();
