@@ -10,9 +10,14 @@ use Rattle.lsp_server.specs.Answer.{AnswerData, Sent, reply, changed, dropped, i
 use Rattle.lsp_server.specs.Step.{State, encoding_of}
 use Rattle.lsp_log.specs.Log.{Record}
 use Rattle.lsp_stream.specs.declared.fault.EngineFault.TheVariants.{BadLog, BodyTooLong}
-use Rattle.lsp_replay.specs.Engines.{normal_if, normal_body}
-use Rattle.lsp_replay.specs.Session.{Session, Verdict, answered, recorded, bad}
-use Rattle.lsp_replay.specs.Squashed.{Run, Step, run_of, run_bytes, end_bytes, begun, longer, joined_by, faulty, change_gives, change_step, other_step, step_if}
+use Rattle.lsp_message.specs.Message.{reading}
+use Rattle.lsp_server.specs.Incoming.{asked}
+use Rattle.lsp_log.specs.declared.record.Version.{Version}
+use Rattle.lsp_log.specs.Log.{mark_of}
+use Rattle.lsp_replay.specs.Course.{after, written_first}
+use Rattle.lsp_replay.specs.Engines.{change_in, front_of, go_on, line_if, normal_if, normal_body}
+use Rattle.lsp_replay.specs.Session.{Session, Verdict, answered, recorded, bad, judge}
+use Rattle.lsp_replay.specs.Squashed.{Run, Step, squash_step, squashed_in, run_of, run_bytes, end_bytes, begun, longer, joined_by, faulty, change_gives, change_step, other_step, step_if}
 use Rattle.lsp_replay.specs.Joining.{IsChange, IsFramed, IsLonger, IsOther, IsBegun}
 
 -- any record but an accepted change
@@ -73,3 +78,45 @@ pub gives_begun : (server : State) (p : ChangeData) (front single old_front sing
 gives_begun server p front single old_front singles None batches other is = ap (λ (o : Option Run). record { out = []; end = None; run = o }) (begun_is server p front single batches is)
 gives_begun server p front single old_front singles (Some squash) batches other is =
     rw other (ap (λ (o : Option Run). record { out = run_bytes (record { front = old_front; singles = singles; squash = squash }); end = None; run = o }) (begun_is server p front single batches is))
+
+-- ---- the course of a handler, a record at a time
+
+module _ (s : Session) (front singles : List ℕ) (run : Option SquashData) (r : Record) (now : Session) (is_now : now ≡ (judge s r).session) (verdict : Verdict) (told : verdict ≡ (judge s r).verdict) (version : Version) (same_version : version ≡ now.version) where
+  abbrev here : Option Run
+  here = run_of front singles run
+
+  abbrev its_front : List ℕ
+  its_front = line_if r.head.line_due ++ mark_of version r.head.side
+
+  front_here : front_of (judge s r).session r ≡ its_front
+  front_here = ap (λ v. line_if r.head.line_due ++ mark_of v r.head.side) (sym (same_version ∙ ap (λ (u : Session). u.version) is_now))
+
+  by_step : (out : List ℕ) (next : Option Run) → squash_step s here r (judge s r) ≡ record { out = out; end = None; run = next } → (more : List Record) → squashed_in s here (r ∷ more) ≡ after out None (squashed_in now next more)
+  by_step out next is more =
+      ap (λ (step : Step). go_on step.out step.end (squashed_in (judge s r).session step.run more)) is ∙ ap (λ (u : Session). written_first out (squashed_in u next more)) (sym is_now)
+
+  pub gives_as_it_is : (out : List ℕ) → verdict ≢ bad → normal_if s.server (change_in (asked (reading r.body))) verdict ≡ None → out ≡ end_bytes here ++ (its_front ++ r.spelling)
+      → (more : List Record) → squashed_in s here (r ∷ more) ≡ after out None (squashed_in now None more)
+  gives_as_it_is out not_bad none is more =
+      by_step out None
+      (ap (λ v. step_if s.server r (front_of (judge s r).session r) here (change_in (asked (reading r.body))) v) (sym told)
+      ∙ step_other s.server r (front_of (judge s r).session r) here (change_in (asked (reading r.body))) verdict not_bad none
+      ∙ ap (λ f. other_step r f here) front_here ∙ ap (λ o. record { out = o; end = None; run = None }) (sym is)) more
+
+  changes : (canonical : List ℕ) → (is : IsChange s.server (change_in (asked (reading r.body))) verdict canonical) → squash_step s here r (judge s r) ≡ change_gives s.server is.params its_front (its_front ++ canonical) here
+  changes canonical is =
+      ap (λ v. step_if s.server r (front_of (judge s r).session r) here (change_in (asked (reading r.body))) v) (sym told)
+      ∙ step_changed s.server r (front_of (judge s r).session r) canonical here (change_in (asked (reading r.body))) verdict is
+      ∙ ap (λ f. change_gives s.server is.params f (f ++ canonical) here) front_here
+
+  pub gives_more : (canonical : List ℕ) (batches : SquashData) (is : IsChange s.server (change_in (asked (reading r.body))) verdict canonical) → IsLonger run is.params batches
+      → (more : List Record) → squashed_in s here (r ∷ more) ≡ after [] None (squashed_in now (run_of front (singles ++ (its_front ++ canonical)) (Some batches)) more)
+  gives_more canonical batches is longer more =
+      by_step [] (run_of front (singles ++ (its_front ++ canonical)) (Some batches))
+      (changes canonical is ∙ gives_longer s.server is.params its_front (its_front ++ canonical) front singles run batches longer) more
+
+  pub gives_next : (canonical : List ℕ) (batches : SquashData) (is : IsChange s.server (change_in (asked (reading r.body))) verdict canonical) → IsOther run is.params → IsBegun s.server is.params batches
+      → (more : List Record) → squashed_in s here (r ∷ more) ≡ after (end_bytes here) None (squashed_in now (run_of its_front (its_front ++ canonical) (Some batches)) more)
+  gives_next canonical batches is other begun more =
+      by_step (end_bytes here) (run_of its_front (its_front ++ canonical) (Some batches))
+      (changes canonical is ∙ gives_begun s.server is.params its_front (its_front ++ canonical) front singles run batches other begun) more

@@ -6,7 +6,7 @@ ghost use Rattle.lsp_replay.specs.Engine.{Ran, Called, NonePassedOver};
 ghost use Rattle.lsp_replay.specs.Engines.{log_config, normal, as_stream, as_log, as_converted, replies, report, verdicts, converted};
 ghost use Rattle.lsp_frame.specs.Limits.{AreInRange};
 ghost use Rattle.lsp_replay.specs.Squashed.{normalised, squashed};
-ghost use Rattle.lsp_replay.specs.Laws.{IsConverted, IsNormal, Wrote};
+ghost use Rattle.lsp_replay.specs.Laws.{IsConverted, IsNormal, IsSquashed, Wrote};
 ghost use Rattle.lsp_replay.specs.Told.{RanOver};
 
 use crate::checking::Check;
@@ -194,6 +194,9 @@ pub fn normalise<R: Source, W: Sink>(
     // Without squash, what was written is a log of which `replay` tells the same, and its own normal form.
     ensures normal { settings.squash ≡ false
         → IfOk result (Wrote settings (IsNormal settings) (R.left reader.old) (R.left reader.new) (W.held writer.old) (W.held writer.new)) }
+    // With squash, it is a log of which `replay` reports the same documents and the same status, and its own squashed form.
+    ensures squashed { settings.squash ≡ true
+        → IfOk result (Wrote settings (IsSquashed settings) (R.left reader.old) (R.left reader.new) (W.held writer.old) (W.held writer.new)) }
     ensures called { Called (R.count reader.old) (R.count reader.new) (W.count writer.old) (W.count writer.new) max_turns
         (R.has_failed reader.new) (W.has_failed writer.new) (R.has_ended reader.new) (R.left reader.new) result }
     ensures none_passed_over { NonePassedOver (R.has_failed reader.old) (R.has_failed reader.new) (W.has_failed writer.old) (W.has_failed writer.new) result }
@@ -239,6 +242,7 @@ fn normalise_squashed<R: Source, W: Sink>(
         (R.left reader.old) (R.left reader.new) (W.held writer.old) (W.held writer.new) result }
     ensures told { RanOver (as_log settings) (squashed settings) (R.has_ended reader.new)
         (R.left reader.old) (R.left reader.new) (W.held writer.old) (W.held writer.new) result }
+    ensures squashed { IfOk result (Wrote settings (IsSquashed settings) (R.left reader.old) (R.left reader.new) (W.held writer.old) (W.held writer.new)) }
     ensures called { Called (R.count reader.old) (R.count reader.new) (W.count writer.old) (W.count writer.new) max_turns
         (R.has_failed reader.new) (W.has_failed writer.new) (R.has_ended reader.new) (R.left reader.new) result }
     ensures none_passed_over { NonePassedOver (R.has_failed reader.old) (R.has_failed reader.new) (W.has_failed writer.old) (W.has_failed writer.new) result }

@@ -17,6 +17,13 @@ use lsp_stream::EngineFault;
 use std::alloc::{AllocError, Global};
 use std::marker::Model;
 
+/// What a record gives that doesn't end the run of the command.
+const WRITTEN: Given = Given {
+    output: Output::Made,
+    flush: false,
+    end: None,
+};
+
 /// What may be written for a run, beside the message of its batches.
 #[derive(Drop)]
 struct Texts {
@@ -141,23 +148,21 @@ impl Handler for Squashing {
                 self.texts.push_end(made, &ended)?;
                 push_front(made, head, version)?;
                 made.extend_from_slice(spelling)?;
+                Ok(WRITTEN)
             }
-            Writing::TooLong => return Err(EngineFault::BodyTooLong { place: head.place }),
+            Writing::TooLong => Err(EngineFault::BodyTooLong { place: head.place }),
             Writing::GoesOn(frame, batches) => {
                 self.texts.go_on(head, version, &frame)?;
                 self.batches = Some(batches);
+                Ok(WRITTEN)
             }
             Writing::Begins(frame, ended, batches) => {
                 self.texts.push_end(made, &ended)?;
                 self.texts.begin(head, version, &frame)?;
                 self.batches = Some(batches);
+                Ok(WRITTEN)
             }
         }
-        Ok(Given {
-            output: Output::Made,
-            flush: false,
-            end: None,
-        })
     }
 
     fn finish(
