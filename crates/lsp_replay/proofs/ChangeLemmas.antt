@@ -142,7 +142,7 @@ is_done s r p a = record {
     one_more at.records,
     one_more at.messages,
     ap (λ (j : Judged). (counted j).session) here ∙ done_session at p running waits may
-    ∙ ap (λ (server : State). numbered (one_more at.records) (one_more at.messages) (record at { server = server_after server p })) (same_server s r.head.line_due),
+        ∙ ap (λ (server : State). numbered (one_more at.records) (one_more at.messages) (record at { server = server_after server p })) (same_server s r.head.line_due),
   );
 }
   where

@@ -233,6 +233,9 @@ module _ (limits : Bounds) (ranges : AreInRange limits) (at : ℕ) (version : Ve
         ∙ ap (λ f. run_bytes (record { front = f; singles = one_run.singles; squash = run.squash })) same_front
         ∙ rw is refl
 
+    one_written : run_bytes run ≡ run.front ++ frame body
+    one_written = rw is refl
+
     as_one : IsEnded limits.max_body at version due s (Some run) t before
     as_one = record {
       us = one ∷ [];
@@ -247,7 +250,7 @@ module _ (limits : Bounds) (ranges : AreInRange limits) (at : ℕ) (version : Ve
       apart = λ uri apart. ap (λ (k : SquashData). bytes_eq uri k.uri) joins ∙ apart;
       are = (record { spells = written_spells limits.max_body body within (omega (arith, within, ranges.greatest_body)); side = λ e. refl; placed = refl; due = refl }, tt);
       bytes =
-          sym same_end ∙ same_end ∙ rw is (ap (λ f. f ++ frame body) p.front) ∙ append_assoc (line_if due) (mark_of version Client) (frame body)
+          one_written ∙ ap (λ f. f ++ frame body) p.front ∙ append_assoc (line_if due) (mark_of version Client) (frame body)
           ∙ ap (λ z. line_if due ++ z) (sym (append-nil (mark_of version Client ++ frame body)));
       course = λ more. step_on t before one more (end_bytes before) (Some one_run) step;
       replay = λ more. report_on t one more (not_bad t before one change accepted done short);
@@ -503,7 +506,7 @@ module _ (limits : Bounds) (ranges : AreInRange limits) (at : ℕ) (version : Ve
     done_alike.0,
     done_alike.1,
     done_alike.2 ∙ ap (λ (u : Session). numbered done_alike.0 done_alike.1 (record u { server = server_after s.server p })) open_run.like.2
-    ∙ ap (λ server. numbered done_alike.0 done_alike.1 (record (versioned t due) { server = server })) next_is,
+        ∙ ap (λ server. numbered done_alike.0 done_alike.1 (record (versioned t due) { server = server })) next_is,
   )
 
   pub longer_run : IsLongerRun limits.max_body at version due s run r t before

@@ -38,10 +38,12 @@ together_split version (r ∷ rs) rest =
 pub are_more : (max_body : ℕ) (version : Version) (place : ℕ) (due : Bool) (rs more : List Record) → AreRecords max_body version place due rs
     → AreRecords max_body version (place + length (together version rs [])) (due_behind due rs) more → AreRecords max_body version place due (rs ++ more)
 are_more max_body version place due [] more each also = subst (λ n. AreRecords max_body version n due more) (omega arith) also
-are_more max_body version place due (r ∷ rs) more each also =
-    (each.0, are_more max_body version (place + length (record_bytes version r)) false rs more each.1
-    (subst (λ (b : Bool). AreRecords max_body version (place + length (record_bytes version r) + length (together version rs [])) b more) (sym (later rs))
-    (subst (λ n. AreRecords max_body version n false more) (omega (arith, length-append (record_bytes version r) (together version rs []))) also)))
+are_more max_body version place due (r ∷ rs) more each also = (
+  each.0,
+  are_more max_body version (place + length (record_bytes version r)) false rs more each.1
+      (subst (λ (b : Bool). AreRecords max_body version (place + length (record_bytes version r) + length (together version rs [])) b more) (sym (later rs))
+      (subst (λ n. AreRecords max_body version n false more) (omega (arith, length-append (record_bytes version r) (together version rs []))) also)),
+)
   where
     later : (rs : List Record) → due_behind false rs ≡ false
     later [] = refl

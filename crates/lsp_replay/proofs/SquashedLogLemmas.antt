@@ -78,7 +78,7 @@ module _ (limits : Bounds) (ranges : AreInRange limits) where
     due_r : r.head.line_due ≡ due_behind due e.us
     due_r = is.due ∙ a.same_due
 
-    next_at : ℕ
+    abbrev next_at : ℕ
     next_at = at + length (together version e.us [])
 
     held_last : IsHeldState limits e.last.server
@@ -201,13 +201,13 @@ same_outcome settings rs goes = outcome_on (opened (log_config settings)) None r
 -- A log with records: what is written begins with its line.
 module _ (settings : Settings) (ranges : AreInRange settings.limits) (log : Log) (r : Record) (rs : List Record) (is : log.records ≡ r ∷ rs)
     (each : AreRecords settings.limits.max_body log.version (length (line_of log.version)) (is_line_due log.version []) (r ∷ rs)) (goes : (squashed settings (r ∷ rs)).stop ≡ None) where
-  s : Session
+  abbrev s : Session
   s = opened (log_config settings)
 
-  start : ℕ
+  abbrev start : ℕ
   start = length (line_of log.version)
 
-  due : Bool
+  abbrev due : Bool
   due = is_line_due log.version []
 
   w : IsSquashedAs settings.limits.max_body start log.version due s None (r ∷ rs) s None
@@ -225,13 +225,13 @@ module _ (settings : Settings) (ranges : AreInRange settings.limits) (log : Log)
   line_is One (q ∷ qs) some = refl
   line_is Two (q ∷ qs) some = refl
 
-  next : Log
+  abbrev next : Log
   next = record { version = log.version; records = w.qs; rest = [] }
 
   all_is : (xs : List Record) (bytes : List ℕ) → is_line_due log.version xs ≡ false → total (squashed settings xs) ≡ bytes → (squashed settings xs).out ++ (squashed settings xs).last (is_line_due log.version xs) ≡ bytes
   all_is xs bytes not e = ap (λ b. (squashed settings xs).out ++ (squashed settings xs).last b) not ∙ e
 
-  bytes : List ℕ
+  abbrev bytes : List ℕ
   bytes = (squashed settings (r ∷ rs)).out ++ (squashed settings (r ∷ rs)).last (is_line_due log.version (r ∷ rs))
 
   bytes_are : bytes ≡ line_of log.version ++ together log.version w.qs []

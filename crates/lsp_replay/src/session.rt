@@ -384,11 +384,7 @@ impl Session {
     }
 
     /// The batches that an accepted change of a document begins.
-    fn begin(
-        &self,
-        document: &Document<'_>,
-        params: &ChangeParams,
-    ) -> Result<Batches, AllocError>
+    fn begin(&self, document: &Document<'_>, params: &ChangeParams) -> Result<Batches, AllocError>
         requires found { entry_at self.now.server.table (string_bytes params.now.uri) ≡ Some document.now }
         requires accepted { refusal_of self.now.server (change_view params.now) ≡ None }
         ensures begun { IfOk result (IsBegun self.now.server (change_view params.now)) }

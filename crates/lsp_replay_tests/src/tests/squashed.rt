@@ -176,10 +176,12 @@ fn is_squashed(alloc: Global, row: &Squashed) -> Result<bool, Fail> {
         run_with(alloc, Command::Replay, &input, settings, SMOOTH)?,
         run_with(alloc, Command::Replay, &output, settings, SMOOTH)?,
     );
-    Ok(first.answer == before.answer
-        && first.output == output
-        && second.output == output
-        && before.output == after.output)
+    Ok(
+        first.answer == before.answer
+            && first.output == output
+            && second.output == output
+            && before.output == after.output,
+    )
 }
 
 #[test]
@@ -219,7 +221,10 @@ static FAULTY: [(Bytes, EngineFault, Bytes); 3] = [
         Bytes::Frames(&[INITIALIZE, SHUTDOWN, EXIT]),
     ),
     (
-        Bytes::Then(&[INITIALIZE, OPEN, WHOLE, SAVE, TYPED], b"Content-Length: 9"),
+        Bytes::Then(
+            &[INITIALIZE, OPEN, WHOLE, SAVE, TYPED],
+            b"Content-Length: 9",
+        ),
         EngineFault::Truncated { place: 878 },
         Bytes::Frames(&[INITIALIZE, OPEN, CANONICAL, SAVE]),
     ),
@@ -228,7 +233,13 @@ static FAULTY: [(Bytes, EngineFault, Bytes); 3] = [
 fn is_left_out(alloc: Global, row: &(Bytes, EngineFault, Bytes)) -> Result<bool, Fail> {
     let (input, fault, output) = row;
     let input = input.get(alloc)?;
-    let run = run_with(alloc, Command::Normalise, &input, squash_settings(MANY)?, SMOOTH)?;
+    let run = run_with(
+        alloc,
+        Command::Normalise,
+        &input,
+        squash_settings(MANY)?,
+        SMOOTH,
+    )?;
     Ok(run.answer == Err(*fault) && run.output == output.get(alloc)?)
 }
 

@@ -49,15 +49,14 @@ returns-then-eq c =
     let version : to_z w32 (of_z w32 c.args.params.now.version) ≡ c.args.params.now.version = to_z-of_z w32 c.args.params.now.version (search rules) in
     let at : IsOpenIn c.args.self.now.server c.in-Some-run.batches = rw c.in-Some-run.is at c.requires in
     let found : entry_at c.args.self.now.server.table (string_bytes c.args.params.now.uri) ≡ Some c.in-Some-get.document = search rules in
-    let same : string_bytes c.args.params.now.uri ≡ c.in-Some-run.batches.uri = search rules in
-    (
+    let same : string_bytes c.args.params.now.uri ≡ c.in-Some-run.batches.uri = search rules in (
       may,
       framed,
       rw c.in-Some-run.is (is_longer c.args.self.now.server (change_view c.args.params.now) c.in-Some-get.document found c.in-Some-run.batches c.add.new.self same
-      (rw (edits_of c.args.params.now.changes.items) (rw (version, c.deref-then-eq.ensures.value) at c.in_ok-add.ensures.ok))),
+          (rw (edits_of c.args.params.now.changes.items) (rw (version, c.deref-then-eq.ensures.value) at c.in_ok-add.ensures.ok))),
       longer_open c.args.self.now.server (change_view c.args.params.now) c.in-Some-get.document found c.in-Some-run.batches c.add.new.self at same
-      (rw (edits_of c.args.params.now.changes.items) (rw (version, c.deref-then-eq.ensures.value) at c.in_ok-add.ensures.ok))
-      (rw (edits_of c.args.params.now.changes.items) (rw (version, c.deref-then-eq.ensures.value) at c.in_ok-add.ensures.reached)),
+          (rw (edits_of c.args.params.now.changes.items) (rw (version, c.deref-then-eq.ensures.value) at c.in_ok-add.ensures.ok))
+          (rw (edits_of c.args.params.now.changes.items) (rw (version, c.deref-then-eq.ensures.value) at c.in_ok-add.ensures.reached)),
     )
 
 pub returns : goal.returns

@@ -10,7 +10,7 @@ returns-in_ok-incoming-in-Client-clause-writing c = rw c.in_ok-incoming.ensures 
 
 pub returns-in_ok-hear-in-Server-clause-writing : goal.returns-in_ok-hear-in-Server-clause-writing
 returns-in_ok-hear-in-Server-clause-writing c = λ not_bad. (
-    ap (normal_if c.args.self.now.server (change_in (asked (reading c.args.body.now)))) c.in_ok-hear.ensures.verdict
-    ∙ heard_has_none c.args.self.now.server (change_in (asked (reading c.args.body.now))) c.args.self.now c.args.self.now.expected c.args.body.now,
-    refl,
-  )
+  ap (normal_if c.args.self.now.server (change_in (asked (reading c.args.body.now)))) c.in_ok-hear.ensures.verdict
+      ∙ heard_has_none c.args.self.now.server (change_in (asked (reading c.args.body.now))) c.args.self.now c.args.self.now.expected c.args.body.now,
+  refl,
+)
