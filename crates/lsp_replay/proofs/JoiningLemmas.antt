@@ -75,6 +75,10 @@ pub too_long_accepted : (limits : Bounds) (units : ℕ → ℕ) (table : List En
 too_long_accepted limits units table uri version batch body len told =
     refused_not (change_refusal limits units table uri version batch) body len (on_not limits units (entry_at table uri) version batch) told
 
+pub not_refused : (first other : Option Refusal) → else_refused first other ≡ None → first ≡ None
+not_refused None other e = refl
+not_refused (Some refusal) other e = e
+
 -- ---- what a session makes of a change
 
 pub running_accepted : (s : Session) (p : ChangeData) → s.server.phase ≡ Running → s.expected ≡ None → refusal_of s.server p ≡ None → (judge_incoming s (did_change (Some p))).verdict ≡ answered changed

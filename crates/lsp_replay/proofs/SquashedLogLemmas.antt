@@ -252,6 +252,7 @@ module _ (settings : Settings) (ranges : AreInRange settings.limits) (log : Log)
   }
 
   some_law : IsSquashed settings (r ∷ rs) bytes
+  unfolding leaves w
   some_law = record { outcome = same_outcome settings (r ∷ rs) goes; leaves = leaves; goes_on = w.goes_on; again = again }
 
 -- A log without records is its line.
