@@ -22,6 +22,6 @@ mod squashing;
 
 pub use engines::{Settings, check, convert, normalise, replay, serve};
 pub use laws::log_laws;
-// TEMP pub use lsp_pair::{Did, Event, Happened, Heard, Pair, PairFault, Ran, run_pair};
+pub use lsp_pair::{Did, Event, Happened, Heard, Pair, PairFault, Ran, run_pair};
 pub use lsp_stream::{Call, EngineFault, Sink, Source, StopReader, StopWriter, Told};
 pub use outcome::Outcome;
