@@ -1,5 +1,5 @@
 -- What a record gives with squash, by what is known of how it is written.
-use Rattle.std.proofs.Common.{◌≡◌, ◌≢◌, ℕ, ◌≤◌, ◌<◌, Bool, true, false, List, [], ◌∷◌, ◌++◌, length, Option, Some, None, refl, sym, ap, ◌∙◌, subst, nat_lt, le-ltb, lt-ltb}
+use Rattle.std.proofs.Common.{◌≡◌, ◌≢◌, ℕ, ◌≤◌, ◌<◌, Bool, true, false, List, [], ◌∷◌, ◌++◌, length, Option, Some, None, refl, sym, ap, ◌∙◌, append_assoc, subst, nat_lt, le-ltb, lt-ltb}
 use Rattle.std.specs.Prelude.{⊤, if◌then◌else◌, Result, Err}
 use Rattle.std.specs.Str.{bytes_eq}
 use Rattle.lsp_frame.specs.Frame.{frame}
@@ -120,3 +120,32 @@ module _ (s : Session) (front singles : List ℕ) (run : Option SquashData) (r :
   gives_next canonical batches is other begun more =
       by_step (end_bytes here) (run_of its_front (its_front ++ canonical) (Some batches))
       (changes canonical is ∙ gives_begun s.server is.params its_front (its_front ++ canonical) front singles run batches other begun) more
+
+  -- ---- the same, by what the texts and the output are after the calls that write them
+
+  module _ (begun_with : Option SquashData) (taken : begun_with ≡ run) (made : List ℕ) (nothing : made ≡ []) where
+    ends : (ended : Option SquashData) (out : List ℕ) → ended ≡ begun_with → out ≡ made ++ end_bytes (run_of front singles ended) → out ≡ end_bytes here
+    ends ended out same is = is ∙ ap (λ z. z ++ end_bytes (run_of front singles ended)) nothing ∙ ap (λ o. end_bytes (run_of front singles o)) (same ∙ taken)
+
+    pub told_as_it_is : (ended : Option SquashData) → ended ≡ begun_with → verdict ≢ bad → normal_if s.server (change_in (asked (reading r.body))) verdict ≡ None
+        → (run_out front_out out : List ℕ) → run_out ≡ made ++ end_bytes (run_of front singles ended) → front_out ≡ run_out ++ its_front → out ≡ front_out ++ r.spelling
+        → (batches : Option SquashData) → batches ≡ None → (last_front last_singles : List ℕ)
+        → (more : List Record) → squashed_in s here (r ∷ more) ≡ after out None (squashed_in now (run_of last_front last_singles batches) more)
+    told_as_it_is ended same not_bad none run_out front_out out run_is front_is is batches closed last_front last_singles more =
+        gives_as_it_is out not_bad none
+        (is ∙ ap (λ z. z ++ r.spelling) (front_is ∙ ap (λ z. z ++ its_front) (ends ended run_out same run_is)) ∙ append_assoc (end_bytes here) its_front r.spelling) more
+        ∙ ap (λ (o : Option SquashData). after out None (squashed_in now (run_of last_front last_singles o) more)) (sym closed)
+
+    pub told_more : (canonical : List ℕ) (batches : SquashData) (is : IsChange s.server (change_in (asked (reading r.body))) verdict canonical) → IsLonger begun_with is.params batches
+        → (frame new_front new_singles : List ℕ) → frame ≡ canonical → new_front ≡ front → new_singles ≡ singles ++ (its_front ++ frame)
+        → (more : List Record) → squashed_in s here (r ∷ more) ≡ after made None (squashed_in now (run_of new_front new_singles (Some batches)) more)
+    told_more canonical batches is longer frame new_front new_singles same same_front more_singles more =
+        rw (nothing, same_front, more_singles, same) (gives_more canonical batches is (subst (λ (o : Option SquashData). IsLonger o is.params batches) taken longer) more)
+
+    pub told_next : (canonical : List ℕ) (ended : Option SquashData) (batches : SquashData) (is : IsChange s.server (change_in (asked (reading r.body))) verdict canonical)
+        → IsOther begun_with is.params → ended ≡ begun_with → IsBegun s.server is.params batches
+        → (out frame new_front new_singles : List ℕ) → out ≡ made ++ end_bytes (run_of front singles ended) → frame ≡ canonical → new_front ≡ its_front → new_singles ≡ its_front ++ frame
+        → (more : List Record) → squashed_in s here (r ∷ more) ≡ after out None (squashed_in now (run_of new_front new_singles (Some batches)) more)
+    told_next canonical ended batches is other ended_is begun out frame new_front new_singles out_is same same_front more_singles more =
+        rw (ends ended out ended_is out_is, same_front, more_singles, same)
+        (gives_next canonical batches is (subst (λ (o : Option SquashData). IsOther o is.params) taken other) begun more)
