@@ -112,7 +112,7 @@ by_change server (Some p) bad body e = none_some server (Some p) bad body e
 no_change : (m : IncomingData) (p : ChangeData) → None ≡ Some p → m ≡ did_change (Some p)
 no_change m p e = absurd (cc)
 
-asks_change : (m : IncomingData) (p : ChangeData) → change_in m ≡ Some p → m ≡ did_change (Some p)
+pub asks_change : (m : IncomingData) (p : ChangeData) → change_in m ≡ Some p → m ≡ did_change (Some p)
 asks_change (did_change params) p e = ap did_change e
 asks_change not_json p e = no_change not_json p e
 asks_change (not_a_message id) p e = no_change (not_a_message id) p e

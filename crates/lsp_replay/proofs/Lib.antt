@@ -15,3 +15,15 @@ pub mod ConvertedLemmas
 pub mod ToldLemmas
 pub mod QuietLemmas
 pub mod ConvertedLogLemmas
+pub mod SquashingLemmas
+pub mod JoiningLemmas
+pub mod SquashedLemmas
+pub mod NumberedLemmas
+pub mod PutLemmas
+pub mod CanonicalChangeLemmas
+pub mod OpenRunLemmas
+pub mod ChangeLemmas
+pub mod SquashLawLemmas
+pub mod PendingLemmas
+pub mod SingleLemmas
+pub mod SquashedLogLemmas

@@ -53,7 +53,7 @@ abbrev pub placed : ℕ → Head → Head
 placed at head = record head { place = place_behind 0 at }
 
 -- the record that is written of a record, with its canonical body, if it has one
-abbrev normal_record : ℕ → Record → Option (List ℕ) → Record
+abbrev pub normal_record : ℕ → Record → Option (List ℕ) → Record
 normal_record at r None = record { head = placed at r.head; spelling = r.spelling; body = r.body }
 normal_record at r (Some body) = record { head = placed at r.head; spelling = frame body; body = body }
 
@@ -72,7 +72,7 @@ pub record IsWrittenAs (limits : Bounds) (at : ℕ) (s : Session) (r q : Record)
 module _ (limits : Bounds) (ranges : AreInRange limits) where
   module _ (at : ℕ) (s : Session) (r : Record) (held : IsHeldState limits s.server) (spells : Spells limits.max_body r.spelling r.body)
       (passing : Passes (judge s r).verdict) where
-    kept : normal_of s r.body (judge s r).verdict ≡ None → IsWrittenAs limits at s r (normal_record at r None)
+    pub kept : normal_of s r.body (judge s r).verdict ≡ None → IsWrittenAs limits at s r (normal_record at r None)
     kept none = record {
       spells = spells;
       place = refl;
@@ -224,12 +224,12 @@ all_is limits ranges One (r ∷ rs) bytes none = append-nil bytes
 all_is limits ranges Two [] bytes none = ap (λ z. z ++ version_line) (none refl) ∙ sym (append-nil version_line) ∙ ap (λ z. version_line ++ z) (sym (none refl))
 all_is limits ranges Two (r ∷ rs) bytes none = append-nil (version_line ++ bytes)
 
-version_is : (max_body : ℕ) (version : Version) (rs : List Record) (bytes : List ℕ) → AreRecords max_body version (length (line_of version)) (is_line_due version []) rs
+pub version_is : (max_body : ℕ) (version : Version) (rs : List Record) (bytes : List ℕ) → AreRecords max_body version (length (line_of version)) (is_line_due version []) rs
     → bytes ≡ line_of version ++ together version rs [] → IsVersion true version bytes
 version_is max_body One rs bytes are is = λ wanted more e. is_version_one max_body 0 false rs are wanted more (sym is ∙ e)
 version_is max_body Two rs bytes are is = (refl, (together Two rs [], is))
 
-start_at : (settings : Settings) (version : Version) → IsVersionAt version (is_line_due version []) (opened (log_config settings))
+pub start_at : (settings : Settings) (version : Version) → IsVersionAt version (is_line_due version []) (opened (log_config settings))
 start_at settings One = record { told = λ e. absurd (let bad_one : false ≡ true = e in cc); kept = λ e. refl }
 start_at settings Two = record { told = λ e. refl; kept = λ e. absurd (let bad_one : true ≡ false = e in cc) }
 

@@ -44,14 +44,14 @@ first_none (Some refusal) later e = e
 
 -- ---- a batch is read back as it was written
 
-edits_back : (batch : List Edit) → AreTexts batch → map edit_of (map written_edit batch) ≡ batch
+pub edits_back : (batch : List Edit) → AreTexts batch → map edit_of (map written_edit batch) ≡ batch
 edits_back [] texts = refl
 edits_back (change ∷ batch) texts =
     let text : chars (encode_utf8_all change.text) ≡ change.text = chars-encodes change.text texts.0 in
     let same : edit_of (written_edit change) ≡ change = λ i. record { range = change.range; text = text i } in
     rw (same, edits_back batch texts.1) refl
 
-asks_back : (uri : List ℕ) (version : ℤ) (batch : List Edit) → IsReadAs uri version batch
+pub asks_back : (uri : List ℕ) (version : ℤ) (batch : List Edit) → IsReadAs uri version batch
     → incoming_of (reading (change_body uri version batch)) ≡ did_change (Some (record { uri = uri; version = version; changes = map written_edit batch }))
 unfolding change_body
 asks_back uri version batch read = ap incoming_of read.as_sent ∙ ap did_change read.back

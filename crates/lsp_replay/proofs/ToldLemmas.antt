@@ -16,6 +16,7 @@ use Rattle.lsp_replay.specs.Course.{Course}
 use Rattle.lsp_replay.specs.Session.{Session, judge}
 use Rattle.lsp_replay.specs.Engine.{Ran, Stopped, Reached, Broken, AtEnd, BreaksAtEnd, IsRunFault, IsRefused}
 use Rattle.lsp_replay.specs.Engines.{View, go_on, course_in}
+use Rattle.lsp_replay.specs.Squashed.{Run, squash_step, squashed_in}
 use Rattle.lsp_replay.specs.Told.{EndedBy, Passed, PassedEnd, CutAtEnd, IsFaultTold, IsTold, RanOver}
 use Rattle.lsp_log.specs.Opening.{IsUnfinished}
 use Rattle.lsp_log.specs.Laws.{IsFirstOf, FirstLaw, VersionLaw}
@@ -37,7 +38,7 @@ settled view s (r ∷ rs) more answer e =
     settled_on (view.record_gives s r (judge s r)).out (view.record_gives s r (judge s r)).end (course_in view (judge s r).session rs) (course_in view (judge s r).session (rs ++ more)) answer e
     (settled view (judge s r).session rs more answer)
 
-Grows : Course → Course → Type 0
+pub Grows : Course → Course → Type 0
 Grows c longer = (rest : List ℕ) × (longer.out ≡ c.out ++ rest)
 
 grows_on : (out : List ℕ) (end : Option (Result Outcome EngineFault)) (c longer : Course) → Grows c longer → Grows (go_on out end c) (go_on out end longer)
@@ -49,6 +50,27 @@ grows : (view : View) (s : Session) (rs more : List Record) → Grows (course_in
 unfolding Grows
 grows view s [] more = ((course_in view s more).out, refl)
 grows view s (r ∷ rs) more = grows_on (view.record_gives s r (judge s r)).out (view.record_gives s r (judge s r)).end _ _ (grows view (judge s r).session rs more)
+
+-- the same of any course
+abbrev pub Settles : (List Record → Course) → Type 0
+Settles course = (rs more : List Record) (answer : Result Outcome EngineFault) → (course rs).stop ≡ Some answer → course (rs ++ more) ≡ course rs
+
+abbrev pub GrowsAll : (List Record → Course) → Type 0
+GrowsAll course = (rs more : List Record) → Grows (course rs) (course (rs ++ more))
+
+squashed_settled : (s : Session) (run : Option Run) (rs more : List Record) (answer : Result Outcome EngineFault) → (squashed_in s run rs).stop ≡ Some answer → squashed_in s run (rs ++ more) ≡ squashed_in s run rs
+squashed_settled s run [] more answer e = absurd (let wrong : None ≡ Some answer = e in cc)
+squashed_settled s run (r ∷ rs) more answer e =
+    let step = squash_step s run r (judge s r) in
+    settled_on step.out step.end (squashed_in (judge s r).session step.run rs) (squashed_in (judge s r).session step.run (rs ++ more)) answer e
+    (squashed_settled (judge s r).session step.run rs more answer)
+
+squashed_grows : (s : Session) (run : Option Run) (rs more : List Record) → Grows (squashed_in s run rs) (squashed_in s run (rs ++ more))
+unfolding Grows
+squashed_grows s run [] more = ((squashed_in s run more).out, refl)
+squashed_grows s run (r ∷ rs) more =
+    let step = squash_step s run r (judge s r) in
+    grows_on step.out step.end _ _ (squashed_grows (judge s r).session step.run rs more)
 
 -- ---- rests that no record begins
 
@@ -73,54 +95,54 @@ bad_rest max_body input place log is side spelling body more spells e = bad_mark
 
 -- ---- from some records to all
 
-module _ (first_of : FirstLaw) (same_version : VersionLaw) (reading : Reading) (view : View) (s : Session) (ended : Bool) (input : List ℕ) (held_old held_new : Option (List ℕ)) (all : Log) (reads : IsReadAs reading input all) (ends : HasNoRecord reading.max_body all) where
-  ended_by : (answer : Result Outcome EngineFault) → Stopped reading (course_in view s) input held_old held_new answer → EndedBy (course_in view s) held_old held_new answer all
+module _ (first_of : FirstLaw) (same_version : VersionLaw) (reading : Reading) (course : List Record → Course) (settles : Settles course) (grows_all : GrowsAll course) (ended : Bool) (input : List ℕ) (held_old held_new : Option (List ℕ)) (all : Log) (reads : IsReadAs reading input all) (ends : HasNoRecord reading.max_body all) where
+  ended_by : (answer : Result Outcome EngineFault) → Stopped reading course input held_old held_new answer → EndedBy course held_old held_new answer all
   ended_by answer stopped =
       let f : IsFirstOf reading stopped.log all = first_of reading input stopped.log all stopped.reads reads ends in
-      let same : course_in view s all.records ≡ course_in view s stopped.log.records = ap (course_in view s) f.all_are ∙ settled view s stopped.log.records f.more answer stopped.stops in
+      let same : course all.records ≡ course stopped.log.records = ap course f.all_are ∙ settles stopped.log.records f.more answer stopped.stops in
       record { stops = ap (λ (c : Course). c.stop) same ∙ stopped.stops; wrote = subst (λ (c : Course). Appends held_old held_new c.out) (sym same) stopped.wrote }
 
-  reached : (P : Log → Type 0) → ((log : Log) → P log → HasNoRecord reading.max_body log) → Reached reading (course_in view s) input held_old held_new P → P all × Passed (course_in view s) held_old held_new all
+  reached : (P : Log → Type 0) → ((log : Log) → P log → HasNoRecord reading.max_body log) → Reached reading course input held_old held_new P → P all × Passed course held_old held_new all
   reached P none r =
       let f : IsFirstOf reading r.log all = first_of reading input r.log all r.reads reads ends in
-      let here : P r.log × Passed (course_in view s) held_old held_new r.log = (r.rest, record { goes_on = r.goes_on; wrote = r.wrote }) in
-      subst (λ (l : Log). P l × Passed (course_in view s) held_old held_new l) (f.same (none r.log r.rest)) here
+      let here : P r.log × Passed course held_old held_new r.log = (r.rest, record { goes_on = r.goes_on; wrote = r.wrote }) in
+      subst (λ (l : Log). P l × Passed course held_old held_new l) (f.same (none r.log r.rest)) here
 
-  front_of_all : (log : Log) → IsReadAs reading input log → AppendsFront held_old held_new (course_in view s log.records).out → AppendsFront held_old held_new (course_in view s all.records).out
+  front_of_all : (log : Log) → IsReadAs reading input log → AppendsFront held_old held_new (course log.records).out → AppendsFront held_old held_new (course all.records).out
   unfolding Grows
   front_of_all log also front =
       let f : IsFirstOf reading log all = first_of reading input log all also reads ends in
-      let more = grows view s log.records f.more in
-      (front.0, front.1 ++ more.0, ap (λ rs. (course_in view s rs).out) f.all_are ∙ more.1 ∙ ap (λ z. z ++ more.0) front.2 ∙ append_assoc front.0 front.1 more.0, front.3)
+      let more = grows_all log.records f.more in
+      (front.0, front.1 ++ more.0, ap (λ rs. (course rs).out) f.all_are ∙ more.1 ∙ ap (λ z. z ++ more.0) front.2 ∙ append_assoc front.0 front.1 more.0, front.3)
 
-  broken : Broken reading (course_in view s) input held_old held_new → AppendsFront held_old held_new (course_in view s all.records).out
+  broken : Broken reading course input held_old held_new → AppendsFront held_old held_new (course all.records).out
   broken b = front_of_all b.log b.reads b.wrote
 
-  stopped_short : Reached reading (course_in view s) input held_old held_new (λ _. Unit {0}) → AppendsFront held_old held_new (course_in view s all.records).out
-  stopped_short r = front_of_all r.log r.reads ((course_in view s r.log.records).out, [], sym (append-nil (course_in view s r.log.records).out), r.wrote)
+  stopped_short : Reached reading course input held_old held_new (λ _. Unit {0}) → AppendsFront held_old held_new (course all.records).out
+  stopped_short r = front_of_all r.log r.reads ((course r.log.records).out, [], sym (append-nil (course r.log.records).out), r.wrote)
 
-  cut : BreaksAtEnd reading (course_in view s) ended input held_old held_new → (ended ≡ true) × CutAtEnd (course_in view s) held_old held_new all
+  cut : BreaksAtEnd reading course ended input held_old held_new → (ended ≡ true) × CutAtEnd course held_old held_new all
   cut b =
       let at = b.1 in
       let f : IsFirstOf reading at.log all = first_of reading input at.log all at.reads reads ends in
-      let out = (course_in view s at.log.records).out in
-      let here : CutAtEnd (course_in view s) held_old held_new at.log = record {
+      let out = (course at.log.records).out in
+      let here : CutAtEnd course held_old held_new at.log = record {
         whole = at.whole;
         goes_on = at.goes_on;
         wrote = (out ++ at.first, at.others, ap (λ z. out ++ z) at.is ∙ sym (append_assoc out at.first at.others), at.wrote);
       } in
-      (b.0, subst (λ (l : Log). CutAtEnd (course_in view s) held_old held_new l) (f.same (empty_rest reading.max_body at.log at.whole)) here)
+      (b.0, subst (λ (l : Log). CutAtEnd course held_old held_new l) (f.same (empty_rest reading.max_body at.log at.whole)) here)
 
-  at_end : (outcome : Outcome) → AtEnd reading (course_in view s) input held_old held_new outcome → PassedEnd (course_in view s) held_old held_new outcome all
+  at_end : (outcome : Outcome) → AtEnd reading course input held_old held_new outcome → PassedEnd course held_old held_new outcome all
   at_end outcome at =
       let f : IsFirstOf reading at.log all = first_of reading input at.log all at.reads reads ends in
-      let here : PassedEnd (course_in view s) held_old held_new outcome at.log = record { whole = at.whole; goes_on = at.goes_on; tells = at.tells; wrote = at.wrote } in
-      subst (λ (l : Log). PassedEnd (course_in view s) held_old held_new outcome l) (f.same (empty_rest reading.max_body at.log at.whole)) here
+      let here : PassedEnd course held_old held_new outcome at.log = record { whole = at.whole; goes_on = at.goes_on; tells = at.tells; wrote = at.wrote } in
+      subst (λ (l : Log). PassedEnd course held_old held_new outcome l) (f.same (empty_rest reading.max_body at.log at.whole)) here
 
   refused : (place : ℕ) → IsRefused reading input held_old held_new place → ⊥
   refused place is = let one : Two ≡ One = same_version reading.versions Two all.version input is.version reads.version ∙ reads.accepted is.only_one in absurd (cc)
 
-  fault_told : (fault : EngineFault) → IsRunFault reading (course_in view s) ended input held_old held_new fault → IsFaultTold reading (course_in view s) ended input held_old held_new all fault
+  fault_told : (fault : EngineFault) → IsRunFault reading course ended input held_old held_new fault → IsFaultTold reading course ended input held_old held_new all fault
   fault_told Read r = reached (IsUnfinished reading input) (λ log is. is.none) r
   fault_told Write (inl b) = inl (broken b)
   fault_told Write (inr b) = inr (cut b)
@@ -135,22 +157,32 @@ module _ (first_of : FirstLaw) (same_version : VersionLaw) (reading : Reading) (
   fault_told (BadLog place) (inr (inl r)) = inr (reached (IsBadMark input place) (λ log is. bad_rest reading.max_body input place log is) r)
   fault_told (BadLog place) (inr (inr is)) = absurd (refused place is)
 
-  ok_told : (outcome : Outcome) → (Stopped reading (course_in view s) input held_old held_new (Ok outcome) ⊎ ((ended ≡ true) × AtEnd reading (course_in view s) input held_old held_new outcome))
-      → IsTold reading (course_in view s) ended input held_old held_new all (Ok outcome)
+  ok_told : (outcome : Outcome) → (Stopped reading course input held_old held_new (Ok outcome) ⊎ ((ended ≡ true) × AtEnd reading course input held_old held_new outcome))
+      → IsTold reading course ended input held_old held_new all (Ok outcome)
   ok_told outcome (inl stopped) = inl (ended_by (Ok outcome) stopped)
   ok_told outcome (inr at) = inr (at.0, at_end outcome at.1)
 
   is_told : (result : Result Outcome EngineFault)
-      → MatchResult result (λ outcome. Stopped reading (course_in view s) input held_old held_new (Ok outcome) ⊎ ((ended ≡ true) × AtEnd reading (course_in view s) input held_old held_new outcome))
-      (IsRunFault reading (course_in view s) ended input held_old held_new) → IsTold reading (course_in view s) ended input held_old held_new all result
+      → MatchResult result (λ outcome. Stopped reading course input held_old held_new (Ok outcome) ⊎ ((ended ≡ true) × AtEnd reading course input held_old held_new outcome))
+      (IsRunFault reading course ended input held_old held_new) → IsTold reading course ended input held_old held_new all result
   is_told (Ok outcome) came = ok_told outcome came
   is_told (Err fault) came = fault_told fault came
 
 -- What is told by some records of the input is told by all.
-pub ran_over : FirstLaw → VersionLaw → (reading : Reading) (view : View) (s : Session) (ended : Bool) (left_old left_new held_old held_new : Option (List ℕ)) (result : Result Outcome EngineFault)
-    → Ran reading (course_in view s) ended left_old left_new held_old held_new result → RanOver reading (course_in view s) ended left_old left_new held_old held_new result
-ran_over first version reading view s ended left_old left_new held_old held_new result ran = record {
+over_course : FirstLaw → VersionLaw → (reading : Reading) (course : List Record → Course) → Settles course → GrowsAll course → (ended : Bool) (left_old left_new held_old held_new : Option (List ℕ)) (result : Result Outcome EngineFault)
+    → Ran reading course ended left_old left_new held_old held_new result → RanOver reading course ended left_old left_new held_old held_new result
+over_course first version reading course settles grows_all ended left_old left_new held_old held_new result ran = record {
   input = ran.input;
   read = ran.read;
-  told = λ all reads ends. is_told first version reading view s ended ran.input held_old held_new all reads ends result ran.came;
+  told = λ all reads ends. is_told first version reading course settles grows_all ended ran.input held_old held_new all reads ends result ran.came;
 }
+
+pub ran_over : FirstLaw → VersionLaw → (reading : Reading) (view : View) (s : Session) (ended : Bool) (left_old left_new held_old held_new : Option (List ℕ)) (result : Result Outcome EngineFault)
+    → Ran reading (course_in view s) ended left_old left_new held_old held_new result → RanOver reading (course_in view s) ended left_old left_new held_old held_new result
+ran_over first version reading view s ended left_old left_new held_old held_new result ran =
+    over_course first version reading (course_in view s) (settled view s) (grows view s) ended left_old left_new held_old held_new result ran
+
+pub ran_over_squashed : FirstLaw → VersionLaw → (reading : Reading) (s : Session) (run : Option Run) (ended : Bool) (left_old left_new held_old held_new : Option (List ℕ)) (result : Result Outcome EngineFault)
+    → Ran reading (squashed_in s run) ended left_old left_new held_old held_new result → RanOver reading (squashed_in s run) ended left_old left_new held_old held_new result
+ran_over_squashed first version reading s run ended left_old left_new held_old held_new result ran =
+    over_course first version reading (squashed_in s run) (squashed_settled s run) (squashed_grows s run) ended left_old left_new held_old held_new result ran

@@ -1,5 +1,5 @@
 -- What an engine wrote where it came to the end of a log.
-use Rattle.std.proofs.Common.{◌≡◌, ◌≢◌, ℕ, Bool, true, false, List, [], ◌∷◌, ◌++◌, length, Option, Some, None, ◌∙◌, ⊎_elim, nat_lt, codes}
+use Rattle.std.proofs.Common.{◌≡◌, ◌≢◌, ℕ, Bool, true, false, List, [], ◌∷◌, ◌++◌, length, Option, Some, None, sym, subst, ◌∙◌, ⊎_elim, nat_lt, codes}
 use Rattle.std.specs.Prelude.{⊤, if◌then◌else◌, Result, Ok, Err, IfOk}
 use Rattle.std.specs.Io.KnownBytes.{Consumes}
 use Rattle.lsp_frame.specs.Frame.{frame}
@@ -13,7 +13,10 @@ use Rattle.lsp_replay.specs.Course.{Course}
 use Rattle.lsp_replay.specs.Session.{Session, Verdict, answered, recorded, bad, judge, opened}
 use Rattle.lsp_replay.specs.Engine.{Ran, AtEnd, Stopped}
 use Rattle.lsp_replay.specs.Engines.{Gives, gives, ends, go_on, unless_bad, course_in, normalising, written, normal_of, front_of, normal_gives, converting, line_before, reply_record, as_log, as_converted, log_config, normal, converted}
-use Rattle.lsp_replay.specs.Laws.{IsNormal, IsConverted, Wrote, all_of}
+use Rattle.lsp_replay.specs.Laws.{IsNormal, IsConverted, IsSquashed, Wrote, all_of}
+use Rattle.lsp_replay.specs.Squashed.{squashed}
+use Rattle.lsp_replay.proofs.SquashedLemmas.{stops_in}
+use Rattle.lsp_replay.proofs.SquashedLogLemmas.{squashed_law}
 use Rattle.lsp_replay.proofs.NormalisedLemmas.{normal_law}
 use Rattle.lsp_replay.proofs.ConvertedLogLemmas.{converted_law}
 
@@ -112,4 +115,36 @@ module _ (settings : Settings) (ranges : AreInRange settings.limits) (left_old l
       (λ (stopped : Stopped (as_converted settings) (converted settings) ran.input held_old held_new (Ok outcome)).
       absurd (stops_not_ok (converted settings stopped.log.records).stop outcome (converted_not_ok (opened (log_config settings)) stopped.log.records) stopped.stops))
       (λ (end : (ended ≡ true) × AtEnd (as_converted settings) (converted settings) ran.input held_old held_new outcome). converted_at_end ran.input outcome end.1 ran.read)
+      ran.came
+
+-- ---- `normalise` with squash
+
+squashed_not_ok : (settings : Settings) (rs : List Record) → IsNotOk (squashed settings rs).stop
+squashed_not_ok settings rs = subst IsNotOk (sym (stops_in (opened (log_config settings)) None rs)) (normal_not_ok (opened (log_config settings)) rs)
+
+module _ (settings : Settings) (ranges : AreInRange settings.limits) (left_old left_new held_old held_new : Option (List ℕ)) where
+  squashed_at_end : (input : List ℕ) (outcome : Outcome) → AtEnd (as_log settings) (squashed settings) input held_old held_new outcome → Consumes left_old left_new input
+      → Wrote settings (IsSquashed settings) left_old left_new held_old held_new outcome
+  squashed_at_end input outcome end read =
+      let holds : IsSquashed settings end.log.records (all_of (squashed settings) end.log) = squashed_law settings ranges input end.log end.reads end.whole end.goes_on in
+      record {
+        input = input;
+        read = read;
+        log = end.log;
+        reads = end.reads;
+        whole = end.whole;
+        tells = end.tells ∙ holds.outcome;
+        bytes = all_of (squashed settings) end.log;
+        wrote = end.wrote;
+        holds = holds;
+      }
+
+  pub wrote_squashed : (ended : Bool) (result : Result Outcome EngineFault) → Ran (as_log settings) (squashed settings) ended left_old left_new held_old held_new result
+      → IfOk result (Wrote settings (IsSquashed settings) left_old left_new held_old held_new)
+  wrote_squashed ended (Err fault) ran = tt
+  wrote_squashed ended (Ok outcome) ran =
+      ⊎_elim
+      (λ (stopped : Stopped (as_log settings) (squashed settings) ran.input held_old held_new (Ok outcome)).
+      absurd (stops_not_ok (squashed settings stopped.log.records).stop outcome (squashed_not_ok settings stopped.log.records) stopped.stops))
+      (λ (end : (ended ≡ true) × AtEnd (as_log settings) (squashed settings) ran.input held_old held_new outcome). squashed_at_end ran.input outcome end.1 ran.read)
       ran.came

@@ -1,5 +1,5 @@
 -- What holds of every log, and of the logs that are written of it.
-use Rattle.std.specs.Prelude.{ℕ, ◌≡◌, ◌≤◌, List, [], ◌∷◌, ◌++◌, length, Option, None}
+use Rattle.std.specs.Prelude.{ℕ, ◌≡◌, ◌≤◌, Bool, List, [], ◌∷◌, ◌++◌, length, Option, None}
 use Rattle.std.specs.Io.KnownBytes.{Consumes, Appends}
 use Rattle.lsp_frame.specs.Frame.{frame}
 use Rattle.lsp_frame.specs.Limits.{AreInRange}
@@ -11,6 +11,7 @@ use Rattle.lsp_replay.specs.Course.{Course}
 use Rattle.lsp_replay.specs.Engine.{last_of}
 use Rattle.lsp_replay.specs.Engines.{report, normal, converted, as_log, as_converted, log_config}
 use Rattle.lsp_replay.specs.Session.{Session, Verdict, answered, judge, opened}
+use Rattle.lsp_replay.specs.Squashed.{squashed}
 
 -- all that a course gives for a log that is records and nothing else
 abbrev pub all_of : (List Record → Course) → Log → List ℕ
@@ -78,3 +79,35 @@ ConvertedLaw =
 -- `replay` gives nothing before the end of the input.
 abbrev pub ReportLaw : Type 0
 ReportLaw = (settings : Settings) (records : List Record) → (report settings records).out ≡ []
+
+-- ---- `normalise` with squash
+
+-- The bytes are a log, records and nothing else, of which `replay` reports the documents of these records, with the same status and as many
+-- refusals. It has fewer messages, where several were written as one.
+pub record LeavesAlike (settings : Settings) (records : List Record) (bytes : List ℕ) : Type 0 where
+  pub log : Log
+  pub reads : IsReadAs (as_log settings) bytes log
+  pub whole : log.rest ≡ []
+  pub to_end : (report settings log.records).stop ≡ None
+  pub documents : (line_due : Bool) → (report settings log.records).last line_due ≡ (report settings records).last line_due
+  pub status : (report settings log.records).outcome.status ≡ (report settings records).outcome.status
+  pub refused : (report settings log.records).outcome.refused ≡ (report settings records).outcome.refused
+
+-- The same, and squashed again it gives the same bytes. The status and counts of the first time are those of `replay`.
+pub record IsSquashed (settings : Settings) (records : List Record) (bytes : List ℕ) : Type 0 where
+  pub outcome : (squashed settings records).outcome ≡ (report settings records).outcome
+  pub leaves : LeavesAlike settings records bytes
+  pub goes_on : (squashed settings leaves.log.records).stop ≡ None
+  pub again : all_of (squashed settings) leaves.log ≡ bytes
+
+-- What `normalise` writes of a log with squash, where no record ends the run of the command.
+abbrev pub SquashedLaw : Type 0
+SquashedLaw =
+    (settings : Settings) → AreInRange settings.limits → (input : List ℕ) (log : Log) → IsReadAs (as_log settings) input log → log.rest ≡ []
+    → (squashed settings log.records).stop ≡ None → IsSquashed settings log.records (all_of (squashed settings) log)
+
+-- With squash a log ends as without: at the same record, for the same cause, with the same status and counts.
+abbrev pub StopsAlike : Type 0
+StopsAlike =
+    (settings : Settings) (records : List Record) → ((squashed settings records).stop ≡ (normal settings records).stop)
+    × ((squashed settings records).outcome ≡ (normal settings records).outcome)

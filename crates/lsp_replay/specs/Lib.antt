@@ -4,5 +4,7 @@ pub mod Progress
 pub mod Session
 pub mod Verdicts
 pub mod Engines
+pub mod Squashed
 pub mod Laws
 pub mod Told
+pub mod Joining

@@ -5,7 +5,8 @@ ghost use Rattle.std.specs.Prelude.{◌≡◌, true, false, IfOk};
 ghost use Rattle.lsp_replay.specs.Engine.{Ran, Called, NonePassedOver};
 ghost use Rattle.lsp_replay.specs.Engines.{log_config, normal, as_stream, as_log, as_converted, replies, report, verdicts, converted};
 ghost use Rattle.lsp_frame.specs.Limits.{AreInRange};
-ghost use Rattle.lsp_replay.specs.Laws.{IsConverted, IsNormal, Wrote};
+ghost use Rattle.lsp_replay.specs.Squashed.{normalised, squashed};
+ghost use Rattle.lsp_replay.specs.Laws.{IsConverted, IsNormal, IsSquashed, Wrote};
 ghost use Rattle.lsp_replay.specs.Told.{RanOver};
 
 use crate::checking::Check;
@@ -15,6 +16,7 @@ use crate::normalising::Normalise;
 use crate::outcome::Outcome;
 use crate::replaying::Replay;
 use crate::serving::Serve;
+use crate::squashing::Squashing;
 use lsp_frame::Limits;
 use lsp_server::{Config, EncodingChoice, Sync};
 use lsp_stream::{EngineFault, Sink, Source};
@@ -27,6 +29,8 @@ pub struct Settings {
     pub limits: Limits,
     /// The encoding of positions in a log of version 1; one of version 2 tells its own.
     pub encoding: Encoding,
+    /// Does [`normalise`] write changes of one document that follow each other as one message? The other commands ignore it.
+    pub squash: bool,
 }
 
 impl Settings {
@@ -170,8 +174,41 @@ pub fn convert<R: Source, W: Sink>(
 /// where something was refused, else 0. An accepted change whose canonical body would be over the limit is
 /// [`EngineFault::BodyTooLong`].
 ///
-/// Costs and memory are those of [`serve`].
+/// With `squash` accepted changes of one document, with no other record between them, are a run. It is written once it has ended, as the one
+/// canonical message of all its batches, under the last version; where that message has more than `max_changes` changes, or its body is over
+/// the limit, each change is written as without squash. After a fault a run that hasn't ended isn't written.
+///
+/// Costs and memory are those of [`serve`]. With `squash` a run of k changes costs some k log k more, and keeps the run's old text, its
+/// canonical messages and what they make of that text.
 pub fn normalise<R: Source, W: Sink>(
+    alloc: Global,
+    reader: &mut R,
+    writer: &mut W,
+    settings: Settings,
+    max_turns: u64,
+) -> Result<Outcome, EngineFault>
+    ensures ran { Ran (as_log settings) (normalised settings) (R.has_ended reader.new)
+        (R.left reader.old) (R.left reader.new) (W.held writer.old) (W.held writer.new) result }
+    ensures told { RanOver (as_log settings) (normalised settings) (R.has_ended reader.new)
+        (R.left reader.old) (R.left reader.new) (W.held writer.old) (W.held writer.new) result }
+    // Without squash, what was written is a log of which `replay` tells the same, and its own normal form.
+    ensures normal { settings.squash ≡ false
+        → IfOk result (Wrote settings (IsNormal settings) (R.left reader.old) (R.left reader.new) (W.held writer.old) (W.held writer.new)) }
+    // With squash, it is a log of which `replay` reports the same documents and the same status, and its own squashed form.
+    ensures squashed { settings.squash ≡ true
+        → IfOk result (Wrote settings (IsSquashed settings) (R.left reader.old) (R.left reader.new) (W.held writer.old) (W.held writer.new)) }
+    ensures called { Called (R.count reader.old) (R.count reader.new) (W.count writer.old) (W.count writer.new) max_turns
+        (R.has_failed reader.new) (W.has_failed writer.new) (R.has_ended reader.new) (R.left reader.new) result }
+    ensures none_passed_over { NonePassedOver (R.has_failed reader.old) (R.has_failed reader.new) (W.has_failed writer.old) (W.has_failed writer.new) result }
+{
+    if settings.squash {
+        return normalise_squashed(alloc, reader, writer, settings, max_turns);
+    }
+    normalise_each(alloc, reader, writer, settings, max_turns)
+}
+
+/// `normalise` without squash.
+fn normalise_each<R: Source, W: Sink>(
     alloc: Global,
     reader: &mut R,
     writer: &mut W,
@@ -182,7 +219,6 @@ pub fn normalise<R: Source, W: Sink>(
         (R.left reader.old) (R.left reader.new) (W.held writer.old) (W.held writer.new) result }
     ensures told { RanOver (as_log settings) (normal settings) (R.has_ended reader.new)
         (R.left reader.old) (R.left reader.new) (W.held writer.old) (W.held writer.new) result }
-    // What was written is a log of which `replay` tells the same, and its own normal form.
     ensures normal { IfOk result (Wrote settings (IsNormal settings) (R.left reader.old) (R.left reader.new) (W.held writer.old) (W.held writer.new)) }
     ensures called { Called (R.count reader.old) (R.count reader.new) (W.count writer.old) (W.count writer.new) max_turns
         (R.has_failed reader.new) (W.has_failed writer.new) (R.has_ended reader.new) (R.left reader.new) result }
@@ -192,4 +228,27 @@ pub fn normalise<R: Source, W: Sink>(
     let rules = settings.rules(false);
     let mut normalise = Normalise::new(alloc, settings.config());
     run_engine(alloc, reader, writer, &mut normalise, rules, max_turns)
+}
+
+/// `normalise` with squash.
+fn normalise_squashed<R: Source, W: Sink>(
+    alloc: Global,
+    reader: &mut R,
+    writer: &mut W,
+    settings: Settings,
+    max_turns: u64,
+) -> Result<Outcome, EngineFault>
+    ensures ran { Ran (as_log settings) (squashed settings) (R.has_ended reader.new)
+        (R.left reader.old) (R.left reader.new) (W.held writer.old) (W.held writer.new) result }
+    ensures told { RanOver (as_log settings) (squashed settings) (R.has_ended reader.new)
+        (R.left reader.old) (R.left reader.new) (W.held writer.old) (W.held writer.new) result }
+    ensures squashed { IfOk result (Wrote settings (IsSquashed settings) (R.left reader.old) (R.left reader.new) (W.held writer.old) (W.held writer.new)) }
+    ensures called { Called (R.count reader.old) (R.count reader.new) (W.count writer.old) (W.count writer.new) max_turns
+        (R.has_failed reader.new) (W.has_failed writer.new) (R.has_ended reader.new) (R.left reader.new) result }
+    ensures none_passed_over { NonePassedOver (R.has_failed reader.old) (R.has_failed reader.new) (W.has_failed writer.old) (W.has_failed writer.new) result }
+{
+    settings.known();
+    let rules = settings.rules(false);
+    let mut squashing = Squashing::new(alloc, settings.config());
+    run_engine(alloc, reader, writer, &mut squashing, rules, max_turns)
 }

@@ -2,7 +2,7 @@
 //!
 //! - `engines`: `serve`, `check`, `replay`, `normalise` and `convert`.
 //! - `engine`: the one loop from a reader to a writer, over what a `handler` makes of each record and of the end.
-//! - `serving`, `checking`, `replaying`, `normalising`, `converting`: the handlers.
+//! - `serving`, `checking`, `replaying`, `normalising`, `squashing`, `converting`: the handlers.
 //! - `session`: a server over the records of a log.
 //! - `outcome`: how a run ends; `laws`: what holds of the logs that are written.
 #![tactic(auto)]
@@ -18,6 +18,7 @@ mod outcome;
 mod replaying;
 mod serving;
 mod session;
+mod squashing;
 
 pub use engines::{Settings, check, convert, normalise, replay, serve};
 pub use laws::log_laws;

@@ -106,7 +106,8 @@ fn push_record(
     }
 }
 
-fn push_line(made: &mut Vec<u8>, line_due: bool) -> Result<(), AllocError>
+/// Writes the line of version 2, where it is due.
+pub fn push_line(made: &mut Vec<u8>, line_due: bool) -> Result<(), AllocError>
     ensures { OnOk result (made.new.items ≡ made.old.items ++ line_if line_due) }
 {
     if line_due {
@@ -115,7 +116,8 @@ fn push_line(made: &mut Vec<u8>, line_due: bool) -> Result<(), AllocError>
     Ok(())
 }
 
-fn push_mark(made: &mut Vec<u8>, version: Version, side: Side) -> Result<(), AllocError>
+/// Writes the mark of a record.
+pub fn push_mark(made: &mut Vec<u8>, version: Version, side: Side) -> Result<(), AllocError>
     ensures { OnOk result (made.new.items ≡ made.old.items ++ mark_of version side) }
 {
     match (version, side) {

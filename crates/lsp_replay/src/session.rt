@@ -1,19 +1,21 @@
 //! A server over the records of a log.
 
-ghost use Rattle.std.specs.Prelude.{◌≡◌, IfOk, OnOk, MatchOption, option_map, map, string_bytes, Some, None};
+ghost use Rattle.std.specs.Prelude.{◌≡◌, ◌≢◌, IfOk, OnOk, MatchOption, option_map, map, string_bytes, Some, None};
 ghost use Rattle.serde_json.specs.View.{view};
 ghost use Rattle.lsp_message.specs.Message.{reading};
 ghost use Rattle.lsp_message.specs.Agreement.{announced_of};
 ghost use Rattle.lsp_message.specs.Seen.{change_view, id_view, message_view};
 ghost use Rattle.lsp_text.specs.Units.{units_in};
 ghost use Rattle.lsp_edit.specs.Edited.{edit_of};
-ghost use Rattle.lsp_store.specs.Table.{change_refusal};
+ghost use Rattle.lsp_store.specs.Table.{change_refusal, entry_at};
 ghost use Rattle.lsp_server.specs.Step.{encoding_of};
 ghost use Rattle.lsp_server.specs.Seen.{incoming_view, answer_view};
 ghost use Rattle.lsp_stream.specs.Ports.{one_more};
-ghost use Rattle.lsp_replay.specs.Session.{answered, opened, judge_at, judge_from, judge_incoming, is_early, is_change, is_refused, is_refusing, expected_after, hear_for, settle_by, result_for, result_in, same_id, versioned, outcome_of};
+ghost use Rattle.lsp_replay.specs.Session.{answered, bad, opened, judge_at, judge_from, judge_incoming, is_early, is_change, is_refused, is_refusing, expected_after, hear_for, settle_by, result_for, result_in, same_id, versioned, outcome_of};
 ghost use Rattle.lsp_replay.specs.Engines.{change_in, normal_body, normal_if, normal_of};
 ghost use Rattle.lsp_replay.specs.Verdicts.{IsTold, verdict_view};
+ghost use Rattle.lsp_replay.specs.Joining.{MayBeOpenIn, IsOpenIn, IsOpenAfter, IsWriting, IsChangeWriting, IsBegun, refusal_of, server_after};
+ghost use Rattle.lsp_server.specs.Incoming.{incoming_of};
 ghost use Rattle.lsp_server.specs.Answer.{changed};
 
 use crate::outcome::Outcome as Ending;
@@ -22,7 +24,7 @@ use lsp_message::{
     ChangeParams, ErrorCode, Id, Message, Outcome, ParamsFault, ReadFault, read, result_initialize,
 };
 use lsp_server::{Answer, Config, Incoming, Phase, Server};
-use lsp_store::StoreFault;
+use lsp_store::{Batches, Document, StoreFault};
 use lsp_text::Encoding;
 use serde_json::Value;
 use std::alloc::{AllocError, Global};
@@ -46,6 +48,19 @@ pub enum Canonical {
     Frame(Vec<u8>),
     /// Its body is over the limit.
     TooLong,
+}
+
+/// How a record is written with squash, and what it makes of the batches of the open run.
+#[derive(Drop)]
+pub enum Writing {
+    /// As it is. The open run ends, if there is one.
+    AsItIs(Option<Batches>),
+    /// It is an accepted change whose canonical body is over the limit.
+    TooLong,
+    /// It is an accepted change of the document of the open run: its canonical frame, and the batches with it.
+    GoesOn(Vec<u8>, Batches),
+    /// It is an accepted change of another document: its canonical frame, the run that it ends, and the batches that it begins.
+    Begins(Vec<u8>, Option<Batches>, Batches),
 }
 
 /// A server that the records of a log are handed to, and what is counted.
@@ -235,9 +250,10 @@ impl Session {
 
     /// The one message of a change that is not refused.
     fn canonical_change(&self, params: &ChangeParams) -> Result<Option<Canonical>, AllocError>
-        ensures { IfOk result (λ told. change_refusal self.now.server.config.limits (units_in (encoding_of self.now.server)) self.now.server.table
+        ensures told { IfOk result (λ told. change_refusal self.now.server.config.limits (units_in (encoding_of self.now.server)) self.now.server.table
             (string_bytes params.now.uri) params.now.version (map edit_of params.now.changes.items) ≡ None
             → IsTold self.now.server.config.limits.max_body (Some (normal_body self.now.server (change_view params.now))) told) }
+        ensures accepted { IfOk result (λ told. told ≢ None → refusal_of self.now.server (change_view params.now) ≡ None) }
     {
         let encoding = self.server.encoding().unwrap_or(Encoding::Utf16);
         let written = self
@@ -252,6 +268,133 @@ impl Session {
                 _ => Ok(None),
             },
         }
+    }
+
+    /// Judges a record as [`Session::judge`] does, and joins an accepted change to the batches of the open run, if they are of its document;
+    /// else batches of its own begin. It takes the open batches.
+    #[tactic(auto, using(crate::proofs::NormalLemmas::same_server))]
+    pub fn judge_and_join(
+        &mut self,
+        head: Head,
+        body: &[u8],
+        run: Option<Batches>,
+    ) -> Result<(Verdict, Writing), AllocError>
+        requires { MayBeOpenIn self.old.server run }
+        ensures verdict { IfOk result (λ judged. verdict_view judged.0 ≡ (judge_at self.old head body.now).verdict) }
+        ensures session { OnOk result (self.new ≡ (judge_at self.old head body.now).session) }
+        ensures writing { IfOk result (λ judged. verdict_view judged.0 ≢ bad →
+            IsWriting self.old.server run (change_in (incoming_of (reading body.now))) (verdict_view judged.0) judged.1) }
+        ensures reached { IfOk result (λ judged. IsOpenAfter self.new.server judged.1) }
+    {
+        self.see_version(head.line_due);
+        let judged = self.join_from(head.side, body, run)?;
+        self.records = one_more(self.records);
+        Ok(judged)
+    }
+
+    /// Judges a record of one side, and joins an accepted change.
+    fn join_from(
+        &mut self,
+        side: Side,
+        body: &[u8],
+        run: Option<Batches>,
+    ) -> Result<(Verdict, Writing), AllocError>
+        requires { MayBeOpenIn self.old.server run }
+        ensures verdict { IfOk result (λ judged. verdict_view judged.0 ≡ (judge_from self.old side body.now).verdict) }
+        ensures session { OnOk result (self.new ≡ (judge_from self.old side body.now).session) }
+        ensures writing { IfOk result (λ judged. verdict_view judged.0 ≢ bad →
+            IsWriting self.old.server run (change_in (incoming_of (reading body.now))) (verdict_view judged.0) judged.1) }
+        ensures reached { IfOk result (λ judged. IsOpenAfter self.new.server judged.1) }
+    {
+        match side {
+            Side::Client => {
+                let incoming = Incoming::read(self.alloc, body)?;
+                self.take_and_join(incoming, run)
+            }
+            Side::Server => Ok((self.hear(body)?, Writing::AsItIs(run))),
+        }
+    }
+
+    /// Judges a client's record, and joins an accepted change.
+    fn take_and_join(
+        &mut self,
+        incoming: Incoming,
+        run: Option<Batches>,
+    ) -> Result<(Verdict, Writing), AllocError>
+        requires { MayBeOpenIn self.old.server run }
+        ensures verdict { IfOk result (λ judged. verdict_view judged.0 ≡ (judge_incoming self.old (incoming_view incoming)).verdict) }
+        ensures session { OnOk result (self.new ≡ (judge_incoming self.old (incoming_view incoming)).session) }
+        ensures writing { IfOk result (λ judged. verdict_view judged.0 ≢ bad →
+            IsWriting self.old.server run (change_in (incoming_view incoming)) (verdict_view judged.0) judged.1) }
+        ensures reached { IfOk result (λ judged. IsOpenAfter self.new.server judged.1) }
+    {
+        let writing = self.join(&incoming, run)?;
+        let verdict = self.take(incoming)?;
+        Ok((verdict, writing))
+    }
+
+    /// How a client's record is written that is judged next. A change that comes before its encoding is known is bad, and not joined.
+    fn join(&self, incoming: &Incoming, run: Option<Batches>) -> Result<Writing, AllocError>
+        requires { MayBeOpenIn self.now.server run }
+        ensures writing { IfOk result (λ writing. (judge_incoming self.now (incoming_view incoming.now)).verdict ≢ bad →
+            IsWriting self.now.server run (change_in (incoming_view incoming.now))
+            (judge_incoming self.now (incoming_view incoming.now)).verdict writing) }
+        ensures reached { IfOk result (λ writing. IsOpenAfter (judge_incoming self.now (incoming_view incoming.now)).session.server writing) }
+    {
+        let Incoming::DidChange(params) = incoming else {
+            return Ok(Writing::AsItIs(run));
+        };
+        let Some(params) = params else {
+            return Ok(Writing::AsItIs(run));
+        };
+        if self.server.phase() != Phase::Running || self.expected.is_some() {
+            return Ok(Writing::AsItIs(run));
+        }
+        self.join_change(params, run)
+    }
+
+    /// How a change is written that a running server is asked for.
+    fn join_change(
+        &self,
+        params: &ChangeParams,
+        run: Option<Batches>,
+    ) -> Result<Writing, AllocError>
+        requires { MayBeOpenIn self.now.server run }
+        ensures { IfOk result (IsChangeWriting self.now.server run (change_view params.now)) }
+    {
+        let Some(canonical) = self.canonical_change(params)? else {
+            return Ok(Writing::AsItIs(run));
+        };
+        let Canonical::Frame(frame) = canonical else {
+            return Ok(Writing::TooLong);
+        };
+        let Some(document) = self.server.store().get(&params.uri) else {
+            return Ok(Writing::AsItIs(run));
+        };
+        let Some(mut batches) = run else {
+            let begun = self.begin(&document, params)?;
+            return Ok(Writing::Begins(frame, None, begun));
+        };
+        if batches.uri() == params.uri.as_str() {
+            batches.add(&document, params.version, &params.changes)?;
+            return Ok(Writing::GoesOn(frame, batches));
+        }
+        let begun = self.begin(&document, params)?;
+        Ok(Writing::Begins(frame, Some(batches), begun))
+    }
+
+    /// The batches that an accepted change of a document begins.
+    fn begin(&self, document: &Document<'_>, params: &ChangeParams) -> Result<Batches, AllocError>
+        requires found { entry_at self.now.server.table (string_bytes params.now.uri) ≡ Some document.now }
+        requires accepted { refusal_of self.now.server (change_view params.now) ≡ None }
+        ensures begun { IfOk result (IsBegun self.now.server (change_view params.now)) }
+        ensures reached { IfOk result (IsOpenIn (server_after self.now.server (change_view params.now))) }
+    {
+        let encoding = self.server.encoding().unwrap_or(Encoding::Utf16);
+        let limits = self.server.store().limits();
+        let mut batches = Batches::start(self.alloc, limits, document, encoding)?;
+        batches.add(document, params.version, &params.changes)?;
+        Ok(batches)
     }
 
     /// The first record of a log of version 2 tells its version.

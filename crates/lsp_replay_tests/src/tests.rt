@@ -5,6 +5,7 @@ mod failures;
 mod pieces;
 mod refused;
 mod sessions;
+mod squashed;
 mod versions;
 mod words;
 
@@ -180,6 +181,7 @@ fn settings() -> Result<Settings, Fail> {
     Ok(Settings {
         limits: Limits::new(16_777_216, 16_777_216, 1_024, 65_536)?,
         encoding: Encoding::Utf16,
+        squash: false,
     })
 }
 

@@ -1,10 +1,10 @@
 -- Batches of changes on one document, as one: what the fields that are kept are.
-use Rattle.std.proofs.Common.{ℕ, ℤ, ◌≡◌, ◌≤◌, false, nat_lt, int_le, List, [], ◌++◌, length, sum_by, IsUtf8, encode_utf8_all, Option, None, Ok, refl, sym, ap, ap₂, ◌∙◌, subst, arith}
+use Rattle.std.proofs.Common.{ℕ, ℤ, ◌≡◌, ◌≤◌, true, false, nat_lt, int_le, List, [], ◌++◌, length, sum_by, IsUtf8, encode_utf8_all, Option, None, Ok, refl, sym, ap, ap₂, ◌∙◌, subst, arith}
 use Rattle.std.proofs.lemmas.Bool.{le-ltb}
 use Rattle.std.proofs.lemmas.List.Sums.{sum_by-le-sum_by}
-use Rattle.std.proofs.lemmas.Str.{encodes-chars}
+use Rattle.std.proofs.lemmas.Str.{chars-encodes, encodes-chars, scalars-chars}
 use Rattle.std.specs.Char.{len_utf8}
-use Rattle.std.specs.Str.{chars}
+use Rattle.std.specs.Str.{all_scalars, chars}
 use Rattle.lsp_frame.specs.Limits.{Bounds}
 use Rattle.lsp_text.specs.Units.{units_in}
 use Rattle.lsp_text.specs.declared.encoding.Encoding.{Encoding}
@@ -14,17 +14,18 @@ use Rattle.lsp_edit.specs.Canonical.{canonical}
 use Rattle.lsp_edit.specs.Compose.{then_items}
 use Rattle.lsp_edit.specs.Joined.{IsJoined, IsReached, JoinedData, joined_text}
 use Rattle.lsp_edit.specs.Laws.{IsCanonical}
-use Rattle.lsp_edit.proofs.ComposeLemmas.{then_means}
+use Rattle.lsp_edit.proofs.ComposeLemmas.{text_of-then, then_means}
 use Rattle.lsp_edit.proofs.EditedLemmas.{plain_text}
 use Rattle.lsp_edit.proofs.LawLemmas.{canonical_law, units_some}
 use Rattle.lsp_store.specs.declared.fault.StoreFault.{StoreFault}
 use Rattle.lsp_store.specs.declared.held.Held.{Held}
 use Rattle.lsp_store.specs.Faults.{IsRefusal}
-use Rattle.lsp_store.specs.Message.{body_refusal, change_body}
+use Rattle.lsp_store.specs.Message.{AreTexts, body_refusal, change_body}
 use Rattle.lsp_store.specs.Opened.{entry_under}
-use Rattle.lsp_store.specs.Squash.{IsSquashAfter, SquashData, add_refusal, squash_after, items_meant, squash_batch, squash_of, squash_refusal}
-use Rattle.lsp_store.specs.Table.{Entry, Refusal, batch_bytes, bytes_after, changed, greatest_batch, entry_refusal}
+use Rattle.lsp_store.specs.Squash.{HasReached, IsSquashAfter, SquashData, add_refusal, squash_after, items_meant, squash_batch, squash_of, squash_refusal}
+use Rattle.lsp_store.specs.Table.{Entry, Refusal, batch_bytes, bytes_after, changed, greatest_batch, entry_refusal, meant_text}
 use Rattle.lsp_store.proofs.ProperLemmas.{bytes_sum}
+use Rattle.lsp_store.proofs.ScalarLemmas.{scalar-meaning, scalar-text}
 
 -- what callers see of the fields
 abbrev pub seen : List ℕ → Bounds → Encoding → JoinedData → ℤ → SquashData
@@ -139,3 +140,56 @@ singles_mean units some old batch more single items others one same two =
 pub after_is : (old : SquashData) (version : ℤ) (batch : List Edit) (new : SquashData) → IsSquashAfter old version batch new → new ≡ squash_after old version batch
 after_is old version batch new adds =
     adds.is ∙ ap (λ (o : List Item). record old { items = then_items old.items o; version = version }) (sym (ap items_meant adds.means))
+
+-- ---- batches on a document that is kept elsewhere
+
+-- What became of the text's characters is what the batches before led to.
+pub is_reached : (joined : JoinedData) (text : List ℕ) → IsUtf8 text → chars text ≡ joined_text joined → IsReached joined text
+is_reached joined text utf8 is = record { utf8 = utf8; text_is = is }
+
+module _ (kept : SquashData) (entry : Entry) (version : ℤ) (more : List Edit) (utf8 : IsUtf8 entry.text) (at : HasReached kept entry)
+    (accepted : entry_refusal kept.limits (units_in kept.encoding) entry version more ≡ None) where
+  same_text : entry.text ≡ bytes_after kept.text kept.items
+  same_text = sym (encodes-chars entry.text utf8) ∙ ap encode_utf8_all at.text
+
+  pub add_accepted : add_refusal kept version more ≡ None
+  add_accepted =
+      ap₂ (λ (t : List ℕ) (v : ℤ). entry_refusal kept.limits (units_in kept.encoding) (record { uri = kept.uri; language = []; version = v; text = t }) version more)
+      (sym same_text) (sym at.version)
+      ∙ accepted
+
+  -- A batch more leads to the changed document.
+  pub has_reached : (next : SquashData) → AreTexts more → IsSquashAfter kept version more next → HasReached next (changed (units_in kept.encoding) entry version more)
+  has_reached next texts adds =
+      let means : meaning (units_in kept.encoding) (chars entry.text) more ≡ Ok adds.others = ap (λ t. meaning (units_in kept.encoding) t more) at.text ∙ adds.means in
+      let made : meant_text entry.text (meaning (units_in kept.encoding) (chars entry.text) more) ≡ bytes_after entry.text adds.others = ap (meant_text entry.text) means in
+      let all : all_scalars (text_of (chars entry.text) adds.others) ≡ true =
+      scalar-text (chars entry.text) adds.others (scalars-chars entry.text utf8) (scalar-meaning (units_in kept.encoding) (chars entry.text) more adds.others texts means) in
+      record {
+        text =
+            ap chars made ∙ chars-encodes (text_of (chars entry.text) adds.others) all
+            ∙ ap (λ t. text_of t adds.others) at.text
+            ∙ sym (text_of-then (chars kept.text) kept.items adds.others)
+            ∙ sym (ap (λ (k : SquashData). text_of (chars k.text) k.items) adds.is);
+        version = sym (ap (λ (k : SquashData). k.version) adds.is);
+      }
+
+-- A batch more, by what is kept of the batches before it.
+pub joins_after : (uri : List ℕ) (limits : Bounds) (encoding : Encoding) (joined next : JoinedData) (before version next_version : ℤ) (kept : SquashData) (more : List Edit) → seen uri limits encoding joined before ≡ kept
+    → add_refusal kept version more ≡ None → IsJoined (units_in encoding) joined more next → next_version ≡ version → IsSquashAfter kept version more (seen uri limits encoding next next_version)
+joins_after uri limits encoding joined next before version next_version kept more view accepted is version_is = record {
+  accepted = accepted;
+  others = is.others;
+  means = more_means;
+  is = next_is;
+  together = λ b p.
+      then_means (units_in kept.encoding) (chars kept.text) b more kept.items is.others p more_means ∙ ap Ok (sym (ap (λ (k : SquashData). k.items) next_is));
+}
+  where
+    more_means : meaning (units_in kept.encoding) (text_of (chars kept.text) kept.items) more ≡ Ok is.others
+    more_means = subst (λ (k : SquashData). meaning (units_in k.encoding) (text_of (chars k.text) k.items) more ≡ Ok is.others) view is.means
+
+    next_is : seen uri limits encoding next next_version ≡ record kept { items = then_items kept.items is.others; version = version }
+    next_is =
+        ap₂ (λ (j : JoinedData) (v : ℤ). seen uri limits encoding j v) is.is version_is
+        ∙ ap (λ (k : SquashData). record k { items = then_items k.items is.others; version = version }) view

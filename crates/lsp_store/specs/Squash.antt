@@ -41,6 +41,11 @@ reached_entry squash = record { uri = squash.uri; language = []; version = squas
 abbrev pub add_refusal : SquashData → ℤ → List Edit → Option Refusal
 add_refusal squash version batch = entry_refusal squash.limits (units_in squash.encoding) (reached_entry squash) version batch
 
+-- A document has the text and the version that all batches lead to.
+pub record HasReached (squash : SquashData) (entry : Entry) : Type 0 where
+  pub text : chars entry.text ≡ text_of (chars squash.text) squash.items
+  pub version : entry.version ≡ squash.version
+
 -- the items that a batch means; none where it means nothing
 abbrev pub items_meant : Result (List Item) (ℕ × Fault) → List Item
 items_meant (Ok items) = items

@@ -2,7 +2,7 @@
 
 ghost use Rattle.std.specs.Prelude.{◌≡◌, ◌≤◌, ℕ, IfNone, IfOk, IfSome, Some, length, option_map};
 ghost use Rattle.std.specs.Result.{result_ok};
-ghost use Rattle.std.specs.Str.{IsCharBoundary, chars};
+ghost use Rattle.std.specs.Str.{IsCharBoundary, IsUtf8, chars};
 ghost use Rattle.lsp_text.specs.LineStarts.{Indexes, IsPlace};
 ghost use Rattle.lsp_text.specs.Positions.{denoted, exact_position};
 ghost use Rattle.lsp_text.specs.Text.{place_of};
@@ -99,5 +99,12 @@ impl<'a> Document<'a> {
         lines
             .is_place(text, offset)
             .then(|| lines.position(text, encoding, offset))
+    }
+
+    /// Shows that the text is UTF-8; it does nothing else.
+    pub(crate) fn show_utf8(&self)
+        ensures { IsUtf8 self.now.text }
+    {
+        let _text = self.text();
     }
 }

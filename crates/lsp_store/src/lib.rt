@@ -4,11 +4,13 @@
 //! - `document`: an open document as a caller reads it.
 //! - `held`: what is kept of a document, and how a batch of changes is put into it.
 //! - `canonical`: the one message in which an accepted batch of changes is written.
-//! - `squash`: many batches on one document as one message; `reached`: the document that they lead to.
+//! - `squash`: many batches on one document as one message; `reached`: the document that they lead to; `batches`: the same over a
+//!   document that is kept elsewhere.
 //! - `fault`: why a call is refused.
 //! - `laws`: what is true of the table of documents, whatever commands come.
 #![tactic(auto)]
 
+mod batches;
 mod canonical;
 mod document;
 mod fault;
@@ -18,6 +20,7 @@ mod reached;
 mod squash;
 mod store;
 
+pub use batches::Batches;
 pub use document::Document;
 pub use fault::StoreFault;
 pub use laws::store_laws;

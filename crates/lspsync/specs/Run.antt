@@ -6,7 +6,8 @@ use Rattle.lsp_stream.specs.declared.fault.EngineFault.TheVariants.{Read, Write,
 use Rattle.lsp_stream.specs.Ports.{Rose}
 use Rattle.lsp_replay.specs.declared.outcome.Outcome.{Outcome}
 use Rattle.lsp_replay.specs.Engine.{Ran}
-use Rattle.lsp_replay.specs.Engines.{as_stream, as_log, as_converted, replies, verdicts, report, normal, converted}
+use Rattle.lsp_replay.specs.Engines.{as_stream, as_log, as_converted, replies, verdicts, report, converted}
+use Rattle.lsp_replay.specs.Squashed.{normalised}
 use Rattle.lspsync.specs.declared.command_line.Call.{Call}
 use Rattle.lspsync.specs.declared.command_line.Call.TheVariants as call
 
@@ -30,7 +31,7 @@ EngineRan (call.Check settings) ended left_old left_new held_old held_new result
 EngineRan (call.Replay settings) ended left_old left_new held_old held_new result =
     Ran (as_log settings) (report settings) ended left_old left_new held_old held_new result
 EngineRan (call.Normalise settings) ended left_old left_new held_old held_new result =
-    Ran (as_log settings) (normal settings) ended left_old left_new held_old held_new result
+    Ran (as_log settings) (normalised settings) ended left_old left_new held_old held_new result
 EngineRan (call.Convert settings) ended left_old left_new held_old held_new result =
     Ran (as_converted settings) (converted settings) ended left_old left_new held_old held_new result
 

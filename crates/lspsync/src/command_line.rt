@@ -4,7 +4,7 @@ mod help;
 
 use crate::command_line::help::{Limit, Page};
 use clap::builder::ValueParser;
-use clap::{Arg, ArgMatches, Command, Error};
+use clap::{Arg, ArgAction, ArgMatches, Command, Error};
 use lsp_frame::Limits;
 use lsp_replay::Settings;
 use lsp_server::{Config, EncodingChoice, Sync};
@@ -37,10 +37,10 @@ fn call_of(matches: &ArgMatches<'_>) -> Option<Call> {
     let (name, options) = matches.subcommand()?;
     match name {
         "serve" => config_of(options).map(Call::Serve),
-        "check" => settings_of(options).map(Call::Check),
-        "replay" => settings_of(options).map(Call::Replay),
-        "normalise" => settings_of(options).map(Call::Normalise),
-        "convert" => settings_of(options).map(Call::Convert),
+        "check" => settings_of(options, false).map(Call::Check),
+        "replay" => settings_of(options, false).map(Call::Replay),
+        "normalise" => settings_of(options, options.get_flag("squash")).map(Call::Normalise),
+        "convert" => settings_of(options, false).map(Call::Convert),
         _ => None,
     }
 }
@@ -59,10 +59,11 @@ fn config_of(options: &ArgMatches<'_>) -> Option<Config> {
     })
 }
 
-fn settings_of(options: &ArgMatches<'_>) -> Option<Settings> {
+fn settings_of(options: &ArgMatches<'_>, squash: bool) -> Option<Settings> {
     Some(Settings {
         limits: limits_of(options)?,
         encoding: encoding_of(options)?,
+        squash,
     })
 }
 
@@ -105,6 +106,9 @@ fn subcommand<'a>(alloc: Global, page: Page) -> Result<Command<'a>, AllocError> 
         let sync = choice(alloc, "sync", KINDS.as_slice(), "incremental");
         command = command.arg(sync.help(help))?;
     }
+    if let Some(help) = page.squash {
+        command = command.arg(flag(alloc, "squash").help(help))?;
+    }
     for limit in help::limits() {
         command = command.arg(number(alloc, limit))?;
     }
@@ -118,6 +122,11 @@ fn choice<'a>(alloc: Global, name: &'a str, names: &'a [&'a str], default: &'a s
         .value_name("NAME")
         .value_parser(names)
         .default_value(default)
+}
+
+/// An option without a value.
+fn flag<'a>(alloc: Global, name: &'a str) -> Arg<'a> {
+    Arg::new(alloc, name).long(name).action(ArgAction::SetTrue)
 }
 
 /// An option with a number in a range.

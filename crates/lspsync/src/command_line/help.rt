@@ -11,6 +11,8 @@ pub struct Page {
     pub encoding: &'static str,
     /// What `--sync` is for, where the command takes it.
     pub sync: Option<&'static str>,
+    /// What `--squash` is for, where the command takes it.
+    pub squash: Option<&'static str>,
 }
 
 /// An option that bounds what is taken.
@@ -40,10 +42,14 @@ pub fn pages() -> [Page; 5] {
             example: SERVE_EXAMPLE,
             encoding: PREFERRED_ENCODING,
             sync: Some(SYNC),
+            squash: None,
         },
         log_page("check", CHECK, CHECK_EXAMPLE),
         log_page("replay", REPLAY, REPLAY_EXAMPLE),
-        log_page("normalise", NORMALISE, NORMALISE_EXAMPLE),
+        Page {
+            squash: Some(SQUASH),
+            ..log_page("normalise", NORMALISE, NORMALISE_EXAMPLE)
+        },
         log_page("convert", CONVERT, CONVERT_EXAMPLE),
     ]
 }
@@ -56,6 +62,7 @@ fn log_page(name: &'static str, about: &'static str, example: &'static str) -> P
         example,
         encoding: ENCODING,
         sync: None,
+        squash: None,
     }
 }
 
@@ -148,7 +155,10 @@ characters and inserted the same texts give the same bytes, so such logs can be 
 status is 1 where something was refused.
 
 Example, a change of the whole text, which becomes one with a range:
-  ./lspsync normalise < examples/whole-text.log";
+  ./lspsync normalise < examples/whole-text.log
+
+Example, what a person typed, as one change:
+  ./lspsync normalise --squash < examples/typing.log";
 
 static CONVERT: &str =
     "Write a log in the format of version 2, which holds the server's replies too";
@@ -169,6 +179,9 @@ static PREFERRED_ENCODING: &str =
     "What a position's character is to count, if the editor offers it; else utf-16";
 
 static SYNC: &str = "How the editor is asked to send changes: as whole texts or as ranges";
+
+static SQUASH: &str =
+    "Write changes of one document that follow each other as one message, as between two saves";
 
 static MAX_BODY: &str = "Greatest length of a message, in bytes, from 4096 to 1073741824";
 

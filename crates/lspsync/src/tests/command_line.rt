@@ -4,15 +4,19 @@ use super::*;
 use std::str;
 use std::test::Fail;
 
-static WRONG: [&[&str]; 22] = [
+static WRONG: [&[&str]; 26] = [
     &["lspsync"],
     &["lspsync", "rewrite"],
     &["lspsync", "--max-body", "4096", "check"],
     &["lspsync", "help", "rewrite"],
     &["lspsync", "check", "session.log"],
     &["lspsync", "check", "--sync", "full"],
-    &["lspsync", "normalise", "--squash"],
+    &["lspsync", "normalise", "--squash", "--squash"],
+    &["lspsync", "normalise", "--squash=yes"],
     &["lspsync", "serve", "--squash"],
+    &["lspsync", "check", "--squash"],
+    &["lspsync", "replay", "--squash"],
+    &["lspsync", "convert", "--squash"],
     &["lspsync", "serve", "--sync", "none"],
     &["lspsync", "serve", "--sync"],
     &["lspsync", "replay", "--encoding", "utf-7"],

@@ -2,7 +2,7 @@ use Rattle.lsp_replay.proofs.WroteLemmas.{wrote_normal}
 use Rattle.lsp_replay.specs.Session.{opened}
 use Rattle.lsp_replay.specs.Engines.{as_log, log_config, normalising}
 use Rattle.lsp_replay.proofs.ToldLemmas.{ran_over}
-use Rattle.lsp_replay.proofs.engines.normalise.Goals as goal
+use Rattle.lsp_replay.proofs.engines.normalise_each.Goals as goal
 
 pub returns-clause-normal : goal.returns-clause-normal
 returns-clause-normal g c =

@@ -1,0 +1,75 @@
+-- With squash a log ends as without: at the same record, for the same cause, with the same status and counts.
+use Rattle.std.proofs.Common.{ℕ, ◌≡◌, true, false, nat_lt, List, [], ◌∷◌, length, Option, Some, None, Result, Ok, Err, refl, ap, ◌∙◌, ⊎_elim, bytes_eq}
+use Rattle.std.proofs.lemmas.Bool.{cases_Bool}
+use Rattle.lsp_message.specs.Message.{reading}
+use Rattle.lsp_message.specs.Params.{ChangeData}
+use Rattle.lsp_server.specs.Answer.{reply, changed, dropped, ignored, refused, exits, already_ended}
+use Rattle.lsp_server.specs.Incoming.{incoming_of}
+use Rattle.lsp_server.specs.Step.{State}
+use Rattle.lsp_replay.specs.declared.outcome.Outcome.{Outcome}
+use Rattle.lsp_stream.specs.declared.fault.EngineFault.{EngineFault}
+use Rattle.lsp_log.specs.Log.{Record}
+use Rattle.lsp_replay.specs.Course.{Course}
+use Rattle.lsp_replay.specs.Engines.{Gives, change_in, course_in, front_of, go_on, log_config, normal_body, normal_if, normalising, unless_bad, written}
+use Rattle.lsp_replay.specs.Session.{Session, Verdict, answered, recorded, bad, judge, opened}
+use Rattle.lsp_replay.specs.Laws.{StopsAlike}
+use Rattle.lsp_replay.specs.Squashed.{Run, change_gives, squash_step, squashed_in, step_if}
+
+abbrev single : State → Record → List ℕ → Option ChangeData → Verdict → Gives
+single server r front change v = unless_bad r v (written server.config.limits.max_body r front (normal_if server change v))
+
+change_end : (server : State) (p : ChangeData) (front bytes : List ℕ) (run : Option Run) → (change_gives server p front bytes run).end ≡ None
+change_end server p front bytes None = refl
+change_end server p front bytes (Some run) =
+    ⊎_elim (λ (is : bytes_eq p.uri run.squash.uri ≡ true). rw is refl) (λ (not : bytes_eq p.uri run.squash.uri ≡ false). rw not refl) (cases_Bool (bytes_eq p.uri run.squash.uri))
+
+step_end : (server : State) (r : Record) (front : List ℕ) (run : Option Run) (change : Option ChangeData) (v : Verdict) → (step_if server r front run change v).end ≡ (single server r front change v).end
+step_end server r front run None bad = refl
+step_end server r front run (Some p) bad = refl
+step_end server r front run None recorded = refl
+step_end server r front run (Some p) recorded = refl
+step_end server r front run None (answered (reply m)) = refl
+step_end server r front run None (answered changed) = refl
+step_end server r front run None (answered dropped) = refl
+step_end server r front run None (answered ignored) = refl
+step_end server r front run None (answered (refused refusal)) = refl
+step_end server r front run None (answered (exits status)) = refl
+step_end server r front run None (answered already_ended) = refl
+step_end server r front run (Some p) (answered (reply m)) = refl
+step_end server r front run (Some p) (answered dropped) = refl
+step_end server r front run (Some p) (answered ignored) = refl
+step_end server r front run (Some p) (answered (refused refusal)) = refl
+step_end server r front run (Some p) (answered (exits status)) = refl
+step_end server r front run (Some p) (answered already_ended) = refl
+step_end server r front run (Some p) (answered changed) =
+    ⊎_elim (λ (long : nat_lt server.config.limits.max_body (length (normal_body server p)) ≡ true). rw long refl)
+    (λ (within : nat_lt server.config.limits.max_body (length (normal_body server p)) ≡ false). rw within (change_end server p front _ run))
+    (cases_Bool (nat_lt server.config.limits.max_body (length (normal_body server p))))
+
+stop_on : (out bytes : List ℕ) (end also : Option (Result Outcome EngineFault)) (c d : Course) → end ≡ also → c.stop ≡ d.stop → (go_on out end c).stop ≡ (go_on bytes also d).stop
+stop_on out bytes None None c d same stops = stops
+stop_on out bytes None (Some a) c d same stops = absurd (cc)
+stop_on out bytes (Some e) None c d same stops = absurd (cc)
+stop_on out bytes (Some e) (Some a) c d same stops = same
+
+pub stops_in : (s : Session) (run : Option Run) (rs : List Record) → (squashed_in s run rs).stop ≡ (course_in normalising s rs).stop
+stops_in s run [] = refl
+stops_in s run (r ∷ rs) =
+    stop_on _ _ _ _ _ _ (step_end s.server r (front_of (judge s r).session r) run (change_in (incoming_of (reading r.body))) (judge s r).verdict)
+    (stops_in (judge s r).session (squash_step s run r (judge s r)).run rs)
+
+outcome_on : (out bytes : List ℕ) (end also : Option (Result Outcome EngineFault)) (c d : Course) → end ≡ also → c.outcome ≡ d.outcome → (go_on out end c).outcome ≡ (go_on bytes also d).outcome
+outcome_on out bytes None None c d same outcomes = outcomes
+outcome_on out bytes None (Some a) c d same outcomes = absurd (cc)
+outcome_on out bytes (Some e) None c d same outcomes = absurd (cc)
+outcome_on out bytes (Some e) (Some a) c d same outcomes = refl
+
+-- Its status and counts are those of `normalise`.
+pub outcome_in : (s : Session) (run : Option Run) (rs : List Record) → (squashed_in s run rs).outcome ≡ (course_in normalising s rs).outcome
+outcome_in s run [] = refl
+outcome_in s run (r ∷ rs) =
+    outcome_on _ _ _ _ _ _ (step_end s.server r (front_of (judge s r).session r) run (change_in (incoming_of (reading r.body))) (judge s r).verdict)
+    (outcome_in (judge s r).session (squash_step s run r (judge s r)).run rs)
+
+pub stops_alike : StopsAlike
+stops_alike settings records = (stops_in (opened (log_config settings)) None records, outcome_in (opened (log_config settings)) None records)

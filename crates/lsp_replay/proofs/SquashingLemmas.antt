@@ -1,0 +1,151 @@
+-- What a record gives with squash, by what is known of how it is written.
+use Rattle.std.proofs.Common.{◌≡◌, ◌≢◌, ℕ, ◌≤◌, ◌<◌, Bool, true, false, List, [], ◌∷◌, ◌++◌, length, Option, Some, None, refl, sym, ap, ◌∙◌, append_assoc, subst, nat_lt, le-ltb, lt-ltb}
+use Rattle.std.specs.Prelude.{⊤, if◌then◌else◌, Result, Err}
+use Rattle.std.specs.Str.{bytes_eq}
+use Rattle.lsp_frame.specs.Frame.{frame}
+use Rattle.lsp_message.specs.Params.{ChangeData}
+use Rattle.lsp_store.specs.Squash.{SquashData, squash_of}
+use Rattle.lsp_store.specs.Table.{Entry, entry_at}
+use Rattle.lsp_server.specs.Answer.{AnswerData, Sent, reply, changed, dropped, ignored, already_ended, refused, exits}
+use Rattle.lsp_server.specs.Step.{State, encoding_of}
+use Rattle.lsp_log.specs.Log.{Record}
+use Rattle.lsp_stream.specs.declared.fault.EngineFault.TheVariants.{BadLog, BodyTooLong}
+use Rattle.lsp_message.specs.Message.{reading}
+use Rattle.lsp_server.specs.Incoming.{incoming_of}
+use Rattle.lsp_log.specs.declared.record.Version.{Version}
+use Rattle.lsp_log.specs.Log.{mark_of}
+use Rattle.lsp_replay.specs.Course.{after, written_first}
+use Rattle.lsp_replay.specs.Engines.{change_in, front_of, go_on, line_if, normal_if, normal_body}
+use Rattle.lsp_replay.specs.Session.{Session, Verdict, answered, recorded, bad, judge}
+use Rattle.lsp_replay.specs.Squashed.{Run, Step, squash_step, squashed_in, run_of, run_bytes, end_bytes, begun, longer, joined_by, faulty, change_gives, change_step, other_step, step_if}
+use Rattle.lsp_replay.specs.Joining.{IsChange, IsFramed, IsLonger, IsOther, IsBegun}
+
+-- any record but an accepted change
+pub step_other : (server : State) (r : Record) (front : List ℕ) (run : Option Run) (change : Option ChangeData) (verdict : Verdict) → verdict ≢ bad → normal_if server change verdict ≡ None
+    → step_if server r front run change verdict ≡ other_step r front run
+step_other server r front run change bad not_bad none = absurd (not_bad refl)
+step_other server r front run None recorded not_bad none = refl
+step_other server r front run (Some p) recorded not_bad none = refl
+step_other server r front run None (answered answer) not_bad none = refl
+step_other server r front run (Some p) (answered changed) not_bad none = absurd (let wrong : Some (normal_body server p) ≡ None = none in cc)
+step_other server r front run (Some p) (answered (reply m)) not_bad none = refl
+step_other server r front run (Some p) (answered dropped) not_bad none = refl
+step_other server r front run (Some p) (answered ignored) not_bad none = refl
+step_other server r front run (Some p) (answered already_ended) not_bad none = refl
+step_other server r front run (Some p) (answered (refused why)) not_bad none = refl
+step_other server r front run (Some p) (answered (exits status)) not_bad none = refl
+
+-- an accepted change
+pub step_changed : (server : State) (r : Record) (front canonical : List ℕ) (run : Option Run) (change : Option ChangeData) (verdict : Verdict) → (is : IsChange server change verdict canonical)
+    → step_if server r front run change verdict ≡ change_gives server is.params front (front ++ canonical) run
+step_changed server r front canonical run change verdict is =
+    ap (λ (c : Option ChangeData). step_if server r front run c verdict) is.is
+    ∙ ap (λ (v : Verdict). step_if server r front run (Some is.params) v) is.accepted
+    ∙ short (nat_lt server.config.limits.max_body (length (normal_body server is.params))) (le-ltb server.config.limits.max_body (length (normal_body server is.params)) is.framed.within)
+    ∙ ap (λ (c : List ℕ). change_gives server is.params front (front ++ c) run) (sym is.framed.is)
+  where
+    short : (over : Bool) → over ≡ false
+        → (if over then faulty (BodyTooLong r.head.place) else change_gives server is.params front (front ++ frame (normal_body server is.params)) run)
+        ≡ change_gives server is.params front (front ++ frame (normal_body server is.params)) run
+    short true e = absurd (let wrong : true ≡ false = e in cc)
+    short false e = refl
+
+pub step_too_long : (server : State) (r : Record) (front : List ℕ) (run : Option Run) (change : Option ChangeData) (verdict : Verdict) (p : ChangeData) → change ≡ Some p → verdict ≡ answered changed
+    → server.config.limits.max_body < length (normal_body server p) → step_if server r front run change verdict ≡ faulty (BodyTooLong r.head.place)
+step_too_long server r front run change verdict p is accepted over =
+    ap (λ (c : Option ChangeData). step_if server r front run c verdict) is
+    ∙ ap (λ (v : Verdict). step_if server r front run (Some p) v) accepted
+    ∙ rw (lt-ltb server.config.limits.max_body (length (normal_body server p)) over) refl
+
+pub step_bad : (server : State) (r : Record) (front : List ℕ) (run : Option Run) (change : Option ChangeData) (verdict : Verdict) → verdict ≡ bad
+    → step_if server r front run change verdict ≡ faulty (BadLog r.head.place)
+step_bad server r front run None verdict e = rw e refl
+step_bad server r front run (Some p) verdict e = rw e refl
+
+-- it goes on with the open run
+pub gives_longer : (server : State) (p : ChangeData) (front single old_front singles : List ℕ) (run : Option SquashData) (batches : SquashData) → IsLonger run p batches
+    → change_gives server p front single (run_of old_front singles run) ≡ record { out = []; end = None; run = run_of old_front (singles ++ single) (Some batches) }
+gives_longer server p front single old_front singles run batches is =
+    ap (λ (o : Option SquashData). change_gives server p front single (run_of old_front singles o)) is.open_one
+    ∙ rw is.same (ap (λ (b : SquashData). record { out = []; end = None; run = Some (record { front = old_front; singles = singles ++ single; squash = b }) }) (sym is.joined))
+
+-- it begins a run
+begun_is : (server : State) (p : ChangeData) (front single : List ℕ) (batches : SquashData) → IsBegun server p batches → begun server p front single ≡ run_of front single (Some batches)
+begun_is server p front single batches is = rw is.is_open (ap (λ (b : SquashData). Some (record { front = front; singles = single; squash = b })) (sym is.joined))
+
+pub gives_begun : (server : State) (p : ChangeData) (front single old_front singles : List ℕ) (run : Option SquashData) (batches : SquashData) → IsOther run p → IsBegun server p batches
+    → change_gives server p front single (run_of old_front singles run) ≡ record { out = end_bytes (run_of old_front singles run); end = None; run = run_of front single (Some batches) }
+gives_begun server p front single old_front singles None batches other is = ap (λ (o : Option Run). record { out = []; end = None; run = o }) (begun_is server p front single batches is)
+gives_begun server p front single old_front singles (Some squash) batches other is =
+    rw other (ap (λ (o : Option Run). record { out = run_bytes (record { front = old_front; singles = singles; squash = squash }); end = None; run = o }) (begun_is server p front single batches is))
+
+-- ---- the course of a handler, a record at a time
+
+module _ (s : Session) (front singles : List ℕ) (run : Option SquashData) (r : Record) (now : Session) (is_now : now ≡ (judge s r).session) (verdict : Verdict) (told : verdict ≡ (judge s r).verdict) (version : Version) (same_version : version ≡ now.version) where
+  abbrev here : Option Run
+  here = run_of front singles run
+
+  abbrev its_front : List ℕ
+  its_front = line_if r.head.line_due ++ mark_of version r.head.side
+
+  front_here : front_of (judge s r).session r ≡ its_front
+  front_here = ap (λ v. line_if r.head.line_due ++ mark_of v r.head.side) (sym (same_version ∙ ap (λ (u : Session). u.version) is_now))
+
+  by_step : (out : List ℕ) (next : Option Run) → squash_step s here r (judge s r) ≡ record { out = out; end = None; run = next } → (more : List Record) → squashed_in s here (r ∷ more) ≡ after out None (squashed_in now next more)
+  by_step out next is more =
+      ap (λ (step : Step). go_on step.out step.end (squashed_in (judge s r).session step.run more)) is ∙ ap (λ (u : Session). written_first out (squashed_in u next more)) (sym is_now)
+
+  pub gives_as_it_is : (out : List ℕ) → verdict ≢ bad → normal_if s.server (change_in (incoming_of (reading r.body))) verdict ≡ None → out ≡ end_bytes here ++ (its_front ++ r.spelling)
+      → (more : List Record) → squashed_in s here (r ∷ more) ≡ after out None (squashed_in now None more)
+  gives_as_it_is out not_bad none is more =
+      by_step out None
+      (ap (λ v. step_if s.server r (front_of (judge s r).session r) here (change_in (incoming_of (reading r.body))) v) (sym told)
+      ∙ step_other s.server r (front_of (judge s r).session r) here (change_in (incoming_of (reading r.body))) verdict not_bad none
+      ∙ ap (λ f. other_step r f here) front_here ∙ ap (λ o. record { out = o; end = None; run = None }) (sym is)) more
+
+  changes : (canonical : List ℕ) → (is : IsChange s.server (change_in (incoming_of (reading r.body))) verdict canonical) → squash_step s here r (judge s r) ≡ change_gives s.server is.params its_front (its_front ++ canonical) here
+  changes canonical is =
+      ap (λ v. step_if s.server r (front_of (judge s r).session r) here (change_in (incoming_of (reading r.body))) v) (sym told)
+      ∙ step_changed s.server r (front_of (judge s r).session r) canonical here (change_in (incoming_of (reading r.body))) verdict is
+      ∙ ap (λ f. change_gives s.server is.params f (f ++ canonical) here) front_here
+
+  pub gives_more : (canonical : List ℕ) (batches : SquashData) (is : IsChange s.server (change_in (incoming_of (reading r.body))) verdict canonical) → IsLonger run is.params batches
+      → (more : List Record) → squashed_in s here (r ∷ more) ≡ after [] None (squashed_in now (run_of front (singles ++ (its_front ++ canonical)) (Some batches)) more)
+  gives_more canonical batches is longer more =
+      by_step [] (run_of front (singles ++ (its_front ++ canonical)) (Some batches))
+      (changes canonical is ∙ gives_longer s.server is.params its_front (its_front ++ canonical) front singles run batches longer) more
+
+  pub gives_next : (canonical : List ℕ) (batches : SquashData) (is : IsChange s.server (change_in (incoming_of (reading r.body))) verdict canonical) → IsOther run is.params → IsBegun s.server is.params batches
+      → (more : List Record) → squashed_in s here (r ∷ more) ≡ after (end_bytes here) None (squashed_in now (run_of its_front (its_front ++ canonical) (Some batches)) more)
+  gives_next canonical batches is other begun more =
+      by_step (end_bytes here) (run_of its_front (its_front ++ canonical) (Some batches))
+      (changes canonical is ∙ gives_begun s.server is.params its_front (its_front ++ canonical) front singles run batches other begun) more
+
+  -- ---- the same, by what the texts and the output are after the calls that write them
+
+  module _ (begun_with : Option SquashData) (taken : begun_with ≡ run) (made : List ℕ) (nothing : made ≡ []) where
+    ends : (ended : Option SquashData) (out : List ℕ) → ended ≡ begun_with → out ≡ made ++ end_bytes (run_of front singles ended) → out ≡ end_bytes here
+    ends ended out same is = is ∙ ap (λ z. z ++ end_bytes (run_of front singles ended)) nothing ∙ ap (λ o. end_bytes (run_of front singles o)) (same ∙ taken)
+
+    pub told_as_it_is : (ended : Option SquashData) → ended ≡ begun_with → verdict ≢ bad → normal_if s.server (change_in (incoming_of (reading r.body))) verdict ≡ None
+        → (run_out front_out out : List ℕ) → run_out ≡ made ++ end_bytes (run_of front singles ended) → front_out ≡ run_out ++ its_front → out ≡ front_out ++ r.spelling
+        → (batches : Option SquashData) → batches ≡ None → (last_front last_singles : List ℕ)
+        → (more : List Record) → squashed_in s here (r ∷ more) ≡ after out None (squashed_in now (run_of last_front last_singles batches) more)
+    told_as_it_is ended same not_bad none run_out front_out out run_is front_is is batches closed last_front last_singles more =
+        gives_as_it_is out not_bad none
+        (is ∙ ap (λ z. z ++ r.spelling) (front_is ∙ ap (λ z. z ++ its_front) (ends ended run_out same run_is)) ∙ append_assoc (end_bytes here) its_front r.spelling) more
+        ∙ ap (λ (o : Option SquashData). after out None (squashed_in now (run_of last_front last_singles o) more)) (sym closed)
+
+    pub told_more : (canonical : List ℕ) (batches : SquashData) (is : IsChange s.server (change_in (incoming_of (reading r.body))) verdict canonical) → IsLonger begun_with is.params batches
+        → (frame new_front new_singles : List ℕ) → frame ≡ canonical → new_front ≡ front → new_singles ≡ singles ++ (its_front ++ frame)
+        → (more : List Record) → squashed_in s here (r ∷ more) ≡ after made None (squashed_in now (run_of new_front new_singles (Some batches)) more)
+    told_more canonical batches is longer frame new_front new_singles same same_front more_singles more =
+        rw (nothing, same_front, more_singles, same) (gives_more canonical batches is (subst (λ (o : Option SquashData). IsLonger o is.params batches) taken longer) more)
+
+    pub told_next : (canonical : List ℕ) (ended : Option SquashData) (batches : SquashData) (is : IsChange s.server (change_in (incoming_of (reading r.body))) verdict canonical)
+        → IsOther begun_with is.params → ended ≡ begun_with → IsBegun s.server is.params batches
+        → (out frame new_front new_singles : List ℕ) → out ≡ made ++ end_bytes (run_of front singles ended) → frame ≡ canonical → new_front ≡ its_front → new_singles ≡ its_front ++ frame
+        → (more : List Record) → squashed_in s here (r ∷ more) ≡ after out None (squashed_in now (run_of new_front new_singles (Some batches)) more)
+    told_next canonical ended batches is other ended_is begun out frame new_front new_singles out_is same same_front more_singles more =
+        rw (ends ended out ended_is out_is, same_front, more_singles, same)
+        (gives_next canonical batches is (subst (λ (o : Option SquashData). IsOther o is.params) taken other) begun more)

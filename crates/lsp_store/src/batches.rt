@@ -1,0 +1,119 @@
+//! Batches of changes on one document that is kept elsewhere, as one.
+
+ghost use Rattle.std.specs.Prelude.{◌≡◌, None, IfErr, IfOk, OnErr, OnOk, map, string_bytes};
+ghost use Rattle.lsp_text.specs.Units.{units_in};
+ghost use Rattle.lsp_edit.specs.Edited.{edit_of};
+ghost use Rattle.lsp_store.specs.Faults.{IsRefusal};
+ghost use Rattle.lsp_store.specs.Squash.{HasReached, IsSquashAfter, squash_frame, squash_of, squash_refusal};
+ghost use Rattle.lsp_store.specs.Table.{changed, entry_refusal};
+
+use crate::canonical::framed_change;
+use crate::document::Document;
+use crate::fault::StoreFault;
+use lsp_edit::{Change, Joined};
+use lsp_frame::Limits;
+use lsp_text::Encoding;
+use std::alloc::{AllocError, Global};
+use std::marker::Model;
+
+/// What [`crate::Squash`] is, for a caller who has the document that the batches lead to: it keeps the old text with its lines, and what
+/// became of it, and no second copy of the text reached.
+#[derive(Drop)]
+pub struct Batches {
+    uri: String,
+    limits: Limits,
+    encoding: Encoding,
+    version: i32,
+    joined: Joined,
+}
+
+impl Model for Batches {
+    ghost use Rattle.std.specs.Prelude.{string_bytes};
+    ghost use Rattle.lsp_store.specs.Squash.{SquashData};
+
+    ghost Value = { SquashData };
+
+    ghost view = { λ batches. record {
+      uri = string_bytes batches.uri;
+      limits = batches.limits;
+      encoding = batches.encoding;
+      text = batches.joined.before;
+      items = batches.joined.items;
+      version = batches.version;
+    } };
+}
+
+impl Batches {
+    /// A document before any batch, within limits. Answers an error where memory runs out. Costs a copy of the text and a search through
+    /// it for its lines.
+    pub fn start(
+        alloc: Global,
+        limits: Limits,
+        document: &Document<'_>,
+        encoding: Encoding,
+    ) -> Result<Self, AllocError>
+        ensures ok { IfOk result (λ batches. batches ≡ squash_of limits encoding document.now) }
+        ensures reached { IfOk result (λ batches. HasReached batches document.now) }
+    {
+        let held = document.held;
+        let uri = String::from_str(alloc, document.uri)?;
+        let before = String::from_str(alloc, held.text.text())?;
+        let joined = Joined::new(alloc, before)?;
+        Ok(Batches {
+            uri,
+            limits,
+            encoding,
+            version: held.version,
+            joined,
+        })
+    }
+
+    /// The document's URI.
+    pub fn uri(&self) -> &str
+        ensures { result.now ≡ self.now.uri }
+    {
+        &self.uri
+    }
+
+    /// Adds a batch on `document`, the one that the batches before it lead to, which accepts it; it changes nothing of that document. Answers
+    /// an error where memory runs out, and then nothing changes. Costs what the batch costs to apply, without a move of the text, and a share
+    /// in the joins of earlier batches: k changes cost some k log k steps on spans.
+    pub fn add(
+        &mut self,
+        document: &Document<'_>,
+        version: i32,
+        changes: &[Change],
+    ) -> Result<(), AllocError>
+        requires reached { HasReached self.old document.now }
+        requires accepted { entry_refusal self.old.limits (units_in self.old.encoding) document.now version
+            (map edit_of changes.now) ≡ None }
+        ensures ok { OnOk result (IsSquashAfter self.old version (map edit_of changes.now) self.new) }
+        ensures reached { OnOk result (HasReached self.new
+            (changed (units_in self.old.encoding) document.now version (map edit_of changes.now))) }
+        ensures unchanged { OnErr result (self.new ≡ self.old) }
+    {
+        document.show_utf8();
+        let max_text = self.limits.max_text();
+        let reached = &document.held.text;
+        // An accepted batch fails only where memory runs out.
+        let Ok(()) = self.joined.add(self.encoding, reached, changes, max_text) else {
+            return Err(AllocError);
+        };
+        self.version = version;
+        Ok(())
+    }
+
+    /// The frame of the one message in which all added batches are written, as [`crate::Squash::message`] gives it, with its refusals and costs.
+    pub fn message(&self) -> Result<Vec<u8>, StoreFault>
+        ensures ok { IfOk result (λ bytes. bytes.items ≡ squash_frame self.now) }
+        ensures accepted { OnOk result (squash_refusal self.now ≡ None) }
+        ensures error { IfErr result (IsRefusal (squash_refusal self.now)) }
+    {
+        let batch = self.joined.canonical(self.encoding)?;
+        if batch.len() > self.limits.max_changes() {
+            return Err(StoreFault::TooManyChanges);
+        }
+        let alloc = *self.uri.allocator();
+        framed_change(alloc, &self.limits, &self.uri, self.version, batch)
+    }
+}
