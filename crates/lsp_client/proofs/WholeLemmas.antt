@@ -1,5 +1,5 @@
 -- The text that a batch leaves of an open document.
-use Rattle.std.proofs.Common.{◌≡◌, ℕ, ℤ, true, false, List, [], ◌∷◌, map, Some, None, refl, sym, ap, ◌∙◌, ⊎_elim, bytes_eq, string_bytes, String}
+use Rattle.std.proofs.Common.{◌≡◌, ℕ, ℤ, true, false, List, [], ◌∷◌, map, Some, None, refl, ap, ◌∙◌, ⊎_elim, bytes_eq, string_bytes, String}
 use Rattle.std.proofs.lemmas.Bool.{cases_Bool}
 use Rattle.std.proofs.lemmas.Str.{IsUtf8-string_bytes, encodes-chars}
 use Rattle.std.specs.declared.alloc.Global.{Global}

@@ -85,7 +85,7 @@ impl Client {
     /// positions are counted in the encoding that was agreed on. In phase Ready; else [`ClientFault::WrongPhase`]. Refuses as
     /// [`Store::change`](lsp_store::Store::change), then [`StoreFault::BodyTooLong`](lsp_store::StoreFault::BodyTooLong). Costs what
     /// [`Store::canonical_message`](lsp_store::Store::canonical_message) and `Store::change` cost; where whole texts are sent, in
-    /// place of the first a search for the text's lines and one copy of the text.
+    /// place of the first what `Store::change` costs once more, one copy of the text, and the message's bytes.
     pub fn edit(
         &mut self,
         uri: &str,

@@ -3,6 +3,7 @@
 ghost use Rattle.std.specs.Prelude.{◌≡◌, ◌≢◌, ◌≤◌, ◌⊎◌, ◌∷◌, ℕ, [], IfErr, IfOk, None, Some, OnOk, Err, Ok, length, map, option_map, string_bytes, string_len, sum_by};
 ghost use Rattle.std.specs.Str.{chars};
 ghost use Rattle.lsp_frame.specs.Frame.{frame};
+ghost use Rattle.lsp_text.specs.LineStarts.{Indexes};
 ghost use Rattle.lsp_text.specs.Units.{units_in};
 ghost use Rattle.lsp_edit.specs.declared.indexed.TextFault.TheVariants as text_faults;
 ghost use Rattle.lsp_edit.specs.Batch.{meaning};
@@ -16,11 +17,11 @@ ghost use Rattle.lsp_store.specs.Table.{IsLeftToMeaning, change_refusal, changed
 ghost use Rattle.lsp_client.specs.inside.Orders.{whole_change};
 
 use crate::framed::framed_within;
-use lsp_edit::{Change, MAX_NEW_TEXT, MAX_OLD_TEXT, TextFault, compose, fits};
+use lsp_edit::{Change, MAX_NEW_TEXT, MAX_OLD_TEXT, TextFault, compose_over, fits};
 use lsp_frame::Limits;
 use lsp_message::{ChangeParams, Outgoing};
 use lsp_store::{Document, Store, StoreFault};
-use lsp_text::Encoding;
+use lsp_text::{Encoding, Lines};
 use std::alloc::Global;
 
 /// The text that a batch leaves of an open document, whose own text stays. Refuses as [`Store::change`](lsp_store::Store::change) does.
@@ -78,7 +79,8 @@ fn document_after(
     if before.len() > MAX_OLD_TEXT {
         return Err(StoreFault::NoMemory);
     }
-    let left = text_left(alloc, before, encoding, changes, limits.max_text())?;
+    let lines = document.lines();
+    let left = text_left(alloc, before, lines, encoding, changes, limits.max_text())?;
     Ok(left)
 }
 
@@ -108,15 +110,17 @@ fn may_change(
     Ok(())
 }
 
-/// The text that a batch leaves of a text, if it has at most `max_len` bytes. Costs a search for the lines, and one copy: of one change it
-/// is made at the end, and with more it is there already, since later changes meet it.
+/// The text that a batch leaves of a text, if it has at most `max_len` bytes. Costs what each change costs to apply, and one copy: of one
+/// change it is made at the end, and with more it is there already, since later changes meet it.
 fn text_left(
     alloc: Global,
     before: &str,
+    lines: &Lines,
     encoding: Encoding,
     changes: &[Change],
     max_len: usize,
 ) -> Result<String, TextFault>
+    requires indexed { Indexes lines.now before.now }
     requires size { length before.now ≤ MAX_OLD_TEXT }
     requires fits { sum_by (λ change. string_len change.text) changes.now ≤ MAX_NEW_TEXT }
     ensures ok { IfOk result (λ left. text_within max_len before.now
@@ -126,7 +130,7 @@ fn text_left(
         ⊎ (text_within max_len before.now
         (meaning (units_in encoding) (chars before.now) (map edit_of changes.now)) ≡ Err fault)) }
 {
-    let pieces = compose(alloc, before, encoding, changes)?;
+    let pieces = compose_over(alloc, before, lines, encoding, changes)?;
     if pieces.text_len() > max_len {
         return Err(TextFault::TooLong);
     }

@@ -12,20 +12,20 @@ pub returns-clause-ok : goal.returns-clause-ok
 returns-clause-ok c =
     let version : to_z w32 (of_z w32 c.args.version) ≡ c.args.version = to_z-of_z w32 c.args.version (search rules) in
     whole_left (units_in c.args.encoding) c.args.store.now.table c.args.uri.now c.args.version (map edit_of c.args.changes.now) c.in-Some.document (string_bytes c.in_ok-text.text)
-    (sym c.get.ensures ∙ c.in-Some.is) (rw version at c.in_ok-text.ensures.ok)
+    (sym c.get.ensures ∙ c.in-Some.is) c.in_ok-text.ensures.ok
 
 pub returns-clause-accepted : goal.returns-clause-accepted
 returns-clause-accepted c =
     let version : to_z w32 (of_z w32 c.args.version) ≡ c.args.version = to_z-of_z w32 c.args.version (search rules) in
     refusal_there c.args.store.now.limits (units_in c.args.encoding) c.args.store.now.table c.args.uri.now c.args.version (map edit_of c.args.changes.now) c.in-Some.document
-    (sym c.get.ensures ∙ c.in-Some.is) ∙ (rw (version, c.limits.ensures) at c.in_ok-text.ensures.accepted)
+    (sym c.get.ensures ∙ c.in-Some.is) ∙ (rw (version, c.limits-limits.ensures) at c.in_ok-text.ensures.accepted)
 
 pub returns-in_err-text-clause-error : goal.returns-in_err-text-clause-error
 returns-in_err-text-clause-error c =
     let version : to_z w32 (of_z w32 c.args.version) ≡ c.args.version = to_z-of_z w32 c.args.version (search rules) in
     let p = err_from_is_err_and c.from_residual.result c.from_residual.ensures.1 in
     rw (p.1, p.2, refusal_there c.args.store.now.limits (units_in c.args.encoding) c.args.store.now.table c.args.uri.now c.args.version (map edit_of c.args.changes.now) c.in-Some.document (sym c.get.ensures ∙ c.in-Some.is))
-    (rw (version, c.limits.ensures) at c.in_err-text.ensures.error)
+    (rw (version, c.limits-limits.ensures) at c.in_err-text.ensures.error)
 
 pub returns-in_err-text-clause-memory : goal.returns-in_err-text-clause-memory
 returns-in_err-text-clause-memory c = λ e.
@@ -36,10 +36,10 @@ returns-in_err-text-clause-memory c = λ e.
     let was = c.in_err-text.was in
     let no_memory : c.document_after.result ≡ Err NoMemory = cc in
     may_take c.args.store.now c.args.uri.now c.args.version (map edit_of c.args.changes.now) c.in-Some.document (sym c.get.ensures ∙ c.in-Some.is)
-    (rw (version, c.limits.ensures) at (c.document_after.ensures.memory no_memory))
+    (rw (version, c.limits-limits.ensures) at (c.document_after.ensures.memory no_memory))
 
 pub returns-clause-left : goal.returns-clause-left
 returns-clause-left c =
     let version : to_z w32 (of_z w32 c.args.version) ≡ c.args.version = to_z-of_z w32 c.args.version (search rules) in
     may_take c.args.store.now c.args.uri.now c.args.version (map edit_of c.args.changes.now) c.in-Some.document (sym c.get.ensures ∙ c.in-Some.is)
-    (rw (version, c.limits.ensures) at c.in_ok-text.ensures.left)
+    (rw (version, c.limits-limits.ensures) at c.in_ok-text.ensures.left)

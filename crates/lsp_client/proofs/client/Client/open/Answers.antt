@@ -26,5 +26,5 @@ returns-in_err-send_open-in-Ready-clause-memory c = λ e.
     let was = c.in_err-send_open-in-Ready.was in
     let given : client_fault c.in_err-send_open-in-Ready.field-0.0 ≡ NoMemory = cc in
     let fault : c.in_err-send_open-in-Ready.field-0.0 ≡ store_faults.NoMemory = client_no_memory c.in_err-send_open-in-Ready.field-0.0 given in
-    let no_memory : c.send_open-in-Ready.result ≡ Err store_faults.NoMemory = cc in
-    (sym (ap (λ (x : State). x.phase) c.self.view_is) ∙ c.in-Ready.is, rw version at (c.send_open-in-Ready.ensures.memory no_memory))
+    let no_memory : c.send_open.result ≡ Err store_faults.NoMemory = cc in
+    (sym (ap (λ (x : State). x.phase) c.self.view_is) ∙ c.in-Ready.is, c.send_open.ensures.memory no_memory)
