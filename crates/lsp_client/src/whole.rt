@@ -33,8 +33,8 @@ pub(crate) fn text_after(
     version: i32,
     changes: &[Change],
 ) -> Result<String, StoreFault>
-    ensures ok { IfOk result (λ text. whole_batch (units_in encoding) store.now.table uri.now version
-        (map edit_of changes.now) ≡ whole_change (string_bytes text) ∷ []) }
+    ensures ok { IfOk result (λ text. whole_batch (units_in encoding) store.now.table uri.now
+        version (map edit_of changes.now) ≡ whole_change (string_bytes text) ∷ []) }
     ensures accepted { OnOk result (change_refusal store.now.limits (units_in encoding)
         store.now.table uri.now version (map edit_of changes.now) ≡ None) }
     ensures error { IfErr result (IsRefusal (change_refusal store.now.limits (units_in encoding)
@@ -64,8 +64,8 @@ fn document_after(
 ) -> Result<String, StoreFault>
     ensures ok { IfOk result (λ text. (changed (units_in encoding) document.now version
         (map edit_of changes.now)).text ≡ string_bytes text) }
-    ensures accepted { OnOk result (entry_refusal limits.now (units_in encoding) document.now version
-        (map edit_of changes.now) ≡ None) }
+    ensures accepted { OnOk result (entry_refusal limits.now (units_in encoding) document.now
+        version (map edit_of changes.now) ≡ None) }
     ensures error { IfErr result (IsRefusal (entry_refusal limits.now (units_in encoding)
         document.now version (map edit_of changes.now))) }
     ensures memory { result ≡ Err NoMemory
