@@ -13,6 +13,7 @@ use Rattle.lsp_store.specs.Faults.{IsRefusal}
 use Rattle.lsp_store.specs.Message.{else_refused, body_refusal, change_body, canonical_body}
 use Rattle.lsp_store.specs.Table as documents_table
 use Rattle.lsp_store.specs.Table.{Entry, already_open, too_many_documents, text_too_long, not_open, too_many_changes, stale_version, edit, body_too_long, changes, command_refusal, table_after}
+use Rattle.lsp_client.specs.declared.fault.ClientFault.TheVariants.{NoMemory}
 use Rattle.lsp_client.specs.Step.{State, Sending, store, sent_body, unless_refused, command_result}
 use Rattle.lsp_client.specs.Seen.{IsFaultOf, IsSent, client_fault, fault_of}
 
@@ -28,6 +29,18 @@ fault_kept too_many_changes = refl
 fault_kept (stale_version current) = refl
 fault_kept (edit number why) = refl
 fault_kept (body_too_long len) = refl
+
+-- Out of memory for the client is out of memory for the store.
+pub client_no_memory : (fault : StoreFault) → client_fault fault ≡ NoMemory → fault ≡ faults.NoMemory
+client_no_memory faults.NoMemory is = refl
+client_no_memory faults.AlreadyOpen is = absurd (cc)
+client_no_memory faults.TooManyDocuments is = absurd (cc)
+client_no_memory faults.TextTooLong is = absurd (cc)
+client_no_memory faults.NotOpen is = absurd (cc)
+client_no_memory (faults.StaleVersion current) is = absurd (cc)
+client_no_memory faults.TooManyChanges is = absurd (cc)
+client_no_memory (faults.Edit why) is = absurd (cc)
+client_no_memory (faults.BodyTooLong len) is = absurd (cc)
 
 pub some_same : {A : Type 0} (a b : A) → Some a ≡ Some b → a ≡ b
 some_same a b e = cc

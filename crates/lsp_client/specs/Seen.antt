@@ -1,5 +1,5 @@
 -- What the calls of a client answer, by the tables of its steps.
-use Rattle.std.specs.Prelude.{ℕ, ℤ, ◌≡◌, ◌⊎◌, List, map, String, string_bytes, Result, Ok, Err}
+use Rattle.std.specs.Prelude.{ℕ, ℤ, ◌≡◌, ◌⊎◌, List, map, String, string_bytes, None, Result, Ok, Err}
 use Rattle.std.specs.declared.alloc.Global.{Global}
 use Rattle.lsp_frame.specs.Frame.{frame}
 use Rattle.lsp_edit.specs.declared.change.Change.{Change}
@@ -12,7 +12,10 @@ use Rattle.lsp_client.specs.declared.fault.ClientFault.{ClientFault}
 use Rattle.lsp_client.specs.declared.fault.ClientFault.TheVariants.{WrongPhase, Store, NoMemory}
 use Rattle.lsp_client.specs.declared.delivered.Delivered.{Delivered}
 use Rattle.lsp_client.specs.declared.delivered.Delivered.TheVariants.{Send, Noted, Ignored, BadServer}
-use Rattle.lsp_client.specs.Step.{State, Sending, Refusal, wrong_phase, store, Order, opens, edits, Delivery, DeliveredData, sends, noted, ignored, bad_server}
+use Rattle.lsp_store.specs.Opened.{MayTakeMemory}
+use Rattle.lsp_store.specs.Table.{open_refusal, close_refusal}
+use Rattle.lsp_client.specs.declared.phase.Phase.TheVariants.{Ready}
+use Rattle.lsp_client.specs.Step.{State, Sending, Refusal, wrong_phase, store, Order, opens, edits, closes, Delivery, DeliveredData, sends, noted, ignored, bad_server}
 
 -- ---- what is asked
 
@@ -74,3 +77,16 @@ abbrev pub IsDelivered : Result Delivery Refusal → DeliveredData (List ℕ) �
 IsDelivered (Ok delivery) delivered new =
     (delivered ≡ as_sent delivery.delivered) × (new ≡ delivery.state)
 IsDelivered (Err refusal) delivered new = ⊥
+
+-- ---- memory
+
+-- Nothing refuses an order any more but what a batch means, and the length of the message.
+abbrev pub IsAdmitted : State → Order → Type 0
+IsAdmitted s (opens entry) = open_refusal s.limits s.table entry ≡ None
+IsAdmitted s (edits uri version batch) =
+    MayTakeMemory (record { limits = s.limits; table = s.table }) uri version batch
+IsAdmitted s (closes uri) = close_refusal s.table uri ≡ None
+
+-- An order takes memory only in phase Ready, and only where it is admitted.
+abbrev pub MayAllocate : State → Order → Type 0
+MayAllocate s order = (s.phase ≡ Ready) × IsAdmitted s order

@@ -1,30 +1,25 @@
 //! The calls on the open documents.
 
-ghost use Rattle.std.specs.Prelude.{◌≡◌, ◌≢◌, ◌∷◌, [], IfErr, IfOk, None, OnErr, OnOk, Some, map, string_bytes};
-ghost use Rattle.lsp_frame.specs.Frame.{frame};
-ghost use Rattle.lsp_text.specs.Units.{units_in};
-ghost use Rattle.lsp_edit.specs.Edited.{edit_of};
+ghost use Rattle.std.specs.Prelude.{◌≡◌, ◌≢◌, IfErr, IfOk, OnErr, Some, Err};
 ghost use Rattle.lsp_message.specs.declared.agreement.SyncKind.TheVariants.{Full};
 ghost use Rattle.lsp_message.specs.declared.outgoing.Outgoing.TheVariants.{DidOpen};
 ghost use Rattle.lsp_message.specs.declared.params.OpenParams.{OpenParams};
-ghost use Rattle.lsp_store.specs.Faults.{IsRefusal};
-ghost use Rattle.lsp_store.specs.Message.{body_refusal, change_body, whole_batch};
-ghost use Rattle.lsp_store.specs.Table.{change_refusal};
+ghost use Rattle.lsp_store.specs.declared.fault.StoreFault.TheVariants as store_faults;
+ghost use Rattle.lsp_client.specs.declared.fault.ClientFault.TheVariants.{NoMemory};
 ghost use Rattle.lsp_client.specs.Step.{agreement, call_result, order_result, orders, closes};
-ghost use Rattle.lsp_client.specs.Seen.{IsSent, IsFaultOf, open_order, edit_order};
-ghost use Rattle.lsp_client.specs.inside.Orders.{IsOrderFault, whole_change};
+ghost use Rattle.lsp_client.specs.Seen.{IsAdmitted, IsSent, IsFaultOf, MayAllocate, open_order, edit_order};
+ghost use Rattle.lsp_client.specs.inside.Orders.{IsOrderFault};
 
 use crate::agreed::Agreed;
 use crate::client::Client;
 use crate::fault::ClientFault;
 use crate::framed::framed_within;
 use crate::phase::Phase;
+use crate::whole::{text_after, whole_frame};
 use lsp_edit::Change;
-use lsp_frame::Limits;
-use lsp_message::{ChangeParams, CloseParams, OpenParams, Outgoing, SyncKind};
-use lsp_store::{Store, StoreFault};
+use lsp_message::{CloseParams, OpenParams, Outgoing, SyncKind};
+use lsp_store::StoreFault;
 use lsp_text::Encoding;
-use std::alloc::Global;
 
 impl Client {
     /// Opens a document (LSP 3.17, DidOpenTextDocument): the frame of `textDocument/didOpen`. In phase Ready; else
@@ -44,6 +39,8 @@ impl Client {
         ensures unchanged { OnErr result (self.new ≡ self.old) }
         ensures error { IfErr result
             (IsFaultOf (call_result self.old (orders (open_order uri language version text)))) }
+        ensures memory { result ≡ Err NoMemory
+            → MayAllocate self.old (open_order uri language version text) }
     {
         match self.phase {
             Phase::Ready => Ok(self.send_open(uri, language, version, text)?),
@@ -64,6 +61,8 @@ impl Client {
         ensures unchanged { OnErr result (self.new ≡ self.old) }
         ensures error { IfErr result
             (IsOrderFault self.old (open_order uri language version text)) }
+        ensures memory { result ≡ Err store_faults.NoMemory
+            → IsAdmitted self.old (open_order uri language version text) }
     {
         self.store.may_open(&uri, &text)?;
         let message = Outgoing::DidOpen(OpenParams {
@@ -85,7 +84,8 @@ impl Client {
     /// or where the server asked for whole texts one change without a range that holds the text that the batch leaves. Characters of
     /// positions are counted in the encoding that was agreed on. In phase Ready; else [`ClientFault::WrongPhase`]. Refuses as
     /// [`Store::change`](lsp_store::Store::change), then [`StoreFault::BodyTooLong`](lsp_store::StoreFault::BodyTooLong). Costs what
-    /// [`Store::canonical_message`](lsp_store::Store::canonical_message) and `Store::change` cost; under Full two copies of the text.
+    /// [`Store::canonical_message`](lsp_store::Store::canonical_message) and `Store::change` cost; where whole texts are sent, in
+    /// place of the first what `Store::change` costs once more, one copy of the text, and the message's bytes.
     pub fn edit(
         &mut self,
         uri: &str,
@@ -98,6 +98,8 @@ impl Client {
         ensures unchanged { OnErr result (self.new ≡ self.old) }
         ensures error { IfErr result
             (IsFaultOf (call_result self.old (orders (edit_order uri.now version changes.now)))) }
+        ensures memory { result ≡ Err NoMemory
+            → MayAllocate self.old (edit_order uri.now version changes.now) }
     {
         match self.phase {
             Phase::Ready => Ok(self.send_edit(uri, version, changes)?),
@@ -117,6 +119,8 @@ impl Client {
         ensures unchanged { OnErr result (self.new ≡ self.old) }
         ensures error { IfErr result
             (IsOrderFault self.old (edit_order uri.now version changes.now)) }
+        ensures memory { result ≡ Err store_faults.NoMemory
+            → IsAdmitted self.old (edit_order uri.now version changes.now) }
     {
         match self.agreement().kind {
             SyncKind::Full => self.send_whole(uri, version, changes),
@@ -138,6 +142,8 @@ impl Client {
         ensures unchanged { OnErr result (self.new ≡ self.old) }
         ensures error { IfErr result
             (IsOrderFault self.old (edit_order uri.now version changes.now)) }
+        ensures memory { result ≡ Err store_faults.NoMemory
+            → IsAdmitted self.old (edit_order uri.now version changes.now) }
     {
         let encoding = self.agreement().encoding;
         let frame = self
@@ -161,6 +167,8 @@ impl Client {
         ensures unchanged { OnErr result (self.new ≡ self.old) }
         ensures error { IfErr result
             (IsOrderFault self.old (edit_order uri.now version changes.now)) }
+        ensures memory { result ≡ Err store_faults.NoMemory
+            → IsAdmitted self.old (edit_order uri.now version changes.now) }
     {
         let encoding = self.agreement().encoding;
         let text = text_after(self.alloc, &self.store, encoding, uri, version, changes)?;
@@ -178,6 +186,7 @@ impl Client {
             IsSent (call_result self.old (orders (closes uri.now))) frame.items self.new) }
         ensures unchanged { OnErr result (self.new ≡ self.old) }
         ensures error { IfErr result (IsFaultOf (call_result self.old (orders (closes uri.now)))) }
+        ensures memory { result ≡ Err NoMemory → MayAllocate self.old (closes uri.now) }
     {
         match self.phase {
             Phase::Ready => Ok(self.send_close(uri)?),
@@ -190,6 +199,8 @@ impl Client {
             IsSent (order_result self.old (closes uri.now)) frame.items self.new) }
         ensures unchanged { OnErr result (self.new ≡ self.old) }
         ensures error { IfErr result (IsOrderFault self.old (closes uri.now)) }
+        ensures memory { result ≡ Err store_faults.NoMemory
+            → IsAdmitted self.old (closes uri.now) }
     {
         let Some(_) = self.store.get(uri) else {
             return Err(StoreFault::NotOpen);
@@ -221,61 +232,4 @@ fn open_params(message: Outgoing) -> Option<OpenParams>
         Outgoing::DidOpen(params) => Some(params),
         _ => None,
     }
-}
-
-/// The text that a batch leaves of an open document. A second store, with a copy of that document alone, finds it.
-fn text_after(
-    alloc: Global,
-    store: &Store,
-    encoding: Encoding,
-    uri: &str,
-    version: i32,
-    changes: &[Change],
-) -> Result<String, StoreFault>
-    ensures ok { IfOk result (λ text. whole_batch (units_in encoding) store.now.table uri.now version
-        (map edit_of changes.now) ≡ whole_change (string_bytes text) ∷ []) }
-    ensures accepted { OnOk result (change_refusal store.now.limits (units_in encoding)
-        store.now.table uri.now version (map edit_of changes.now) ≡ None) }
-    ensures error { IfErr result (IsRefusal (change_refusal store.now.limits (units_in encoding)
-        store.now.table uri.now version (map edit_of changes.now))) }
-{
-    let Some(document) = store.get(uri) else {
-        return Err(StoreFault::NotOpen);
-    };
-    let copy = String::from_str(alloc, document.text())?;
-    let key = String::from_str(alloc, uri)?;
-    let mut alone = Store::new(alloc, store.limits());
-    // An open document is within the limits, so that only memory can run out here.
-    let Ok(()) = alone.open(key, String::new(alloc), document.version(), copy) else {
-        return Err(StoreFault::NoMemory);
-    };
-    alone.change(uri, version, encoding, changes)?;
-    let Some(document) = alone.get(uri) else {
-        unreachable!()
-    };
-    Ok(String::from_str(alloc, document.text())?)
-}
-
-/// The frame of the `textDocument/didChange` of one change without a range.
-fn whole_frame(
-    alloc: Global,
-    limits: &Limits,
-    uri: &str,
-    version: i32,
-    text: String,
-) -> Result<Vec<u8>, StoreFault>
-    ensures ok { IfOk result (λ bytes.
-        bytes.items ≡ frame (change_body uri.now version (whole_change (string_bytes text) ∷ []))) }
-    ensures within { OnOk result (body_refusal limits.now
-        (change_body uri.now version (whole_change (string_bytes text) ∷ [])) ≡ None) }
-    ensures error { IfErr result (IsRefusal (body_refusal limits.now
-        (change_body uri.now version (whole_change (string_bytes text) ∷ [])))) }
-{
-    let change = Change { range: None, text };
-    let message = Outgoing::DidChange(ChangeParams {
-        uri: String::from_str(alloc, uri)?,
-        version,
-        changes: vec![in alloc; change]?,
-    });
-    framed_within(alloc, limits, &message)
 }

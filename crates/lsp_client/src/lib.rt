@@ -42,6 +42,7 @@
 //! - `deliver`: what a body of the server means, and the table of deliveries.
 //! - `delivered`, `fault`, `phase`: what comes back.
 //! - `agreed`, `framed`: what client and server agreed on; the frames of messages.
+//! - `whole`: edits where the server asked for whole texts.
 #![tactic(auto)]
 
 mod agreed;
@@ -52,6 +53,7 @@ mod documents;
 mod fault;
 mod framed;
 mod phase;
+mod whole;
 
 pub use client::Client;
 pub use delivered::Delivered;

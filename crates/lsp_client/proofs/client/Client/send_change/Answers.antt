@@ -1,10 +1,11 @@
-use Rattle.std.proofs.Common.{◌≡◌, ap, map, rules, w32, to_z, of_z}
+use Rattle.std.proofs.Common.{◌≡◌, ap, map, rules, w32, to_z, of_z, Err}
 use Rattle.std.proofs.lemmas.Int.{to_z-of_z}
 use Rattle.std.proofs.lemmas.Result.{err_from_is_err_and}
 use Rattle.lsp_edit.specs.Edited.{edit_of}
 use Rattle.lsp_store.specs.Table as documents
 use Rattle.lsp_client.specs.Step.{State, agreement}
 use Rattle.lsp_client.proofs.SentLemmas.{order_sent, change_refused, change_within, change_framed}
+use Rattle.lsp_store.specs.declared.fault.StoreFault.TheVariants as store_faults
 use Rattle.lsp_client.proofs.client.Client.send_change.Goals as goal
 
 pub returns-in_err-frame-clause-error : goal.returns-in_err-frame-clause-error
@@ -29,3 +30,27 @@ returns-clause-ok c =
     (rw version at c.in_ok-frame.ensures.accepted))
     (change_framed c.self.inside.store.table s c.agreement-encoding.result c.args.uri.now c.args.version (map edit_of c.args.changes.now) _ table c.agreement-encoding.ensures c.requires
     (rw version at c.in_ok-frame.ensures.framed))
+
+pub returns-in_err-frame-clause-memory : goal.returns-in_err-frame-clause-memory
+returns-in_err-frame-clause-memory c = λ e.
+    let version : to_z w32 (of_z w32 c.args.version) ≡ c.args.version = to_z-of_z w32 c.args.version (search rules) in
+    let limits = ap (λ (x : State). x.limits) c.self.view_is in
+    let table = ap (λ (x : State). x.table) c.self.view_is in
+    let p = err_from_is_err_and c.from_residual.result c.from_residual.ensures.1 in
+    let converted = p.1 in
+    let same = p.2 in
+    let was = c.in_err-frame.was in
+    let no_memory : c.canonical_message.result ≡ Err store_faults.NoMemory = cc in
+    rw (version, limits, table) at (c.canonical_message.ensures.memory no_memory)
+
+pub returns-in_err-change-clause-memory : goal.returns-in_err-change-clause-memory
+returns-in_err-change-clause-memory c = λ e.
+    let version : to_z w32 (of_z w32 c.args.version) ≡ c.args.version = to_z-of_z w32 c.args.version (search rules) in
+    let limits = ap (λ (x : State). x.limits) c.self.view_is in
+    let table = ap (λ (x : State). x.table) c.self.view_is in
+    let p = err_from_is_err_and c.from_residual-in_err-change.result c.from_residual-in_err-change.ensures.1 in
+    let converted = p.1 in
+    let same = p.2 in
+    let was = c.in_err-change.was in
+    let no_memory : c.change.result ≡ Err store_faults.NoMemory = cc in
+    rw (version, limits, table) at (c.change.ensures.memory no_memory)

@@ -1,4 +1,4 @@
-use Rattle.std.proofs.Common.{◌≡◌, ◌∙◌, ap, map, rules, w32, to_z, of_z, string_bytes, None}
+use Rattle.std.proofs.Common.{◌≡◌, ◌∙◌, ap, map, rules, w32, to_z, of_z, string_bytes, None, Err}
 use Rattle.std.proofs.lemmas.Int.{to_z-of_z}
 use Rattle.std.proofs.lemmas.Result.{err_from_is_err_and}
 use Rattle.lsp_frame.specs.Frame.{frame}
@@ -8,6 +8,7 @@ use Rattle.lsp_store.specs.Table.{Command, command_refusal}
 use Rattle.lsp_client.specs.Step.{State, agreement}
 use Rattle.lsp_client.specs.inside.Orders.{whole_change}
 use Rattle.lsp_client.proofs.SentLemmas.{order_sent, long_refused, body_within, whole_sent}
+use Rattle.lsp_store.specs.declared.fault.StoreFault.TheVariants as store_faults
 use Rattle.lsp_client.proofs.client.Client.send_whole.Goals as goal
 
 pub returns-in_err-frame-clause-error : goal.returns-in_err-frame-clause-error
@@ -36,3 +37,29 @@ returns-clause-ok c =
     c.self.view_is (rw (version, c.agreement-encoding.ensures) at c.in_ok-change.ensures.taken)
     (body_within c.limits.result s.limits _ _ (c.limits.ensures ∙ limits) body (rw version at c.in_ok-frame.ensures.within))
     ((rw version at c.in_ok-frame.ensures.ok) ∙ ap frame body)
+
+pub returns-in_err-text-clause-memory : goal.returns-in_err-text-clause-memory
+returns-in_err-text-clause-memory c = λ e.
+    let version : to_z w32 (of_z w32 c.args.version) ≡ c.args.version = to_z-of_z w32 c.args.version (search rules) in
+    let limits = ap (λ (x : State). x.limits) c.self.view_is in
+    let table = ap (λ (x : State). x.table) c.self.view_is in
+    let p = err_from_is_err_and c.from_residual.result c.from_residual.ensures.1 in
+    let converted = p.1 in
+    let same = p.2 in
+    let was = c.in_err-text.was in
+    let no_memory : c.text_after.result ≡ Err store_faults.NoMemory = cc in
+    rw (version, limits, table) at (c.text_after.ensures.memory no_memory)
+
+pub returns-in_err-frame-clause-memory : goal.returns-in_err-frame-clause-memory
+returns-in_err-frame-clause-memory c = λ e.
+    let version : to_z w32 (of_z w32 c.args.version) ≡ c.args.version = to_z-of_z w32 c.args.version (search rules) in
+    let limits = ap (λ (x : State). x.limits) c.self.view_is in
+    let table = ap (λ (x : State). x.table) c.self.view_is in
+    rw (version, limits, table) at c.in_ok-text.ensures.left
+
+pub returns-in_err-change-clause-memory : goal.returns-in_err-change-clause-memory
+returns-in_err-change-clause-memory c = λ e.
+    let version : to_z w32 (of_z w32 c.args.version) ≡ c.args.version = to_z-of_z w32 c.args.version (search rules) in
+    let limits = ap (λ (x : State). x.limits) c.self.view_is in
+    let table = ap (λ (x : State). x.table) c.self.view_is in
+    rw (version, limits, table) at c.in_ok-text.ensures.left

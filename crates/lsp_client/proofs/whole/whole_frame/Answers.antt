@@ -4,7 +4,7 @@ use Rattle.lsp_frame.specs.Frame.{frame}
 use Rattle.lsp_store.specs.Faults.{IsRefusal}
 use Rattle.lsp_store.specs.Message.{body_refusal}
 use Rattle.lsp_client.proofs.WholeLemmas.{whole_body}
-use Rattle.lsp_client.proofs.documents.whole_frame.Goals as goal
+use Rattle.lsp_client.proofs.whole.whole_frame.Goals as goal
 
 pub returns-clause-ok : goal.returns-clause-ok
 returns-clause-ok c =
