@@ -81,7 +81,10 @@ impl<'a> Document<'a> {
         ensures place { IfOk result (IsPlace (chars self.now.text)) }
         ensures boundary { IfOk result (IsCharBoundary self.now.text) }
     {
-        self.held.text.lines().resolve(self.text(), encoding, position)
+        self.held
+            .text
+            .lines()
+            .resolve(self.text(), encoding, position)
     }
 
     /// The exact position of a byte offset of the text; none where no position can be: past the end, inside a character, or between

@@ -43,7 +43,10 @@ fn edited(alloc: Global) -> Result<Store, Fail> {
 
 fn is_denoted(document: Document, row: (Encoding, u32, u32, Option<usize>)) -> bool {
     let (encoding, line, character, offset) = row;
-    document.resolve(encoding, Position { line, character }).ok() == offset
+    document
+        .resolve(encoding, Position { line, character })
+        .ok()
+        == offset
 }
 
 fn is_exact(document: Document, row: (Encoding, usize, Option<(u32, u32)>)) -> bool {
@@ -56,10 +59,18 @@ fn is_exact(document: Document, row: (Encoding, usize, Option<(u32, u32)>)) -> b
 fn positions_of_a_changed_document(rt: HostRuntime) -> Result<(), Fail> {
     let store = edited(rt.alloc())?;
     for row in &DENOTED {
-        assert!(rt; store.get(URI).is_some_and(|it| is_denoted(it, *row)), "{}", row.2);
+        assert!(rt;
+            store.get(URI).is_some_and(|it| is_denoted(it, *row)),
+            "{}",
+            row.2
+        );
     }
     for row in &EXACT {
-        assert!(rt; store.get(URI).is_some_and(|it| is_exact(it, *row)), "{}", row.1);
+        assert!(rt;
+            store.get(URI).is_some_and(|it| is_exact(it, *row)),
+            "{}",
+            row.1
+        );
     }
     Ok(())
 }
