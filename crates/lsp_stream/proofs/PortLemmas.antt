@@ -1,11 +1,11 @@
 -- What was written in several calls.
-use Rattle.std.proofs.Common.{◌≡◌, ◌≤◌, ℕ, ◌+◌, ◌-◌, List, [], ◌++◌, length, take, drop, Option, refl, sym, ap, ◌∙◌, subst, arith, append-nil}
+use Rattle.std.proofs.Common.{◌≡◌, ◌≤◌, ◌<◌, ◌⊎◌, inl, inr, ℕ, ◌+◌, ◌-◌, Bool, true, false, List, [], ◌++◌, length, take, drop, Option, refl, sym, ap, ◌∙◌, subst, arith, append-nil}
 use Rattle.std.proofs.lemmas.List.{take-append-drop, length-drop, length-take}
 use Rattle.std.proofs.lemmas.Slice.{between_to_end}
 use Rattle.std.proofs.Math.Seq.{take-append-add}
 use Rattle.std.proofs.KnownBytes.{Appends-trans, Appends-kept}
 use Rattle.std.specs.Io.KnownBytes.{Appends, Keeps}
-use Rattle.lsp_stream.specs.Turns.{AppendsFront}
+use Rattle.lsp_stream.specs.Turns.{AppendsFront, AppendsShort}
 
 -- what stands written when a write fails, and when it takes nothing
 pub kept : (old mid new : Option (List ℕ)) (bytes : List ℕ) (at : ℕ) → Appends old mid (take at bytes) → Keeps mid new → AppendsFront old new bytes
@@ -29,3 +29,14 @@ pub more_written : (old mid new : Option (List ℕ)) (bytes : List ℕ) (at n : 
     → Appends mid new (take n (take (length bytes - at) (drop at bytes))) → Appends old new (take (at + n) bytes)
 more_written old mid new bytes at n within room wrote more =
     subst (λ xs. Appends old new xs) (take_more bytes at n within (omega (arith, length-take (length bytes - at) (drop at bytes), length-drop at bytes))) (Appends-trans old mid new _ _ wrote more)
+
+-- not all of the bytes were written
+pub not_all : (old new : Option (List ℕ)) (bytes : List ℕ) (at : ℕ) → Appends old new (take at bytes) → at < length bytes → AppendsShort false old new bytes
+not_all old new bytes at wrote within = (take at bytes, drop at bytes, sym (take-append-drop at bytes), wrote, inl (omega (arith, within, length-drop at bytes)))
+
+some_left : (unflushed : Bool) (rest : List ℕ) → (0 < length rest) ⊎ (false ≡ true) → (0 < length rest) ⊎ (unflushed ≡ true)
+some_left unflushed rest (inl some) = inl some
+some_left unflushed rest (inr never) = absurd (let wrong : false ≡ true = never in cc)
+
+pub short_of : (unflushed : Bool) (old new : Option (List ℕ)) (bytes : List ℕ) → AppendsShort false old new bytes → AppendsShort unflushed old new bytes
+short_of unflushed old new bytes short = (short.0, short.1, short.2, short.3, some_left unflushed short.1 short.4)

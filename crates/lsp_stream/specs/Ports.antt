@@ -1,5 +1,5 @@
 -- What the calls of a reader and of a writer tell.
-use Rattle.std.specs.Prelude.{◌≡◌, ◌≢◌, ℕ, ◌+◌, ◌<◌, ◌-◌, ◌^◌, min, max, List, length, Result, Ok, Err}
+use Rattle.std.specs.Prelude.{◌≡◌, ◌≢◌, ℕ, ◌+◌, ◌<◌, ◌-◌, ◌^◌, min, max, Bool, true, ◌&&◌, ◌==◌, List, length, Result, Ok, Err}
 use Rattle.std.specs.declared.io.Error.{Error}
 use Rattle.std.specs.declared.io.ErrorKind.TheVariants.{Interrupted}
 use Rattle.std.specs.IoError.{error_kind}
@@ -18,6 +18,16 @@ IsWriteFailure (Err e) bytes = error_kind e ≢ Interrupted
 abbrev pub IsFlushFailure : Result (Unit {0}) Error → Type 0
 IsFlushFailure (Ok _) = ⊥
 IsFlushFailure (Err e) = error_kind e ≢ Interrupted
+
+-- Whether all that was taken is passed on after a write that answers this: what it took itself is not.
+abbrev pub flushed_after_write : Bool → Result ℕ Error → Bool
+flushed_after_write flushed (Ok n) = flushed && n == 0
+flushed_after_write flushed (Err e) = flushed
+
+-- The same after a flush: one that failed or was interrupted changes nothing.
+abbrev pub flushed_after_flush : Bool → Result (Unit {0}) Error → Bool
+flushed_after_flush flushed (Ok _) = true
+flushed_after_flush flushed (Err e) = flushed
 
 -- A read with room gave no byte: the end.
 abbrev pub IsEnd : List ℕ → Result ℕ Error → Type 0

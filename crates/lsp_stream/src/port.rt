@@ -3,7 +3,7 @@
 ghost use Rattle.std.specs.Prelude.{◌≡◌, ◌↔◌, Bool, true, ℕ, List, Option};
 ghost use Rattle.std.specs.Io.{ReadsAtMost, WritesAtMost};
 ghost use Rattle.std.specs.Io.KnownBytes.{ReadConsumes, WriteAppends, Keeps};
-ghost use Rattle.lsp_stream.specs.Ports.{IsReadFailure, IsWriteFailure, IsFlushFailure, IsEnd, one_more};
+ghost use Rattle.lsp_stream.specs.Ports.{IsReadFailure, IsWriteFailure, IsFlushFailure, IsEnd, flushed_after_write, flushed_after_flush, one_more};
 
 use std::io;
 
@@ -45,22 +45,26 @@ pub trait Sink {
     // The bytes that it holds, where they are known.
     ghost held: { Self → Option (List ℕ) };
 
-    // What `failed` and `calls` answer.
+    // What `failed`, `calls` and `flushed` answer.
     ghost has_failed: { Self → Bool };
 
     ghost count: { Self → ℕ };
+
+    ghost has_flushed: { Self → Bool };
 
     /// Writes the first bytes of `buf`, and answers how many, as std's `Write` does.
     fn write(&mut self, buf: &[u8]) -> io::Result<usize>
         ensures bound { WritesAtMost result buf.now }
         ensures bytes { WriteAppends (held self.old) (held self.new) result buf.now }
         ensures failed { has_failed self.new ≡ true ↔ IsWriteFailure result buf.now }
+        ensures flushed { has_flushed self.new ≡ flushed_after_write (has_flushed self.old) result }
         ensures counted { count self.new ≡ one_more (count self.old) };
 
     /// Passes on what was written, as std's `Write` does.
     fn flush(&mut self) -> io::Result<()>
         ensures bytes { Keeps (held self.old) (held self.new) }
         ensures failed { has_failed self.new ≡ true ↔ IsFlushFailure result }
+        ensures flushed { has_flushed self.new ≡ flushed_after_flush (has_flushed self.old) result }
         ensures counted { count self.new ≡ one_more (count self.old) };
 
     /// Did the last write or flush fail? One that was interrupted didn't. A write that took nothing of a `buf`
@@ -71,4 +75,8 @@ pub trait Sink {
     /// How many writes and flushes were made. It stays at the greatest value of a `u64`.
     fn calls(&self) -> u64
         ensures { result ≡ count self.now };
+
+    /// Is all that it took passed on: did a flush succeed after the last write that took bytes? True before the first.
+    fn flushed(&self) -> bool
+        ensures { result ≡ has_flushed self.now };
 }

@@ -3,7 +3,7 @@
 ghost use Rattle.std.specs.Prelude.{◌≡◌, ◌↔◌, true, false};
 ghost use Rattle.std.specs.Io.{ReadsAtMost, WritesAtMost};
 ghost use Rattle.std.specs.IoError.{error_kind};
-ghost use Rattle.lsp_stream.specs.Ports.{IsReadFailure, IsWriteFailure, IsFlushFailure, IsEnd, one_more};
+ghost use Rattle.lsp_stream.specs.Ports.{IsReadFailure, IsWriteFailure, IsFlushFailure, IsEnd, flushed_after_write, flushed_after_flush, one_more};
 
 use crate::port::{Sink, Source};
 use std::io::{self, ErrorKind, Read, Write};
@@ -16,6 +16,7 @@ pub struct Told<T> {
     failed: bool,
     calls: u64,
     ended: bool,
+    flushed: bool,
 }
 
 impl<T> Told<T> {
@@ -25,12 +26,14 @@ impl<T> Told<T> {
         ensures failed { result.failed ≡ false }
         ensures calls { result.calls ≡ 0 }
         ensures ended { result.ended ≡ false }
+        ensures flushed { result.flushed ≡ true }
     {
         Told {
             inner,
             failed: false,
             calls: 0,
             ended: false,
+            flushed: true,
         }
     }
 
@@ -61,12 +64,16 @@ impl<T> Told<T> {
         ensures inner { self.new.inner ≡ self.old.inner }
         ensures failed { self.new.failed ≡ true ↔ IsWriteFailure answer.now buf.now }
         ensures counted { self.new.calls ≡ one_more self.old.calls }
+        ensures flushed { self.new.flushed ≡ flushed_after_write self.old.flushed answer.now }
     {
         self.calls = self.calls.saturating_add(1);
         self.failed = match answer {
             Ok(taken) => *taken == 0 && !buf.is_empty(),
             Err(error) => !is_interrupted(error),
         };
+        if let Ok(taken) = answer {
+            self.flushed = self.flushed && *taken == 0;
+        }
     }
 
     /// Notes what a flush answered.
@@ -74,12 +81,14 @@ impl<T> Told<T> {
         ensures inner { self.new.inner ≡ self.old.inner }
         ensures failed { self.new.failed ≡ true ↔ IsFlushFailure answer.now }
         ensures counted { self.new.calls ≡ one_more self.old.calls }
+        ensures flushed { self.new.flushed ≡ flushed_after_flush self.old.flushed answer.now }
     {
         self.calls = self.calls.saturating_add(1);
         self.failed = match answer {
             Ok(()) => false,
             Err(error) => !is_interrupted(error),
         };
+        self.flushed = self.flushed || answer.is_ok();
     }
 }
 
@@ -125,6 +134,8 @@ impl<T: Write> Sink for Told<T> {
 
     ghost count = { λ t. t.calls };
 
+    ghost has_flushed = { λ t. t.flushed };
+
     fn write(&mut self, buf: &[u8]) -> io::Result<usize> {
         let answer = self.inner.write(buf);
         self.note_write(&answer, buf);
@@ -143,5 +154,9 @@ impl<T: Write> Sink for Told<T> {
 
     fn calls(&self) -> u64 {
         self.calls
+    }
+
+    fn flushed(&self) -> bool {
+        self.flushed
     }
 }

@@ -1,9 +1,9 @@
 //! Reads, writes and flushes, each in a bounded number of calls.
 
-ghost use Rattle.std.specs.Prelude.{◌≡◌, ◌≢◌, ◌<◌, ◌≤◌, ◌+◌, ◌↔◌, ◌⊎◌, true, false, IfOk, IfErr, OnOk, OnErr, length, take};
+ghost use Rattle.std.specs.Prelude.{◌≡◌, ◌≢◌, ◌<◌, ◌≤◌, ◌+◌, ◌↔◌, ◌⊎◌, ◌&&◌, not, true, false, IfOk, IfErr, OnOk, OnErr, length, take};
 ghost use Rattle.std.specs.Io.KnownBytes.{Consumes, Appends, Keeps, IsAtEnd};
 ghost use Rattle.lsp_stream.specs.Ports.{Rose};
-ghost use Rattle.lsp_stream.specs.Turns.{Spends, AppendsFront, StaysWell};
+ghost use Rattle.lsp_stream.specs.Turns.{Spends, AppendsFront, AppendsShort, StaysWell};
 
 use crate::fault::EngineFault;
 use crate::port::{Sink, Source};
@@ -52,6 +52,8 @@ pub fn read_piece<R: Source>(
     ensures fault { IfErr result (λ fault. (fault ≡ EngineFault.Read) ⊎ (fault ≡ EngineFault.TooManyTurns)) }
     ensures failed { IfErr result (λ fault. fault ≡ EngineFault.Read →
         (R.has_failed reader.new ≡ true) × (R.has_ended reader.new ≡ false) × Rose (R.count reader.old) (R.count reader.new)) }
+    ensures not_ended { IfErr result (λ fault. fault ≡ EngineFault.TooManyTurns →
+        R.has_ended reader.old ≡ false → R.has_ended reader.new ≡ false) }
     ensures well { OnOk result (StaysWell (R.has_failed reader.old) (R.has_failed reader.new)) }
     ensures told { IfErr result (λ fault. fault ≢ EngineFault.Read → StaysWell (R.has_failed reader.old) (R.has_failed reader.new)) }
     ensures none_left { IfErr result (λ fault. fault ≡ EngineFault.TooManyTurns → turns.new.left ≡ 0) }
@@ -76,6 +78,8 @@ fn write_out<W: Sink>(writer: &mut W, bytes: &[u8], turns: &mut Turns) -> Result
     ensures wrote { OnOk result (Appends (W.held writer.old) (W.held writer.new) bytes.now) }
     ensures front { OnErr result (AppendsFront (W.held writer.old) (W.held writer.new) bytes.now) }
     ensures fault { IfErr result (λ fault. (fault ≡ EngineFault.Write) ⊎ (fault ≡ EngineFault.TooManyTurns)) }
+    ensures short { IfErr result (λ fault. fault ≡ EngineFault.TooManyTurns →
+        AppendsShort false (W.held writer.old) (W.held writer.new) bytes.now) }
     ensures failed { IfErr result (λ fault. fault ≡ EngineFault.Write →
         (W.has_failed writer.new ≡ true) × Rose (W.count writer.old) (W.count writer.new)) }
     ensures well { OnOk result (StaysWell (W.has_failed writer.old) (W.has_failed writer.new)) }
@@ -107,6 +111,8 @@ pub fn flush_out<W: Sink>(writer: &mut W, turns: &mut Turns) -> Result<(), Engin
     ensures kept { Keeps (W.held writer.old) (W.held writer.new) }
     // The last flush was made, and did not fail.
     ensures flushed { OnOk result ((W.has_failed writer.new ≡ false) × Rose (W.count writer.old) (W.count writer.new)) }
+    ensures passed_on { OnOk result (W.has_flushed writer.new ≡ true) }
+    ensures not_passed_on { OnErr result (W.has_flushed writer.new ≡ W.has_flushed writer.old) }
     ensures fault { IfErr result (λ fault. (fault ≡ EngineFault.Write) ⊎ (fault ≡ EngineFault.TooManyTurns)) }
     ensures failed { IfErr result (λ fault. fault ≡ EngineFault.Write →
         (W.has_failed writer.new ≡ true) × Rose (W.count writer.old) (W.count writer.new)) }
@@ -128,7 +134,8 @@ pub fn flush_out<W: Sink>(writer: &mut W, turns: &mut Turns) -> Result<(), Engin
     }
 }
 
-/// Writes what a record or the end of the input gives, and passes it on where that is asked for.
+/// Writes what a record or the end of the input gives, and where that is asked for passes on all that was written, if
+/// anything is not passed on yet.
 pub fn write_given<W: Sink>(
     writer: &mut W,
     bytes: &[u8],
@@ -138,6 +145,10 @@ pub fn write_given<W: Sink>(
     ensures wrote { OnOk result (Appends (W.held writer.old) (W.held writer.new) bytes.now) }
     ensures front { OnErr result (AppendsFront (W.held writer.old) (W.held writer.new) bytes.now) }
     ensures fault { IfErr result (λ fault. (fault ≡ EngineFault.Write) ⊎ (fault ≡ EngineFault.TooManyTurns)) }
+    // Where the turns ran out, bytes were still to be written, or to be passed on.
+    ensures short { IfErr result (λ fault. fault ≡ EngineFault.TooManyTurns →
+        AppendsShort (flush && not (W.has_flushed writer.new)) (W.held writer.old) (W.held writer.new) bytes.now) }
+    ensures flushed { OnOk result (flush ≡ true → W.has_flushed writer.new ≡ true) }
     ensures failed { IfErr result (λ fault. fault ≡ EngineFault.Write →
         (W.has_failed writer.new ≡ true) × Rose (W.count writer.old) (W.count writer.new)) }
     ensures well { OnOk result (StaysWell (W.has_failed writer.old) (W.has_failed writer.new)) }
@@ -146,7 +157,7 @@ pub fn write_given<W: Sink>(
     ensures spent { Spends (W.count writer.old) (W.count writer.new) turns.old.left turns.new.left }
 {
     write_out(writer, bytes, turns)?;
-    if flush {
+    if flush && !writer.flushed() {
         flush_out(writer, turns)?;
     }
     Ok(())
