@@ -1,6 +1,6 @@
 -- A run between two reads, and its end.
 use Rattle.std.proofs.Common.{◌≡◌, ℕ, ◌+◌, ◌-◌, ◌<◌, ◌≤◌, ◌^◌, Bool, true, false, List, [], ◌∷◌, ◌++◌, length, take, drop, Option, Result, Ok, Err, refl, sym, ◌∙◌, ap, subst, arith, append_assoc, append-nil, inl, inr, ◌⊎◌, ◌||◌}
-use Rattle.std.specs.Prelude.{◌≢◌, min, nat_eq, IfOk, IfErr}
+use Rattle.std.specs.Prelude.{◌≢◌, min, nat_eq, IfOk, IfErr, OnOk}
 use Rattle.std.proofs.lemmas.List.{length-append, length-take, drop-take, take-append-drop}
 use Rattle.std.specs.Io.KnownBytes.{Consumes, Appends, Keeps, IsAtEnd}
 use Rattle.std.proofs.KnownBytes.{Appends-nil, Consumes-trans, Consumes-kept}
@@ -335,3 +335,10 @@ told_fault read_failed_old read_failed_new write_failed_old write_failed_new fau
 pub passed_fault : {T : Type 0} (flushes old new : Bool) (fault : EngineFault) → (flushes ≡ true → fault ≢ Write → fault ≢ TooManyTurns → StaysFlushed old new)
     → flushes ≡ true → ◌≢◌ {A = Result T EngineFault} (Err fault) (Err Write) → ◌≢◌ {A = Result T EngineFault} (Err fault) (Err TooManyTurns) → StaysFlushed old new
 passed_fault flushes old new fault passed holds not_write not_turns = passed holds (λ is. not_write (ap Err is)) (λ is. not_turns (ap Err is))
+
+-- Nor was anything by what a call answered.
+pub passed_result : {T : Type 0} (flushes old new : Bool) (r : Result T EngineFault) → OnOk r (flushes ≡ true → StaysFlushed old new)
+    → IfErr r (λ fault. flushes ≡ true → fault ≢ Write → fault ≢ TooManyTurns → StaysFlushed old new)
+    → flushes ≡ true → r ≢ Err Write → r ≢ Err TooManyTurns → StaysFlushed old new
+passed_result flushes old new (Ok t) ok err holds not_write not_turns = ok holds
+passed_result flushes old new (Err fault) ok err holds not_write not_turns = passed_fault flushes old new fault err holds not_write not_turns

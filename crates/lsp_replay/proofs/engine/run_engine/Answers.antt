@@ -3,7 +3,7 @@ use Rattle.std.proofs.lemmas.List.{length-take}
 use Rattle.std.specs.Io.KnownBytes.{Consumes}
 use Rattle.std.proofs.lemmas.Result.{err_from_is_err_and}
 use Rattle.lsp_replay.specs.Engine.{state_of}
-use Rattle.lsp_replay.proofs.RunLemmas.{runs_at_start, runs_on, runs_more, ran_stopped, ran_into_fault, ran_finished, ran_unread, ran_unopened, ran_refused, called_fault, piece_not_read, both_at_start, both_writes, both_reads, rose_more, told_fault, read_not_write, read_not_ended, n_is_zero, zero_is, not_at_end, passed_fault}
+use Rattle.lsp_replay.proofs.RunLemmas.{runs_at_start, runs_on, runs_more, ran_stopped, ran_into_fault, ran_finished, ran_unread, ran_unopened, ran_refused, called_fault, piece_not_read, both_at_start, both_writes, both_reads, rose_more, told_fault, read_not_write, read_not_ended, n_is_zero, zero_is, not_at_end, passed_fault, passed_result}
 use Rattle.lsp_replay.proofs.engine.run_engine.Goals as goal
 
 pub returns-in_err-opening-clause-ran : goal.returns-in_err-opening-clause-ran
@@ -101,6 +101,19 @@ pub returns-in_err-end-clause-passed_on : goal.returns-in_err-end-clause-passed_
 returns-in_err-end-clause-passed_on g c =
     let p = err_from_is_err_and c.from_residual-in_err-end.result c.from_residual-in_err-end.ensures.1 in
     rw (p.1, p.2) (passed_fault _ _ _ _ (λ holds not_write not_turns before. c.in_err-end.ensures.passed_on holds not_write not_turns (c.pieces.invariant.flushed holds before)))
+
+pub returns-in-Some-clause-passed_on : goal.returns-in-Some-clause-passed_on
+returns-in-Some-clause-passed_on g c = λ holds _ _ before. c.in_ok-end.ensures.flushed holds (c.pieces.invariant.flushed holds before)
+
+pub returns-then-ended-clause-passed_on : goal.returns-then-ended-clause-passed_on
+returns-then-ended-clause-passed_on g c = λ holds not_write not_turns before.
+    passed_result _ _ _ c.finish_run.result c.finish_run.ensures.flushed c.finish_run.ensures.passed_on holds not_write not_turns
+    (c.in_ok-end.ensures.flushed holds (c.pieces.invariant.flushed holds before))
+
+pub returns-in_err-to-clause-passed_on : goal.returns-in_err-to-clause-passed_on
+returns-in_err-to-clause-passed_on g c =
+    let p = err_from_is_err_and c.from_residual-in_err-to.result c.from_residual-in_err-to.ensures.1 in
+    rw (p.1, p.2) (λ holds _ _ before. c.in_ok-end.ensures.flushed holds (c.pieces.invariant.flushed holds before))
 
 pub pieces-preserved : goal.pieces-preserved
 pieces-preserved g c =
