@@ -38,6 +38,10 @@ impl Check {
 impl Handler for Check {
     ghost course = { λ check. course_in checking check.session };
 
+    ghost FLUSHES = { false };
+
+    const FLUSHES: bool = false;
+
     ghost parts = { λ check. 0 };
 
     ghost silent = { λ _. refl };
@@ -58,7 +62,6 @@ impl Handler for Check {
         push_line(made, self.session.records(), &verdict)?;
         Ok(Given {
             output: Output::Made,
-            flush: false,
             end: None,
         })
     }

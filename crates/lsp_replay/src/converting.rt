@@ -44,6 +44,10 @@ impl Convert {
 impl Handler for Convert {
     ghost course = { λ convert. course_in converting convert.session };
 
+    ghost FLUSHES = { false };
+
+    const FLUSHES: bool = false;
+
     ghost parts = { λ convert. 0 };
 
     ghost silent = { λ _. refl };
@@ -67,7 +71,6 @@ impl Handler for Convert {
         push_reply(made, &verdict)?;
         Ok(Given {
             output: Output::Made,
-            flush: false,
             end: None,
         })
     }

@@ -45,6 +45,10 @@ impl Replay {
 impl Handler for Replay {
     ghost course = { λ replay. course_in (replaying_from replay.next) replay.session };
 
+    ghost FLUSHES = { false };
+
+    const FLUSHES: bool = false;
+
     ghost parts = { λ replay. length replay.session.server.table - replay.next };
 
     ghost silent = { λ _. refl };
@@ -64,7 +68,6 @@ impl Handler for Replay {
         }
         Ok(Given {
             output: Output::Made,
-            flush: false,
             end: None,
         })
     }

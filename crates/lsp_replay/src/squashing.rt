@@ -20,7 +20,6 @@ use std::marker::Model;
 /// What a record gives that doesn't end the run of the command.
 const WRITTEN: Given = Given {
     output: Output::Made,
-    flush: false,
     end: None,
 };
 
@@ -123,6 +122,10 @@ impl Squashing {
 
 impl Handler for Squashing {
     ghost course = { λ squashing. squashed_in squashing.session squashing.run };
+
+    ghost FLUSHES = { false };
+
+    const FLUSHES: bool = false;
 
     ghost parts = { λ squashing. 0 };
 
