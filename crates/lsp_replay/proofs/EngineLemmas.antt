@@ -242,6 +242,7 @@ module _ (reading : Reading) (course : List Record → Course) (held : Option (L
 
   short_last : (unflushed : Bool) (s : Splitter) (now : List Record → Course) (held_now held_new : Option (List ℕ)) → IsQuiet now → held_of s ≡ []
       → AppendsShort unflushed held_now held_new ((now []).last s.line_due) → Went reading course held input [] s now held_now → RanOutAtEnd reading course unflushed input held held_new
+  unfolding broken_last
   short_last unflushed s now held_now held_new quiet nothing cut w = record {
     broken = broken_last s now held_now held_new quiet nothing (cut.0, cut.1, cut.2, cut.3) w;
     short = cut.4;
@@ -282,6 +283,15 @@ part_is (Some outcome) last made more A B C told = ([], told.0 ∙ sym (append-n
 pub record_out : (old new : List Record → Course) (r : Record) (out : List ℕ) (end : Option Outcome) → old (r ∷ []) ≡ after out end (new []) → (new []).out ≡ [] → (old (r ∷ [])).out ≡ out
 record_out old new r out None is silent = ap (λ (c : Course). c.out) is ∙ ap (λ z. out ++ z) silent ∙ append-nil out
 record_out old new r out (Some outcome) is silent = ap (λ (c : Course). c.out) is
+
+-- a fault in writing a record's output
+pub write_fault : (unflushed : Bool) (old new : List Record → Course) (held_old held_new : Option (List ℕ)) (r : Record) (bytes out : List ℕ) (end : Option Outcome) (fault : EngineFault)
+    → ((more : List Record) → old (r ∷ more) ≡ after out end (new more)) → (new []).out ≡ [] → bytes ≡ out → (fault ≡ Write) ⊎ (fault ≡ TooManyTurns)
+    → AppendsFront held_old held_new bytes → (fault ≡ TooManyTurns → AppendsShort unflushed held_old held_new bytes) → IsHandleFault old unflushed held_old held_new r fault
+write_fault unflushed old new held_old held_new r bytes out end fault gives silent is (inl at) front short =
+    subst (IsHandleFault old unflushed held_old held_new r) (sym at) (subst (AppendsFront held_old held_new) (is ∙ sym (record_out old new r out end (gives []) silent)) front)
+write_fault unflushed old new held_old held_new r bytes out end fault gives silent is (inr at) front short =
+    subst (IsHandleFault old unflushed held_old held_new r) (sym at) (subst (AppendsShort unflushed held_old held_new) (is ∙ sym (record_out old new r out end (gives []) silent)) (short at))
 
 -- what two clauses say of one answer
 pub ok_and : {T E : Type 0} (r : Result T E) (X : Type 0) (P Q : T → Type 0) → OnOk r X → IfOk r P → ((t : T) → X → P t → Q t) → IfOk r Q
