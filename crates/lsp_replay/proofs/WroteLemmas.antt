@@ -139,12 +139,12 @@ module _ (settings : Settings) (ranges : AreInRange settings.limits) (left_old l
         holds = holds;
       }
 
-  pub wrote_squashed : (ended : Bool) (result : Result Outcome EngineFault) → Ran (as_log settings) (squashed settings) ended left_old left_new held_old held_new result
+  pub wrote_squashed : (state : PortState) (result : Result Outcome EngineFault) → Ran (as_log settings) (squashed settings) state left_old left_new held_old held_new result
       → IfOk result (Wrote settings (IsSquashed settings) left_old left_new held_old held_new)
-  wrote_squashed ended (Err fault) ran = tt
-  wrote_squashed ended (Ok outcome) ran =
+  wrote_squashed state (Err fault) ran = tt
+  wrote_squashed state (Ok outcome) ran =
       ⊎_elim
       (λ (stopped : Stopped (as_log settings) (squashed settings) ran.input held_old held_new (Ok outcome)).
       absurd (stops_not_ok (squashed settings stopped.log.records).stop outcome (squashed_not_ok settings stopped.log.records) stopped.stops))
-      (λ (end : (ended ≡ true) × AtEnd (as_log settings) (squashed settings) ran.input held_old held_new outcome). squashed_at_end ran.input outcome end.1 ran.read)
+      (λ (end : (state.ended ≡ true) × AtEnd (as_log settings) (squashed settings) ran.input held_old held_new outcome). squashed_at_end ran.input outcome end.1 ran.read)
       ran.came
