@@ -173,7 +173,7 @@ module _ (first_of : FirstLaw) (same_version : VersionLaw) (reading : Reading) (
   fault_told NoMemory (inr b) = inr (cut b)
   fault_told TooManyTurns (inl r) = inl (ran_out r)
   fault_told TooManyTurns (inr (inl b)) = inr (inl (short_end b))
-  fault_told TooManyTurns (inr (inr r)) = inr (inr (r.0, reached (IsUnfinished reading input) (λ log is. is.none) r.1))
+  fault_told TooManyTurns (inr (inr r)) = let told = reached (IsUnfinished reading input) (λ log is. is.none) r.1 in inr (inr (r.0, told.0, told.1))
   fault_told (BadLog place) (inl stopped) = inl (ended_by (Err (BadLog place)) stopped)
   fault_told (BadLog place) (inr (inl r)) = inr (reached (IsBadMark input place) (λ log is. bad_rest reading.max_body input place log is) r)
   fault_told (BadLog place) (inr (inr is)) = absurd (refused place is)

@@ -1,6 +1,6 @@
 //! `check`: what a server answers to each record of a log, line by line.
 
-ghost use Rattle.std.specs.Prelude.{◌≡◌, ◌++◌, refl, OnOk, decimal};
+ghost use Rattle.std.specs.Prelude.{◌≡◌, ◌++◌, refl, OnOk, decimal, false};
 ghost use Rattle.lsp_server.specs.Seen.{answer_view};
 ghost use Rattle.lsp_replay.specs.Course.{Course};
 ghost use Rattle.lsp_replay.specs.Session.{opened};

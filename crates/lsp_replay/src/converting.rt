@@ -1,6 +1,6 @@
 //! `convert`: a log of version 2, with the server's replies, of one of version 1.
 
-ghost use Rattle.std.specs.Prelude.{◌≡◌, ◌++◌, refl, OnOk};
+ghost use Rattle.std.specs.Prelude.{◌≡◌, ◌++◌, refl, OnOk, false};
 ghost use Rattle.lsp_replay.specs.Session.{opened};
 ghost use Rattle.lsp_replay.specs.Engines.{converting, course_in, line_before, reply_record};
 ghost use Rattle.lsp_replay.specs.Verdicts.{verdict_view};

@@ -1,6 +1,6 @@
 //! `replay`: the documents that are open at the end of a log.
 
-ghost use Rattle.std.specs.Prelude.{◌≡◌, ◌∷◌, ◌++◌, ◌-◌, [], refl, OnOk, length};
+ghost use Rattle.std.specs.Prelude.{◌≡◌, ◌∷◌, ◌++◌, ◌-◌, [], refl, OnOk, length, false};
 ghost use Rattle.std.specs.Fmt.{signed_decimal};
 ghost use Rattle.json.specs.Token as token;
 ghost use Rattle.lsp_message.specs.Tokens.{Appends, tokens_of};

@@ -1,6 +1,6 @@
 //! `normalise` with squash: accepted changes of one document, one after another, as one message.
 
-ghost use Rattle.std.specs.Prelude.{◌≡◌, ◌++◌, refl, OnOk, None, Some};
+ghost use Rattle.std.specs.Prelude.{◌≡◌, ◌++◌, refl, OnOk, None, Some, false};
 ghost use Rattle.lsp_log.specs.Log.{mark_of};
 ghost use Rattle.lsp_replay.specs.Session.{opened};
 ghost use Rattle.lsp_replay.specs.Engines.{line_if};
