@@ -266,9 +266,13 @@ still_short unflushed some more (inr kept) = inr kept
 
 -- a part of what the end gives, and the next one
 pub part_short : (unflushed : Bool) (old mid new : Option (List ℕ)) (all out made rest : List ℕ) → all ≡ out ++ (made ++ rest) → Appends old mid out → AppendsShort unflushed mid new made → AppendsShort unflushed old new all
-part_short unflushed old mid new all out made rest is wrote cut =
-    (out ++ cut.0, cut.1 ++ rest, is ∙ ap (λ z. out ++ (z ++ rest)) cut.2 ∙ ap (λ z. out ++ z) (append_assoc cut.0 cut.1 rest) ∙ sym (append_assoc out cut.0 (cut.1 ++ rest)), Appends-trans old mid new out cut.0 wrote cut.3,
-    still_short unflushed cut.1 rest cut.4)
+part_short unflushed old mid new all out made rest is wrote cut = (
+  out ++ cut.0,
+  cut.1 ++ rest,
+  is ∙ ap (λ z. out ++ (z ++ rest)) cut.2 ∙ ap (λ z. out ++ z) (append_assoc cut.0 cut.1 rest) ∙ sym (append_assoc out cut.0 (cut.1 ++ rest)),
+  Appends-trans old mid new out cut.0 wrote cut.3,
+  still_short unflushed cut.1 rest cut.4,
+)
 
 pub part_cut : (old mid new : Option (List ℕ)) (all out made rest : List ℕ) → all ≡ out ++ (made ++ rest) → Appends old mid out → AppendsFront mid new made → AppendsFront old new all
 part_cut old mid new all out made rest is wrote cut =

@@ -122,9 +122,13 @@ module _ (first_of : FirstLaw) (same_version : VersionLaw) (reading : Reading) (
   unfolding Grows
   ran_out r =
       let f : IsFirstOf reading r.log all = first_of reading input r.log all r.reads reads ends in
-      let more = grows_all r.log.records f.more in
-      (r.wrote.0, r.wrote.1 ++ more.0, ap (λ rs. (course rs).out) f.all_are ∙ more.1 ∙ ap (λ z. z ++ more.0) r.wrote.2 ∙ append_assoc r.wrote.0 r.wrote.1 more.0, r.wrote.3,
-      still_short state.unflushed r.wrote.1 more.0 r.wrote.4)
+      let more = grows_all r.log.records f.more in (
+        r.wrote.0,
+        r.wrote.1 ++ more.0,
+        ap (λ rs. (course rs).out) f.all_are ∙ more.1 ∙ ap (λ z. z ++ more.0) r.wrote.2 ∙ append_assoc r.wrote.0 r.wrote.1 more.0,
+        r.wrote.3,
+        still_short state.unflushed r.wrote.1 more.0 r.wrote.4,
+      )
 
   short_end : (state.ended ≡ true) × RanOutAtEnd reading course state.unflushed input held_old held_new → (state.ended ≡ true) × ShortAtEnd course state.unflushed held_old held_new all
   short_end b =

@@ -85,7 +85,7 @@ pub fn serve<R: Source, W: Sink>(
     ensures told { RanOver (as_stream config) (replies config)
         (state_of (R.has_ended reader.old) (R.has_ended reader.new) (not (W.has_flushed writer.new)))
         (R.left reader.old) (R.left reader.new) (W.held writer.old) (W.held writer.new) result }
-    // Each reply is passed on before more is read and before the end, unless a write or a flush failed or the turns ran out.
+    // After an outcome, and after each fault but those of writing and of too many turns, all that was written is passed on.
     ensures passed_on { result ≢ Err EngineFault.Write → result ≢ Err EngineFault.TooManyTurns →
         StaysFlushed (W.has_flushed writer.old) (W.has_flushed writer.new) }
     ensures called { Called (R.count reader.old) (R.count reader.new) (W.count writer.old) (W.count writer.new) max_turns

@@ -182,11 +182,7 @@ static WRITES_AND_FLUSHES: [Call; 5] = [
 
 #[test]
 fn flushed_once_a_flush_succeeds(rt: HostRuntime) {
-    let mut writer = Told::new(StopWriter::new(
-        rt.alloc(),
-        &WRITES_AND_FLUSHES,
-        Call::Fail,
-    ));
+    let mut writer = Told::new(StopWriter::new(rt.alloc(), &WRITES_AND_FLUSHES, Call::Fail));
     assert!(rt; writer.flushed());
     for flushed in [true, false] {
         let _ = Sink::write(&mut writer, b"abc");

@@ -13,5 +13,5 @@ returns-in_err-write_given-clause-fault g c =
     let p = err_from_is_err_and c.from_residual-in_err-write_given.result c.from_residual-in_err-write_given.ensures.1 in
     let same : c.match-given.output.now ≡ output_of c.in_ok-given.given.output c.args.spelling.now c.handle.new.made.items = elim c.match-given.branch [ in-Frame w ↦ search rules | in-Made w ↦ search rules ] in
     rw (p.1, p.2) (write_fault (g.H.Handler.FLUSHES && not (g.W.Sink.has_flushed c.write_given.new.writer)) (g.H.Handler.course c.args.handler.now) (g.H.Handler.course c.handle.new.self) (g.W.Sink.held c.args.writer.now) (g.W.Sink.held c.write_given.new.writer) _
-    c.match-given.output.now _ c.in_ok-given.given.end _ c.in_ok-given.ensures.ok (g.met.H.Handler.silent c.handle.new.self) same c.in_err-write_given.ensures.fault c.in_err-write_given.ensures.front 
+    c.match-given.output.now _ c.in_ok-given.given.end _ c.in_ok-given.ensures.ok (g.met.H.Handler.silent c.handle.new.self) same c.in_err-write_given.ensures.fault c.in_err-write_given.ensures.front
     (subst (λ (asked : Bool). c.in_err-write_given.field-0.0 ≡ TooManyTurns → AppendsShort (asked && not (g.W.Sink.has_flushed c.write_given.new.writer)) (g.W.Sink.held c.args.writer.now) (g.W.Sink.held c.write_given.new.writer) c.match-given.output.now) c.FLUSHES.ensures c.in_err-write_given.ensures.short))
