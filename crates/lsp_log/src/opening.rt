@@ -41,6 +41,8 @@ pub fn read_opening<R: Source>(
     ensures fault { IfErr result (λ fault. (fault ≡ EngineFault.Read) ⊎ (fault ≡ EngineFault.TooManyTurns)) }
     ensures failed { IfErr result (λ fault. fault ≡ EngineFault.Read →
         (R.has_failed reader.new ≡ true) × (R.has_ended reader.new ≡ false) × Rose (R.count reader.old) (R.count reader.new)) }
+    ensures not_ended { IfErr result (λ fault. fault ≡ EngineFault.TooManyTurns →
+        R.has_ended reader.old ≡ false → R.has_ended reader.new ≡ false) }
     ensures well { OnOk result (StaysWell (R.has_failed reader.old) (R.has_failed reader.new)) }
     ensures told { IfErr result (λ fault. fault ≢ EngineFault.Read → StaysWell (R.has_failed reader.old) (R.has_failed reader.new)) }
     ensures none_left { IfErr result (λ fault. fault ≡ EngineFault.TooManyTurns → turns.new.left ≡ 0) }

@@ -1,8 +1,8 @@
 -- What a run wrote, record by record.
-use Rattle.std.proofs.Common.{◌≡◌, ℕ, ◌+◌, ◌-◌, ◌≤◌, List, [], ◌∷◌, ◌++◌, length, take, drop, Option, Some, None, Result, Ok, Err, refl, sym, ◌∙◌, ap, subst, arith, append_assoc, append-nil, inl, inr}
+use Rattle.std.proofs.Common.{◌≡◌, ℕ, ◌+◌, ◌-◌, ◌≤◌, List, [], ◌∷◌, ◌++◌, length, take, drop, Bool, true, ◌<◌, Option, Some, None, Result, Ok, Err, refl, sym, ◌∙◌, ap, subst, arith, append_assoc, append-nil, inl, inr}
 use Rattle.std.proofs.lemmas.List.{drop-drop, length-append}
 use Rattle.std.proofs.lemmas.Slice.{between_to_end}
-use Rattle.std.specs.Prelude.{MatchOption, OnOk, OnErr, IfOk, IfErr}
+use Rattle.std.specs.Prelude.{◌⊎◌, MatchOption, OnOk, OnErr, IfOk, IfErr}
 use Rattle.std.specs.Io.KnownBytes.{Appends}
 use Rattle.std.proofs.KnownBytes.{Appends-trans, Appends-nil}
 use Rattle.lsp_frame.specs.Frame.{Spells}
@@ -16,13 +16,13 @@ use Rattle.lsp_log.specs.declared.record.Version.TheVariants.{One, Two}
 use Rattle.lsp_log.specs.declared.record.Side.{Side}
 use Rattle.lsp_log.specs.declared.record.Side.TheVariants.{Client, Server}
 use Rattle.lsp_log.specs.declared.splitter.Splitter.{Splitter}
-use Rattle.lsp_stream.specs.Turns.{AppendsFront}
+use Rattle.lsp_stream.specs.Turns.{AppendsFront, AppendsShort}
 use Rattle.lsp_log.specs.Log.{Reading, Record, Log, IsReadAs, HasNoRecord, IsCut, IsUndecided, mark_of, is_line_due}
 use Rattle.lsp_log.specs.Splitting.{IsFed, IsReady, Stands, IsSplitFault, log_at, head_of, held_of, record_at}
 use Rattle.lsp_log.specs.Opening.{IsUnfinished}
 use Rattle.lsp_log.specs.Laws.{HeldLaw, RestLaw}
-use Rattle.lsp_replay.specs.Course.{Course, written_first, stopped}
-use Rattle.lsp_replay.specs.Engine.{Stopped, Reached, Broken, AtEnd, BrokenAtEnd, IsPieceFault, last_of}
+use Rattle.lsp_replay.specs.Course.{Course, written_first, after, stopped}
+use Rattle.lsp_replay.specs.Engine.{Stopped, Reached, Broken, RanOut, AtEnd, BrokenAtEnd, RanOutAtEnd, IsPieceFault, last_of}
 use Rattle.lsp_replay.specs.Progress.{GoesOn, Ends, IsHandled, IsHandleFault, IsLastFault, IsEndFault, Went}
 
 -- Without more records nothing more is written, and the run goes on.
@@ -80,29 +80,39 @@ module _ (reading : Reading) (course : List Record → Course) (held : Option (L
         wrote = (w.out ++ cut.0, cut.1, ap (λ (c : Course). c.out) whole ∙ ap (λ z. w.out ++ z) cut.2 ∙ sym (append_assoc w.out cut.0 cut.1), Appends-trans held held_now held_new w.out cut.0 w.wrote cut.3);
       }
 
+  short_at : (unflushed : Bool) (log : Log) (more : List ℕ) (s : Splitter) (now : List Record → Course) (held_now held_new : Option (List ℕ)) (r : Record) (w : Went reading course held input more s now held_now)
+      → IsReadAs reading input log → log.records ≡ w.records ++ r ∷ [] → AppendsShort unflushed held_now held_new (now (r ∷ [])).out → RanOut reading course unflushed input held held_new
+  short_at unflushed log more s now held_now held_new r w reads is cut =
+      let whole : course log.records ≡ written_first w.out (now (r ∷ [])) = ap course is ∙ w.courses (r ∷ []) in
+      record {
+        log = log;
+        reads = reads;
+        wrote = (w.out ++ cut.0, cut.1, ap (λ (c : Course). c.out) whole ∙ ap (λ z. w.out ++ z) cut.2 ∙ sym (append_assoc w.out cut.0 cut.1), Appends-trans held held_now held_new w.out cut.0 w.wrote cut.3, cut.4);
+      }
+
   -- a fault at a record
-  pub record_fault : (log : Log) (more : List ℕ) (s : Splitter) (now : List Record → Course) (held_now held_new : Option (List ℕ)) (r : Record) (fault : EngineFault) (w : Went reading course held input more s now held_now)
-      → IsReadAs reading input log → log.records ≡ w.records ++ r ∷ [] → IsQuiet now → IsHandleFault now held_now held_new r fault → IsPieceFault reading course input held held_new fault
-  record_fault log more s now held_now held_new r Read w reads is quiet why = absurd why
-  record_fault log more s now held_now held_new r Write w reads is quiet why = broken_at log more s now held_now held_new r w reads is why
-  record_fault log more s now held_now held_new r (Frame fault) w reads is quiet why = absurd why
-  record_fault log more s now held_now held_new r (Truncated place) w reads is quiet why = absurd why
-  record_fault log more s now held_now held_new r (BodyTooLong place) w reads is quiet why = went_to_end log more s now held_now held_new r (Err (BodyTooLong place)) w reads is why
-  record_fault log more s now held_now held_new r NoMemory w reads is quiet why = went_so_far more s now held_now held_new (λ _. Unit {0}) w quiet why tt
-  record_fault log more s now held_now held_new r TooManyTurns w reads is quiet why = broken_at log more s now held_now held_new r w reads is why
-  record_fault log more s now held_now held_new r (BadLog place) w reads is quiet why = inl (went_to_end log more s now held_now held_new r (Err (BadLog place)) w reads is why)
+  pub record_fault : (unflushed : Bool) (log : Log) (more : List ℕ) (s : Splitter) (now : List Record → Course) (held_now held_new : Option (List ℕ)) (r : Record) (fault : EngineFault) (w : Went reading course held input more s now held_now)
+      → IsReadAs reading input log → log.records ≡ w.records ++ r ∷ [] → IsQuiet now → IsHandleFault now unflushed held_now held_new r fault → IsPieceFault reading course unflushed input held held_new fault
+  record_fault unflushed log more s now held_now held_new r Read w reads is quiet why = absurd why
+  record_fault unflushed log more s now held_now held_new r Write w reads is quiet why = broken_at log more s now held_now held_new r w reads is why
+  record_fault unflushed log more s now held_now held_new r (Frame fault) w reads is quiet why = absurd why
+  record_fault unflushed log more s now held_now held_new r (Truncated place) w reads is quiet why = absurd why
+  record_fault unflushed log more s now held_now held_new r (BodyTooLong place) w reads is quiet why = went_to_end log more s now held_now held_new r (Err (BodyTooLong place)) w reads is why
+  record_fault unflushed log more s now held_now held_new r NoMemory w reads is quiet why = went_so_far more s now held_now held_new (λ _. Unit {0}) w quiet why tt
+  record_fault unflushed log more s now held_now held_new r TooManyTurns w reads is quiet why = short_at unflushed log more s now held_now held_new r w reads is why
+  record_fault unflushed log more s now held_now held_new r (BadLog place) w reads is quiet why = inl (went_to_end log more s now held_now held_new r (Err (BadLog place)) w reads is why)
 
   -- a fault in front of the next record
-  pub split_faults : (more : List ℕ) (s : Splitter) (now : List Record → Course) (held_now held_new : Option (List ℕ)) (fault : EngineFault) (w : Went reading course held input more s now held_now)
-      → IsQuiet now → Appends held_now held_new [] → IsSplitFault reading.max_body input (log_at s w.records more) fault → IsPieceFault reading course input held held_new fault
-  split_faults more s now held_now held_new Read w quiet nothing why = absurd why
-  split_faults more s now held_now held_new Write w quiet nothing why = absurd why
-  split_faults more s now held_now held_new (Frame fault) w quiet nothing why = went_so_far more s now held_now held_new _ w quiet nothing why
-  split_faults more s now held_now held_new (Truncated place) w quiet nothing why = absurd why
-  split_faults more s now held_now held_new (BodyTooLong place) w quiet nothing why = absurd why
-  split_faults more s now held_now held_new NoMemory w quiet nothing why = went_so_far more s now held_now held_new (λ _. Unit {0}) w quiet nothing tt
-  split_faults more s now held_now held_new TooManyTurns w quiet nothing why = absurd why
-  split_faults more s now held_now held_new (BadLog place) w quiet nothing why = inr (went_so_far more s now held_now held_new _ w quiet nothing why)
+  pub split_faults : (unflushed : Bool) (more : List ℕ) (s : Splitter) (now : List Record → Course) (held_now held_new : Option (List ℕ)) (fault : EngineFault) (w : Went reading course held input more s now held_now)
+      → IsQuiet now → Appends held_now held_new [] → IsSplitFault reading.max_body input (log_at s w.records more) fault → IsPieceFault reading course unflushed input held held_new fault
+  split_faults unflushed more s now held_now held_new Read w quiet nothing why = absurd why
+  split_faults unflushed more s now held_now held_new Write w quiet nothing why = absurd why
+  split_faults unflushed more s now held_now held_new (Frame fault) w quiet nothing why = went_so_far more s now held_now held_new _ w quiet nothing why
+  split_faults unflushed more s now held_now held_new (Truncated place) w quiet nothing why = absurd why
+  split_faults unflushed more s now held_now held_new (BodyTooLong place) w quiet nothing why = absurd why
+  split_faults unflushed more s now held_now held_new NoMemory w quiet nothing why = went_so_far more s now held_now held_new (λ _. Unit {0}) w quiet nothing tt
+  split_faults unflushed more s now held_now held_new TooManyTurns w quiet nothing why = absurd why
+  split_faults unflushed more s now held_now held_new (BadLog place) w quiet nothing why = inr (went_so_far more s now held_now held_new _ w quiet nothing why)
 
   -- The record that is held was handled.
   held_record : (s : Splitter) (head : Head) (spelling body : List ℕ) → head ≡ head_of s → spelling ≡ s.framer.held → record_at s body ≡ (record { head = head; spelling = spelling; body = body })
@@ -112,14 +122,14 @@ module _ (reading : Reading) (course : List Record → Course) (held : Option (L
       → Spells s.framer.limits.max_body s.framer.held body → Spells reading.max_body s.framer.held body
   spells_here more s now held_now body w spells = subst (λ (m : ℕ). Spells m s.framer.held body) w.stands.limit spells
 
-  pub taken_fault : HeldLaw → (more : List ℕ) (s : Splitter) (now : List Record → Course) (held_now held_new : Option (List ℕ)) (head : Head) (spelling body : List ℕ) (fault : EngineFault) → IsFed s
+  pub taken_fault : (unflushed : Bool) → HeldLaw → (more : List ℕ) (s : Splitter) (now : List Record → Course) (held_now held_new : Option (List ℕ)) (head : Head) (spelling body : List ℕ) (fault : EngineFault) → IsFed s
       → head ≡ head_of s → spelling ≡ s.framer.held → Spells s.framer.limits.max_body s.framer.held body → IsQuiet now
-      → IsHandleFault now held_now held_new (record { head = head; spelling = spelling; body = body }) fault
-      → Went reading course held input more s now held_now → IsPieceFault reading course input held held_new fault
-  taken_fault held_law more s now held_now held_new head spelling body fault fed e f spells quiet why w =
+      → IsHandleFault now unflushed held_now held_new (record { head = head; spelling = spelling; body = body }) fault
+      → Went reading course held input more s now held_now → IsPieceFault reading course unflushed input held held_new fault
+  taken_fault unflushed held_law more s now held_now held_new head spelling body fault fed e f spells quiet why w =
       let reads = held_law reading input more body w.records s fed spells w.stands in
-      record_fault (record { version = s.version; records = w.records ++ record_at s body ∷ []; rest = more }) more s now held_now held_new (record_at s body) fault w reads refl quiet
-      (subst (λ (r : Record). IsHandleFault now held_now held_new r fault) (sym (held_record s head spelling body e f)) why)
+      record_fault unflushed (record { version = s.version; records = w.records ++ record_at s body ∷ []; rest = more }) more s now held_now held_new (record_at s body) fault w reads refl quiet
+      (subst (λ (r : Record). IsHandleFault now unflushed held_now held_new r fault) (sym (held_record s head spelling body e f)) why)
 
   handled_went : (more : List ℕ) (s n : Splitter) (now new : List Record → Course) (held_now held_new : Option (List ℕ)) (r : Record) (answer : Option Outcome) (w : Went reading course held input more s now held_now)
       → Stands reading input more (w.records ++ r ∷ []) n → IsHandled now new held_now held_new r answer
@@ -154,13 +164,13 @@ module _ (reading : Reading) (course : List Record → Course) (held : Option (L
         wrote = w.wrote;
       }
 
-  pub fed_fault : (piece bytes : List ℕ) (at : ℕ) (s : Splitter) (now : List Record → Course) (held_now held_new : Option (List ℕ)) (fault : EngineFault) → at ≤ length piece → bytes ≡ take (length piece - at) (drop at piece)
+  pub fed_fault : (unflushed : Bool) (piece bytes : List ℕ) (at : ℕ) (s : Splitter) (now : List Record → Course) (held_now held_new : Option (List ℕ)) (fault : EngineFault) → at ≤ length piece → bytes ≡ take (length piece - at) (drop at piece)
       → ((records : List Record) → Stands reading input bytes records s → IsSplitFault reading.max_body input (log_at s records bytes) fault) → IsQuiet now → Appends held_now held_new []
-      → Went reading course held input (drop at piece) s now held_now → IsPieceFault reading course input held held_new fault
-  fed_fault piece bytes at s now held_now held_new fault within is fed quiet nothing w =
+      → Went reading course held input (drop at piece) s now held_now → IsPieceFault reading course unflushed input held held_new fault
+  fed_fault unflushed piece bytes at s now held_now held_new fault within is fed quiet nothing w =
       let all : bytes ≡ drop at piece = is ∙ between_to_end piece at (length piece) (omega arith) in
       let here : Went reading course held input bytes s now held_now = subst (λ (z : List ℕ). Went reading course held input z s now held_now) (sym all) w in
-      split_faults bytes s now held_now held_new fault here quiet nothing (fed here.records here.stands)
+      split_faults unflushed bytes s now held_now held_new fault here quiet nothing (fed here.records here.stands)
 
 -- ---- rests that no record begins
 
@@ -230,18 +240,40 @@ module _ (reading : Reading) (course : List Record → Course) (held : Option (L
     wrote = subst (λ (z : List ℕ). Appends held held_new z) (ap (λ z. z ++ cut.0) (sym (went_out s now held_now quiet w))) (Appends-trans held held_now held_new w.out cut.0 w.wrote cut.3);
   }
 
-  pub last_fault : (place : ℕ) (s : Splitter) (now : List Record → Course) (held_now held_new : Option (List ℕ)) (fault : EngineFault) → IsQuiet now → held_of s ≡ []
-      → AppendsFront held_now held_new ((now []).last s.line_due) → IsLastFault fault → Went reading course held input [] s now held_now → IsEndFault reading course input held held_new place fault
-  last_fault place s now held_now held_new Read quiet nothing cut kind w = absurd kind
-  last_fault place s now held_now held_new Write quiet nothing cut kind w = broken_last s now held_now held_new quiet nothing cut w
-  last_fault place s now held_now held_new (Frame fault) quiet nothing cut kind w = absurd kind
-  last_fault place s now held_now held_new (Truncated at) quiet nothing cut kind w = absurd kind
-  last_fault place s now held_now held_new (BodyTooLong at) quiet nothing cut kind w = absurd kind
-  last_fault place s now held_now held_new NoMemory quiet nothing cut kind w = broken_last s now held_now held_new quiet nothing cut w
-  last_fault place s now held_now held_new TooManyTurns quiet nothing cut kind w = broken_last s now held_now held_new quiet nothing cut w
-  last_fault place s now held_now held_new (BadLog at) quiet nothing cut kind w = absurd kind
+  short_last : (unflushed : Bool) (s : Splitter) (now : List Record → Course) (held_now held_new : Option (List ℕ)) → IsQuiet now → held_of s ≡ []
+      → AppendsShort unflushed held_now held_new ((now []).last s.line_due) → Went reading course held input [] s now held_now → RanOutAtEnd reading course unflushed input held held_new
+  unfolding broken_last
+  short_last unflushed s now held_now held_new quiet nothing cut w = record {
+    broken = broken_last s now held_now held_new quiet nothing (cut.0, cut.1, cut.2, cut.3) w;
+    short = cut.4;
+  }
+
+  pub last_fault : (unflushed : Bool) (place : ℕ) (s : Splitter) (now : List Record → Course) (held_now held_new : Option (List ℕ)) (fault : EngineFault) → IsQuiet now → held_of s ≡ []
+      → AppendsFront held_now held_new ((now []).last s.line_due) → (fault ≡ TooManyTurns → AppendsShort unflushed held_now held_new ((now []).last s.line_due)) → IsLastFault fault → Went reading course held input [] s now held_now → IsEndFault reading course unflushed input held held_new place fault
+  last_fault unflushed place s now held_now held_new Read quiet nothing cut short kind w = absurd kind
+  last_fault unflushed place s now held_now held_new Write quiet nothing cut short kind w = broken_last s now held_now held_new quiet nothing cut w
+  last_fault unflushed place s now held_now held_new (Frame fault) quiet nothing cut short kind w = absurd kind
+  last_fault unflushed place s now held_now held_new (Truncated at) quiet nothing cut short kind w = absurd kind
+  last_fault unflushed place s now held_now held_new (BodyTooLong at) quiet nothing cut short kind w = absurd kind
+  last_fault unflushed place s now held_now held_new NoMemory quiet nothing cut short kind w = broken_last s now held_now held_new quiet nothing cut w
+  last_fault unflushed place s now held_now held_new TooManyTurns quiet nothing cut short kind w = short_last unflushed s now held_now held_new quiet nothing (short refl) w
+  last_fault unflushed place s now held_now held_new (BadLog at) quiet nothing cut short kind w = absurd kind
+
+-- Bytes that are short of some bytes are short of more.
+pub still_short : (unflushed : Bool) (some more : List ℕ) → (0 < length some) ⊎ (unflushed ≡ true) → (0 < length (some ++ more)) ⊎ (unflushed ≡ true)
+still_short unflushed some more (inl long) = inl (omega (arith, long, length-append some more))
+still_short unflushed some more (inr kept) = inr kept
 
 -- a part of what the end gives, and the next one
+pub part_short : (unflushed : Bool) (old mid new : Option (List ℕ)) (all out made rest : List ℕ) → all ≡ out ++ (made ++ rest) → Appends old mid out → AppendsShort unflushed mid new made → AppendsShort unflushed old new all
+part_short unflushed old mid new all out made rest is wrote cut = (
+  out ++ cut.0,
+  cut.1 ++ rest,
+  is ∙ ap (λ z. out ++ (z ++ rest)) cut.2 ∙ ap (λ z. out ++ z) (append_assoc cut.0 cut.1 rest) ∙ sym (append_assoc out cut.0 (cut.1 ++ rest)),
+  Appends-trans old mid new out cut.0 wrote cut.3,
+  still_short unflushed cut.1 rest cut.4,
+)
+
 pub part_cut : (old mid new : Option (List ℕ)) (all out made rest : List ℕ) → all ≡ out ++ (made ++ rest) → Appends old mid out → AppendsFront mid new made → AppendsFront old new all
 part_cut old mid new all out made rest is wrote cut =
     (out ++ cut.0, cut.1 ++ rest, is ∙ ap (λ z. out ++ (z ++ rest)) cut.2 ∙ ap (λ z. out ++ z) (append_assoc cut.0 cut.1 rest) ∙ sym (append_assoc out cut.0 (cut.1 ++ rest)), Appends-trans old mid new out cut.0 wrote cut.3)
@@ -251,6 +283,20 @@ pub part_is : (answer : Option Outcome) (last made more : List ℕ) (A B : Type 
 part_is None last made more A B C told = (more, told.0)
 part_is (Some outcome) last made more A B C told = ([], told.0 ∙ sym (append-nil made))
 
+-- a record's output, from the course that begins with it
+pub record_out : (old new : List Record → Course) (r : Record) (out : List ℕ) (end : Option Outcome) → old (r ∷ []) ≡ after out end (new []) → (new []).out ≡ [] → (old (r ∷ [])).out ≡ out
+record_out old new r out None is silent = ap (λ (c : Course). c.out) is ∙ ap (λ z. out ++ z) silent ∙ append-nil out
+record_out old new r out (Some outcome) is silent = ap (λ (c : Course). c.out) is
+
+-- a fault in writing a record's output
+pub write_fault : (unflushed : Bool) (old new : List Record → Course) (held_old held_new : Option (List ℕ)) (r : Record) (bytes out : List ℕ) (end : Option Outcome) (fault : EngineFault)
+    → ((more : List Record) → old (r ∷ more) ≡ after out end (new more)) → (new []).out ≡ [] → bytes ≡ out → (fault ≡ Write) ⊎ (fault ≡ TooManyTurns)
+    → AppendsFront held_old held_new bytes → (fault ≡ TooManyTurns → AppendsShort unflushed held_old held_new bytes) → IsHandleFault old unflushed held_old held_new r fault
+write_fault unflushed old new held_old held_new r bytes out end fault gives silent is (inl at) front short =
+    subst (IsHandleFault old unflushed held_old held_new r) (sym at) (subst (AppendsFront held_old held_new) (is ∙ sym (record_out old new r out end (gives []) silent)) front)
+write_fault unflushed old new held_old held_new r bytes out end fault gives silent is (inr at) front short =
+    subst (IsHandleFault old unflushed held_old held_new r) (sym at) (subst (AppendsShort unflushed held_old held_new) (is ∙ sym (record_out old new r out end (gives []) silent)) (short at))
+
 -- what two clauses say of one answer
 pub ok_and : {T E : Type 0} (r : Result T E) (X : Type 0) (P Q : T → Type 0) → OnOk r X → IfOk r P → ((t : T) → X → P t → Q t) → IfOk r Q
 ok_and (Ok t) X P Q x p both = both t x p
@@ -259,3 +305,7 @@ ok_and (Err e) X P Q x p both = tt
 pub err_and : {T E : Type 0} (r : Result T E) (X : Type 0) (P Q : E → Type 0) → OnErr r X → IfErr r P → ((e : E) → X → P e → Q e) → IfErr r Q
 err_and (Ok t) X P Q x p both = tt
 err_and (Err e) X P Q x p both = both e x p
+
+pub err_and_two : {T E : Type 0} (r : Result T E) (X : Type 0) (P O Q : E → Type 0) → OnErr r X → IfErr r P → IfErr r O → ((e : E) → X → P e → O e → Q e) → IfErr r Q
+err_and_two (Ok t) X P O Q x p o all = tt
+err_and_two (Err e) X P O Q x p o all = all e x p o

@@ -1,6 +1,6 @@
 -- A run between two reads, and its end.
 use Rattle.std.proofs.Common.{◌≡◌, ℕ, ◌+◌, ◌-◌, ◌<◌, ◌≤◌, ◌^◌, Bool, true, false, List, [], ◌∷◌, ◌++◌, length, take, drop, Option, Result, Ok, Err, refl, sym, ◌∙◌, ap, subst, arith, append_assoc, append-nil, inl, inr, ◌⊎◌, ◌||◌}
-use Rattle.std.specs.Prelude.{◌≢◌, min, nat_eq, IfOk, IfErr}
+use Rattle.std.specs.Prelude.{◌≢◌, min, nat_eq, IfOk, IfErr, OnOk}
 use Rattle.std.proofs.lemmas.List.{length-append, length-take, drop-take, take-append-drop}
 use Rattle.std.specs.Io.KnownBytes.{Consumes, Appends, Keeps, IsAtEnd}
 use Rattle.std.proofs.KnownBytes.{Appends-nil, Consumes-trans, Consumes-kept}
@@ -19,10 +19,10 @@ use Rattle.lsp_log.specs.Opening.{IsLineFront, IsBelowLine, IsUnfinished}
 use Rattle.lsp_log.specs.Splitting.{IsReady, IsOpen, Stands, held_of}
 use Rattle.lsp_log.specs.Laws.{RestLaw}
 use Rattle.lsp_replay.specs.Course.{Course}
-use Rattle.lsp_replay.specs.Engine.{Stopped, Reached, AtEnd, Ran, Called, NonePassedOver, IsPieceFault, IsRunFault}
+use Rattle.lsp_replay.specs.Engine.{Stopped, Reached, AtEnd, Ran, Called, NonePassedOver, PortState, IsPieceFault, IsRunFault}
 use Rattle.lsp_replay.specs.Progress.{Went, Runs, IsEndFault, BothSpend}
 use Rattle.lsp_stream.specs.Ports.{Rose}
-use Rattle.lsp_stream.specs.Turns.{Spends, StaysWell}
+use Rattle.lsp_stream.specs.Turns.{Spends, StaysWell, StaysFlushed}
 use Rattle.lsp_replay.proofs.EngineLemmas.{IsQuiet, went_read}
 
 together_more : (version : Version) (rs : List Record) (rest more : List ℕ) → together version rs (rest ++ more) ≡ together version rs rest ++ more
@@ -31,6 +31,10 @@ together_more version (q ∷ rs) rest more = ap (λ z. record_bytes version q ++
 
 ended_not : (ended : Bool) → ended ≡ false → ended ≡ true → ⊥
 ended_not ended a b = let two : false ≡ true = sym a ∙ b in cc
+
+pub not_at_end : (told ended : Bool) → (told ≡ true → ended ≡ true) → ended ≡ false → told ≡ false
+not_at_end true ended same other = absurd (ended_not ended other (same refl))
+not_at_end false ended same other = refl
 
 -- In the line of version 2 no byte is a return, so no frame begins with some first bytes of it.
 has_return : List ℕ → Bool
@@ -152,86 +156,86 @@ module _ (reading : Reading) (course : List Record → Course) (left held : Opti
       }
 
   -- The run ended.
-  pub ran_stopped : (left_now : Option (List ℕ)) (ended told_end : Bool) (place : ℕ) (piece : List ℕ) (s : Splitter) (now : List Record → Course) (held_now held_new : Option (List ℕ)) (outcome : Outcome)
+  pub ran_stopped : (left_now : Option (List ℕ)) (ended : Bool) (state : PortState) (place : ℕ) (piece : List ℕ) (s : Splitter) (now : List Record → Course) (held_now held_new : Option (List ℕ)) (outcome : Outcome)
       → ((input : List ℕ) → Went reading course held input piece s now held_now → Stopped reading course input held held_new (Ok outcome))
-      → Runs reading course left held left_now ended place piece s now held_now → Ran reading course told_end left left_now held held_new (Ok outcome)
-  ran_stopped left_now ended told_end place piece s now held_now held_new outcome stops r = record { input = r.input; read = r.read; came = inl (stops r.input r.went) }
+      → Runs reading course left held left_now ended place piece s now held_now → Ran reading course state left left_now held held_new (Ok outcome)
+  ran_stopped left_now ended state place piece s now held_now held_new outcome stops r = record { input = r.input; read = r.read; came = inl (stops r.input r.went) }
 
-  pub ran_to_end : (left_now : Option (List ℕ)) (ended told_end : Bool) (place : ℕ) (s : Splitter) (now : List Record → Course) (held_now held_new : Option (List ℕ)) (outcome : Outcome) → told_end ≡ true
+  pub ran_to_end : (left_now : Option (List ℕ)) (ended : Bool) (state : PortState) (place : ℕ) (s : Splitter) (now : List Record → Course) (held_now held_new : Option (List ℕ)) (outcome : Outcome) → state.ended ≡ true
       → ((input : List ℕ) → Went reading course held input [] s now held_now → AtEnd reading course input held held_new outcome)
-      → Runs reading course left held left_now ended place [] s now held_now → Ran reading course told_end left left_now held held_new (Ok outcome)
-  ran_to_end left_now ended told_end place s now held_now held_new outcome told ends r = record { input = r.input; read = r.read; came = inr (told, ends r.input r.went) }
+      → Runs reading course left held left_now ended place [] s now held_now → Ran reading course state left left_now held held_new (Ok outcome)
+  ran_to_end left_now ended state place s now held_now held_new outcome told ends r = record { input = r.input; read = r.read; came = inr (told, ends r.input r.went) }
 
   -- It ended with a fault.
-  piece_fault : (told_end : Bool) (input : List ℕ) (held_new : Option (List ℕ)) (fault : EngineFault) → IsPieceFault reading course input held held_new fault → IsRunFault reading course told_end input held held_new fault
-  piece_fault told_end input held_new Read why = absurd why
-  piece_fault told_end input held_new Write why = inl why
-  piece_fault told_end input held_new (Frame fault) why = why
-  piece_fault told_end input held_new (Truncated place) why = absurd why
-  piece_fault told_end input held_new (BodyTooLong place) why = why
-  piece_fault told_end input held_new NoMemory why = inl why
-  piece_fault told_end input held_new TooManyTurns why = inl why
-  piece_fault told_end input held_new (BadLog place) (inl why) = inl why
-  piece_fault told_end input held_new (BadLog place) (inr why) = inr (inl why)
+  piece_fault : (state : PortState) (input : List ℕ) (held_new : Option (List ℕ)) (fault : EngineFault) → IsPieceFault reading course state.unflushed input held held_new fault → IsRunFault reading course state input held held_new fault
+  piece_fault state input held_new Read why = absurd why
+  piece_fault state input held_new Write why = inl why
+  piece_fault state input held_new (Frame fault) why = why
+  piece_fault state input held_new (Truncated place) why = absurd why
+  piece_fault state input held_new (BodyTooLong place) why = why
+  piece_fault state input held_new NoMemory why = inl why
+  piece_fault state input held_new TooManyTurns why = inl why
+  piece_fault state input held_new (BadLog place) (inl why) = inl why
+  piece_fault state input held_new (BadLog place) (inr why) = inr (inl why)
 
-  pub ran_into_fault : (left_now : Option (List ℕ)) (ended told_end : Bool) (place : ℕ) (piece : List ℕ) (s : Splitter) (now : List Record → Course) (held_now held_new : Option (List ℕ)) (fault : EngineFault)
-      → ((input : List ℕ) → Went reading course held input piece s now held_now → IsPieceFault reading course input held held_new fault)
-      → Runs reading course left held left_now ended place piece s now held_now → Ran reading course told_end left left_now held held_new (Err fault)
-  ran_into_fault left_now ended told_end place piece s now held_now held_new fault fails r =
-      record { input = r.input; read = r.read; came = piece_fault told_end r.input held_new fault (fails r.input r.went) }
+  pub ran_into_fault : (left_now : Option (List ℕ)) (ended : Bool) (state : PortState) (place : ℕ) (piece : List ℕ) (s : Splitter) (now : List Record → Course) (held_now held_new : Option (List ℕ)) (fault : EngineFault)
+      → ((input : List ℕ) → Went reading course held input piece s now held_now → IsPieceFault reading course state.unflushed input held held_new fault)
+      → Runs reading course left held left_now ended place piece s now held_now → Ran reading course state left left_now held held_new (Err fault)
+  ran_into_fault left_now ended state place piece s now held_now held_new fault fails r =
+      record { input = r.input; read = r.read; came = piece_fault state r.input held_new fault (fails r.input r.went) }
 
-  end_fault : (told_end : Bool) (input : List ℕ) (place : ℕ) (held_new : Option (List ℕ)) (fault : EngineFault) → told_end ≡ true → place ≡ place_behind 0 (length input)
-      → IsEndFault reading course input held held_new place fault → IsRunFault reading course told_end input held held_new fault
-  end_fault told_end input place held_new Read told placed why = absurd why
-  end_fault told_end input place held_new Write told placed why = inr (told, why)
-  end_fault told_end input place held_new (Frame fault) told placed why = absurd why
-  end_fault told_end input place held_new (Truncated at) told placed why = (told, why.0 ∙ placed, why.1)
-  end_fault told_end input place held_new (BodyTooLong at) told placed why = absurd why
-  end_fault told_end input place held_new NoMemory told placed why = inr (told, why)
-  end_fault told_end input place held_new TooManyTurns told placed why = inr (told, why)
-  end_fault told_end input place held_new (BadLog at) told placed why = absurd why
+  end_fault : (state : PortState) (input : List ℕ) (place : ℕ) (held_new : Option (List ℕ)) (fault : EngineFault) → state.ended ≡ true → place ≡ place_behind 0 (length input)
+      → IsEndFault reading course state.unflushed input held held_new place fault → IsRunFault reading course state input held held_new fault
+  end_fault state input place held_new Read told placed why = absurd why
+  end_fault state input place held_new Write told placed why = inr (told, why)
+  end_fault state input place held_new (Frame fault) told placed why = absurd why
+  end_fault state input place held_new (Truncated at) told placed why = (told, why.0 ∙ placed, why.1)
+  end_fault state input place held_new (BodyTooLong at) told placed why = absurd why
+  end_fault state input place held_new NoMemory told placed why = inr (told, why)
+  end_fault state input place held_new TooManyTurns told placed why = inr (inl (told, why))
+  end_fault state input place held_new (BadLog at) told placed why = absurd why
 
-  pub ran_into_end_fault : (left_now : Option (List ℕ)) (ended told_end : Bool) (place : ℕ) (s : Splitter) (now : List Record → Course) (held_now held_new : Option (List ℕ)) (fault : EngineFault) → told_end ≡ true
-      → ((input : List ℕ) → Went reading course held input [] s now held_now → IsEndFault reading course input held held_new place fault)
-      → Runs reading course left held left_now ended place [] s now held_now → Ran reading course told_end left left_now held held_new (Err fault)
-  ran_into_end_fault left_now ended told_end place s now held_now held_new fault told fails r =
-      record { input = r.input; read = r.read; came = end_fault told_end r.input place held_new fault told r.placed (fails r.input r.went) }
+  pub ran_into_end_fault : (left_now : Option (List ℕ)) (ended : Bool) (state : PortState) (place : ℕ) (s : Splitter) (now : List Record → Course) (held_now held_new : Option (List ℕ)) (fault : EngineFault) → state.ended ≡ true
+      → ((input : List ℕ) → Went reading course held input [] s now held_now → IsEndFault reading course state.unflushed input held held_new place fault)
+      → Runs reading course left held left_now ended place [] s now held_now → Ran reading course state left left_now held held_new (Err fault)
+  ran_into_end_fault left_now ended state place s now held_now held_new fault told fails r =
+      record { input = r.input; read = r.read; came = end_fault state r.input place held_new fault told r.placed (fails r.input r.went) }
 
   -- No more could be read.
-  read_fault : (told_end : Bool) (input : List ℕ) (held_new : Option (List ℕ)) (fault : EngineFault) → (fault ≡ Read) ⊎ (fault ≡ TooManyTurns)
-      → Reached reading course input held held_new (IsUnfinished reading input) → IsRunFault reading course told_end input held held_new fault
-  read_fault told_end input held_new fault (inl is) reached = subst (IsRunFault reading course told_end input held held_new) (sym is) reached
-  read_fault told_end input held_new fault (inr is) reached =
-      subst (IsRunFault reading course told_end input held held_new) (sym is)
-      (inl (record { log = reached.log; reads = reached.reads; wrote = ((course reached.log.records).out, [], sym (append-nil (course reached.log.records).out), reached.wrote) }))
+  read_fault : (state : PortState) (input : List ℕ) (held_new : Option (List ℕ)) (fault : EngineFault) → (fault ≡ Read) ⊎ (fault ≡ TooManyTurns)
+      → (fault ≡ TooManyTurns → state.ended_before ≡ false → state.ended ≡ false) → Reached reading course input held held_new (IsUnfinished reading input) → IsRunFault reading course state input held held_new fault
+  read_fault state input held_new fault (inl is) not_ended reached = subst (IsRunFault reading course state input held held_new) (sym is) reached
+  read_fault state input held_new fault (inr is) not_ended reached =
+      subst (IsRunFault reading course state input held held_new) (sym is)
+      (inr (inr (not_ended is, reached)))
 
-  pub ran_unread : (left_now left_new : Option (List ℕ)) (ended told_end : Bool) (place : ℕ) (s : Splitter) (now : List Record → Course) (held_now : Option (List ℕ)) (fault : EngineFault) → RestLaw → IsReady s → IsQuiet now
-      → Keeps left_now left_new → (fault ≡ Read) ⊎ (fault ≡ TooManyTurns)
-      → Runs reading course left held left_now ended place [] s now held_now → Ran reading course told_end left left_new held held_now (Err fault)
-  ran_unread left_now left_new ended told_end place s now held_now fault rest_law ready quiet kept kind r = record {
+  pub ran_unread : (left_now left_new : Option (List ℕ)) (ended : Bool) (state : PortState) (place : ℕ) (s : Splitter) (now : List Record → Course) (held_now : Option (List ℕ)) (fault : EngineFault) → RestLaw → IsReady s → IsQuiet now
+      → Keeps left_now left_new → (fault ≡ Read) ⊎ (fault ≡ TooManyTurns) → (fault ≡ TooManyTurns → state.ended_before ≡ false → state.ended ≡ false)
+      → Runs reading course left held left_now ended place [] s now held_now → Ran reading course state left left_new held held_now (Err fault)
+  ran_unread left_now left_new ended state place s now held_now fault rest_law ready quiet kept kind not_ended r = record {
     input = r.input;
     read = Consumes-kept left left_now left_new r.input r.read kept;
-    came = read_fault told_end r.input held_now fault kind (went_read reading course held r.input rest_law s now held_now ready quiet r.went);
+    came = read_fault state r.input held_now fault kind not_ended (went_read reading course held r.input rest_law s now held_now ready quiet r.went);
   }
 
   -- A log of version 2 was refused.
-  pub ran_refused : (left_now : Option (List ℕ)) (told_end : Bool) (fault : EngineFault) (input : List ℕ) (version : Version) → (fault ≡ BadLog 0) × (reading.only_one ≡ true) × (version ≡ Two)
-      → Consumes left left_now input → ((more : List ℕ) → more ≡ [] → IsVersion reading.versions version (input ++ more)) → Ran reading course told_end left left_now held held (Err fault)
-  ran_refused left_now told_end fault input version why read known =
+  pub ran_refused : (left_now : Option (List ℕ)) (state : PortState) (fault : EngineFault) (input : List ℕ) (version : Version) → (fault ≡ BadLog 0) × (reading.only_one ≡ true) × (version ≡ Two)
+      → Consumes left left_now input → ((more : List ℕ) → more ≡ [] → IsVersion reading.versions version (input ++ more)) → Ran reading course state left left_now held held (Err fault)
+  ran_refused left_now state fault input version why read known =
       let two : IsVersion reading.versions Two input = subst (λ (v : Version). IsVersion reading.versions v input) why.2 (subst (λ (z : List ℕ). IsVersion reading.versions version z) (append-nil input) (known [] refl)) in
       record {
         input = input;
         read = read;
-        came = subst (IsRunFault reading course told_end input held held) (sym why.0) (inr (inr (record { only_one = why.1; version = two; placed = refl; wrote = Appends-nil held })));
+        came = subst (IsRunFault reading course state input held held) (sym why.0) (inr (inr (record { only_one = why.1; version = two; placed = refl; wrote = Appends-nil held })));
       }
 
   -- Some first bytes of the line are no log of version 2, and begin no frame.
-  pub ran_unopened : (left_new : Option (List ℕ)) (told_end : Bool) (fault : EngineFault) → IsQuiet course → IsBelowLine reading.versions left left_new → (fault ≡ Read) ⊎ (fault ≡ TooManyTurns)
-      → Ran reading course told_end left left_new held held (Err fault)
-  ran_unopened left_new told_end fault quiet below kind = record {
+  pub ran_unopened : (left_new : Option (List ℕ)) (state : PortState) (fault : EngineFault) → IsQuiet course → IsBelowLine reading.versions left left_new → (fault ≡ Read) ⊎ (fault ≡ TooManyTurns) → (fault ≡ TooManyTurns → state.ended_before ≡ false → state.ended ≡ false)
+      → Ran reading course state left left_new held held (Err fault)
+  ran_unopened left_new state fault quiet below kind not_ended = record {
     input = below.0;
     read = below.3;
-    came = read_fault told_end below.0 held fault kind (record {
+    came = read_fault state below.0 held fault kind not_ended (record {
       log = record { version = One; records = []; rest = below.0 };
       reads = record {
         version = λ looks more e. omega (arith, ap length e, length-append version_line more, below.1.0);
@@ -248,12 +252,12 @@ module _ (reading : Reading) (course : List Record → Course) (left held : Opti
     });
   }
 
-  pub ran_finished : (left_now : Option (List ℕ)) (ended told_end : Bool) (place : ℕ) (s : Splitter) (now : List Record → Course) (held_now held_new : Option (List ℕ)) (answer : Result Outcome EngineFault) → told_end ≡ true
+  pub ran_finished : (left_now : Option (List ℕ)) (ended : Bool) (state : PortState) (place : ℕ) (s : Splitter) (now : List Record → Course) (held_now held_new : Option (List ℕ)) (answer : Result Outcome EngineFault) → state.ended ≡ true
       → IfOk answer (λ outcome. (rules : Reading) (at_first : List Record → Course) (held_first : Option (List ℕ)) (input : List ℕ) → Went rules at_first held_first input [] s now held_now → AtEnd rules at_first input held_first held_new outcome)
-      → IfErr answer (λ fault. (rules : Reading) (at_first : List Record → Course) (held_first : Option (List ℕ)) (input : List ℕ) → Went rules at_first held_first input [] s now held_now → IsEndFault rules at_first input held_first held_new place fault)
-      → Runs reading course left held left_now ended place [] s now held_now → Ran reading course told_end left left_now held held_new answer
-  ran_finished left_now ended told_end place s now held_now held_new (Ok outcome) told ends fails r = ran_to_end left_now ended told_end place s now held_now held_new outcome told (ends reading course held) r
-  ran_finished left_now ended told_end place s now held_now held_new (Err fault) told ends fails r = ran_into_end_fault left_now ended told_end place s now held_now held_new fault told (fails reading course held) r
+      → IfErr answer (λ fault. (rules : Reading) (at_first : List Record → Course) (held_first : Option (List ℕ)) (input : List ℕ) → Went rules at_first held_first input [] s now held_now → IsEndFault rules at_first state.unflushed input held_first held_new place fault)
+      → Runs reading course left held left_now ended place [] s now held_now → Ran reading course state left left_now held held_new answer
+  ran_finished left_now ended state place s now held_now held_new (Ok outcome) told ends fails r = ran_to_end left_now ended state place s now held_now held_new outcome told (ends reading course held) r
+  ran_finished left_now ended state place s now held_now held_new (Err fault) told ends fails r = ran_into_end_fault left_now ended state place s now held_now held_new fault told (fails reading course held) r
 
 -- Which calls were made when a fault came.
 pub called_fault : (reads_old reads_new writes_old writes_new allowed turns : ℕ) (read_failed write_failed ended : Bool) (left : Option (List ℕ)) (fault : EngineFault) → BothSpend reads_old reads_new writes_old writes_new allowed turns
@@ -267,8 +271,8 @@ called_fault reads_old reads_new writes_old writes_new allowed turns read_failed
   at_end = λ other ended_now. at_end (λ is. other (ap Err is)) ended_now;
 }
 
-pub piece_not_read : (reading : Reading) (course : List Record → Course) (input : List ℕ) (old new : Option (List ℕ)) (fault : EngineFault) → IsPieceFault reading course input old new fault → fault ≡ Read → ⊥
-piece_not_read reading course input old new fault why is = subst (IsPieceFault reading course input old new) is why
+pub piece_not_read : (reading : Reading) (course : List Record → Course) (unflushed : Bool) (input : List ℕ) (old new : Option (List ℕ)) (fault : EngineFault) → IsPieceFault reading course unflushed input old new fault → fault ≡ Read → ⊥
+piece_not_read reading course unflushed input old new fault why is = subst (IsPieceFault reading course unflushed input old new) is why
 
 -- the calls of the writer
 pub both_writes : (reads_old reads_new writes_old writes_now writes_new allowed turns left : ℕ) → BothSpend reads_old reads_new writes_old writes_now allowed turns → Spends writes_now writes_new turns left
@@ -326,3 +330,15 @@ told_fault read_failed_old read_failed_new write_failed_old write_failed_new fau
   reads = λ other. reads (λ is. other (ap Err is));
   writes = λ other. writes (λ is. other (ap Err is));
 }
+
+-- Nothing was kept back when a fault came.
+pub passed_fault : {T : Type 0} (flushes old new : Bool) (fault : EngineFault) → (flushes ≡ true → fault ≢ Write → fault ≢ TooManyTurns → StaysFlushed old new)
+    → flushes ≡ true → ◌≢◌ {A = Result T EngineFault} (Err fault) (Err Write) → ◌≢◌ {A = Result T EngineFault} (Err fault) (Err TooManyTurns) → StaysFlushed old new
+passed_fault flushes old new fault passed holds not_write not_turns = passed holds (λ is. not_write (ap Err is)) (λ is. not_turns (ap Err is))
+
+-- Nor was anything by what a call answered.
+pub passed_result : {T : Type 0} (flushes old new : Bool) (r : Result T EngineFault) → OnOk r (flushes ≡ true → StaysFlushed old new)
+    → IfErr r (λ fault. flushes ≡ true → fault ≢ Write → fault ≢ TooManyTurns → StaysFlushed old new)
+    → flushes ≡ true → r ≢ Err Write → r ≢ Err TooManyTurns → StaysFlushed old new
+passed_result flushes old new (Ok t) ok err holds not_write not_turns = ok holds
+passed_result flushes old new (Err fault) ok err holds not_write not_turns = passed_fault flushes old new fault err holds not_write not_turns

@@ -1,5 +1,5 @@
 -- What an engine wrote and answered is told by all the records that are whole in the bytes that it read.
-use Rattle.std.proofs.Common.{◌≡◌, ◌≢◌, ◌⊎◌, inl, inr, ℕ, Bool, true, List, [], ◌∷◌, ◌++◌, length, drop, Option, Some, None, refl, sym, ap, ◌∙◌, subst, arith, append_assoc, append-nil}
+use Rattle.std.proofs.Common.{◌≡◌, ◌≢◌, ◌⊎◌, inl, inr, ℕ, Bool, true, false, List, [], ◌∷◌, ◌++◌, length, drop, Option, Some, None, refl, sym, ap, ◌∙◌, subst, arith, append_assoc, append-nil}
 use Rattle.std.specs.Prelude.{Result, Ok, Err, MatchResult}
 use Rattle.std.specs.Io.KnownBytes.{Appends}
 use Rattle.lsp_frame.specs.declared.fault.FrameFault.{FrameFault}
@@ -10,18 +10,18 @@ use Rattle.lsp_log.specs.declared.record.Version.{Version}
 use Rattle.lsp_log.specs.declared.record.Version.TheVariants.{One, Two}
 use Rattle.lsp_log.specs.declared.record.Side.{Side}
 use Rattle.lsp_log.specs.declared.record.Side.TheVariants.{Client, Server}
-use Rattle.lsp_stream.specs.Turns.{AppendsFront}
+use Rattle.lsp_stream.specs.Turns.{AppendsFront, AppendsShort}
 use Rattle.lsp_log.specs.Log.{Reading, Record, Log, IsReadAs, HasNoRecord, IsCut, IsMalformed, IsBadMark, mark_of}
 use Rattle.lsp_replay.specs.Course.{Course}
 use Rattle.lsp_replay.specs.Session.{Session, judge}
-use Rattle.lsp_replay.specs.Engine.{Ran, Stopped, Reached, Broken, AtEnd, BreaksAtEnd, IsRunFault, IsRefused}
+use Rattle.lsp_replay.specs.Engine.{Ran, Stopped, Reached, Broken, RanOut, RanOutAtEnd, AtEnd, BreaksAtEnd, PortState, IsRunFault, IsRefused}
 use Rattle.lsp_replay.specs.Engines.{View, go_on, course_in}
 use Rattle.lsp_replay.specs.Squashed.{Run, squash_step, squashed_in}
-use Rattle.lsp_replay.specs.Told.{EndedBy, Passed, PassedEnd, CutAtEnd, IsFaultTold, IsTold, RanOver}
+use Rattle.lsp_replay.specs.Told.{EndedBy, Passed, PassedEnd, CutAtEnd, ShortAtEnd, IsFaultTold, IsTold, RanOver}
 use Rattle.lsp_log.specs.Opening.{IsUnfinished}
 use Rattle.lsp_log.specs.Laws.{IsFirstOf, FirstLaw, VersionLaw}
 use Rattle.lsp_replay.proofs.LineLemmas.{first_byte}
-use Rattle.lsp_replay.proofs.EngineLemmas.{empty_rest}
+use Rattle.lsp_replay.proofs.EngineLemmas.{empty_rest, still_short}
 
 -- ---- courses: a record that ended a run ends it whatever follows, and more records give more output
 
@@ -95,7 +95,7 @@ bad_rest max_body input place log is side spelling body more spells e = bad_mark
 
 -- ---- from some records to all
 
-module _ (first_of : FirstLaw) (same_version : VersionLaw) (reading : Reading) (course : List Record → Course) (settles : Settles course) (grows_all : GrowsAll course) (ended : Bool) (input : List ℕ) (held_old held_new : Option (List ℕ)) (all : Log) (reads : IsReadAs reading input all) (ends : HasNoRecord reading.max_body all) where
+module _ (first_of : FirstLaw) (same_version : VersionLaw) (reading : Reading) (course : List Record → Course) (settles : Settles course) (grows_all : GrowsAll course) (state : PortState) (input : List ℕ) (held_old held_new : Option (List ℕ)) (all : Log) (reads : IsReadAs reading input all) (ends : HasNoRecord reading.max_body all) where
   ended_by : (answer : Result Outcome EngineFault) → Stopped reading course input held_old held_new answer → EndedBy course held_old held_new answer all
   ended_by answer stopped =
       let f : IsFirstOf reading stopped.log all = first_of reading input stopped.log all stopped.reads reads ends in
@@ -118,10 +118,34 @@ module _ (first_of : FirstLaw) (same_version : VersionLaw) (reading : Reading) (
   broken : Broken reading course input held_old held_new → AppendsFront held_old held_new (course all.records).out
   broken b = front_of_all b.log b.reads b.wrote
 
+  ran_out : RanOut reading course state.unflushed input held_old held_new → AppendsShort state.unflushed held_old held_new (course all.records).out
+  unfolding Grows
+  ran_out r =
+      let f : IsFirstOf reading r.log all = first_of reading input r.log all r.reads reads ends in
+      let more = grows_all r.log.records f.more in (
+        r.wrote.0,
+        r.wrote.1 ++ more.0,
+        ap (λ rs. (course rs).out) f.all_are ∙ more.1 ∙ ap (λ z. z ++ more.0) r.wrote.2 ∙ append_assoc r.wrote.0 r.wrote.1 more.0,
+        r.wrote.3,
+        still_short state.unflushed r.wrote.1 more.0 r.wrote.4,
+      )
+
+  short_end : (state.ended ≡ true) × RanOutAtEnd reading course state.unflushed input held_old held_new → (state.ended ≡ true) × ShortAtEnd course state.unflushed held_old held_new all
+  short_end b =
+      let at = b.1.broken in
+      let f : IsFirstOf reading at.log all = first_of reading input at.log all at.reads reads ends in
+      let out = (course at.log.records).out in
+      let here : ShortAtEnd course state.unflushed held_old held_new at.log = record {
+        whole = at.whole;
+        goes_on = at.goes_on;
+        wrote = (out ++ at.first, at.others, ap (λ z. out ++ z) at.is ∙ sym (append_assoc out at.first at.others), at.wrote, b.1.short);
+      } in
+      (b.0, subst (λ (l : Log). ShortAtEnd course state.unflushed held_old held_new l) (f.same (empty_rest reading.max_body at.log at.whole)) here)
+
   stopped_short : Reached reading course input held_old held_new (λ _. Unit {0}) → AppendsFront held_old held_new (course all.records).out
   stopped_short r = front_of_all r.log r.reads ((course r.log.records).out, [], sym (append-nil (course r.log.records).out), r.wrote)
 
-  cut : BreaksAtEnd reading course ended input held_old held_new → (ended ≡ true) × CutAtEnd course held_old held_new all
+  cut : BreaksAtEnd reading course state.ended input held_old held_new → (state.ended ≡ true) × CutAtEnd course held_old held_new all
   cut b =
       let at = b.1 in
       let f : IsFirstOf reading at.log all = first_of reading input at.log all at.reads reads ends in
@@ -142,7 +166,7 @@ module _ (first_of : FirstLaw) (same_version : VersionLaw) (reading : Reading) (
   refused : (place : ℕ) → IsRefused reading input held_old held_new place → ⊥
   refused place is = let one : Two ≡ One = same_version reading.versions Two all.version input is.version reads.version ∙ reads.accepted is.only_one in absurd (cc)
 
-  fault_told : (fault : EngineFault) → IsRunFault reading course ended input held_old held_new fault → IsFaultTold reading course ended input held_old held_new all fault
+  fault_told : (fault : EngineFault) → IsRunFault reading course state input held_old held_new fault → IsFaultTold reading course state input held_old held_new all fault
   fault_told Read r = reached (IsUnfinished reading input) (λ log is. is.none) r
   fault_told Write (inl b) = inl (broken b)
   fault_told Write (inr b) = inr (cut b)
@@ -151,38 +175,39 @@ module _ (first_of : FirstLaw) (same_version : VersionLaw) (reading : Reading) (
   fault_told (BodyTooLong place) stopped = ended_by (Err (BodyTooLong place)) stopped
   fault_told NoMemory (inl r) = inl (stopped_short r)
   fault_told NoMemory (inr b) = inr (cut b)
-  fault_told TooManyTurns (inl b) = inl (broken b)
-  fault_told TooManyTurns (inr b) = inr (cut b)
+  fault_told TooManyTurns (inl r) = inl (ran_out r)
+  fault_told TooManyTurns (inr (inl b)) = inr (inl (short_end b))
+  fault_told TooManyTurns (inr (inr r)) = let told = reached (IsUnfinished reading input) (λ log is. is.none) r.1 in inr (inr (r.0, told.0, told.1))
   fault_told (BadLog place) (inl stopped) = inl (ended_by (Err (BadLog place)) stopped)
   fault_told (BadLog place) (inr (inl r)) = inr (reached (IsBadMark input place) (λ log is. bad_rest reading.max_body input place log is) r)
   fault_told (BadLog place) (inr (inr is)) = absurd (refused place is)
 
-  ok_told : (outcome : Outcome) → (Stopped reading course input held_old held_new (Ok outcome) ⊎ ((ended ≡ true) × AtEnd reading course input held_old held_new outcome))
-      → IsTold reading course ended input held_old held_new all (Ok outcome)
+  ok_told : (outcome : Outcome) → (Stopped reading course input held_old held_new (Ok outcome) ⊎ ((state.ended ≡ true) × AtEnd reading course input held_old held_new outcome))
+      → IsTold reading course state input held_old held_new all (Ok outcome)
   ok_told outcome (inl stopped) = inl (ended_by (Ok outcome) stopped)
   ok_told outcome (inr at) = inr (at.0, at_end outcome at.1)
 
   is_told : (result : Result Outcome EngineFault)
-      → MatchResult result (λ outcome. Stopped reading course input held_old held_new (Ok outcome) ⊎ ((ended ≡ true) × AtEnd reading course input held_old held_new outcome))
-      (IsRunFault reading course ended input held_old held_new) → IsTold reading course ended input held_old held_new all result
+      → MatchResult result (λ outcome. Stopped reading course input held_old held_new (Ok outcome) ⊎ ((state.ended ≡ true) × AtEnd reading course input held_old held_new outcome))
+      (IsRunFault reading course state input held_old held_new) → IsTold reading course state input held_old held_new all result
   is_told (Ok outcome) came = ok_told outcome came
   is_told (Err fault) came = fault_told fault came
 
 -- What is told by some records of the input is told by all.
-over_course : FirstLaw → VersionLaw → (reading : Reading) (course : List Record → Course) → Settles course → GrowsAll course → (ended : Bool) (left_old left_new held_old held_new : Option (List ℕ)) (result : Result Outcome EngineFault)
-    → Ran reading course ended left_old left_new held_old held_new result → RanOver reading course ended left_old left_new held_old held_new result
-over_course first version reading course settles grows_all ended left_old left_new held_old held_new result ran = record {
+over_course : FirstLaw → VersionLaw → (reading : Reading) (course : List Record → Course) → Settles course → GrowsAll course → (state : PortState) (left_old left_new held_old held_new : Option (List ℕ)) (result : Result Outcome EngineFault)
+    → Ran reading course state left_old left_new held_old held_new result → RanOver reading course state left_old left_new held_old held_new result
+over_course first version reading course settles grows_all state left_old left_new held_old held_new result ran = record {
   input = ran.input;
   read = ran.read;
-  told = λ all reads ends. is_told first version reading course settles grows_all ended ran.input held_old held_new all reads ends result ran.came;
+  told = λ all reads ends. is_told first version reading course settles grows_all state ran.input held_old held_new all reads ends result ran.came;
 }
 
-pub ran_over : FirstLaw → VersionLaw → (reading : Reading) (view : View) (s : Session) (ended : Bool) (left_old left_new held_old held_new : Option (List ℕ)) (result : Result Outcome EngineFault)
-    → Ran reading (course_in view s) ended left_old left_new held_old held_new result → RanOver reading (course_in view s) ended left_old left_new held_old held_new result
-ran_over first version reading view s ended left_old left_new held_old held_new result ran =
-    over_course first version reading (course_in view s) (settled view s) (grows view s) ended left_old left_new held_old held_new result ran
+pub ran_over : FirstLaw → VersionLaw → (reading : Reading) (view : View) (s : Session) (state : PortState) (left_old left_new held_old held_new : Option (List ℕ)) (result : Result Outcome EngineFault)
+    → Ran reading (course_in view s) state left_old left_new held_old held_new result → RanOver reading (course_in view s) state left_old left_new held_old held_new result
+ran_over first version reading view s state left_old left_new held_old held_new result ran =
+    over_course first version reading (course_in view s) (settled view s) (grows view s) state left_old left_new held_old held_new result ran
 
-pub ran_over_squashed : FirstLaw → VersionLaw → (reading : Reading) (s : Session) (run : Option Run) (ended : Bool) (left_old left_new held_old held_new : Option (List ℕ)) (result : Result Outcome EngineFault)
-    → Ran reading (squashed_in s run) ended left_old left_new held_old held_new result → RanOver reading (squashed_in s run) ended left_old left_new held_old held_new result
-ran_over_squashed first version reading s run ended left_old left_new held_old held_new result ran =
-    over_course first version reading (squashed_in s run) (squashed_settled s run) (squashed_grows s run) ended left_old left_new held_old held_new result ran
+pub ran_over_squashed : FirstLaw → VersionLaw → (reading : Reading) (s : Session) (run : Option Run) (state : PortState) (left_old left_new held_old held_new : Option (List ℕ)) (result : Result Outcome EngineFault)
+    → Ran reading (squashed_in s run) state left_old left_new held_old held_new result → RanOver reading (squashed_in s run) state left_old left_new held_old held_new result
+ran_over_squashed first version reading s run state left_old left_new held_old held_new result ran =
+    over_course first version reading (squashed_in s run) (squashed_settled s run) (squashed_grows s run) state left_old left_new held_old held_new result ran

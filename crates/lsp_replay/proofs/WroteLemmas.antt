@@ -11,7 +11,7 @@ use Rattle.lsp_stream.specs.declared.fault.EngineFault.TheVariants.{BodyTooLong}
 use Rattle.lsp_log.specs.Log.{Record}
 use Rattle.lsp_replay.specs.Course.{Course}
 use Rattle.lsp_replay.specs.Session.{Session, Verdict, answered, recorded, bad, judge, opened}
-use Rattle.lsp_replay.specs.Engine.{Ran, AtEnd, Stopped}
+use Rattle.lsp_replay.specs.Engine.{PortState, Ran, AtEnd, Stopped}
 use Rattle.lsp_replay.specs.Engines.{Gives, gives, ends, go_on, unless_bad, course_in, normalising, written, normal_of, front_of, normal_gives, converting, line_before, reply_record, as_log, as_converted, log_config, normal, converted}
 use Rattle.lsp_replay.specs.Laws.{IsNormal, IsConverted, IsSquashed, Wrote, all_of}
 use Rattle.lsp_replay.specs.Squashed.{squashed}
@@ -81,14 +81,14 @@ module _ (settings : Settings) (ranges : AreInRange settings.limits) (left_old l
         holds = holds;
       }
 
-  pub wrote_normal : (ended : Bool) (result : Result Outcome EngineFault) → Ran (as_log settings) (normal settings) ended left_old left_new held_old held_new result
+  pub wrote_normal : (state : PortState) (result : Result Outcome EngineFault) → Ran (as_log settings) (normal settings) state left_old left_new held_old held_new result
       → IfOk result (Wrote settings (IsNormal settings) left_old left_new held_old held_new)
-  wrote_normal ended (Err fault) ran = tt
-  wrote_normal ended (Ok outcome) ran =
+  wrote_normal state (Err fault) ran = tt
+  wrote_normal state (Ok outcome) ran =
       ⊎_elim
       (λ (stopped : Stopped (as_log settings) (normal settings) ran.input held_old held_new (Ok outcome)).
       absurd (stops_not_ok (normal settings stopped.log.records).stop outcome (normal_not_ok (opened (log_config settings)) stopped.log.records) stopped.stops))
-      (λ (end : (ended ≡ true) × AtEnd (as_log settings) (normal settings) ran.input held_old held_new outcome). normal_at_end ran.input outcome end.1 ran.read)
+      (λ (end : (state.ended ≡ true) × AtEnd (as_log settings) (normal settings) ran.input held_old held_new outcome). normal_at_end ran.input outcome end.1 ran.read)
       ran.came
 
   converted_at_end : (input : List ℕ) (outcome : Outcome) → AtEnd (as_converted settings) (converted settings) input held_old held_new outcome → Consumes left_old left_new input
@@ -107,14 +107,14 @@ module _ (settings : Settings) (ranges : AreInRange settings.limits) (left_old l
         holds = holds;
       }
 
-  pub wrote_converted : (ended : Bool) (result : Result Outcome EngineFault) → Ran (as_converted settings) (converted settings) ended left_old left_new held_old held_new result
+  pub wrote_converted : (state : PortState) (result : Result Outcome EngineFault) → Ran (as_converted settings) (converted settings) state left_old left_new held_old held_new result
       → IfOk result (Wrote settings (IsConverted settings) left_old left_new held_old held_new)
-  wrote_converted ended (Err fault) ran = tt
-  wrote_converted ended (Ok outcome) ran =
+  wrote_converted state (Err fault) ran = tt
+  wrote_converted state (Ok outcome) ran =
       ⊎_elim
       (λ (stopped : Stopped (as_converted settings) (converted settings) ran.input held_old held_new (Ok outcome)).
       absurd (stops_not_ok (converted settings stopped.log.records).stop outcome (converted_not_ok (opened (log_config settings)) stopped.log.records) stopped.stops))
-      (λ (end : (ended ≡ true) × AtEnd (as_converted settings) (converted settings) ran.input held_old held_new outcome). converted_at_end ran.input outcome end.1 ran.read)
+      (λ (end : (state.ended ≡ true) × AtEnd (as_converted settings) (converted settings) ran.input held_old held_new outcome). converted_at_end ran.input outcome end.1 ran.read)
       ran.came
 
 -- ---- `normalise` with squash
@@ -139,12 +139,12 @@ module _ (settings : Settings) (ranges : AreInRange settings.limits) (left_old l
         holds = holds;
       }
 
-  pub wrote_squashed : (ended : Bool) (result : Result Outcome EngineFault) → Ran (as_log settings) (squashed settings) ended left_old left_new held_old held_new result
+  pub wrote_squashed : (state : PortState) (result : Result Outcome EngineFault) → Ran (as_log settings) (squashed settings) state left_old left_new held_old held_new result
       → IfOk result (Wrote settings (IsSquashed settings) left_old left_new held_old held_new)
-  wrote_squashed ended (Err fault) ran = tt
-  wrote_squashed ended (Ok outcome) ran =
+  wrote_squashed state (Err fault) ran = tt
+  wrote_squashed state (Ok outcome) ran =
       ⊎_elim
       (λ (stopped : Stopped (as_log settings) (squashed settings) ran.input held_old held_new (Ok outcome)).
       absurd (stops_not_ok (squashed settings stopped.log.records).stop outcome (squashed_not_ok settings stopped.log.records) stopped.stops))
-      (λ (end : (ended ≡ true) × AtEnd (as_log settings) (squashed settings) ran.input held_old held_new outcome). squashed_at_end ran.input outcome end.1 ran.read)
+      (λ (end : (state.ended ≡ true) × AtEnd (as_log settings) (squashed settings) ran.input held_old held_new outcome). squashed_at_end ran.input outcome end.1 ran.read)
       ran.came

@@ -6,11 +6,11 @@ use Rattle.lsp_replay.specs.declared.outcome.Outcome.{Outcome}
 use Rattle.lsp_stream.specs.declared.fault.EngineFault.{EngineFault}
 use Rattle.lsp_stream.specs.declared.fault.EngineFault.TheVariants.{Read, Write, Frame, Truncated, BodyTooLong, NoMemory, TooManyTurns, BadLog}
 use Rattle.lsp_log.specs.declared.splitter.Splitter.{Splitter}
-use Rattle.lsp_stream.specs.Turns.{AppendsFront}
+use Rattle.lsp_stream.specs.Turns.{AppendsFront, AppendsShort}
 use Rattle.lsp_log.specs.Log.{Reading, Record, IsVersion, IsCut}
 use Rattle.lsp_log.specs.Splitting.{Stands}
 use Rattle.lsp_replay.specs.Course.{Course, written_first, stopped}
-use Rattle.lsp_replay.specs.Engine.{Reached, BrokenAtEnd}
+use Rattle.lsp_replay.specs.Engine.{Reached, BrokenAtEnd, RanOutAtEnd}
 
 -- A record's output was written, and the run goes on.
 pub record GoesOn (old new : List Record → Course) (held_old held_new : Option (List ℕ)) (r : Record) : Type 0 where
@@ -30,15 +30,15 @@ IsHandled old new held_old held_new r None = GoesOn old new held_old held_new r
 IsHandled old new held_old held_new r (Some outcome) = Ends old held_old held_new r (Ok outcome)
 
 -- what stands written when a fault comes at a record
-abbrev pub IsHandleFault : (List Record → Course) → Option (List ℕ) → Option (List ℕ) → Record → EngineFault → Type 0
-IsHandleFault old held_old held_new r Read = ⊥
-IsHandleFault old held_old held_new r Write = AppendsFront held_old held_new (old (r ∷ [])).out
-IsHandleFault old held_old held_new r (Frame fault) = ⊥
-IsHandleFault old held_old held_new r (Truncated place) = ⊥
-IsHandleFault old held_old held_new r (BodyTooLong place) = Ends old held_old held_new r (Err (BodyTooLong place))
-IsHandleFault old held_old held_new r NoMemory = Appends held_old held_new []
-IsHandleFault old held_old held_new r TooManyTurns = AppendsFront held_old held_new (old (r ∷ [])).out
-IsHandleFault old held_old held_new r (BadLog place) = Ends old held_old held_new r (Err (BadLog place))
+abbrev pub IsHandleFault : (List Record → Course) → Bool → Option (List ℕ) → Option (List ℕ) → Record → EngineFault → Type 0
+IsHandleFault old unflushed held_old held_new r Read = ⊥
+IsHandleFault old unflushed held_old held_new r Write = AppendsFront held_old held_new (old (r ∷ [])).out
+IsHandleFault old unflushed held_old held_new r (Frame fault) = ⊥
+IsHandleFault old unflushed held_old held_new r (Truncated place) = ⊥
+IsHandleFault old unflushed held_old held_new r (BodyTooLong place) = Ends old held_old held_new r (Err (BodyTooLong place))
+IsHandleFault old unflushed held_old held_new r NoMemory = Appends held_old held_new []
+IsHandleFault old unflushed held_old held_new r TooManyTurns = AppendsShort unflushed held_old held_new (old (r ∷ [])).out
+IsHandleFault old unflushed held_old held_new r (BadLog place) = Ends old held_old held_new r (Err (BadLog place))
 
 -- From a start, at which a handler had one course and a writer held some bytes, the records of the input were handled
 -- and their output written, up to these bytes, which are still to come. Now the handler has another course, and the
@@ -79,12 +79,12 @@ IsLastFault TooManyTurns = Unit {0}
 IsLastFault (BadLog place) = ⊥
 
 -- what stands written when a fault comes at the end of the input, and what the fault says of the input
-abbrev pub IsEndFault : Reading → (List Record → Course) → List ℕ → Option (List ℕ) → Option (List ℕ) → ℕ → EngineFault → Type 0
-IsEndFault reading course input old new len Read = ⊥
-IsEndFault reading course input old new len Write = BrokenAtEnd reading course input old new
-IsEndFault reading course input old new len (Frame fault) = ⊥
-IsEndFault reading course input old new len (Truncated place) = (place ≡ len) × Reached reading course input old new (IsCut reading.max_body)
-IsEndFault reading course input old new len (BodyTooLong place) = ⊥
-IsEndFault reading course input old new len NoMemory = BrokenAtEnd reading course input old new
-IsEndFault reading course input old new len TooManyTurns = BrokenAtEnd reading course input old new
-IsEndFault reading course input old new len (BadLog place) = ⊥
+abbrev pub IsEndFault : Reading → (List Record → Course) → Bool → List ℕ → Option (List ℕ) → Option (List ℕ) → ℕ → EngineFault → Type 0
+IsEndFault reading course unflushed input old new len Read = ⊥
+IsEndFault reading course unflushed input old new len Write = BrokenAtEnd reading course input old new
+IsEndFault reading course unflushed input old new len (Frame fault) = ⊥
+IsEndFault reading course unflushed input old new len (Truncated place) = (place ≡ len) × Reached reading course input old new (IsCut reading.max_body)
+IsEndFault reading course unflushed input old new len (BodyTooLong place) = ⊥
+IsEndFault reading course unflushed input old new len NoMemory = BrokenAtEnd reading course input old new
+IsEndFault reading course unflushed input old new len TooManyTurns = RanOutAtEnd reading course unflushed input old new
+IsEndFault reading course unflushed input old new len (BadLog place) = ⊥

@@ -1,6 +1,6 @@
 //! `check`: what a server answers to each record of a log, line by line.
 
-ghost use Rattle.std.specs.Prelude.{◌≡◌, ◌++◌, refl, OnOk, decimal};
+ghost use Rattle.std.specs.Prelude.{◌≡◌, ◌++◌, refl, OnOk, decimal, false};
 ghost use Rattle.lsp_server.specs.Seen.{answer_view};
 ghost use Rattle.lsp_replay.specs.Course.{Course};
 ghost use Rattle.lsp_replay.specs.Session.{opened};
@@ -38,6 +38,10 @@ impl Check {
 impl Handler for Check {
     ghost course = { λ check. course_in checking check.session };
 
+    ghost FLUSHES = { false };
+
+    const FLUSHES: bool = false;
+
     ghost parts = { λ check. 0 };
 
     ghost silent = { λ _. refl };
@@ -58,7 +62,6 @@ impl Handler for Check {
         push_line(made, self.session.records(), &verdict)?;
         Ok(Given {
             output: Output::Made,
-            flush: false,
             end: None,
         })
     }

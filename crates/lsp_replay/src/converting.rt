@@ -1,6 +1,6 @@
 //! `convert`: a log of version 2, with the server's replies, of one of version 1.
 
-ghost use Rattle.std.specs.Prelude.{◌≡◌, ◌++◌, refl, OnOk};
+ghost use Rattle.std.specs.Prelude.{◌≡◌, ◌++◌, refl, OnOk, false};
 ghost use Rattle.lsp_replay.specs.Session.{opened};
 ghost use Rattle.lsp_replay.specs.Engines.{converting, course_in, line_before, reply_record};
 ghost use Rattle.lsp_replay.specs.Verdicts.{verdict_view};
@@ -44,6 +44,10 @@ impl Convert {
 impl Handler for Convert {
     ghost course = { λ convert. course_in converting convert.session };
 
+    ghost FLUSHES = { false };
+
+    const FLUSHES: bool = false;
+
     ghost parts = { λ convert. 0 };
 
     ghost silent = { λ _. refl };
@@ -67,7 +71,6 @@ impl Handler for Convert {
         push_reply(made, &verdict)?;
         Ok(Given {
             output: Output::Made,
-            flush: false,
             end: None,
         })
     }

@@ -1,15 +1,15 @@
 //! From a reader to a writer, record by record.
 
-ghost use Rattle.std.specs.Prelude.{◌≡◌, ◌≢◌, ◌++◌, ◌∷◌, [], ℕ, List, Option, true, OnOk, OnErr, IfOk, IfErr, MatchOption};
+ghost use Rattle.std.specs.Prelude.{◌≡◌, ◌≢◌, ◌++◌, ◌∷◌, ◌&&◌, [], ℕ, List, Option, Err, not, true, OnOk, OnErr, IfOk, IfErr, MatchOption};
 ghost use Rattle.std.specs.Io.KnownBytes.{Appends};
 ghost use Rattle.lsp_frame.specs.Frame.{Spells};
 ghost use Rattle.lsp_stream.specs.Ports.{Rose};
-ghost use Rattle.lsp_stream.specs.Turns.{Spends, AppendsFront, StaysWell};
+ghost use Rattle.lsp_stream.specs.Turns.{Spends, AppendsFront, AppendsShort, StaysWell, StaysFlushed};
 ghost use Rattle.lsp_log.specs.Log.{Reading, Record};
 ghost use Rattle.lsp_log.specs.Splitting.{IsReady, IsFed};
 ghost use Rattle.lsp_log.specs.Laws.{VersionLaw, FirstLaw};
 ghost use Rattle.lsp_replay.specs.Course.{Course};
-ghost use Rattle.lsp_replay.specs.Engine.{Stopped, AtEnd, IsPieceFault, Ran, Called, NonePassedOver};
+ghost use Rattle.lsp_replay.specs.Engine.{Stopped, AtEnd, IsPieceFault, Ran, Called, NonePassedOver, state_of};
 ghost use Rattle.lsp_replay.specs.Progress.{IsHandled, IsHandleFault, IsLastFault, IsEndFault, Went};
 
 use crate::handler::{Handler, Output};
@@ -56,12 +56,17 @@ fn handle_record<W: Sink, H: Handler>(
     requires { (max_body : ℕ) × Spells max_body spelling.now body.now }
     ensures handled { IfOk result (IsHandled (H.course handler.old) (H.course handler.new) (W.held writer.old) (W.held writer.new)
         (record { head = head; spelling = spelling.now; body = body.now })) }
-    ensures fault { IfErr result (IsHandleFault (H.course handler.old) (W.held writer.old) (W.held writer.new)
+    ensures fault { IfErr result (IsHandleFault (H.course handler.old) (H.FLUSHES && not (W.has_flushed writer.new))
+        (W.held writer.old) (W.held writer.new)
         (record { head = head; spelling = spelling.now; body = body.now })) }
     ensures failed { IfErr result (λ fault. fault ≡ EngineFault.Write →
         (W.has_failed writer.new ≡ true) × Rose (W.count writer.old) (W.count writer.new)) }
     ensures well { OnOk result (StaysWell (W.has_failed writer.old) (W.has_failed writer.new)) }
     ensures told { IfErr result (λ fault. fault ≢ EngineFault.Write → StaysWell (W.has_failed writer.old) (W.has_failed writer.new)) }
+    ensures flushed { OnOk result (H.FLUSHES ≡ true →
+        StaysFlushed (W.has_flushed writer.old) (W.has_flushed writer.new)) }
+    ensures passed_on { IfErr result (λ fault. H.FLUSHES ≡ true → fault ≢ EngineFault.Write →
+        fault ≢ EngineFault.TooManyTurns → StaysFlushed (W.has_flushed writer.old) (W.has_flushed writer.new)) }
     ensures none_left { IfErr result (λ fault. fault ≡ EngineFault.TooManyTurns → turns.new.left ≡ 0) }
     ensures spent { Spends (W.count writer.old) (W.count writer.new) turns.old.left turns.new.left }
 {
@@ -71,7 +76,7 @@ fn handle_record<W: Sink, H: Handler>(
         Output::Frame => spelling,
         Output::Made => made.as_slice(),
     };
-    write_given(writer, output, given.flush, turns)?;
+    write_given(writer, output, H::FLUSHES, turns)?;
     Ok(given.end)
 }
 
@@ -92,11 +97,15 @@ fn take_record<W: Sink, H: Handler>(
         (λ outcome. Stopped reading course input held (W.held writer.new) (Ok outcome))) }
     ensures fault { IfErr result (λ fault. (reading : Reading) (course : List Record → Course) (held : Option (List ℕ)) (input more : List ℕ) →
         Went reading course held input more splitter.old (H.course handler.old) (W.held writer.old) →
-        IsPieceFault reading course input held (W.held writer.new) fault) }
+        IsPieceFault reading course (H.FLUSHES && not (W.has_flushed writer.new)) input held (W.held writer.new) fault) }
     ensures failed { IfErr result (λ fault. fault ≡ EngineFault.Write →
         (W.has_failed writer.new ≡ true) × Rose (W.count writer.old) (W.count writer.new)) }
     ensures well { OnOk result (StaysWell (W.has_failed writer.old) (W.has_failed writer.new)) }
     ensures told { IfErr result (λ fault. fault ≢ EngineFault.Write → StaysWell (W.has_failed writer.old) (W.has_failed writer.new)) }
+    ensures flushed { OnOk result (H.FLUSHES ≡ true →
+        StaysFlushed (W.has_flushed writer.old) (W.has_flushed writer.new)) }
+    ensures passed_on { IfErr result (λ fault. H.FLUSHES ≡ true → fault ≢ EngineFault.Write →
+        fault ≢ EngineFault.TooManyTurns → StaysFlushed (W.has_flushed writer.old) (W.has_flushed writer.new)) }
     ensures none_left { IfErr result (λ fault. fault ≡ EngineFault.TooManyTurns → turns.new.left ≡ 0) }
     ensures spent { Spends (W.count writer.old) (W.count writer.new) turns.old.left turns.new.left }
 {
@@ -130,11 +139,15 @@ fn take_piece<W: Sink, H: Handler>(
         (λ outcome. Stopped reading course input held (W.held writer.new) (Ok outcome))) }
     ensures fault { IfErr result (λ fault. (reading : Reading) (course : List Record → Course) (held : Option (List ℕ)) (input : List ℕ) →
         Went reading course held input piece.now splitter.old (H.course handler.old) (W.held writer.old) →
-        IsPieceFault reading course input held (W.held writer.new) fault) }
+        IsPieceFault reading course (H.FLUSHES && not (W.has_flushed writer.new)) input held (W.held writer.new) fault) }
     ensures failed { IfErr result (λ fault. fault ≡ EngineFault.Write →
         (W.has_failed writer.new ≡ true) × Rose (W.count writer.old) (W.count writer.new)) }
     ensures well { OnOk result (StaysWell (W.has_failed writer.old) (W.has_failed writer.new)) }
     ensures told { IfErr result (λ fault. fault ≢ EngineFault.Write → StaysWell (W.has_failed writer.old) (W.has_failed writer.new)) }
+    ensures flushed { OnOk result (H.FLUSHES ≡ true →
+        StaysFlushed (W.has_flushed writer.old) (W.has_flushed writer.new)) }
+    ensures passed_on { IfErr result (λ fault. H.FLUSHES ≡ true → fault ≢ EngineFault.Write →
+        fault ≢ EngineFault.TooManyTurns → StaysFlushed (W.has_flushed writer.old) (W.has_flushed writer.new)) }
     ensures none_left { IfErr result (λ fault. fault ≡ EngineFault.TooManyTurns → turns.new.left ≡ 0) }
     ensures spent { Spends (W.count writer.old) (W.count writer.new) turns.old.left turns.new.left }
 {
@@ -159,11 +172,18 @@ fn write_last<W: Sink, H: Handler>(
     ensures wrote { OnOk result (Appends (W.held writer.old) (W.held writer.new) ((H.course handler.old []).last line_due)) }
     ensures outcome { IfOk result (λ outcome. outcome ≡ (H.course handler.old []).outcome) }
     ensures front { OnErr result (AppendsFront (W.held writer.old) (W.held writer.new) ((H.course handler.old []).last line_due)) }
+    ensures short { IfErr result (λ fault. fault ≡ EngineFault.TooManyTurns →
+        AppendsShort (H.FLUSHES && not (W.has_flushed writer.new)) (W.held writer.old) (W.held writer.new)
+        ((H.course handler.old []).last line_due)) }
     ensures kind { IfErr result IsLastFault }
     ensures failed { IfErr result (λ fault. fault ≡ EngineFault.Write →
         (W.has_failed writer.new ≡ true) × Rose (W.count writer.old) (W.count writer.new)) }
     ensures well { OnOk result (StaysWell (W.has_failed writer.old) (W.has_failed writer.new)) }
     ensures told { IfErr result (λ fault. fault ≢ EngineFault.Write → StaysWell (W.has_failed writer.old) (W.has_failed writer.new)) }
+    ensures flushed { OnOk result (H.FLUSHES ≡ true →
+        StaysFlushed (W.has_flushed writer.old) (W.has_flushed writer.new)) }
+    ensures passed_on { IfErr result (λ fault. H.FLUSHES ≡ true → fault ≢ EngineFault.Write →
+        fault ≢ EngineFault.TooManyTurns → StaysFlushed (W.has_flushed writer.old) (W.has_flushed writer.new)) }
     ensures none_left { IfErr result (λ fault. fault ≡ EngineFault.TooManyTurns → turns.new.left ≡ 0) }
     ensures spent { Spends (W.count writer.old) (W.count writer.new) turns.old.left turns.new.left }
 {
@@ -171,7 +191,7 @@ fn write_last<W: Sink, H: Handler>(
     'parts: loop {
         made.clear();
         let end = handler.finish(due, made)?;
-        write_given(writer, made, false, turns)?;
+        write_given(writer, made, H::FLUSHES, turns)?;
         match end {
             Some(outcome) => return Ok(outcome),
             None => due = false,
@@ -194,12 +214,16 @@ fn finish_run<W: Sink, H: Handler>(
         AtEnd reading course input held (W.held writer.new) outcome) }
     ensures fault { IfErr result (λ fault. (reading : Reading) (course : List Record → Course) (held : Option (List ℕ)) (input : List ℕ) →
         Went reading course held input [] splitter.now (H.course handler.old) (W.held writer.old) →
-        IsEndFault reading course input held (W.held writer.new) place fault) }
+        IsEndFault reading course (H.FLUSHES && not (W.has_flushed writer.new)) input held (W.held writer.new) place fault) }
     ensures failed { IfErr result (λ fault. fault ≡ EngineFault.Write →
         (W.has_failed writer.new ≡ true) × Rose (W.count writer.old) (W.count writer.new)) }
     ensures not_read { IfErr result (λ fault. fault ≢ EngineFault.Read) }
     ensures well { OnOk result (StaysWell (W.has_failed writer.old) (W.has_failed writer.new)) }
     ensures told { IfErr result (λ fault. fault ≢ EngineFault.Write → StaysWell (W.has_failed writer.old) (W.has_failed writer.new)) }
+    ensures flushed { OnOk result (H.FLUSHES ≡ true →
+        StaysFlushed (W.has_flushed writer.old) (W.has_flushed writer.new)) }
+    ensures passed_on { IfErr result (λ fault. H.FLUSHES ≡ true → fault ≢ EngineFault.Write →
+        fault ≢ EngineFault.TooManyTurns → StaysFlushed (W.has_flushed writer.old) (W.has_flushed writer.new)) }
     ensures none_left { IfErr result (λ fault. fault ≡ EngineFault.TooManyTurns → turns.new.left ≡ 0) }
     ensures spent { Spends (W.count writer.old) (W.count writer.new) turns.old.left turns.new.left }
 {
@@ -220,11 +244,14 @@ pub fn run_engine<R: Source, W: Sink, H: Handler>(
     rules: InputRules,
     max_turns: u64,
 ) -> Result<Outcome, EngineFault>
-    ensures ran { Ran (record { max_body = rules.limits.max_body; versions = rules.versions; only_one = rules.only_one }) (H.course handler.old) (R.has_ended reader.new)
+    ensures ran { Ran (record { max_body = rules.limits.max_body; versions = rules.versions; only_one = rules.only_one }) (H.course handler.old)
+        (state_of (R.has_ended reader.old) (R.has_ended reader.new) (H.FLUSHES && not (W.has_flushed writer.new)))
         (R.left reader.old) (R.left reader.new) (W.held writer.old) (W.held writer.new) result }
     ensures called { Called (R.count reader.old) (R.count reader.new) (W.count writer.old) (W.count writer.new) max_turns
         (R.has_failed reader.new) (W.has_failed writer.new) (R.has_ended reader.new) (R.left reader.new) result }
     ensures none_passed_over { NonePassedOver (R.has_failed reader.old) (R.has_failed reader.new) (W.has_failed writer.old) (W.has_failed writer.new) result }
+    ensures passed_on { H.FLUSHES ≡ true → result ≢ Err EngineFault.Write → result ≢ Err EngineFault.TooManyTurns →
+        StaysFlushed (W.has_flushed writer.old) (W.has_flushed writer.new) }
     // What its callers take from `lsp_log`.
     ensures version { VersionLaw }
     ensures first { FirstLaw }

@@ -1,10 +1,11 @@
 //! The engines: from a reader to a writer, over a server. Their contracts say twice what was written and answered: by some first records
 //! of the bytes that were read (`ran`), and by all that are whole in them (`told`).
 
-ghost use Rattle.std.specs.Prelude.{◌≡◌, true, false, IfOk};
-ghost use Rattle.lsp_replay.specs.Engine.{Ran, Called, NonePassedOver};
+ghost use Rattle.std.specs.Prelude.{◌≡◌, ◌≢◌, Err, not, true, false, IfOk};
+ghost use Rattle.lsp_replay.specs.Engine.{Ran, Called, NonePassedOver, state_of};
 ghost use Rattle.lsp_replay.specs.Engines.{log_config, normal, as_stream, as_log, as_converted, replies, report, verdicts, converted};
 ghost use Rattle.lsp_frame.specs.Limits.{AreInRange};
+ghost use Rattle.lsp_stream.specs.Turns.{StaysFlushed};
 ghost use Rattle.lsp_replay.specs.Squashed.{normalised, squashed};
 ghost use Rattle.lsp_replay.specs.Laws.{IsConverted, IsNormal, IsSquashed, Wrote};
 ghost use Rattle.lsp_replay.specs.Told.{RanOver};
@@ -78,10 +79,15 @@ pub fn serve<R: Source, W: Sink>(
     config: Config,
     max_turns: u64,
 ) -> Result<Outcome, EngineFault>
-    ensures ran { Ran (as_stream config) (replies config) (R.has_ended reader.new)
+    ensures ran { Ran (as_stream config) (replies config)
+        (state_of (R.has_ended reader.old) (R.has_ended reader.new) (not (W.has_flushed writer.new)))
         (R.left reader.old) (R.left reader.new) (W.held writer.old) (W.held writer.new) result }
-    ensures told { RanOver (as_stream config) (replies config) (R.has_ended reader.new)
+    ensures told { RanOver (as_stream config) (replies config)
+        (state_of (R.has_ended reader.old) (R.has_ended reader.new) (not (W.has_flushed writer.new)))
         (R.left reader.old) (R.left reader.new) (W.held writer.old) (W.held writer.new) result }
+    // After an outcome, and after each fault but those of writing and of too many turns, all that was written is passed on.
+    ensures passed_on { result ≢ Err EngineFault.Write → result ≢ Err EngineFault.TooManyTurns →
+        StaysFlushed (W.has_flushed writer.old) (W.has_flushed writer.new) }
     ensures called { Called (R.count reader.old) (R.count reader.new) (W.count writer.old) (W.count writer.new) max_turns
         (R.has_failed reader.new) (W.has_failed writer.new) (R.has_ended reader.new) (R.left reader.new) result }
     ensures none_passed_over { NonePassedOver (R.has_failed reader.old) (R.has_failed reader.new) (W.has_failed writer.old) (W.has_failed writer.new) result }
@@ -106,9 +112,11 @@ pub fn check<R: Source, W: Sink>(
     settings: Settings,
     max_turns: u64,
 ) -> Result<Outcome, EngineFault>
-    ensures ran { Ran (as_log settings) (verdicts settings) (R.has_ended reader.new)
+    ensures ran { Ran (as_log settings) (verdicts settings)
+        (state_of (R.has_ended reader.old) (R.has_ended reader.new) false)
         (R.left reader.old) (R.left reader.new) (W.held writer.old) (W.held writer.new) result }
-    ensures told { RanOver (as_log settings) (verdicts settings) (R.has_ended reader.new)
+    ensures told { RanOver (as_log settings) (verdicts settings)
+        (state_of (R.has_ended reader.old) (R.has_ended reader.new) false)
         (R.left reader.old) (R.left reader.new) (W.held writer.old) (W.held writer.new) result }
     ensures called { Called (R.count reader.old) (R.count reader.new) (W.count writer.old) (W.count writer.new) max_turns
         (R.has_failed reader.new) (W.has_failed writer.new) (R.has_ended reader.new) (R.left reader.new) result }
@@ -130,9 +138,11 @@ pub fn replay<R: Source, W: Sink>(
     settings: Settings,
     max_turns: u64,
 ) -> Result<Outcome, EngineFault>
-    ensures ran { Ran (as_log settings) (report settings) (R.has_ended reader.new)
+    ensures ran { Ran (as_log settings) (report settings)
+        (state_of (R.has_ended reader.old) (R.has_ended reader.new) false)
         (R.left reader.old) (R.left reader.new) (W.held writer.old) (W.held writer.new) result }
-    ensures told { RanOver (as_log settings) (report settings) (R.has_ended reader.new)
+    ensures told { RanOver (as_log settings) (report settings)
+        (state_of (R.has_ended reader.old) (R.has_ended reader.new) false)
         (R.left reader.old) (R.left reader.new) (W.held writer.old) (W.held writer.new) result }
     ensures called { Called (R.count reader.old) (R.count reader.new) (W.count writer.old) (W.count writer.new) max_turns
         (R.has_failed reader.new) (W.has_failed writer.new) (R.has_ended reader.new) (R.left reader.new) result }
@@ -154,9 +164,11 @@ pub fn convert<R: Source, W: Sink>(
     settings: Settings,
     max_turns: u64,
 ) -> Result<Outcome, EngineFault>
-    ensures ran { Ran (as_converted settings) (converted settings) (R.has_ended reader.new)
+    ensures ran { Ran (as_converted settings) (converted settings)
+        (state_of (R.has_ended reader.old) (R.has_ended reader.new) false)
         (R.left reader.old) (R.left reader.new) (W.held writer.old) (W.held writer.new) result }
-    ensures told { RanOver (as_converted settings) (converted settings) (R.has_ended reader.new)
+    ensures told { RanOver (as_converted settings) (converted settings)
+        (state_of (R.has_ended reader.old) (R.has_ended reader.new) false)
         (R.left reader.old) (R.left reader.new) (W.held writer.old) (W.held writer.new) result }
     // What was written is a log of which `replay` tells the same, where no reply in it is over the limit.
     ensures converted { IfOk result (Wrote settings (IsConverted settings) (R.left reader.old) (R.left reader.new) (W.held writer.old) (W.held writer.new)) }
@@ -187,9 +199,11 @@ pub fn normalise<R: Source, W: Sink>(
     settings: Settings,
     max_turns: u64,
 ) -> Result<Outcome, EngineFault>
-    ensures ran { Ran (as_log settings) (normalised settings) (R.has_ended reader.new)
+    ensures ran { Ran (as_log settings) (normalised settings)
+        (state_of (R.has_ended reader.old) (R.has_ended reader.new) false)
         (R.left reader.old) (R.left reader.new) (W.held writer.old) (W.held writer.new) result }
-    ensures told { RanOver (as_log settings) (normalised settings) (R.has_ended reader.new)
+    ensures told { RanOver (as_log settings) (normalised settings)
+        (state_of (R.has_ended reader.old) (R.has_ended reader.new) false)
         (R.left reader.old) (R.left reader.new) (W.held writer.old) (W.held writer.new) result }
     // Without squash, what was written is a log of which `replay` tells the same, and its own normal form.
     ensures normal { settings.squash ≡ false
@@ -215,9 +229,11 @@ fn normalise_each<R: Source, W: Sink>(
     settings: Settings,
     max_turns: u64,
 ) -> Result<Outcome, EngineFault>
-    ensures ran { Ran (as_log settings) (normal settings) (R.has_ended reader.new)
+    ensures ran { Ran (as_log settings) (normal settings)
+        (state_of (R.has_ended reader.old) (R.has_ended reader.new) false)
         (R.left reader.old) (R.left reader.new) (W.held writer.old) (W.held writer.new) result }
-    ensures told { RanOver (as_log settings) (normal settings) (R.has_ended reader.new)
+    ensures told { RanOver (as_log settings) (normal settings)
+        (state_of (R.has_ended reader.old) (R.has_ended reader.new) false)
         (R.left reader.old) (R.left reader.new) (W.held writer.old) (W.held writer.new) result }
     ensures normal { IfOk result (Wrote settings (IsNormal settings) (R.left reader.old) (R.left reader.new) (W.held writer.old) (W.held writer.new)) }
     ensures called { Called (R.count reader.old) (R.count reader.new) (W.count writer.old) (W.count writer.new) max_turns
@@ -238,9 +254,11 @@ fn normalise_squashed<R: Source, W: Sink>(
     settings: Settings,
     max_turns: u64,
 ) -> Result<Outcome, EngineFault>
-    ensures ran { Ran (as_log settings) (squashed settings) (R.has_ended reader.new)
+    ensures ran { Ran (as_log settings) (squashed settings)
+        (state_of (R.has_ended reader.old) (R.has_ended reader.new) false)
         (R.left reader.old) (R.left reader.new) (W.held writer.old) (W.held writer.new) result }
-    ensures told { RanOver (as_log settings) (squashed settings) (R.has_ended reader.new)
+    ensures told { RanOver (as_log settings) (squashed settings)
+        (state_of (R.has_ended reader.old) (R.has_ended reader.new) false)
         (R.left reader.old) (R.left reader.new) (W.held writer.old) (W.held writer.new) result }
     ensures squashed { IfOk result (Wrote settings (IsSquashed settings) (R.left reader.old) (R.left reader.new) (W.held writer.old) (W.held writer.new)) }
     ensures called { Called (R.count reader.old) (R.count reader.new) (W.count writer.old) (W.count writer.new) max_turns

@@ -1,6 +1,6 @@
 //! What an engine makes of the records of a log.
 
-ghost use Rattle.std.specs.Prelude.{◌≡◌, ◌<◌, ◌++◌, ◌∷◌, ◌⊎◌, [], ℕ, List, None, false, IfOk, IfErr, MatchOption};
+ghost use Rattle.std.specs.Prelude.{◌≡◌, ◌<◌, ◌++◌, ◌∷◌, ◌⊎◌, [], ℕ, Bool, List, None, false, IfOk, IfErr, MatchOption};
 ghost use Rattle.lsp_frame.specs.Frame.{Spells};
 ghost use Rattle.lsp_log.specs.Log.{Record};
 ghost use Rattle.lsp_replay.specs.Course.{Course, after, stopped, output_of, IsRecordFault};
@@ -22,8 +22,6 @@ pub enum Output {
 #[derive(Clone, Copy, Debug, PartialEq, Eq)]
 pub struct Given {
     pub output: Output,
-    /// Is the output to be passed on before more is read?
-    pub flush: bool,
     /// How the run ends, where this record is the last that is looked at.
     pub end: Option<Outcome>,
 }
@@ -32,6 +30,11 @@ pub struct Given {
 pub trait Handler {
     // What the records that are still to come will give.
     ghost course: { Self → List Record → Course };
+
+    // Is each output passed on before more is read?
+    ghost FLUSHES: { Bool };
+
+    const FLUSHES: bool;
 
     // How many times the end of the input may still be asked for more.
     ghost parts: { Self → ℕ };

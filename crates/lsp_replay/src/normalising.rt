@@ -34,6 +34,10 @@ impl Normalise {
 impl Handler for Normalise {
     ghost course = { λ normalise. course_in normalising normalise.session };
 
+    ghost FLUSHES = { false };
+
+    const FLUSHES: bool = false;
+
     ghost parts = { λ normalise. 0 };
 
     ghost silent = { λ _. refl };
@@ -53,11 +57,7 @@ impl Handler for Normalise {
         }
         let version = self.session.version();
         let output = push_record(made, head, version, spelling, canonical)?;
-        Ok(Given {
-            output,
-            flush: false,
-            end: None,
-        })
+        Ok(Given { output, end: None })
     }
 
     fn finish(

@@ -1,6 +1,6 @@
 //! `replay`: the documents that are open at the end of a log.
 
-ghost use Rattle.std.specs.Prelude.{◌≡◌, ◌∷◌, ◌++◌, ◌-◌, [], refl, OnOk, length};
+ghost use Rattle.std.specs.Prelude.{◌≡◌, ◌∷◌, ◌++◌, ◌-◌, [], refl, OnOk, length, false};
 ghost use Rattle.std.specs.Fmt.{signed_decimal};
 ghost use Rattle.json.specs.Token as token;
 ghost use Rattle.lsp_message.specs.Tokens.{Appends, tokens_of};
@@ -45,6 +45,10 @@ impl Replay {
 impl Handler for Replay {
     ghost course = { λ replay. course_in (replaying_from replay.next) replay.session };
 
+    ghost FLUSHES = { false };
+
+    const FLUSHES: bool = false;
+
     ghost parts = { λ replay. length replay.session.server.table - replay.next };
 
     ghost silent = { λ _. refl };
@@ -64,7 +68,6 @@ impl Handler for Replay {
         }
         Ok(Given {
             output: Output::Made,
-            flush: false,
             end: None,
         })
     }

@@ -1,6 +1,6 @@
 //! `serve`: a server's end between a reader and a writer.
 
-ghost use Rattle.std.specs.Prelude.{◌≡◌, refl};
+ghost use Rattle.std.specs.Prelude.{◌≡◌, refl, true};
 ghost use Rattle.lsp_replay.specs.Session.{opened};
 ghost use Rattle.lsp_replay.specs.Engines.{serving, course_in};
 
@@ -43,6 +43,10 @@ impl Serve {
 impl Handler for Serve {
     ghost course = { λ serve. course_in serving serve.session };
 
+    ghost FLUSHES = { true };
+
+    const FLUSHES: bool = true;
+
     ghost parts = { λ serve. 0 };
 
     ghost silent = { λ _. refl };
@@ -58,13 +62,11 @@ impl Handler for Serve {
     ) -> Result<Given, EngineFault> {
         let mut given = Given {
             output: Output::Made,
-            flush: false,
             end: None,
         };
         match self.session.judge(head, body)? {
             Verdict::Answered(Answer::Reply { frame, .. }) => {
                 *made = frame;
-                given.flush = true;
             }
             Verdict::Answered(Answer::Exit(status)) => given.end = Some(self.outcome(status)),
             _ => {}

@@ -1,6 +1,6 @@
 //! `normalise` with squash: accepted changes of one document, one after another, as one message.
 
-ghost use Rattle.std.specs.Prelude.{◌≡◌, ◌++◌, refl, OnOk, None, Some};
+ghost use Rattle.std.specs.Prelude.{◌≡◌, ◌++◌, refl, OnOk, None, Some, false};
 ghost use Rattle.lsp_log.specs.Log.{mark_of};
 ghost use Rattle.lsp_replay.specs.Session.{opened};
 ghost use Rattle.lsp_replay.specs.Engines.{line_if};
@@ -20,7 +20,6 @@ use std::marker::Model;
 /// What a record gives that doesn't end the run of the command.
 const WRITTEN: Given = Given {
     output: Output::Made,
-    flush: false,
     end: None,
 };
 
@@ -123,6 +122,10 @@ impl Squashing {
 
 impl Handler for Squashing {
     ghost course = { λ squashing. squashed_in squashing.session squashing.run };
+
+    ghost FLUSHES = { false };
+
+    const FLUSHES: bool = false;
 
     ghost parts = { λ squashing. 0 };
 

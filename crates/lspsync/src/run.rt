@@ -1,7 +1,8 @@
 //! The program over any reader and writers.
 
-ghost use Rattle.std.specs.Prelude.{◌≡◌};
+ghost use Rattle.std.specs.Prelude.{◌≡◌, OnOk, not, true};
 ghost use Rattle.std.specs.Io.KnownBytes.{Keeps};
+ghost use Rattle.lsp_replay.specs.Engine.{state_of};
 ghost use Rattle.lspsync.specs.Run.{EngineRan, IsFlushed, IsPerformed, answer_of, status_of};
 
 use crate::command_line::{Call, parse};
@@ -52,8 +53,11 @@ pub fn perform<R: Source, W: Sink>(
     input: &mut R,
     output: &mut W,
 ) -> Result<u8, EngineFault>
-    ensures { IsPerformed call (R.has_ended input.new) (R.left input.old) (R.left input.new)
-        (W.held output.old) (W.held output.new) (W.has_failed output.new) (W.count output.new) result }
+    ensures performed { IsPerformed call (R.has_ended input.old) (R.has_ended input.new)
+        (R.left input.old) (R.left input.new) (W.held output.old) (W.held output.new)
+        (W.has_failed output.new) (W.count output.new) result }
+    // Where a status is answered all that was written is passed on.
+    ensures passed_on { OnOk result (W.has_flushed output.new ≡ true) }
 {
     let ran = obey(alloc, call, input, output);
     let flushed = flush(output);
@@ -81,8 +85,9 @@ fn obey<R: Source, W: Sink>(
     input: &mut R,
     output: &mut W,
 ) -> Result<Outcome, EngineFault>
-    ensures { EngineRan call (R.has_ended input.new) (R.left input.old) (R.left input.new)
-        (W.held output.old) (W.held output.new) result }
+    ensures { EngineRan call
+        (state_of (R.has_ended input.old) (R.has_ended input.new) (not (W.has_flushed output.new)))
+        (R.left input.old) (R.left input.new) (W.held output.old) (W.held output.new) result }
 {
     match call {
         Call::Serve(config) => serve(alloc, input, output, config, MAX_TURNS),
@@ -143,6 +148,7 @@ fn write_all<W: Sink>(output: &mut W, mut bytes: &[u8]) -> Result<(), EngineFaul
 fn flush<W: Sink>(output: &mut W) -> Result<(), EngineFault>
     ensures kept { Keeps (W.held output.old) (W.held output.new) }
     ensures flushed { IsFlushed (W.has_failed output.new) (W.count output.old) (W.count output.new) result }
+    ensures passed_on { OnOk result (W.has_flushed output.new ≡ true) }
 {
     flush_out(output, &mut Turns::new(MAX_TURNS))
 }

@@ -171,3 +171,25 @@ fn flushes_answer_what_the_inner_ones_do(rt: HostRuntime) {
         assert_eq!(rt; flush_so(rt.alloc(), first), Some((calls, flushed, 0)));
     }
 }
+
+static WRITES_AND_FLUSHES: [Call; 5] = [
+    Call::Take(0),
+    Call::Take(2),
+    Call::Interrupt,
+    Call::Fail,
+    Call::Take(0),
+];
+
+#[test]
+fn flushed_once_a_flush_succeeds(rt: HostRuntime) {
+    let mut writer = Told::new(StopWriter::new(rt.alloc(), &WRITES_AND_FLUSHES, Call::Fail));
+    assert!(rt; writer.flushed());
+    for flushed in [true, false] {
+        let _ = Sink::write(&mut writer, b"abc");
+        assert_eq!(rt; writer.flushed(), flushed);
+    }
+    for flushed in [false, false, true] {
+        let _ = Sink::flush(&mut writer);
+        assert_eq!(rt; writer.flushed(), flushed);
+    }
+}

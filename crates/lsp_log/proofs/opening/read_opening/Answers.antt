@@ -1,5 +1,7 @@
-use Rattle.std.proofs.Common.{ℕ, ◌≡◌, ◌≤◌, ◌-◌, true, false, length, sym, ◌∙◌, arith}
+use Rattle.std.proofs.Common.{ℕ, ◌≡◌, ◌≤◌, ◌-◌, true, false, length, sym, ap, ◌∙◌, arith}
 use Rattle.std.proofs.lemmas.List.{length-take, length-drop}
+use Rattle.std.specs.Prelude.{nat_eq}
+use Rattle.std.proofs.lemmas.Bool.{false_from_ne_true}
 use Rattle.lsp_log.proofs.OpeningLemmas.{next_read, next_len, stays}
 use Rattle.lsp_log.proofs.opening.read_opening.Goals as goal
 
@@ -22,6 +24,10 @@ opening-preserved g c =
       front = front;
       unread = λ no. absurd (let two : false ≡ true = sym no ∙ c.is_undecided.ensures.looked_for c.if-not-is_undecided.false in cc);
       read = next_read _ _ _ c.opening.len c.in_ok-n.n c.opening.buf c.read_piece.new.buf within long c.in_ok-n.ensures.bound c.opening.invariant.read c.in_ok-n.ensures.read;
+      not_ended = λ _. false_from_ne_true _ (λ told.
+          let zero : nat_eq c.in_ok-n.n 0 ≡ true = ap (λ k. nat_eq k 0) (c.in_ok-n.ensures.ended.0 told) in
+          let other = c.is_undecided.ensures.not_ended c.if-not-is_undecided.false in
+          cc);
       well = λ before. c.in_ok-n.ensures.well (c.opening.invariant.well before);
       spent = record {
         within = omega (arith, c.opening.invariant.spent.within, c.in_ok-n.ensures.spent.within);

@@ -10,6 +10,7 @@ invariant-opening g l = record {
   front : IsLineFront (take l.len l.buf);
   unread : l.fn.versions ≡ false → l.len ≡ 0;
   read : Consumes (g.R.Source.left l.fn.reader) (g.R.Source.left l.reader) (take l.len l.buf);
+  not_ended : g.R.Source.has_ended l.fn.reader ≡ false → g.R.Source.has_ended l.reader ≡ false;
   well : StaysWell (g.R.Source.has_failed l.fn.reader) (g.R.Source.has_failed l.reader);
   spent : Spends (g.R.Source.count l.fn.reader) (g.R.Source.count l.reader) l.fn.turns.left l.turns.left;
 }

@@ -1,8 +1,9 @@
-use Rattle.std.proofs.Common.{refl, arith, ◌≡◌, ◌-◌, ℕ, List, sym, ap, subst, length, take, drop}
+use Rattle.std.proofs.Common.{refl, arith, ◌≡◌, ◌-◌, ◌&&◌, not, ℕ, List, sym, ap, subst, length, take, drop}
 use Rattle.std.proofs.lemmas.List.{length-take}
 use Rattle.std.specs.Io.KnownBytes.{Consumes}
 use Rattle.std.proofs.lemmas.Result.{err_from_is_err_and}
-use Rattle.lsp_replay.proofs.RunLemmas.{runs_at_start, runs_on, runs_more, ran_stopped, ran_into_fault, ran_finished, ran_unread, ran_unopened, ran_refused, called_fault, piece_not_read, both_at_start, both_writes, both_reads, rose_more, told_fault, read_not_write, read_not_ended, n_is_zero, zero_is}
+use Rattle.lsp_replay.specs.Engine.{state_of}
+use Rattle.lsp_replay.proofs.RunLemmas.{runs_at_start, runs_on, runs_more, ran_stopped, ran_into_fault, ran_finished, ran_unread, ran_unopened, ran_refused, called_fault, piece_not_read, both_at_start, both_writes, both_reads, rose_more, told_fault, read_not_write, read_not_ended, n_is_zero, zero_is, not_at_end, passed_fault, passed_result}
 use Rattle.lsp_replay.proofs.engine.run_engine.Goals as goal
 
 pub returns-in_err-opening-clause-ran : goal.returns-in_err-opening-clause-ran
@@ -10,7 +11,7 @@ returns-in_err-opening-clause-ran g c =
     let p = err_from_is_err_and c.from_residual.result c.from_residual.ensures.1 in
     rw (p.1, p.2) (ran_unopened (record { max_body = c.args.rules.limits.max_body; versions = c.args.rules.versions; only_one = c.args.rules.only_one }) (g.H.Handler.course c.args.handler.now) (g.R.Source.left c.args.reader.now) (g.W.Sink.held c.args.writer.now)
     (g.R.Source.left c.read_opening.new.reader) _ _ (record { silent = g.met.H.Handler.silent c.args.handler.now; unstopped = g.met.H.Handler.unstopped c.args.handler.now })
-    c.in_err-opening.ensures.below c.in_err-opening.ensures.fault)
+    c.in_err-opening.ensures.below c.in_err-opening.ensures.fault c.in_err-opening.ensures.not_ended)
 
 pub returns-in_err-accept-clause-ran : goal.returns-in_err-accept-clause-ran
 returns-in_err-accept-clause-ran g c =
@@ -32,6 +33,7 @@ pieces-init g c = record {
   rose = c.in_ok-opening.ensures.rose;
   reads_well = c.in_ok-opening.ensures.well;
   writes_well = λ before. before;
+  flushed = λ _ before. before;
   spent = both_at_start _ _ _ _ _ _ c.new-turns.ensures c.in_ok-opening.ensures.spent;
 }
 
@@ -39,7 +41,7 @@ pub returns-in_err-end-clause-ran : goal.returns-in_err-end-clause-ran
 returns-in_err-end-clause-ran g c =
     let p = err_from_is_err_and c.from_residual-in_err-end.result c.from_residual-in_err-end.ensures.1 in
     rw (p.1, p.2) (ran_into_fault (record { max_body = c.args.rules.limits.max_body; versions = c.args.rules.versions; only_one = c.args.rules.only_one }) (g.H.Handler.course c.args.handler.now) (g.R.Source.left c.args.reader.now) (g.W.Sink.held c.args.writer.now)
-    (g.R.Source.left c.pieces.reader) c.pieces.ended (g.R.Source.has_ended c.pieces.reader) c.pieces.place _ c.pieces.splitter (g.H.Handler.course c.pieces.handler) (g.W.Sink.held c.pieces.writer) (g.W.Sink.held c.take_piece.new.writer) _
+    (g.R.Source.left c.pieces.reader) c.pieces.ended (state_of (g.R.Source.has_ended c.args.reader.now) (g.R.Source.has_ended c.pieces.reader) (g.H.Handler.FLUSHES && not (g.W.Sink.has_flushed c.take_piece.new.writer))) c.pieces.place _ c.pieces.splitter (g.H.Handler.course c.pieces.handler) (g.W.Sink.held c.pieces.writer) (g.W.Sink.held c.take_piece.new.writer) _
     (λ input w. c.in_err-end.ensures.fault (record { max_body = c.args.rules.limits.max_body; versions = c.args.rules.versions; only_one = c.args.rules.only_one }) (g.H.Handler.course c.args.handler.now) (g.W.Sink.held c.args.writer.now) input w) c.pieces.invariant.runs)
 
 pub returns-in_err-end-clause-called : goal.returns-in_err-end-clause-called
@@ -48,7 +50,7 @@ returns-in_err-end-clause-called g c =
     let runs = c.pieces.invariant.runs in
     let why = c.in_err-end.ensures.fault (record { max_body = c.args.rules.limits.max_body; versions = c.args.rules.versions; only_one = c.args.rules.only_one }) (g.H.Handler.course c.args.handler.now) (g.W.Sink.held c.args.writer.now) runs.input runs.went in
     rw (p.1, p.2) (called_fault _ _ _ _ _ c.take_piece.new.turns.left _ _ _ _ _ (both_writes _ _ _ _ _ _ _ _ c.pieces.invariant.spent c.in_err-end.ensures.spent) c.in_err-end.ensures.none_left
-    (λ is. absurd (piece_not_read _ (g.H.Handler.course c.args.handler.now) _ _ _ _ why is))
+    (λ is. absurd (piece_not_read _ (g.H.Handler.course c.args.handler.now) _ _ _ _ _ why is))
     (λ is. let failed = c.in_err-end.ensures.failed is in (failed.0, rose_more _ _ _ c.pieces.invariant.spent.writes failed.1)) (λ _ told. (c.pieces.invariant.at_end (c.pieces.invariant.ended.0 told), c.pieces.invariant.rose)))
 
 pub returns-in_err-end-clause-none_passed_over : goal.returns-in_err-end-clause-none_passed_over
@@ -58,13 +60,13 @@ returns-in_err-end-clause-none_passed_over g c =
 
 pub returns-in-Some-clause-ran : goal.returns-in-Some-clause-ran
 returns-in-Some-clause-ran g c = ran_stopped (record { max_body = c.args.rules.limits.max_body; versions = c.args.rules.versions; only_one = c.args.rules.only_one }) (g.H.Handler.course c.args.handler.now) (g.R.Source.left c.args.reader.now) (g.W.Sink.held c.args.writer.now)
-    (g.R.Source.left c.pieces.reader) c.pieces.ended (g.R.Source.has_ended c.pieces.reader) c.pieces.place _ c.pieces.splitter (g.H.Handler.course c.pieces.handler) (g.W.Sink.held c.pieces.writer) (g.W.Sink.held c.take_piece.new.writer) c.in-Some.outcome
+    (g.R.Source.left c.pieces.reader) c.pieces.ended (state_of (g.R.Source.has_ended c.args.reader.now) (g.R.Source.has_ended c.pieces.reader) (g.H.Handler.FLUSHES && not (g.W.Sink.has_flushed c.take_piece.new.writer))) c.pieces.place _ c.pieces.splitter (g.H.Handler.course c.pieces.handler) (g.W.Sink.held c.pieces.writer) (g.W.Sink.held c.take_piece.new.writer) c.in-Some.outcome
     (λ input w. rw c.in-Some.is at (c.in_ok-end.ensures.went (record { max_body = c.args.rules.limits.max_body; versions = c.args.rules.versions; only_one = c.args.rules.only_one }) (g.H.Handler.course c.args.handler.now) (g.W.Sink.held c.args.writer.now) input w)) c.pieces.invariant.runs
 
 pub returns-then-ended-clause-ran : goal.returns-then-ended-clause-ran
 returns-then-ended-clause-ran g c =
     ran_finished (record { max_body = c.args.rules.limits.max_body; versions = c.args.rules.versions; only_one = c.args.rules.only_one }) (g.H.Handler.course c.args.handler.now) (g.R.Source.left c.args.reader.now) (g.W.Sink.held c.args.writer.now)
-    (g.R.Source.left c.pieces.reader) c.pieces.ended (g.R.Source.has_ended c.pieces.reader) c.pieces.place c.take_piece.new.splitter (g.H.Handler.course c.take_piece.new.handler)
+    (g.R.Source.left c.pieces.reader) c.pieces.ended (state_of (g.R.Source.has_ended c.args.reader.now) (g.R.Source.has_ended c.pieces.reader) (g.H.Handler.FLUSHES && not (g.W.Sink.has_flushed c.finish_run.new.writer))) c.pieces.place c.take_piece.new.splitter (g.H.Handler.course c.take_piece.new.handler)
     (g.W.Sink.held c.take_piece.new.writer) (g.W.Sink.held c.finish_run.new.writer) c.finish_run.result (c.pieces.invariant.ended.1 c.if-ended.true) c.finish_run.ensures.at_end c.finish_run.ensures.fault
     (runs_on (record { max_body = c.args.rules.limits.max_body; versions = c.args.rules.versions; only_one = c.args.rules.only_one }) (g.H.Handler.course c.args.handler.now) (g.R.Source.left c.args.reader.now) (g.W.Sink.held c.args.writer.now) (g.R.Source.left c.pieces.reader) c.pieces.ended c.pieces.place _ c.pieces.splitter c.take_piece.new.splitter
     (g.H.Handler.course c.pieces.handler) (g.H.Handler.course c.take_piece.new.handler) (g.W.Sink.held c.pieces.writer) (g.W.Sink.held c.take_piece.new.writer) c.in_ok-end.ensures.version
@@ -76,6 +78,7 @@ returns-in_err-to-clause-ran g c =
     rw (p.1, p.2) (ran_unread (record { max_body = c.args.rules.limits.max_body; versions = c.args.rules.versions; only_one = c.args.rules.only_one }) (g.H.Handler.course c.args.handler.now) (g.R.Source.left c.args.reader.now) (g.W.Sink.held c.args.writer.now)
     (g.R.Source.left c.pieces.reader) (g.R.Source.left c.read_piece.new.reader) c.pieces.ended _ c.pieces.place c.take_piece.new.splitter (g.H.Handler.course c.take_piece.new.handler) (g.W.Sink.held c.take_piece.new.writer) _
     c.reading_laws.ensures.rest c.in_ok-end.ensures.ready (record { silent = g.met.H.Handler.silent c.take_piece.new.handler; unstopped = g.met.H.Handler.unstopped c.take_piece.new.handler }) c.in_err-to.ensures.kept c.in_err-to.ensures.fault
+    (λ is _. c.in_err-to.ensures.not_ended is (not_at_end (g.R.Source.has_ended c.pieces.reader) c.pieces.ended c.pieces.invariant.ended.0 c.if-ended.false))
     (runs_on (record { max_body = c.args.rules.limits.max_body; versions = c.args.rules.versions; only_one = c.args.rules.only_one }) (g.H.Handler.course c.args.handler.now) (g.R.Source.left c.args.reader.now) (g.W.Sink.held c.args.writer.now) (g.R.Source.left c.pieces.reader) c.pieces.ended c.pieces.place _ c.pieces.splitter c.take_piece.new.splitter
     (g.H.Handler.course c.pieces.handler) (g.H.Handler.course c.take_piece.new.handler) (g.W.Sink.held c.pieces.writer) (g.W.Sink.held c.take_piece.new.writer) c.in_ok-end.ensures.version
     (λ input w. rw c.in_default.is at (c.in_ok-end.ensures.went (record { max_body = c.args.rules.limits.max_body; versions = c.args.rules.versions; only_one = c.args.rules.only_one }) (g.H.Handler.course c.args.handler.now) (g.W.Sink.held c.args.writer.now) input w)) c.pieces.invariant.runs))
@@ -93,6 +96,24 @@ pub returns-in_err-to-clause-none_passed_over : goal.returns-in_err-to-clause-no
 returns-in_err-to-clause-none_passed_over g c =
     let p = err_from_is_err_and c.from_residual-in_err-to.result c.from_residual-in_err-to.ensures.1 in
     rw (p.1, p.2) (told_fault _ _ _ _ _ (λ other before. c.in_err-to.ensures.told other (c.pieces.invariant.reads_well before)) (λ _ before. c.in_ok-end.ensures.well (c.pieces.invariant.writes_well before)))
+
+pub returns-in_err-end-clause-passed_on : goal.returns-in_err-end-clause-passed_on
+returns-in_err-end-clause-passed_on g c =
+    let p = err_from_is_err_and c.from_residual-in_err-end.result c.from_residual-in_err-end.ensures.1 in
+    rw (p.1, p.2) (passed_fault _ _ _ _ (λ holds not_write not_turns before. c.in_err-end.ensures.passed_on holds not_write not_turns (c.pieces.invariant.flushed holds before)))
+
+pub returns-in-Some-clause-passed_on : goal.returns-in-Some-clause-passed_on
+returns-in-Some-clause-passed_on g c = λ holds _ _ before. c.in_ok-end.ensures.flushed holds (c.pieces.invariant.flushed holds before)
+
+pub returns-then-ended-clause-passed_on : goal.returns-then-ended-clause-passed_on
+returns-then-ended-clause-passed_on g c = λ holds not_write not_turns before.
+    passed_result _ _ _ c.finish_run.result c.finish_run.ensures.flushed c.finish_run.ensures.passed_on holds not_write not_turns
+    (c.in_ok-end.ensures.flushed holds (c.pieces.invariant.flushed holds before))
+
+pub returns-in_err-to-clause-passed_on : goal.returns-in_err-to-clause-passed_on
+returns-in_err-to-clause-passed_on g c =
+    let p = err_from_is_err_and c.from_residual-in_err-to.result c.from_residual-in_err-to.ensures.1 in
+    rw (p.1, p.2) (λ holds _ _ before. c.in_ok-end.ensures.flushed holds (c.pieces.invariant.flushed holds before))
 
 pub pieces-preserved : goal.pieces-preserved
 pieces-preserved g c =
@@ -113,5 +134,6 @@ pieces-preserved g c =
       rose = rose_more _ _ _ c.pieces.invariant.spent.reads c.in_ok-to.ensures.rose;
       reads_well = λ before. c.in_ok-to.ensures.well (c.pieces.invariant.reads_well before);
       writes_well = λ before. c.in_ok-end.ensures.well (c.pieces.invariant.writes_well before);
+      flushed = λ holds before. c.in_ok-end.ensures.flushed holds (c.pieces.invariant.flushed holds before);
       spent = both_reads _ _ _ _ _ _ _ _ (both_writes _ _ _ _ _ _ _ _ c.pieces.invariant.spent c.in_ok-end.ensures.spent) c.in_ok-to.ensures.spent;
     }

@@ -2,7 +2,7 @@ use Rattle.std.specs.Prelude.{◌≡◌, ◌≤◌, ◌↔◌, ◌-◌, true, le
 use Rattle.std.specs.Io.KnownBytes.{IsAtEnd}
 use Rattle.lsp_stream.specs.Ports.{Rose}
 use Rattle.lsp_log.specs.Splitting.{IsReady}
-use Rattle.lsp_stream.specs.Turns.{StaysWell}
+use Rattle.lsp_stream.specs.Turns.{StaysWell, StaysFlushed}
 use Rattle.lsp_replay.specs.Progress.{Runs, BothSpend}
 use Rattle.lsp_replay.proofs.engine.run_engine.Given as goal
 
@@ -18,6 +18,7 @@ invariant-pieces g l = record {
   rose : Rose (g.R.Source.count l.fn.reader) (g.R.Source.count l.reader);
   reads_well : StaysWell (g.R.Source.has_failed l.fn.reader) (g.R.Source.has_failed l.reader);
   writes_well : StaysWell (g.W.Sink.has_failed l.fn.writer) (g.W.Sink.has_failed l.writer);
+  flushed : g.H.Handler.FLUSHES ≡ true → StaysFlushed (g.W.Sink.has_flushed l.fn.writer) (g.W.Sink.has_flushed l.writer);
   spent : BothSpend (g.R.Source.count l.fn.reader) (g.R.Source.count l.reader) (g.W.Sink.count l.fn.writer) (g.W.Sink.count l.writer) l.fn.max_turns l.turns.left;
 }
 

@@ -10,7 +10,7 @@ pub returns-in_err-at-clause-fault : goal.returns-in_err-at-clause-fault
 returns-in_err-at-clause-fault g c =
     let p = err_from_is_err_and c.from_residual.result c.from_residual.ensures.1 in
     rw (p.1, p.2) (λ reading course held input w.
-    fed_fault reading course held input c.args.piece.now _ c.bytes.at c.bytes.splitter (g.H.Handler.course c.bytes.handler) (g.W.Sink.held c.bytes.writer) (g.W.Sink.held c.bytes.writer) _
+    fed_fault reading course held input _ c.args.piece.now _ c.bytes.at c.bytes.splitter (g.H.Handler.course c.bytes.handler) (g.W.Sink.held c.bytes.writer) (g.W.Sink.held c.bytes.writer) _
     c.bytes.invariant.within refl (λ records at. c.in_err-at.ensures.fault reading input records at)
     (record { silent = g.met.H.Handler.silent c.bytes.handler; unstopped = g.met.H.Handler.unstopped c.bytes.handler }) (Appends-nil (g.W.Sink.held c.bytes.writer))
     (c.bytes.invariant.went reading course held input w))
@@ -49,6 +49,7 @@ bytes-preserved g c = record {
       (went_fed reading course held input c.args.piece.now _ c.bytes.at c.in_ok-at.field-0 c.bytes.splitter c.feed.new.self (g.H.Handler.course c.bytes.handler) (g.W.Sink.held c.bytes.writer)
       c.bytes.invariant.within refl (λ records at. c.in_ok-at.ensures.stands reading input records at) (c.bytes.invariant.went reading course held input w)));
   well = λ before. c.in_ok-outcome.ensures.well (c.bytes.invariant.well before);
+  flushed = λ holds before. c.in_ok-outcome.ensures.flushed holds (c.bytes.invariant.flushed holds before);
   spent = record {
     within = omega (arith, c.bytes.invariant.spent.within, c.in_ok-outcome.ensures.spent.within);
     least = omega (arith, c.bytes.invariant.spent.least, c.in_ok-outcome.ensures.spent.least);

@@ -1,9 +1,9 @@
-use Rattle.std.proofs.Common.{List, ℕ, [], ◌++◌, sym, ◌∙◌, ap, subst, append_assoc, arith}
+use Rattle.std.proofs.Common.{Bool, ◌&&◌, not, List, ℕ, [], ◌++◌, sym, ◌∙◌, ap, subst, append_assoc, arith}
 use Rattle.std.proofs.lemmas.Result.{err_from_is_err_and}
 use Rattle.std.specs.Io.KnownBytes.{Appends}
 use Rattle.std.proofs.KnownBytes.{Appends-trans}
-use Rattle.lsp_stream.specs.Turns.{AppendsFront}
-use Rattle.lsp_replay.proofs.EngineLemmas.{part_cut, part_is}
+use Rattle.lsp_stream.specs.Turns.{AppendsFront, AppendsShort}
+use Rattle.lsp_replay.proofs.EngineLemmas.{part_cut, part_short, part_is}
 use Rattle.lsp_replay.proofs.engine.write_last.Goals as goal
 
 pub returns-in_err-write_given-clause-front : goal.returns-in_err-write_given-clause-front
@@ -13,6 +13,15 @@ returns-in_err-write_given-clause-front g c =
     let before = c.parts.invariant.wrote in
     rw p.1 (part_cut _ _ _ _ before.0 c.finish.new.made.items part.0 (before.1 ∙ ap (λ z. before.0 ++ z) part.1) before.2
     (subst (λ (z : List ℕ). AppendsFront (g.W.Sink.held c.parts.writer) (g.W.Sink.held c.write_given.new.writer) z) c.deref.ensures.value c.in_err-write_given.ensures.front))
+
+pub returns-in_err-write_given-clause-short : goal.returns-in_err-write_given-clause-short
+returns-in_err-write_given-clause-short g c =
+    let p = err_from_is_err_and c.from_residual-in_err-write_given.result c.from_residual-in_err-write_given.ensures.1 in
+    let part = part_is c.in_ok-end.end ((g.H.Handler.course c.parts.handler []).last c.parts.due) c.finish.new.made.items _ _ _ _ c.in_ok-end.ensures.ok in
+    let before = c.parts.invariant.wrote in
+    rw (p.1, p.2) (λ is. part_short _ _ _ _ _ before.0 c.finish.new.made.items part.0 (before.1 ∙ ap (λ z. before.0 ++ z) part.1) before.2
+    (subst (λ (z : List ℕ). AppendsShort (g.H.Handler.FLUSHES && not (g.W.Sink.has_flushed c.write_given.new.writer)) (g.W.Sink.held c.parts.writer) (g.W.Sink.held c.write_given.new.writer) z) c.deref.ensures.value
+    (subst (λ (asked : Bool). AppendsShort (asked && not (g.W.Sink.has_flushed c.write_given.new.writer)) (g.W.Sink.held c.parts.writer) (g.W.Sink.held c.write_given.new.writer) c.deref.result.now) c.FLUSHES.ensures (c.in_err-write_given.ensures.short is))))
 
 pub parts-preserved : goal.parts-preserved
 parts-preserved g c =
@@ -27,6 +36,7 @@ parts-preserved g c =
       );
       outcome = part.1 ∙ c.parts.invariant.outcome;
       well = λ before. c.in_ok-write_given.ensures.well (c.parts.invariant.well before);
+      flushed = λ holds _. c.in_ok-write_given.ensures.flushed (c.FLUSHES.ensures ∙ holds);
       spent = record {
         within = omega (arith, c.parts.invariant.spent.within, c.in_ok-write_given.ensures.spent.within);
         least = omega (arith, c.parts.invariant.spent.least, c.in_ok-write_given.ensures.spent.least);

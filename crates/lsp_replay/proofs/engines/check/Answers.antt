@@ -1,3 +1,5 @@
+use Rattle.std.proofs.Common.{false}
+use Rattle.lsp_replay.specs.Engine.{state_of}
 use Rattle.lsp_replay.specs.Session.{opened}
 use Rattle.lsp_replay.specs.Engines.{as_log, checking, log_config}
 use Rattle.lsp_replay.proofs.ToldLemmas.{ran_over}
@@ -7,5 +9,5 @@ pub returns-clause-told : goal.returns-clause-told
 returns-clause-told g c =
     let course = rw c.config.ensures at c.new-check.ensures.session in
     let ran = rw (c.rules-rules.ensures, course) at c.run_engine.ensures.ran in
-    ran_over c.run_engine.ensures.first c.run_engine.ensures.version (as_log c.args.settings) checking (opened (log_config c.args.settings)) (g.R.Source.has_ended c.run_engine.new.reader) (g.R.Source.left c.args.reader.now) (g.R.Source.left c.run_engine.new.reader)
+    ran_over c.run_engine.ensures.first c.run_engine.ensures.version (as_log c.args.settings) checking (opened (log_config c.args.settings)) (state_of (g.R.Source.has_ended c.args.reader.now) (g.R.Source.has_ended c.run_engine.new.reader) false) (g.R.Source.left c.args.reader.now) (g.R.Source.left c.run_engine.new.reader)
     (g.W.Sink.held c.args.writer.now) (g.W.Sink.held c.run_engine.new.writer) c.run_engine.result ran
