@@ -4,7 +4,8 @@
 Each log begins with initialize, initialized and the documents that are opened. Behind that comes, as its kind says:
 
   keystrokes   one character a message: mostly where the one before was typed, one in fifty elsewhere
-  documents    the same, in many documents in turn
+  requests     the same, and a request for completion after each
+  documents    keystrokes in many documents in turn
   batches      many changes a message, all over the document
   replace-all  many changes a message, a word of each line, from the last line to the first, as editors send it
   whole        the whole text of a document, with one character more in the middle
@@ -121,6 +122,17 @@ def keystrokes(options, chance):
         yield typist.message(typist.change())
 
 
+def requests(options, chance):
+    typist = Typist(chance, "file:///home/user/project/src/main.rs", options.lines)
+    yield typist.open()
+    number = 1
+    while True:
+        number += 1
+        yield typist.message(typist.change())
+        place = {"line": typist.line, "character": typist.column}
+        yield message("textDocument/completion", {"textDocument": {"uri": typist.uri}, "position": place}, number)
+
+
 def documents(options, chance):
     typists = [Typist(chance, "file:///home/user/project/src/%d.rs" % n, options.lines) for n in range(options.documents)]
     for typist in typists:
@@ -224,6 +236,7 @@ def foreign(options, chance):
 
 KINDS = {
     "keystrokes": keystrokes,
+    "requests": requests,
     "documents": documents,
     "batches": batches,
     "replace-all": replace_all,

@@ -4,3 +4,4 @@ pub mod Openings
 pub mod Puts
 pub mod Growing
 pub mod Messages
+pub mod Digits

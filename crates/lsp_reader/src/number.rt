@@ -1,10 +1,14 @@
 //! Numbers: which are in range, and which are whole.
 
-ghost use Rattle.std.specs.Prelude.{◌≡◌, ◌∷◌, ◌==◌, option_map, slice_index, MatchOption, true, false};
+ghost use Rattle.std.specs.Prelude.{◌≡◌, ◌∷◌, ◌==◌, option_map, slice_index, MatchOption, IfSome, Some, true, false};
+ghost use Rattle.serde_json.specs.Data.{unsigned};
 ghost use Rattle.serde_json.specs.Read.{number_of, number_from, float_of};
 ghost use Rattle.lsp_reader.specs.inside.Scalars.{number_kind, number_view};
 
 use fast_float::Numeral;
+
+/// A number below it has room for one more digit in 64 bits.
+const ROOM: u64 = 1_000_000_000_000_000_000;
 
 /// A number, as far as the protocol needs it.
 #[derive(Clone, Copy, Drop)]
@@ -21,6 +25,16 @@ impl Number {
     /// The number that a token writes; `None` where it is too large for a float.
     #[inline(always)]
     pub(crate) fn parse(text: &str) -> Option<Number>
+        ensures { option_map number_view result ≡ option_map number_kind (number_of text.now) }
+    {
+        match short_natural(text.as_bytes()) {
+            Some(n) => Some(Number::Natural(n)),
+            None => Number::parse_any(text),
+        }
+    }
+
+    #[inline(never)]
+    fn parse_any(text: &str) -> Option<Number>
         ensures { option_map number_view result ≡ option_map number_kind (number_of text.now) }
     {
         let bytes = text.as_bytes();
@@ -63,6 +77,22 @@ impl Number {
             None
         }
     }
+}
+
+/// The number that a few digits write; `None` where they are more than 19, or not digits alone.
+#[inline(always)]
+fn short_natural(bytes: &[u8]) -> Option<u64>
+    ensures { IfSome result (λ n. number_of bytes.now ≡ Some (unsigned n)) }
+{
+    let mut value = 0u64;
+    for byte in bytes {
+        if value >= ROOM {
+            return None;
+        }
+        let digit = char::from(*byte).to_digit(10)?;
+        value = value * 10 + u64::from(digit);
+    }
+    if bytes.is_empty() { None } else { Some(value) }
 }
 
 /// What follows a minus sign; `None` where there is none.

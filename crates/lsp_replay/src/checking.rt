@@ -33,6 +33,14 @@ impl Check {
         let session = Session::new(alloc, config);
         Check { session }
     }
+
+    /// Writes the line of the last record, by what became of it.
+    fn push_last(&self, made: &mut Vec<u8>, verdict: &Verdict) -> Result<(), AllocError>
+        ensures { OnOk result (made.new.items ≡ made.old.items
+            ++ check_line self.now.session.records (verdict_view verdict.now)) }
+    {
+        push_line(made, self.session.records(), verdict)
+    }
 }
 
 impl Handler for Check {
@@ -55,15 +63,9 @@ impl Handler for Check {
         body: &[u8],
         made: &mut Vec<u8>,
     ) -> Result<Given, EngineFault> {
-        let verdict = self.session.judge(head, body)?;
-        if verdict == Verdict::Bad {
-            return Err(EngineFault::BadLog { place: head.place });
-        }
-        push_line(made, self.session.records(), &verdict)?;
-        Ok(Given {
-            output: Output::Made,
-            end: None,
-        })
+        let verdict = self.session.accept(head, body)?;
+        self.push_last(made, &verdict)?;
+        Ok(Given::more(Output::Made))
     }
 
     fn finish(

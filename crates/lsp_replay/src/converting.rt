@@ -62,17 +62,11 @@ impl Handler for Convert {
         made: &mut Vec<u8>,
     ) -> Result<Given, EngineFault> {
         self.push_line(made)?;
-        let verdict = self.session.judge(head, body)?;
-        if verdict == Verdict::Bad {
-            return Err(EngineFault::BadLog { place: head.place });
-        }
+        let verdict = self.session.accept(head, body)?;
         made.extend_from_slice(b">")?;
         made.extend_from_slice(spelling)?;
         push_reply(made, &verdict)?;
-        Ok(Given {
-            output: Output::Made,
-            end: None,
-        })
+        Ok(Given::more(Output::Made))
     }
 
     fn finish(

@@ -46,6 +46,13 @@ impl Settings {
         }
     }
 
+    /// Are the changes of a run written as one message?
+    fn joins_runs(&self) -> bool
+        ensures { result ≡ self.now.squash }
+    {
+        self.squash
+    }
+
     /// Tells that the limits are in their ranges, as all limits are; it does nothing else.
     fn known(&self)
         ensures { AreInRange self.now.limits }
@@ -215,7 +222,7 @@ pub fn normalise<R: Source, W: Sink>(
         (R.has_failed reader.new) (W.has_failed writer.new) (R.has_ended reader.new) (R.left reader.new) result }
     ensures none_passed_over { NonePassedOver (R.has_failed reader.old) (R.has_failed reader.new) (W.has_failed writer.old) (W.has_failed writer.new) result }
 {
-    if settings.squash {
+    if settings.joins_runs() {
         return normalise_squashed(alloc, reader, writer, settings, max_turns);
     }
     normalise_each(alloc, reader, writer, settings, max_turns)

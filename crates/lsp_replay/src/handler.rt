@@ -26,6 +26,15 @@ pub struct Given {
     pub end: Option<Outcome>,
 }
 
+impl Given {
+    /// That of a record that doesn't end the run.
+    pub fn more(output: Output) -> Self
+        ensures { result ≡ record { output = output; end = None } }
+    {
+        Given { output, end: None }
+    }
+}
+
 /// What an engine makes of the records of a log, and of its end.
 pub trait Handler {
     // What the records that are still to come will give.

@@ -57,7 +57,7 @@ impl Handler for Normalise {
         }
         let version = self.session.version();
         let output = push_record(made, head, version, spelling, canonical)?;
-        Ok(Given { output, end: None })
+        Ok(Given::more(output))
     }
 
     fn finish(

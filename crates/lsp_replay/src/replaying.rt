@@ -9,7 +9,7 @@ ghost use Rattle.lsp_replay.specs.Engines.{replaying, replaying_from, course_in,
 
 use crate::handler::{Given, Handler, Output};
 use crate::outcome::Outcome;
-use crate::session::{Session, Verdict};
+use crate::session::Session;
 use json::Writer;
 use lsp_log::Head;
 use lsp_server::Config;
@@ -62,14 +62,8 @@ impl Handler for Replay {
         body: &[u8],
         _made: &mut Vec<u8>,
     ) -> Result<Given, EngineFault> {
-        let verdict = self.session.judge(head, body)?;
-        if verdict == Verdict::Bad {
-            return Err(EngineFault::BadLog { place: head.place });
-        }
-        Ok(Given {
-            output: Output::Made,
-            end: None,
-        })
+        self.session.accept(head, body)?;
+        Ok(Given::more(Output::Made))
     }
 
     fn finish(

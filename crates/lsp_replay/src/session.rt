@@ -1,6 +1,6 @@
 //! A server over the records of a log.
 
-ghost use Rattle.std.specs.Prelude.{◌≡◌, ◌≢◌, IfOk, OnOk, MatchOption, option_map, map, string_bytes, Some, None};
+ghost use Rattle.std.specs.Prelude.{◌≡◌, ◌≢◌, ◌⊎◌, IfErr, IfOk, OnOk, MatchOption, option_map, map, string_bytes, Some, None};
 ghost use Rattle.serde_json.specs.View.{view};
 ghost use Rattle.lsp_message.specs.Message.{reading};
 ghost use Rattle.lsp_message.specs.Agreement.{announced_of};
@@ -25,6 +25,7 @@ use lsp_message::{
 };
 use lsp_server::{Answer, Config, Incoming, Phase, Server};
 use lsp_store::{Batches, Document, StoreFault};
+use lsp_stream::EngineFault;
 use lsp_text::Encoding;
 use serde_json::Value;
 use std::alloc::{AllocError, Global};
@@ -172,7 +173,23 @@ impl Session {
         Ok(verdict)
     }
 
-    /// The same, and for an accepted change the one message in which it is written.
+    /// Judges a record as [`Session::judge`] does. One that belongs in no log is [`EngineFault::BadLog`], at its first byte.
+    pub fn accept(&mut self, head: Head, body: &[u8]) -> Result<Verdict, EngineFault>
+        ensures verdict { IfOk result (λ v. verdict_view v ≡ (judge_at self.old head body.now).verdict) }
+        ensures in_log { IfOk result (λ v. verdict_view v ≢ bad) }
+        ensures session { OnOk result (self.new ≡ (judge_at self.old head body.now).session) }
+        ensures error { IfErr result (λ fault. (fault ≡ EngineFault.NoMemory)
+            ⊎ ((fault ≡ EngineFault.BadLog head.place)
+            × ((judge_at self.old head body.now).verdict ≡ bad))) }
+    {
+        let verdict = self.judge(head, body)?;
+        if verdict == Verdict::Bad {
+            return Err(EngineFault::BadLog { place: head.place });
+        }
+        Ok(verdict)
+    }
+
+    /// The same as [`Session::judge`], and for an accepted change the one message in which it is written.
     #[tactic(auto, using(crate::proofs::NormalLemmas::same_server))]
     pub fn judge_and_write(
         &mut self,
@@ -308,7 +325,7 @@ impl Session {
     {
         match side {
             Side::Client => {
-                let incoming = Incoming::read(self.alloc, body)?;
+                let incoming = self.server.read(body)?;
                 self.take_and_join(incoming, run)
             }
             Side::Server => Ok((self.hear(body)?, Writing::AsItIs(run))),

@@ -118,6 +118,13 @@ impl Squashing {
             batches: None,
         }
     }
+
+    /// Writes the run that is open, if there is one.
+    fn push_open(&self, output: &mut Vec<u8>) -> Result<(), AllocError>
+        ensures { OnOk result (output.new.items ≡ output.old.items ++ end_bytes self.now.run) }
+    {
+        self.texts.push_end(output, &self.batches)
+    }
 }
 
 impl Handler for Squashing {
@@ -173,7 +180,7 @@ impl Handler for Squashing {
         line_due: bool,
         made: &mut Vec<u8>,
     ) -> Result<Option<Outcome>, EngineFault> {
-        self.texts.push_end(made, &self.batches)?;
+        self.push_open(made)?;
         push_line(made, line_due)?;
         Ok(Some(self.session.outcome()))
     }

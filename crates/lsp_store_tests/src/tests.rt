@@ -9,15 +9,28 @@ mod positions;
 mod refused;
 mod squash;
 
-use lsp_frame::{BadLimits, Limits};
+use lsp_frame::Limits;
 use lsp_store::{Store, StoreFault};
 use std::alloc::Global;
 
 pub(super) const URI: &str = "file:///a";
 
+/// The limits of a test. A fault stands for those that are out of range: no test has them.
+pub(super) fn limits_of(
+    body: usize,
+    text: usize,
+    docs: usize,
+    changes: usize,
+) -> Result<Limits, StoreFault> {
+    match Limits::new(body, text, docs, changes) {
+        Ok(limits) => Ok(limits),
+        Err(_) => Err(StoreFault::TooManyDocuments),
+    }
+}
+
 /// Bodies of 4,096 bytes, texts of 8, and so many documents and changes.
-pub(super) fn narrow(max_docs: usize, max_changes: usize) -> Result<Limits, BadLimits> {
-    Limits::new(4_096, 8, max_docs, max_changes)
+pub(super) fn narrow(max_docs: usize, max_changes: usize) -> Result<Limits, StoreFault> {
+    limits_of(4_096, 8, max_docs, max_changes)
 }
 
 pub(super) fn open(

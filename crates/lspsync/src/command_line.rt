@@ -1,5 +1,9 @@
 //! The words that the program is called with.
 
+ghost use Rattle.std.specs.Prelude.{◌≡◌, IfOk, IfSome};
+ghost use Rattle.lspsync.specs.CommandLine.{AreLimits, AreSettings, GivesNumber, IsCall, IsCallNamed};
+ghost use Rattle.lspsync.specs.CommandLine.{IsConfig, encoding_given, sync_given};
+
 mod help;
 
 use crate::command_line::help::{Limit, Page};
@@ -33,52 +37,89 @@ pub fn parse<'a>(alloc: Global, words: &'a [&'a str]) -> Result<Option<Call>, Er
     Ok(call_of(&matches))
 }
 
-fn call_of(matches: &ArgMatches<'_>) -> Option<Call> {
+/// The call that `clap` found.
+fn call_of(matches: &ArgMatches<'_>) -> Option<Call>
+    ensures { IfSome result (IsCall matches.now) }
+{
     let (name, options) = matches.subcommand()?;
+    call_named(name, options)
+}
+
+/// The call of a subcommand with these options.
+fn call_named(name: &str, options: &ArgMatches<'_>) -> Option<Call>
+    ensures { IfSome result (IsCallNamed name.now options.now) }
+{
     match name {
-        "serve" => config_of(options).map(Call::Serve),
-        "check" => settings_of(options, false).map(Call::Check),
-        "replay" => settings_of(options, false).map(Call::Replay),
-        "normalise" => settings_of(options, options.get_flag("squash")).map(Call::Normalise),
-        "convert" => settings_of(options, false).map(Call::Convert),
+        "serve" => Some(Call::Serve(config_of(options)?)),
+        "check" => Some(Call::Check(settings_of(options, false)?)),
+        "replay" => Some(Call::Replay(settings_of(options, false)?)),
+        "normalise" => {
+            let squash = options.get_flag("squash");
+            Some(Call::Normalise(settings_of(options, squash)?))
+        }
+        "convert" => Some(Call::Convert(settings_of(options, false)?)),
         _ => None,
     }
 }
 
-fn config_of(options: &ArgMatches<'_>) -> Option<Config> {
-    let sync = match options.get_str("sync")? {
-        "full" => Sync::Full,
-        _ => Sync::Incremental,
-    };
+fn config_of(options: &ArgMatches<'_>) -> Option<Config>
+    ensures { IfSome result (IsConfig options.now) }
+{
+    let limits = limits_of(options)?;
+    let prefer = encoding_of(options)?;
+    let sync = sync_of(options)?;
     Some(Config {
-        limits: limits_of(options)?,
-        choice: EncodingChoice::Negotiated {
-            prefer: encoding_of(options)?,
-        },
+        limits,
+        choice: EncodingChoice::Negotiated { prefer },
         sync,
     })
 }
 
-fn settings_of(options: &ArgMatches<'_>, squash: bool) -> Option<Settings> {
+fn sync_of(options: &ArgMatches<'_>) -> Option<Sync>
+    ensures { result ≡ sync_given options.now }
+{
+    match options.get_str("sync")? {
+        "full" => Some(Sync::Full),
+        _ => Some(Sync::Incremental),
+    }
+}
+
+fn settings_of(options: &ArgMatches<'_>, squash: bool) -> Option<Settings>
+    ensures given { IfSome result (AreSettings options.now) }
+    ensures squash { IfSome result (λ settings. settings.squash ≡ squash) }
+{
+    let limits = limits_of(options)?;
+    let encoding = encoding_of(options)?;
     Some(Settings {
-        limits: limits_of(options)?,
-        encoding: encoding_of(options)?,
+        limits,
+        encoding,
         squash,
     })
 }
 
-fn encoding_of(options: &ArgMatches<'_>) -> Option<Encoding> {
+fn encoding_of(options: &ArgMatches<'_>) -> Option<Encoding>
+    ensures { result ≡ encoding_given options.now }
+{
     Encoding::of_name(options.get_str("encoding")?)
 }
 
-fn limits_of(options: &ArgMatches<'_>) -> Option<Limits> {
-    Limits::new(
-        options.get_one::<usize>("max-body")?,
-        options.get_one::<usize>("max-text")?,
-        options.get_one::<usize>("max-docs")?,
-        options.get_one::<usize>("max-changes")?,
-    )
-    .ok()
+fn limits_of(options: &ArgMatches<'_>) -> Option<Limits>
+    ensures { IfSome result (AreLimits options.now) }
+{
+    let max_body = number_of(options, "max-body")?;
+    let max_text = number_of(options, "max-text")?;
+    let max_docs = number_of(options, "max-docs")?;
+    let max_changes = number_of(options, "max-changes")?;
+    match Limits::new(max_body, max_text, max_docs, max_changes) {
+        Ok(limits) => Some(limits),
+        Err(_) => None,
+    }
+}
+
+fn number_of(options: &ArgMatches<'_>, id: &str) -> Option<usize>
+    ensures { IfSome result (GivesNumber options.now id.now) }
+{
+    options.get_one::<usize>(id)
 }
 
 static ENCODINGS: [&str; 3] = ["utf-8", "utf-16", "utf-32"];

@@ -1,29 +1,31 @@
 //! `lspsync`: a language server's end of a session on standard input and output, and four commands on recorded sessions.
 //!
 //! - `command_line`: the words that the program is called with.
+//! - `fault_text`: what the line of a fault says.
 //! - `run`: the program over any reader and writers; the engines are those of `lsp_replay`.
 #![tactic(auto)]
 
 mod command_line;
+mod fault_text;
 mod run;
 #[cfg(test)]
 mod tests;
 
-use crate::run::{refuse, run};
+use crate::run::{Ending, refuse, run};
 use lsp_replay::Told;
 use std::process::ExitCode;
 use std::{env, io};
 
 fn main(rt: HostRuntime) -> ExitCode {
-    let status = match answer(&rt) {
-        Ok(status) => status,
+    let ending = match answer(&rt) {
+        Ok(ending) => ending,
         Err(error) => refuse(error.kind(), &mut rt.stderr()),
     };
-    ExitCode::from(status)
+    ExitCode::from(ending.status)
 }
 
 /// Runs the program over the process's own streams. Fails only where the words of its call could not be had.
-fn answer(rt: &HostRuntime) -> io::Result<u8> {
+fn answer(rt: &HostRuntime) -> io::Result<Ending> {
     let alloc = rt.alloc();
     let given: Vec<String> = env::args(rt)?.collect(alloc)?;
     let words: Vec<&str> = given.iter().map(|word| word.as_str()).collect(alloc)?;

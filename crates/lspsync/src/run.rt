@@ -1,16 +1,21 @@
 //! The program over any reader and writers.
 
-ghost use Rattle.std.specs.Prelude.{◌≡◌, OnOk, not, true};
-ghost use Rattle.std.specs.Io.KnownBytes.{Keeps};
+ghost use Rattle.std.specs.Prelude.{◌≡◌, ◌≢◌, ◌⊎◌, OnOk, not, true, codes, List, ℕ, Result, Err};
+ghost use Rattle.std.specs.Io.KnownBytes.{Appends, Keeps};
+ghost use Rattle.clap.specs.Values.{kind_of};
+ghost use Rattle.clap.specs.declared.error.kind.ErrorKind.TheVariants.{OutOfMemory};
+ghost use Rattle.clap.specs.declared.error.kind.ErrorKind.TheVariants.{DisplayHelp, DisplayVersion};
 ghost use Rattle.lsp_replay.specs.Engine.{state_of};
-ghost use Rattle.lspsync.specs.Run.{EngineRan, IsFlushed, IsPerformed, answer_of, status_of};
+ghost use Rattle.lspsync.specs.Run.{EngineRan, IsEnding, IsFlushed, IsHelp, IsPerformed, IsReported};
+ghost use Rattle.lspsync.specs.Run.{IsRun, Streams, answer_of, status_of};
 
 use crate::command_line::{Call, parse};
+use crate::fault_text::FaultText;
 use clap::error as clap_error;
 use lsp_replay::{EngineFault, Outcome, Sink, Source, check, convert, normalise, replay, serve};
-use lsp_stream::{Turns, flush_out};
+use lsp_stream::{Turns, flush_out, write_given};
 use std::alloc::Global;
-use std::io::{ErrorKind, Write};
+use std::io::{self, ErrorKind, Write};
 
 /// How many reads, writes and flushes one run may make.
 const MAX_TURNS: u64 = 1_099_511_627_776;
@@ -24,21 +29,59 @@ const OUT_OF_MEMORY: u8 = 4;
 
 const BAD_LOG: u8 = 5;
 
-/// Runs the program: `words` is its command line, the program's name first. Answers the exit status; a fault's line goes to `errors`.
+/// How the program ends.
+#[derive(Drop)]
+pub struct Ending {
+    /// The exit status.
+    pub status: u8,
+    /// Whether the line on standard error could be printed. Well where there is none.
+    pub printed: io::Result<()>,
+}
+
+/// Runs the program: `words` is its command line, the program's name first. A fault's line goes to `errors`.
 pub fn run<R: Source, W: Sink, E: Write>(
     alloc: Global,
     words: &[&str],
     input: &mut R,
     output: &mut W,
     errors: &mut E,
-) -> u8 {
-    let call = match parse(alloc, words) {
-        Ok(Some(call)) => call,
-        Ok(None) => return USAGE,
-        Err(error) => return explain(alloc, &error, output, errors),
-    };
-    match perform(alloc, call, input, output) {
-        Ok(status) => status,
+) -> Ending
+    ensures { IsRun (record {
+      ended_before = R.has_ended input.old;
+      ended = R.has_ended input.new;
+      left_before = R.left input.old;
+      left = R.left input.new;
+      held_before = W.held output.old;
+      held = W.held output.new;
+      failed = W.has_failed output.new;
+      flushed = W.has_flushed output.new;
+      calls = W.count output.new;
+      errors_before = E.contents errors.old;
+      errors = E.contents errors.new;
+    }) result }
+{
+    match parse(alloc, words) {
+        Ok(Some(call)) => {
+            let answer = perform(alloc, call, input, output);
+            end_with(answer, errors)
+        }
+        Ok(None) => Ending {
+            status: USAGE,
+            printed: Ok(()),
+        },
+        Err(error) => explain(alloc, &error, output, errors),
+    }
+}
+
+/// Ends with a status, or reports a fault.
+fn end_with<E: Write>(answer: Result<u8, EngineFault>, errors: &mut E) -> Ending
+    ensures { IsEnding answer (E.contents errors.old) (E.contents errors.new) result }
+{
+    match answer {
+        Ok(status) => Ending {
+            status,
+            printed: Ok(()),
+        },
         Err(fault) => report(fault, errors),
     }
 }
@@ -98,50 +141,45 @@ fn obey<R: Source, W: Sink>(
     }
 }
 
-/// Prints what `clap` says of the words: help to the output, and a usage fault to the errors. Answers the status.
+/// Prints what `clap` says of the words: help to the output, and a usage fault to the errors.
 fn explain<W: Sink, E: Write>(
     alloc: Global,
     error: &clap::Error,
     output: &mut W,
     errors: &mut E,
-) -> u8 {
+) -> Ending
+    ensures memory { kind_of error.now ≡ OutOfMemory → (W.held output.new ≡ W.held output.old)
+        × IsReported EngineFault.NoMemory (E.contents errors.old) (E.contents errors.new) result }
+    ensures mistake { kind_of error.now ≢ OutOfMemory → kind_of error.now ≢ DisplayHelp
+        → kind_of error.now ≢ DisplayVersion → (W.held output.new ≡ W.held output.old)
+        × (result.status ≡ 2) }
+    ensures help { (kind_of error.now ≡ DisplayHelp) ⊎ (kind_of error.now ≡ DisplayVersion)
+        → (answer : Result ℕ EngineFault)
+        × IsHelp (W.held output.old) (W.held output.new) (W.has_flushed output.new) answer
+        × IsEnding answer (E.contents errors.old) (E.contents errors.new) result }
+{
     if error.kind() == clap_error::ErrorKind::OutOfMemory {
         return report(EngineFault::NoMemory, errors);
     }
     if error.use_stderr() {
-        let _ = write!(errors, "{error}");
-        return USAGE;
+        let printed = write!(errors, "{error}");
+        return Ending {
+            status: USAGE,
+            printed,
+        };
     }
-    match print_help(alloc, error, output) {
-        Ok(()) => 0,
-        Err(fault) => report(fault, errors),
-    }
+    let answer = print_help(alloc, error, output);
+    end_with(answer, errors)
 }
 
-fn print_help<W: Sink>(
-    alloc: Global,
-    help: &clap::Error,
-    output: &mut W,
-) -> Result<(), EngineFault> {
+/// Writes a text of help and passes it on. Answers the status.
+fn print_help<W: Sink>(alloc: Global, help: &clap::Error, output: &mut W) -> Result<u8, EngineFault>
+    ensures { IsHelp (W.held output.old) (W.held output.new) (W.has_flushed output.new) result }
+{
     let text = format!(in alloc; "{help}")?;
-    write_all(output, text.as_bytes())?;
-    flush(output)
-}
-
-/// Writes all of the bytes. An interrupted write is repeated, and one that takes nothing is a fault.
-fn write_all<W: Sink>(output: &mut W, mut bytes: &[u8]) -> Result<(), EngineFault> {
-    for _ in 0..MAX_TURNS {
-        if bytes.is_empty() {
-            return Ok(());
-        }
-        match output.write(bytes) {
-            Ok(0) => return Err(EngineFault::Write),
-            Ok(taken) => bytes = &bytes[taken..],
-            Err(error) if error.kind() == ErrorKind::Interrupted => {}
-            Err(_) => return Err(EngineFault::Write),
-        }
-    }
-    Err(EngineFault::TooManyTurns)
+    let mut turns = Turns::new(MAX_TURNS);
+    write_given(output, text.as_bytes(), true, &mut turns)?;
+    Ok(0)
 }
 
 /// Passes on what was written. An interrupted flush is repeated.
@@ -153,20 +191,41 @@ fn flush<W: Sink>(output: &mut W) -> Result<(), EngineFault>
     flush_out(output, &mut Turns::new(MAX_TURNS))
 }
 
-/// Prints why the words of a call could not be had: want of memory, or a word that is no text. Answers the status.
-pub fn refuse<E: Write>(kind: ErrorKind, errors: &mut E) -> u8 {
+/// Prints why the words of a call could not be had: out of memory, or a word that is no text.
+pub fn refuse<E: Write>(kind: ErrorKind, errors: &mut E) -> Ending
+    ensures memory { kind ≡ ErrorKind.OutOfMemory →
+        IsReported EngineFault.NoMemory (E.contents errors.old) (E.contents errors.new) result }
+    ensures status { kind ≢ ErrorKind.OutOfMemory → result.status ≡ 2 }
+    ensures line { kind ≢ ErrorKind.OutOfMemory → OnOk result.printed
+        (Appends (E.contents errors.old) (E.contents errors.new)
+        (codes "lspsync: the command line is not UTF-8\n")) }
+{
     if kind == ErrorKind::OutOfMemory {
         return report(EngineFault::NoMemory, errors);
     }
-    let _ = writeln!(errors, "lspsync: the command line is not UTF-8");
-    USAGE
+    let printed = writeln!(errors, "lspsync: the command line is not UTF-8");
+    Ending {
+        status: USAGE,
+        printed,
+    }
 }
 
-/// Prints the line of a fault, and answers its status.
-pub fn report<E: Write>(fault: EngineFault, errors: &mut E) -> u8
+/// Prints the line of a fault, and ends with its status.
+pub fn report<E: Write>(fault: EngineFault, errors: &mut E) -> Ending
+    ensures { IsReported fault (E.contents errors.old) (E.contents errors.new) result }
+{
+    let text = FaultText(fault);
+    let printed = writeln!(errors, "lspsync: {text}");
+    Ending {
+        status: status_of(fault),
+        printed,
+    }
+}
+
+/// The status of a fault.
+fn status_of(fault: EngineFault) -> u8
     ensures { result ≡ status_of fault }
 {
-    let _ = writeln!(errors, "lspsync: {fault}");
     match fault {
         EngineFault::Read | EngineFault::Write | EngineFault::TooManyTurns => STREAM_FAULT,
         EngineFault::NoMemory => OUT_OF_MEMORY,

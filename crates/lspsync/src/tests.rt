@@ -67,7 +67,7 @@ fn stopped(
     let mut reader = Told::new(StopReader::new(input, reads, all));
     let mut writer = Told::new(StopWriter::new(alloc, writes, all));
     let mut errors = Vec::new(alloc);
-    let status = run(alloc, words, &mut reader, &mut writer, &mut errors);
+    let status = run(alloc, words, &mut reader, &mut writer, &mut errors).status;
     let output = Vec::from_slice(alloc, writer.into_inner().bytes())?;
     Ok(Answer {
         status,

@@ -1,8 +1,7 @@
 //! Canonical messages, byte for byte.
 
-use super::{URI, current, narrow, store_of};
+use super::{URI, current, limits_of, narrow, store_of};
 use lsp_edit::{Change, EditFault};
-use lsp_frame::Limits;
 use lsp_samples::edits::{ALL, Edit, batch, change};
 use lsp_store::{Store, StoreFault};
 use lsp_text::Encoding;
@@ -124,23 +123,28 @@ fn written_changes(alloc: Global, edits: &[Edit]) -> Result<String, AllocError> 
     Ok(written)
 }
 
-/// The frame with a body of this length, which holds these changes and version 2.
-fn frame_of(alloc: Global, length: usize, edits: &[Edit]) -> Result<String, AllocError> {
+/// The frame with a body of this length, which holds these changes and this version.
+pub(super) fn frame_of(
+    alloc: Global,
+    length: usize,
+    edits: &[Edit],
+    version: i32,
+) -> Result<String, AllocError> {
     let changes = written_changes(alloc, edits)?;
     format!(in alloc;
-        "Content-Length: {length}\r\n\r\n{{\"jsonrpc\":\"2.0\",\"method\":\"textDocument/didChange\",\"params\":{{\"contentChanges\":[{changes}],\"textDocument\":{{\"uri\":\"file:///a\",\"version\":2}}}}}}"
+        "Content-Length: {length}\r\n\r\n{{\"jsonrpc\":\"2.0\",\"method\":\"textDocument/didChange\",\"params\":{{\"contentChanges\":[{changes}],\"textDocument\":{{\"uri\":\"file:///a\",\"version\":{version}}}}}}}"
     )
 }
 
 /// The message of a batch on a text.
-fn message_of(alloc: Global, text: &str, edits: &[Edit]) -> Result<Vec<u8>, Fail> {
+fn message_of(alloc: Global, text: &str, edits: &[Edit]) -> Result<Vec<u8>, StoreFault> {
     let store = store_of(alloc, narrow(1, 3)?, 1, text)?;
     let changes = batch(alloc, edits)?;
-    Ok(store.canonical_message(URI, 2, Encoding::Utf16, &changes)?)
+    store.canonical_message(URI, 2, Encoding::Utf16, &changes)
 }
 
 /// The store after a batch on a text.
-fn changed(alloc: Global, text: &str, edits: &[Edit]) -> Result<Store, Fail> {
+fn changed(alloc: Global, text: &str, edits: &[Edit]) -> Result<Store, StoreFault> {
     let mut store = store_of(alloc, narrow(1, 3)?, 1, text)?;
     let changes = batch(alloc, edits)?;
     store.change(URI, 2, Encoding::Utf16, &changes)?;
@@ -154,7 +158,7 @@ fn is_written_so(
     edits: &[Edit],
     frame: &str,
     after: &str,
-) -> Result<bool, Fail> {
+) -> Result<bool, StoreFault> {
     let bytes = message_of(alloc, text, edits)?;
     if bytes.as_slice() != frame.as_bytes() {
         return Ok(false);
@@ -164,9 +168,9 @@ fn is_written_so(
 }
 
 /// Do the batch of a row and its canonical changes have the message of the row?
-fn has_its_bytes(alloc: Global, row: &Row) -> Result<bool, Fail> {
+fn has_its_bytes(alloc: Global, row: &Row) -> Result<bool, StoreFault> {
     let (text, edits, length, canonical, after) = *row;
-    let frame = frame_of(alloc, length, canonical)?;
+    let frame = frame_of(alloc, length, canonical, 2)?;
     if frame.len() != length.saturating_add(23) {
         return Ok(false);
     }
@@ -177,17 +181,21 @@ fn has_its_bytes(alloc: Global, row: &Row) -> Result<bool, Fail> {
 }
 
 #[test]
-fn messages_have_their_bytes(rt: HostRuntime) -> Result<(), Fail> {
+fn messages_have_their_bytes(rt: HostRuntime) {
     for row in &MESSAGES {
-        assert!(rt; has_its_bytes(rt.alloc(), row)?, "{}", row.0);
+        assert!(rt; has_its_bytes(rt.alloc(), row) == Ok(true), "{}", row.0);
     }
-    Ok(())
+}
+
+/// The message of no changes under the greatest version.
+fn message_of_nothing(alloc: Global) -> Result<Vec<u8>, StoreFault> {
+    let store = store_of(alloc, narrow(1, 1)?, 5, "abc")?;
+    store.canonical_message(URI, 2147483647, Encoding::Utf8, &[])
 }
 
 #[test]
 fn the_message_of_no_changes(rt: HostRuntime) -> Result<(), Fail> {
-    let store = store_of(rt.alloc(), narrow(1, 1)?, 5, "abc")?;
-    let bytes = store.canonical_message(URI, 2147483647, Encoding::Utf8, &[])?;
+    let bytes = message_of_nothing(rt.alloc())?;
     assert_eq!(rt; bytes.len(), 161);
     assert!(rt; bytes.starts_with(b"Content-Length: 138\r\n\r\n{\"jsonrpc\""));
     assert!(rt; bytes.ends_with(b"\"uri\":\"file:///a\",\"version\":2147483647}}}"));
@@ -227,20 +235,30 @@ static LENGTHS: [(usize, Result<usize, StoreFault>); 3] = [
     (4_000, Err(StoreFault::BodyTooLong { len: 4_214 })),
 ];
 
+/// Is this the answer for so many letters?
+fn has_answer(
+    alloc: Global,
+    count: usize,
+    answer: &Result<usize, StoreFault>,
+) -> Result<bool, StoreFault> {
+    let store = store_of(alloc, limits_of(4_096, 8_192, 1, 1)?, 1, "")?;
+    Ok(message_len(&store, alloc, count) == *answer)
+}
+
 #[test]
-fn bodies_at_the_limit(rt: HostRuntime) -> Result<(), Fail> {
-    let store = store_of(rt.alloc(), Limits::new(4_096, 8_192, 1, 1)?, 1, "")?;
+fn bodies_at_the_limit(rt: HostRuntime) {
     for (count, answer) in &LENGTHS {
         assert!(rt;
-            message_len(&store, rt.alloc(), *count) == *answer,
+            has_answer(rt.alloc(), *count, answer) == Ok(true),
             "{count}"
         );
     }
-    Ok(())
 }
 
 /// A body that is too long is reported last: the version and the changes besides, and what is reported before it.
-static BEFORE_THE_BODY: [(i32, &[Edit], StoreFault); 4] = [
+type Before = (i32, &'static [Edit], StoreFault);
+
+static BEFORE_THE_BODY: [Before; 4] = [
     (1, &[], StoreFault::StaleVersion { held: 1 }),
     (
         2,
@@ -256,13 +274,9 @@ static BEFORE_THE_BODY: [(i32, &[Edit], StoreFault); 4] = [
 ];
 
 /// Is a batch of many letters and these changes refused for this reason, and for a document that isn't open as such?
-fn is_refused_before(
-    store: &Store,
-    alloc: Global,
-    version: i32,
-    edits: &[Edit],
-    fault: StoreFault,
-) -> Result<bool, AllocError> {
+fn is_refused_before(alloc: Global, row: &Before) -> Result<bool, StoreFault> {
+    let (version, edits, fault) = *row;
+    let store = store_of(alloc, limits_of(4_096, 4_999, 1, 2)?, 1, "")?;
     let changes = letters_first(alloc, 5_000, edits)?;
     if store.canonical_message(URI, version, Encoding::Utf16, &changes) != Err(fault) {
         return Ok(false);
@@ -271,13 +285,12 @@ fn is_refused_before(
 }
 
 #[test]
-fn a_body_that_is_too_long_is_reported_last(rt: HostRuntime) -> Result<(), Fail> {
-    let store = store_of(rt.alloc(), Limits::new(4_096, 4_999, 1, 2)?, 1, "")?;
-    for (version, edits, fault) in &BEFORE_THE_BODY {
+fn a_body_that_is_too_long_is_reported_last(rt: HostRuntime) {
+    for row in &BEFORE_THE_BODY {
         assert!(rt;
-            is_refused_before(&store, rt.alloc(), *version, edits, *fault)?,
-            "{fault:?}"
+            is_refused_before(rt.alloc(), row) == Ok(true),
+            "{:?}",
+            row.2
         );
     }
-    Ok(())
 }

@@ -4,7 +4,6 @@ use lsp_edit::EditFault;
 use lsp_store::StoreFault;
 use std::alloc::{AllocError, Global};
 use std::process::Abort;
-use std::test::Fail;
 
 static FAULTS: [(StoreFault, &str); 9] = [
     (StoreFault::AlreadyOpen, "the document is open already"),
@@ -37,9 +36,8 @@ fn prints(alloc: Global, row: &(StoreFault, &str)) -> Result<bool, AllocError> {
 }
 
 #[test]
-fn each_fault_has_its_text(rt: HostRuntime) -> Result<(), Fail> {
+fn each_fault_has_its_text(rt: HostRuntime) {
     for row in &FAULTS {
-        assert!(rt; prints(rt.alloc(), row)?, "{}", row.1);
+        assert!(rt; prints(rt.alloc(), row) == Ok(true), "{}", row.1);
     }
-    Ok(())
 }

@@ -1,7 +1,7 @@
 //! The least and the greatest limits, many documents, and a long URI.
 
-use super::documents::{Row, Step, wrong_row};
-use super::{URI, current, narrow, open, store_of};
+use super::documents::{Row, Step, names_at, played};
+use super::{URI, current, limits_of, narrow, open, store_of};
 use lsp_edit::{Change, EditFault};
 use lsp_frame::Limits;
 use lsp_samples::edits::change;
@@ -27,10 +27,11 @@ static NO_TEXT: [Row; 5] = [
 ];
 
 #[test]
-fn the_least_limits(rt: HostRuntime) -> Result<(), Fail> {
-    let mut store = Store::new(rt.alloc(), Limits::new(4_096, 0, 1, 1)?);
-    assert_eq!(rt; wrong_row(&mut store, rt.alloc(), &NO_TEXT), None);
-    Ok(())
+fn the_least_limits(rt: HostRuntime) {
+    assert_eq!(rt;
+        played(rt.alloc(), limits_of(4_096, 0, 1, 1), &NO_TEXT),
+        Ok((None, 0))
+    );
 }
 
 /// So many changes whose range is reversed.
@@ -48,20 +49,23 @@ fn answer_to(store: &mut Store, alloc: Global, count: usize) -> Result<(), Store
     store.change(URI, 2, Encoding::Utf16, &changes)
 }
 
+/// Are as many changes read as there may be, and one more refused?
+fn takes_so_many(alloc: Global) -> Result<bool, StoreFault> {
+    let greatest = limits_of(1_073_741_824, 1_073_741_824, 65_536, 1_048_576)?;
+    let mut store = store_of(alloc, greatest, 1, "abc")?;
+    let reversed = Err(StoreFault::Edit(EditFault::ReversedRange { change: 0 }));
+    if answer_to(&mut store, alloc, 1_048_576) != reversed {
+        return Ok(false);
+    }
+    if answer_to(&mut store, alloc, 1_048_577) != Err(StoreFault::TooManyChanges) {
+        return Ok(false);
+    }
+    Ok(current(&store) == Some((1, "abc")))
+}
+
 #[test]
-fn the_greatest_limits(rt: HostRuntime) -> Result<(), Fail> {
-    let greatest = Limits::new(1_073_741_824, 1_073_741_824, 65_536, 1_048_576)?;
-    let mut store = store_of(rt.alloc(), greatest, 1, "abc")?;
-    assert_eq!(rt;
-        answer_to(&mut store, rt.alloc(), 1_048_576),
-        Err(StoreFault::Edit(EditFault::ReversedRange { change: 0 }))
-    );
-    assert_eq!(rt;
-        answer_to(&mut store, rt.alloc(), 1_048_577),
-        Err(StoreFault::TooManyChanges)
-    );
-    assert_eq!(rt; current(&store), Some((1, "abc")));
-    Ok(())
+fn the_greatest_limits(rt: HostRuntime) {
+    assert!(rt; takes_so_many(rt.alloc()) == Ok(true));
 }
 
 /// Opens so many documents, each with its number for a URI.
@@ -73,20 +77,19 @@ fn open_numbered(store: &mut Store, alloc: Global, count: u32) -> Result<(), Sto
     Ok(())
 }
 
+/// Are as many documents opened as there may be, and one more refused?
+fn is_filled(store: &mut Store, alloc: Global) -> Result<bool, StoreFault> {
+    open_numbered(store, alloc, 65_536)?;
+    if open(store, alloc, "x", 1, "") != Err(StoreFault::TooManyDocuments) {
+        return Ok(false);
+    }
+    Ok(store.len() == 65_536 && names_at(store, 65_535).0 == "65535")
+}
+
 #[test]
 fn as_many_documents_as_there_may_be(rt: HostRuntime) -> Result<(), Fail> {
-    let mut store = Store::new(rt.alloc(), Limits::new(4_096, 0, 65_536, 1)?);
-    open_numbered(&mut store, rt.alloc(), 65_536)?;
-    assert_eq!(rt;
-        open(&mut store, rt.alloc(), "x", 1, ""),
-        Err(StoreFault::TooManyDocuments)
-    );
-    assert_eq!(rt; store.len(), 65_536);
-    assert!(rt;
-        store
-            .at(65_535)
-            .is_some_and(|document| document.uri() == "65535")
-    );
+    let mut store = Store::new(rt.alloc(), limits_of(4_096, 0, 65_536, 1)?);
+    assert!(rt; is_filled(&mut store, rt.alloc())?);
     Ok(())
 }
 
@@ -122,14 +125,17 @@ fn opened_message_len(alloc: Global, limits: Limits, uri: &str) -> Result<usize,
     message_len(&store, uri, 2)
 }
 
+/// Have the messages of a document with a URI of a million bytes their lengths?
+fn has_long_messages(alloc: Global) -> Result<bool, StoreFault> {
+    let uri = long_uri(alloc, 1_000_000)?;
+    let refused = Err(StoreFault::BodyTooLong { len: 1_000_120 });
+    if changed_message_len(alloc, narrow(1, 1)?, &uri) != refused {
+        return Ok(false);
+    }
+    Ok(opened_message_len(alloc, limits_of(1_000_120, 0, 1, 1)?, &uri) == Ok(1_000_147))
+}
+
 #[test]
-fn a_uri_of_a_million_bytes(rt: HostRuntime) -> Result<(), Fail> {
-    let uri = long_uri(rt.alloc(), 1_000_000)?;
-    assert_eq!(rt;
-        changed_message_len(rt.alloc(), narrow(1, 1)?, &uri),
-        Err(StoreFault::BodyTooLong { len: 1_000_120 })
-    );
-    let wide = Limits::new(1_000_120, 0, 1, 1)?;
-    assert_eq!(rt; opened_message_len(rt.alloc(), wide, &uri), Ok(1_000_147));
-    Ok(())
+fn a_uri_of_a_million_bytes(rt: HostRuntime) {
+    assert!(rt; has_long_messages(rt.alloc()) == Ok(true));
 }

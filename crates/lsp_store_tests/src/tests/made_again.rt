@@ -3,7 +3,7 @@
 
 use super::{URI, current, narrow, open};
 use lsp_edit::EditFault;
-use lsp_frame::{BadLimits, Limits};
+use lsp_frame::Limits;
 use lsp_samples::edits::{ALL, Edit, batch};
 use lsp_store::{Store, StoreFault};
 use lsp_text::Encoding;
@@ -184,7 +184,7 @@ static WHOLE_TEXTS: [Step; 6] = [
     ),
 ];
 
-fn wide() -> Result<Limits, BadLimits> {
+fn wide() -> Result<Limits, StoreFault> {
     narrow(4, 4)
 }
 

@@ -2,48 +2,40 @@
 
 use super::{URI, current, narrow, open, store_of};
 use lsp_edit::Change;
-use lsp_samples::edits::{ALL, Edit, batch};
+use lsp_samples::edits::{ALL, Edit, batch_again};
 use lsp_store::{Store, StoreFault};
 use lsp_text::Encoding;
-use std::alloc::{AllocError, Global};
+use std::alloc::Global;
 use std::test::Fail;
+
+/// Opens a document; where memory ran out none is open, and the same call is made again, which is counted.
+fn opens_again(store: &mut Store, alloc: Global, refused: &mut usize) -> Result<bool, StoreFault> {
+    if open(store, alloc, URI, 1, "a\nb") == Err(StoreFault::NoMemory) {
+        *refused = refused.saturating_add(1);
+        if store.len() != 0 {
+            return Ok(false);
+        }
+        open(store, alloc, URI, 1, "a\nb")?;
+    }
+    Ok(current(store) == Some((1, "a\nb")))
+}
 
 #[test]
 fn refused_open(rt: HostRuntime) -> Result<(), Fail> {
     let mut store = Store::new(rt.alloc(), narrow(1, 1)?);
     let mut refused = 0;
-    if open(&mut store, rt.alloc(), URI, 1, "a\nb") == Err(StoreFault::NoMemory) {
-        refused += 1;
-        assert_eq!(rt; store.len(), 0);
-        open(&mut store, rt.alloc(), URI, 1, "a\nb")?;
-    }
-    assert_eq!(rt; current(&store), Some((1, "a\nb")));
+    assert!(rt; opens_again(&mut store, rt.alloc(), &mut refused)?);
     println!(rt; "refused {refused}")?;
     Ok(())
 }
 
 /// A store with one open document: made again where it was refused, which is counted.
-fn store_again(alloc: Global, text: &str, refused: &mut usize) -> Result<Store, Fail> {
+fn store_again(alloc: Global, text: &str, refused: &mut usize) -> Result<Store, StoreFault> {
     match store_of(alloc, narrow(1, 2)?, 1, text) {
         Ok(store) => Ok(store),
         Err(_) => {
             *refused = refused.saturating_add(1);
-            Ok(store_of(alloc, narrow(1, 2)?, 1, text)?)
-        }
-    }
-}
-
-/// A batch: made again where it was refused, which is counted.
-fn batch_again(
-    alloc: Global,
-    edits: &[Edit],
-    refused: &mut usize,
-) -> Result<Vec<Change>, AllocError> {
-    match batch(alloc, edits) {
-        Ok(changes) => Ok(changes),
-        Err(_) => {
-            *refused = refused.saturating_add(1);
-            batch(alloc, edits)
+            store_of(alloc, narrow(1, 2)?, 1, text)
         }
     }
 }
@@ -73,7 +65,7 @@ fn leaves(
     edits: &[Edit],
     after: &str,
     refused: &mut usize,
-) -> Result<bool, Fail> {
+) -> Result<bool, StoreFault> {
     let mut store = store_again(alloc, text, refused)?;
     let changes = batch_again(alloc, edits, refused)?;
     if !change_again(&mut store, text, &changes, refused)? {
@@ -105,12 +97,17 @@ fn message_len(
     Ok(outcome?.len())
 }
 
+/// The length of the message of a change of the whole text to none.
+fn message_len_again(alloc: Global, refused: &mut usize) -> Result<usize, StoreFault> {
+    let store = store_again(alloc, "ab", refused)?;
+    let changes = batch_again(alloc, &[(ALL, 0, 0, 0, "")], refused)?;
+    message_len(&store, &changes, refused)
+}
+
 #[test]
 fn refused_canonical_message(rt: HostRuntime) -> Result<(), Fail> {
     let mut refused = 0;
-    let store = store_again(rt.alloc(), "ab", &mut refused)?;
-    let changes = batch_again(rt.alloc(), &[(ALL, 0, 0, 0, "")], &mut refused)?;
-    assert_eq!(rt; message_len(&store, &changes, &mut refused)?, 237);
+    assert_eq!(rt; message_len_again(rt.alloc(), &mut refused)?, 237);
     println!(rt; "refused {refused}")?;
     Ok(())
 }

@@ -1,9 +1,10 @@
 //! Batches on one document as one: the message of each run, byte for byte, and what is refused.
 
-use super::{URI, narrow, store_of};
+use super::canonical::frame_of;
+use super::{URI, limits_of, narrow, store_of};
 use lsp_edit::{Change, EditFault};
 use lsp_frame::Limits;
-use lsp_samples::edits::{ALL, Edit, batch};
+use lsp_samples::edits::{ALL, Edit, batch, batch_again};
 use lsp_store::{Squash, StoreFault};
 use lsp_text::Encoding;
 use std::alloc::{AllocError, Global};
@@ -109,41 +110,6 @@ fn add(squash: &mut Squash, alloc: Global, version: i32, edits: &[Edit]) -> Resu
     squash.add(version, &batch(alloc, edits)?)
 }
 
-/// Changes as they are written.
-fn written(alloc: Global, edits: &[Edit]) -> Result<String, AllocError> {
-    let mut written = String::new(alloc);
-    for edit in edits {
-        if !written.is_empty() {
-            written.push(',')?;
-        }
-        let (line, character, stop_line, stop_character, text) = *edit;
-        written.push_str(&format!(in alloc;
-            "{{\"range\":{{\"end\":{{\"character\":{stop_character},\"line\":{stop_line}}}"
-        )?)?;
-        written.push_str(&format!(in alloc;
-            ",\"start\":{{\"character\":{character},\"line\":{line}}}}},\"text\":\"{text}\"}}"
-        )?)?;
-    }
-    Ok(written)
-}
-
-/// The frame with a body of this length, which holds these changes and this version.
-fn frame_of(
-    alloc: Global,
-    length: usize,
-    edits: &[Edit],
-    version: i32,
-) -> Result<String, AllocError> {
-    let changes = written(alloc, edits)?;
-    let mut frame = format!(in alloc; "Content-Length: {length}\r\n\r\n")?;
-    frame.push_str("{\"jsonrpc\":\"2.0\",\"method\":\"textDocument/didChange\",")?;
-    frame.push_str(&format!(in alloc; "\"params\":{{\"contentChanges\":[{changes}],")?)?;
-    frame.push_str(&format!(in alloc;
-        "\"textDocument\":{{\"uri\":\"file:///a\",\"version\":{version}}}}}}}"
-    )?)?;
-    Ok(frame)
-}
-
 /// Is the message of a squash the one of this length, with these changes and this version?
 fn is_written_so(
     squash: &Squash,
@@ -151,7 +117,7 @@ fn is_written_so(
     length: usize,
     edits: &[Edit],
     version: i32,
-) -> Result<bool, Fail> {
+) -> Result<bool, StoreFault> {
     let frame = frame_of(alloc, length, edits, version)?;
     if frame.len() != length.saturating_add(23) {
         return Ok(false);
@@ -159,23 +125,68 @@ fn is_written_so(
     Ok(squash.message()?.as_slice() == frame.as_bytes())
 }
 
-fn is_one_message(alloc: Global, run: &Run) -> Result<bool, Fail> {
-    let (text, batches, length, changes) = *run;
-    let mut squash = squash_of(alloc, Limits::new(4_096, 16, 1, 8)?, text)?;
+/// Adds batches under the versions from 2 on, and returns the last version.
+fn add_all(squash: &mut Squash, alloc: Global, batches: &[&[Edit]]) -> Result<i32, StoreFault> {
     let mut version: i32 = 1;
     for edits in batches {
         version = version.saturating_add(1);
-        add(&mut squash, alloc, version, edits)?;
+        add(squash, alloc, version, edits)?;
     }
+    Ok(version)
+}
+
+fn is_one_message(alloc: Global, run: &Run) -> Result<bool, StoreFault> {
+    let (text, batches, length, changes) = *run;
+    let mut squash = squash_of(alloc, limits_of(4_096, 16, 1, 8)?, text)?;
+    let version = add_all(&mut squash, alloc, batches)?;
     is_written_so(&squash, alloc, length, changes, version)
 }
 
 #[test]
-fn runs_are_one_message(rt: HostRuntime) -> Result<(), Fail> {
+fn runs_are_one_message(rt: HostRuntime) {
     for (index, run) in RUNS.iter().enumerate() {
-        assert!(rt; is_one_message(rt.alloc(), run)?, "{index}");
+        assert!(rt; is_one_message(rt.alloc(), run) == Ok(true), "{index}");
     }
-    Ok(())
+}
+
+/// A call on a squash, and its answer.
+enum Step {
+    /// A version, and a batch.
+    Add(i32, &'static [Edit], Result<(), StoreFault>),
+    /// The length of the body of the message, its changes and its version.
+    Message(usize, &'static [Edit], i32),
+    NoMessage(StoreFault),
+}
+
+/// Is a call answered as its step says?
+fn is_answered(squash: &mut Squash, alloc: Global, step: &Step) -> Result<bool, StoreFault> {
+    match step {
+        Step::Add(version, edits, answer) => Ok(add(squash, alloc, *version, edits) == *answer),
+        Step::Message(length, edits, version) => {
+            is_written_so(squash, alloc, *length, edits, *version)
+        }
+        Step::NoMessage(fault) => Ok(message_len(squash) == Err(*fault)),
+    }
+}
+
+/// The number of the first step that is answered otherwise.
+fn wrong_step(
+    squash: &mut Squash,
+    alloc: Global,
+    steps: &[Step],
+) -> Result<Option<usize>, StoreFault> {
+    for (number, step) in steps.iter().enumerate() {
+        if !is_answered(squash, alloc, step)? {
+            return Ok(Some(number));
+        }
+    }
+    Ok(None)
+}
+
+/// The same on a document of at most 8 bytes, with the text `abc`, and with messages of at most one change.
+fn wrong_step_on_abc(alloc: Global, steps: &[Step]) -> Result<Option<usize>, StoreFault> {
+    let mut squash = squash_of(alloc, narrow(1, 1)?, "abc")?;
+    wrong_step(&mut squash, alloc, steps)
 }
 
 /// A batch under a version that is refused, once a batch of version 2 was added that leaves `xabc`.
@@ -200,48 +211,61 @@ static REFUSED: [Refused; 7] = [
     (3, &[(0, 3, 0, 3, "defgh")], StoreFault::TextTooLong),
 ];
 
-/// Is the batch refused so, and does the squash go on as if nothing had been added?
-fn is_refused_so(alloc: Global, refused: &Refused) -> Result<bool, Fail> {
+/// What comes before a batch that is refused.
+static ONE_BATCH: [Step; 1] = [Step::Add(2, &[(0, 0, 0, 0, "x")], Ok(()))];
+
+/// What comes after it: the squash goes on as if nothing had been added.
+static GOES_ON: [Step; 3] = [
+    Step::Message(215, &[(0, 0, 0, 0, "x")], 2),
+    Step::Add(3, &[(0, 1, 0, 1, "y")], Ok(())),
+    Step::Message(216, &[(0, 0, 0, 0, "xy")], 3),
+];
+
+/// Is the batch refused so, and is nothing changed?
+fn refuses(squash: &mut Squash, alloc: Global, refused: &Refused) -> Result<bool, StoreFault> {
     let (version, edits, fault) = *refused;
+    if wrong_step(squash, alloc, &ONE_BATCH)?.is_some() {
+        return Ok(false);
+    }
+    if add(squash, alloc, version, edits) != Err(fault) {
+        return Ok(false);
+    }
+    Ok(wrong_step(squash, alloc, &GOES_ON)?.is_none())
+}
+
+fn is_refused_so(alloc: Global, refused: &Refused) -> Result<bool, StoreFault> {
     let mut squash = squash_of(alloc, narrow(1, 1)?, "abc")?;
-    add(&mut squash, alloc, 2, &[(0, 0, 0, 0, "x")])?;
-    if add(&mut squash, alloc, version, edits) != Err(fault) {
-        return Ok(false);
-    }
-    if !is_written_so(&squash, alloc, 215, &[(0, 0, 0, 0, "x")], 2)? {
-        return Ok(false);
-    }
-    add(&mut squash, alloc, 3, &[(0, 1, 0, 1, "y")])?;
-    is_written_so(&squash, alloc, 216, &[(0, 0, 0, 0, "xy")], 3)
+    refuses(&mut squash, alloc, refused)
 }
 
 #[test]
-fn a_refused_batch_changes_nothing(rt: HostRuntime) -> Result<(), Fail> {
+fn a_refused_batch_changes_nothing(rt: HostRuntime) {
     for (index, refused) in REFUSED.iter().enumerate() {
-        assert!(rt; is_refused_so(rt.alloc(), refused)?, "{index}");
+        assert!(rt; is_refused_so(rt.alloc(), refused) == Ok(true), "{index}");
     }
-    Ok(())
 }
 
-#[test]
-fn a_stale_first_batch(rt: HostRuntime) -> Result<(), Fail> {
-    let mut squash = squash_of(rt.alloc(), narrow(1, 1)?, "abc")?;
-    let stale = add(&mut squash, rt.alloc(), 1, &[]);
-    assert_eq!(rt; stale, Err(StoreFault::StaleVersion { held: 1 }));
-    assert!(rt; is_written_so(&squash, rt.alloc(), 129, &[], 1)?);
-    Ok(())
-}
+static STALE: [Step; 2] = [
+    Step::Add(1, &[], Err(StoreFault::StaleVersion { held: 1 })),
+    Step::Message(129, &[], 1),
+];
 
 #[test]
-fn too_many_changes_and_one_again(rt: HostRuntime) -> Result<(), Fail> {
-    let alloc = rt.alloc();
-    let mut squash = squash_of(alloc, narrow(1, 1)?, "abc")?;
-    add(&mut squash, alloc, 2, &[(0, 0, 0, 0, "x")])?;
-    add(&mut squash, alloc, 3, &[(0, 4, 0, 4, "y")])?;
-    assert_eq!(rt; squash.message(), Err(StoreFault::TooManyChanges));
-    add(&mut squash, alloc, 4, &[(0, 4, 0, 5, "")])?;
-    assert!(rt; is_written_so(&squash, alloc, 215, &[(0, 0, 0, 0, "x")], 4)?);
-    Ok(())
+fn a_stale_first_batch(rt: HostRuntime) {
+    assert_eq!(rt; wrong_step_on_abc(rt.alloc(), &STALE), Ok(None));
+}
+
+static TOO_MANY: [Step; 5] = [
+    Step::Add(2, &[(0, 0, 0, 0, "x")], Ok(())),
+    Step::Add(3, &[(0, 4, 0, 4, "y")], Ok(())),
+    Step::NoMessage(StoreFault::TooManyChanges),
+    Step::Add(4, &[(0, 4, 0, 5, "")], Ok(())),
+    Step::Message(215, &[(0, 0, 0, 0, "x")], 4),
+];
+
+#[test]
+fn too_many_changes_and_one_again(rt: HostRuntime) {
+    assert_eq!(rt; wrong_step_on_abc(rt.alloc(), &TOO_MANY), Ok(None));
 }
 
 /// A batch of one change that puts so many letters in at the front.
@@ -269,56 +293,49 @@ fn message_len(squash: &Squash) -> Result<usize, StoreFault> {
     Ok(squash.message()?.len())
 }
 
-fn has_length(alloc: Global, long: &Long) -> Result<bool, Fail> {
+fn has_length(alloc: Global, long: &Long) -> Result<bool, StoreFault> {
     let (first, second, wanted) = *long;
-    let mut squash = squash_of(alloc, Limits::new(4_096, 8_192, 1, 1)?, "")?;
+    let mut squash = squash_of(alloc, limits_of(4_096, 8_192, 1, 1)?, "")?;
     squash.add(2, &letters(alloc, first)?)?;
     squash.add(3, &letters(alloc, second)?)?;
     Ok(message_len(&squash) == wanted)
 }
 
 #[test]
-fn bodies_at_the_limit(rt: HostRuntime) -> Result<(), Fail> {
+fn bodies_at_the_limit(rt: HostRuntime) {
     for (index, long) in LONG.iter().enumerate() {
-        assert!(rt; has_length(rt.alloc(), long)?, "{index}");
+        assert!(rt; has_length(rt.alloc(), long) == Ok(true), "{index}");
     }
-    Ok(())
+}
+
+static TOO_MANY_AND_LONG: [Step; 3] = [
+    Step::NoMessage(StoreFault::BodyTooLong { len: 4_214 }),
+    Step::Add(3, &[(0, 4_001, 0, 4_001, "y")], Ok(())),
+    Step::NoMessage(StoreFault::TooManyChanges),
+];
+
+/// The number of the first step that is answered otherwise, after a batch of 4,000 letters.
+fn wrong_step_on_letters(alloc: Global, steps: &[Step]) -> Result<Option<usize>, StoreFault> {
+    let mut squash = squash_of(alloc, limits_of(4_096, 8_192, 1, 1)?, "a")?;
+    squash.add(2, &letters(alloc, 4_000)?)?;
+    wrong_step(&mut squash, alloc, steps)
 }
 
 #[test]
-fn too_many_changes_before_a_long_body(rt: HostRuntime) -> Result<(), Fail> {
-    let alloc = rt.alloc();
-    let mut squash = squash_of(alloc, Limits::new(4_096, 8_192, 1, 1)?, "a")?;
-    squash.add(2, &letters(alloc, 4_000)?)?;
-    let long = StoreFault::BodyTooLong { len: 4_214 };
-    assert_eq!(rt; message_len(&squash), Err(long));
-    add(&mut squash, alloc, 3, &[(0, 4_001, 0, 4_001, "y")])?;
-    assert_eq!(rt; message_len(&squash), Err(StoreFault::TooManyChanges));
-    Ok(())
+fn too_many_changes_before_a_long_body(rt: HostRuntime) {
+    assert_eq!(rt;
+        wrong_step_on_letters(rt.alloc(), &TOO_MANY_AND_LONG),
+        Ok(None)
+    );
 }
 
 /// A squash made again where it was refused, which is counted.
-fn squash_again(alloc: Global, refused: &mut usize) -> Result<Squash, Fail> {
+fn squash_again(alloc: Global, refused: &mut usize) -> Result<Squash, StoreFault> {
     match squash_of(alloc, narrow(1, 2)?, "ab") {
         Ok(squash) => Ok(squash),
         Err(_) => {
             *refused = refused.saturating_add(1);
-            Ok(squash_of(alloc, narrow(1, 2)?, "ab")?)
-        }
-    }
-}
-
-/// A batch made again where it was refused, which is counted.
-fn batch_again(
-    alloc: Global,
-    edits: &[Edit],
-    refused: &mut usize,
-) -> Result<Vec<Change>, AllocError> {
-    match batch(alloc, edits) {
-        Ok(changes) => Ok(changes),
-        Err(_) => {
-            *refused = refused.saturating_add(1);
-            batch(alloc, edits)
+            squash_of(alloc, narrow(1, 2)?, "ab")
         }
     }
 }
@@ -350,25 +367,45 @@ fn message_again(squash: &Squash, refused: &mut usize) -> Result<Vec<u8>, StoreF
     }
 }
 
-/// Have three batches their one message, whichever request was refused? Counts the refusals.
-fn runs_again(alloc: Global, refused: &mut usize) -> Result<bool, Fail> {
-    static BATCHES: [&[Edit]; 3] = [
-        &[(0, 0, 0, 0, "x")],
-        &[(0, 3, 0, 3, "y")],
-        &[(0, 1, 0, 1, "z")],
-    ];
-    let mut squash = squash_again(alloc, refused)?;
+static BATCHES: [&[Edit]; 3] = [
+    &[(0, 0, 0, 0, "x")],
+    &[(0, 3, 0, 3, "y")],
+    &[(0, 1, 0, 1, "z")],
+];
+
+/// Adds the batches under the versions from 2 on.
+fn add_all_again(
+    squash: &mut Squash,
+    alloc: Global,
+    refused: &mut usize,
+) -> Result<(), StoreFault> {
     let mut version: i32 = 1;
     for edits in &BATCHES {
         version = version.saturating_add(1);
         let changes = batch_again(alloc, edits, refused)?;
-        add_again(&mut squash, version, &changes, refused)?;
+        add_again(squash, version, &changes, refused)?;
     }
-    let bytes = message_again(&squash, refused)?;
+    Ok(())
+}
+
+/// Has a frame the two changes that the batches come to, and version 4?
+fn is_of_batches(frame: &[u8]) -> bool {
     let parts =
         "\"text\":\"y\"},{\"range\":{\"end\":{\"character\":0,\"line\":0},\"start\":{\"character\":0,\"line\":0}},\"text\":\"xz\"}]";
-    let text = str::from_utf8(&bytes)?;
-    Ok(bytes.len() == 326 && text.contains(parts) && text.ends_with("\"version\":4}}}"))
+    match str::from_utf8(frame) {
+        Ok(text) => {
+            text.len() == 326 && text.contains(parts) && text.ends_with("\"version\":4}}}")
+        }
+        Err(_) => false,
+    }
+}
+
+/// Have three batches their one message, whichever request was refused? Counts the refusals.
+fn runs_again(alloc: Global, refused: &mut usize) -> Result<bool, StoreFault> {
+    let mut squash = squash_again(alloc, refused)?;
+    add_all_again(&mut squash, alloc, refused)?;
+    let frame = message_again(&squash, refused)?;
+    Ok(is_of_batches(&frame))
 }
 
 #[test]

@@ -40,13 +40,13 @@ static REPORTS: [(EngineFault, u8, &str); 8] = [
 /// Is a fault reported with this status, in this line?
 fn is_reported(alloc: Global, fault: EngineFault, status: u8, line: &str) -> bool {
     let mut errors = Vec::new(alloc);
-    report(fault, &mut errors) == status && errors.as_slice() == line.as_bytes()
+    report(fault, &mut errors).status == status && errors.as_slice() == line.as_bytes()
 }
 
 /// Are words that are no words refused with this status, in this line?
 fn is_refused(alloc: Global, kind: ErrorKind, status: u8, line: &str) -> bool {
     let mut errors = Vec::new(alloc);
-    refuse(kind, &mut errors) == status && errors.as_slice() == line.as_bytes()
+    refuse(kind, &mut errors).status == status && errors.as_slice() == line.as_bytes()
 }
 
 #[test]

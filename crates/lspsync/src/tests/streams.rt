@@ -144,7 +144,7 @@ fn has_status(alloc: Global, words: &[&str], reads: &[Call], status: u8) -> bool
     let mut reader = Told::new(StopReader::new(b"\r\n", reads, ALL));
     let mut writer = Told::new(Vec::new(alloc));
     let mut errors = StopWriter::new(alloc, &[], Fails);
-    let found = run(alloc, words, &mut reader, &mut writer, &mut errors);
+    let found = run(alloc, words, &mut reader, &mut writer, &mut errors).status;
     found == status && errors.bytes().is_empty()
 }
 

@@ -6,7 +6,9 @@ use Rattle.lsp_replay.proofs.NormalLemmas.{heard_has_none}
 use Rattle.lsp_replay.proofs.session.Session.join_from.Goals as goal
 
 pub returns-in_ok-incoming-in-Client-clause-writing : goal.returns-in_ok-incoming-in-Client-clause-writing
-returns-in_ok-incoming-in-Client-clause-writing c = rw c.in_ok-incoming-in-Client.ensures at c.take_and_join.ensures.writing
+returns-in_ok-incoming-in-Client-clause-writing c =
+    let server : c.read.new.self ≡ c.args.self.now.server = c.read.ensures.unchanged ∙ ap (λ s. s.server) c.self.view_is in
+    rw (c.in_ok-incoming-in-Client.ensures.incoming, server) at c.take_and_join.ensures.writing
 
 pub returns-in_ok-hear-in-Server-clause-writing : goal.returns-in_ok-hear-in-Server-clause-writing
 returns-in_ok-hear-in-Server-clause-writing c = λ not_bad. (

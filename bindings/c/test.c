@@ -1,0 +1,212 @@
+/* The test of the library from C. It takes no header of C, so that the kit's clang compiles it. Its last line is
+   'N passed, M failed'. */
+#include "counting_heap.h"
+#include "laspidru.h"
+
+int printf(const char *format, ...);
+int memcmp(const void *one, const void *other, laspidru_size len);
+laspidru_size strlen(const char *text);
+
+static int passed, failed;
+
+static void check(int is_right, const char *what, int line) {
+    if (is_right) {
+        passed++;
+        return;
+    }
+    failed++;
+    printf("line %d: %s\n", line, what);
+}
+
+#define CHECK(condition) check((condition), #condition, __LINE__)
+
+static const unsigned char *bytes(const char *text) { return (const unsigned char *)text; }
+
+static laspidru_u32 open_text(laspidru_handle *document, const char *text) {
+    return laspidru_document_open(document, bytes(text), strlen(text));
+}
+
+static int has_text(laspidru_handle *document, const char *text) {
+    unsigned char out[64];
+    laspidru_size copied = 99;
+    laspidru_length length = {99, 99};
+    return laspidru_document_size(document, &length) == LASPIDRU_OK && length.bytes == strlen(text) &&
+           laspidru_document_copy(document, 0, out, sizeof out, &copied) == LASPIDRU_OK && copied == length.bytes &&
+           memcmp(out, text, copied) == 0;
+}
+
+/* "a", CRLF, "b" and a character of four bytes and two units of UTF-16. */
+static const char sample[] = "a\r\nb\xf0\x9f\x98\x80";
+
+static void test_open(void) {
+    laspidru_handle document = {0};
+    laspidru_length length = {7, 7};
+    CHECK(laspidru_document_size(&document, &length) == LASPIDRU_EMPTY && length.bytes == 7);
+    CHECK(laspidru_document_open(&document, bytes("a\xff"), 2) == LASPIDRU_NOT_UTF8 && !document.is_full);
+    CHECK(laspidru_document_open(&document, bytes("\xc0\x80"), 2) == LASPIDRU_NOT_UTF8);
+    CHECK(open_text(&document, sample) == LASPIDRU_OK && document.is_full);
+    CHECK(open_text(&document, "x") == LASPIDRU_IN_USE && has_text(&document, sample));
+    CHECK(laspidru_document_size(&document, &length) == LASPIDRU_OK && length.bytes == 8 && length.lines == 2);
+    laspidru_close(&document);
+    CHECK(!document.is_full);
+    laspidru_close(&document);
+    CHECK(open_text(&document, "") == LASPIDRU_OK);
+    CHECK(laspidru_document_size(&document, &length) == LASPIDRU_OK && length.bytes == 0 && length.lines == 1);
+    laspidru_close(&document);
+}
+
+static void test_copy(void) {
+    laspidru_handle document = {0};
+    unsigned char out[5] = "----";
+    laspidru_size copied = 9;
+    CHECK(laspidru_document_copy(&document, 0, out, 4, &copied) == LASPIDRU_EMPTY && copied == 9);
+    CHECK(open_text(&document, "abcdef") == LASPIDRU_OK);
+    CHECK(laspidru_document_copy(&document, 7, out, 4, &copied) == LASPIDRU_OUT_OF_RANGE && copied == 9 && out[0] == '-');
+    CHECK(laspidru_document_copy(&document, 5, out, 4, &copied) == LASPIDRU_OK && copied == 1 && memcmp(out, "f---", 4) == 0);
+    CHECK(laspidru_document_copy(&document, 1, out, 4, &copied) == LASPIDRU_OK && copied == 4 && memcmp(out, "bcde", 4) == 0);
+    CHECK(laspidru_document_copy(&document, 6, out, 4, &copied) == LASPIDRU_OK && copied == 0);
+    laspidru_close(&document);
+}
+
+static void test_positions(void) {
+    struct {
+        laspidru_u32 encoding, line, character, code;
+        laspidru_size offset;
+    } rows[] = {
+        {LASPIDRU_UTF16, 1, 3, LASPIDRU_OK, 8},       {LASPIDRU_UTF16, 1, 2, LASPIDRU_INSIDE_CHARACTER, 77},
+        {LASPIDRU_UTF16, 0, 9, LASPIDRU_OK, 1},       {LASPIDRU_UTF16, 9, 0, LASPIDRU_OK, 8},
+        {LASPIDRU_UTF8, 1, 5, LASPIDRU_OK, 8},        {LASPIDRU_UTF8, 1, 4, LASPIDRU_INSIDE_CHARACTER, 77},
+        {LASPIDRU_UTF32, 1, 2, LASPIDRU_OK, 8},       {17, 0, 0, LASPIDRU_BAD_ENCODING, 77},
+        {LASPIDRU_UTF32, 4294967295u, 4294967295u, LASPIDRU_OK, 8},
+    };
+    laspidru_handle document = {0};
+    laspidru_place place = {5, 5};
+    laspidru_size offset = 77, i;
+    CHECK(laspidru_document_offset(&document, LASPIDRU_UTF8, place, &offset) == LASPIDRU_EMPTY && offset == 77);
+    CHECK(laspidru_document_position(&document, LASPIDRU_UTF8, 0, &place) == LASPIDRU_EMPTY && place.line == 5);
+    CHECK(open_text(&document, sample) == LASPIDRU_OK);
+    for (i = 0; i < sizeof rows / sizeof rows[0]; i++) {
+        offset = 77;
+        place = (laspidru_place){rows[i].line, rows[i].character};
+        CHECK(laspidru_document_offset(&document, rows[i].encoding, place, &offset) == rows[i].code);
+        CHECK(offset == rows[i].offset);
+    }
+    place = (laspidru_place){9, 9};
+    CHECK(laspidru_document_position(&document, LASPIDRU_UTF16, 2, &place) == LASPIDRU_INSIDE_CHARACTER && place.line == 9);
+    CHECK(laspidru_document_position(&document, LASPIDRU_UTF16, 5, &place) == LASPIDRU_INSIDE_CHARACTER);
+    CHECK(laspidru_document_position(&document, LASPIDRU_UTF16, 9, &place) == LASPIDRU_INSIDE_CHARACTER);
+    CHECK(laspidru_document_position(&document, 0, 8, &place) == LASPIDRU_BAD_ENCODING && place.line == 9);
+    CHECK(laspidru_document_position(&document, LASPIDRU_UTF8, 8, &place) == LASPIDRU_OK && place.line == 1 && place.character == 5);
+    CHECK(laspidru_document_position(&document, LASPIDRU_UTF16, 8, &place) == LASPIDRU_OK && place.character == 3);
+    CHECK(laspidru_document_position(&document, LASPIDRU_UTF32, 8, &place) == LASPIDRU_OK && place.character == 2);
+    laspidru_close(&document);
+}
+
+static void test_change(void) {
+    laspidru_handle document = {0};
+    laspidru_fault fault = {9, 0};
+    laspidru_edit both[2] = {{{1, 0}, {1, 1}, 2, 0}, {{0, 0}, {0, 0}, 1, 0}};
+    laspidru_edit inside[2] = {{{0, 0}, {0, 0}, 1, 0}, {{1, 1}, {1, 2}, 0, 0}};
+    laspidru_edit reversed = {{0, 1}, {0, 0}, 0, 0};
+    laspidru_edit whole = {{4, 4}, {0, 0}, 3, 1};
+    CHECK(laspidru_document_change(&document, LASPIDRU_UTF16, both, 2, bytes("XYQ"), 3, &fault) == LASPIDRU_EMPTY);
+    CHECK(open_text(&document, sample) == LASPIDRU_OK);
+    CHECK(laspidru_document_change(&document, 7, both, 2, bytes("XYQ"), 3, &fault) == LASPIDRU_BAD_ENCODING);
+    CHECK(laspidru_document_change(&document, LASPIDRU_UTF16, both, 2, bytes("XY"), 2, &fault) == LASPIDRU_BAD_LENGTH);
+    CHECK(laspidru_document_change(&document, LASPIDRU_UTF16, both, 2, bytes("X\xffQ"), 3, &fault) == LASPIDRU_NOT_UTF8);
+    CHECK(laspidru_document_change(&document, LASPIDRU_UTF16, inside, 2, bytes("Z"), 1, &fault) == LASPIDRU_INSIDE_CHARACTER);
+    CHECK(fault.change == 1 && fault.at_end && has_text(&document, sample));
+    CHECK(laspidru_document_change(&document, LASPIDRU_UTF16, &reversed, 1, bytes(""), 0, &fault) == LASPIDRU_REVERSED_RANGE);
+    CHECK(fault.change == 0 && !fault.at_end && has_text(&document, sample));
+    CHECK(laspidru_document_change(&document, LASPIDRU_UTF16, both, 2, bytes("XYQ"), 3, &fault) == LASPIDRU_OK);
+    CHECK(has_text(&document, "Qa\r\nXY\xf0\x9f\x98\x80"));
+    CHECK(laspidru_document_change(&document, LASPIDRU_UTF16, &whole, 1, bytes("new"), 3, &fault) == LASPIDRU_OK);
+    CHECK(has_text(&document, "new"));
+    CHECK(laspidru_document_change(&document, LASPIDRU_UTF16, &whole, 0, bytes(""), 0, &fault) == LASPIDRU_OK);
+    CHECK(has_text(&document, "new"));
+    laspidru_close(&document);
+}
+
+static void test_canonical(void) {
+    laspidru_handle document = {0}, batch = {0};
+    laspidru_fault fault = {0, 0};
+    laspidru_edit whole = {{0, 0}, {0, 0}, 6, 1}, found = {{7, 7}, {7, 7}, 7, 1};
+    laspidru_edit two[2] = {{{0, 1}, {0, 1}, 1, 0}, {{0, 2}, {0, 2}, 1, 0}};
+    unsigned char out[9] = "--------";
+    laspidru_size len = 9, copied = 9;
+    CHECK(laspidru_document_canonical(&document, LASPIDRU_UTF8, two, 2, bytes("XY"), 2, &batch, &fault) == LASPIDRU_EMPTY);
+    CHECK(laspidru_batch_len(&batch, &len) == LASPIDRU_EMPTY && len == 9);
+    CHECK(open_text(&document, "abc") == LASPIDRU_OK);
+    CHECK(laspidru_batch_len(&document, &len) == LASPIDRU_OTHER_KIND && len == 9);
+    CHECK(laspidru_document_canonical(&document, LASPIDRU_UTF8, two, 2, bytes("XY"), 2, &batch, &fault) == LASPIDRU_OK);
+    CHECK(has_text(&document, "abc"));
+    CHECK(laspidru_document_canonical(&document, LASPIDRU_UTF8, two, 2, bytes("XY"), 2, &batch, &fault) == LASPIDRU_IN_USE);
+    CHECK(laspidru_batch_len(&batch, &len) == LASPIDRU_OK && len == 1);
+    CHECK(laspidru_batch_edit(&batch, 1, &found, out, 8, &copied) == LASPIDRU_OUT_OF_RANGE && found.len == 7 && copied == 9);
+    CHECK(laspidru_batch_edit(&batch, 0, &found, out, 8, &copied) == LASPIDRU_OK && found.len == 2 && !found.is_whole);
+    CHECK(found.start.character == 1 && found.end.character == 1 && copied == 2 && memcmp(out, "XY------", 8) == 0);
+    CHECK(laspidru_document_change(&batch, LASPIDRU_UTF8, &whole, 1, bytes("abcdef"), 6, &fault) == LASPIDRU_OTHER_KIND);
+    laspidru_close(&batch);
+    laspidru_close(&document);
+}
+
+/* One run with a request refused. Each call that is refused leaves what was, and the same call then succeeds. */
+static int run_refused(void) {
+    static const laspidru_edit edits[2] = {{{0, 1}, {0, 1}, 2, 0}, {{1, 0}, {1, 1}, 6, 0}};
+    static const char texts[] = "\r\nlonger";
+    laspidru_handle document = {0}, batch = {0};
+    laspidru_fault fault = {0, 0};
+    laspidru_u32 code;
+    int refusals = 0;
+    while ((code = open_text(&document, "ab\ncd")) == LASPIDRU_OUT_OF_MEMORY) {
+        CHECK(!document.is_full);
+        refusals++;
+    }
+    CHECK(code == LASPIDRU_OK);
+    while ((code = laspidru_document_canonical(&document, LASPIDRU_UTF16, edits, 2, bytes(texts), 8, &batch, &fault)) ==
+           LASPIDRU_OUT_OF_MEMORY) {
+        CHECK(!batch.is_full && has_text(&document, "ab\ncd"));
+        refusals++;
+    }
+    CHECK(code == LASPIDRU_OK);
+    while ((code = laspidru_document_change(&document, LASPIDRU_UTF16, edits, 2, bytes(texts), 8, &fault)) ==
+           LASPIDRU_OUT_OF_MEMORY) {
+        CHECK(has_text(&document, "ab\ncd"));
+        refusals++;
+    }
+    CHECK(code == LASPIDRU_OK && has_text(&document, "a\r\nlonger\ncd"));
+    laspidru_close(&batch);
+    laspidru_close(&document);
+    CHECK(heap_blocks() == 0);
+    return refusals;
+}
+
+static void test_refused(void) {
+    long number, requests;
+    int met, all = 0;
+    heap_refuse(0);
+    CHECK(run_refused() == 0);
+    requests = heap_requests();
+    for (number = 1; number <= requests; number++) {
+        heap_refuse(number);
+        met = run_refused();
+        CHECK(met <= 1);
+        all += met;
+    }
+    /* A growth that is refused is asked for again with less room, so some calls succeed all the same. */
+    CHECK(all > 0);
+    printf("%ld requests, each refused in turn, of which %d calls report\n", requests, all);
+    heap_refuse(0);
+}
+
+int main(void) {
+    test_open();
+    test_copy();
+    test_positions();
+    test_change();
+    test_canonical();
+    test_refused();
+    CHECK(heap_blocks() == 0);
+    printf("%d passed, %d failed\n", passed, failed);
+    return failed != 0;
+}

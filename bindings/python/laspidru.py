@@ -1,0 +1,246 @@
+"""Texts that are kept as LSP 3.17 says, by a library that is proved (docs/EMBEDDING.md).
+
+    document = Document("abc\\n")
+    document.change([{"range": {"start": {"line": 0, "character": 1}, "end": {"line": 0, "character": 2}}, "text": "X"}])
+    document.text          # "aXc\\n"
+
+The shared library is the one that LASPIDRU_LIBRARY names, or liblaspidru.so.0 where the loader finds it."""
+import ctypes
+import os
+import re
+import threading
+from ctypes import POINTER, byref, c_bool, c_char_p, c_size_t, c_uint32, c_void_p
+
+UTF8, UTF16, UTF32 = 8, 16, 32
+ENCODINGS = {"utf-8": UTF8, "utf-16": UTF16, "utf-32": UTF32}
+INSIDE_CHARACTER, REVERSED_RANGE, OUT_OF_MEMORY = 6, 7, 2
+WHY = {1: "the text is not UTF-8", 2: "out of memory", 3: "the handle is in use", 4: "the document is closed",
+       5: "the text is too long", 6: "a position lies inside a character", 7: "a range is reversed",
+       8: "unknown encoding", 9: "the lengths of the edits exceed their texts", 10: "an object of another kind",
+       11: "out of range"}
+
+
+class _Handle(ctypes.Structure):
+    _fields_ = [("pointer", c_void_p), ("is_full", c_bool)]
+
+
+class _Place(ctypes.Structure):
+    _fields_ = [("line", c_uint32), ("character", c_uint32)]
+
+
+class _Edit(ctypes.Structure):
+    _fields_ = [("start", _Place), ("end", _Place), ("len", c_size_t), ("is_whole", c_bool)]
+
+
+class _Fault(ctypes.Structure):
+    _fields_ = [("change", c_size_t), ("at_end", c_bool)]
+
+
+class _Length(ctypes.Structure):
+    _fields_ = [("bytes", c_size_t), ("lines", c_size_t)]
+
+
+def _library():
+    library = ctypes.CDLL(os.environ.get("LASPIDRU_LIBRARY", "liblaspidru.so.0"))
+    handle, size = POINTER(_Handle), POINTER(c_size_t)
+    batch = [handle, c_uint32, POINTER(_Edit), c_size_t, c_char_p, c_size_t]
+    arguments = {
+        "document_open": [handle, c_char_p, c_size_t],
+        "document_change": batch + [POINTER(_Fault)],
+        "document_size": [handle, POINTER(_Length)],
+        "document_copy": [handle, c_size_t, c_void_p, c_size_t, size],
+        "document_offset": [handle, c_uint32, _Place, size],
+        "document_position": [handle, c_uint32, c_size_t, POINTER(_Place)],
+        "document_canonical": batch + [handle, POINTER(_Fault)],
+        "batch_len": [handle, size],
+        "batch_edit": [handle, c_size_t, POINTER(_Edit), c_void_p, c_size_t, size],
+    }
+    for name, types in arguments.items():
+        function = getattr(library, "laspidru_" + name)
+        function.argtypes, function.restype = types, c_uint32
+    library.laspidru_close.argtypes, library.laspidru_close.restype = [handle], None
+    return library
+
+
+_LIBRARY = _library()
+
+
+class LaspidruError(ValueError):
+    """A refused call, which changed nothing: its code, and for a faulty change its number and which end is faulty."""
+
+    def __init__(self, code, change=None, at_end=None):
+        where = "" if change is None else f"change {change}: "
+        super().__init__(where + WHY.get(code, f"code {code}"))
+        self.code, self.change, self.at_end = code, change, at_end
+
+
+def _demand(code):
+    if code == OUT_OF_MEMORY:
+        raise MemoryError
+    if code:
+        raise LaspidruError(code)
+
+
+def _place(position):
+    """A position as LSP writes it, or as an object with its members."""
+    if isinstance(position, dict):
+        return _Place(position["line"], position["character"])
+    return _Place(position.line, position.character)
+
+
+def _parts(change):
+    """The range of a change, if it has one, and its text."""
+    if isinstance(change, dict):
+        return change.get("range"), change["text"]
+    return getattr(change, "range", None), change.text
+
+
+def _ends(range_):
+    if isinstance(range_, dict):
+        return _place(range_["start"]), _place(range_["end"])
+    return _place(range_.start), _place(range_.end)
+
+
+def _batch(changes):
+    edits, texts = (_Edit * len(changes))(), []
+    for edit, change in zip(edits, changes):
+        range_, text = _parts(change)
+        texts.append(text.encode())
+        edit.len, edit.is_whole = len(texts[-1]), range_ is None
+        if range_ is not None:
+            edit.start, edit.end = _ends(range_)
+    return edits, b"".join(texts)
+
+
+class Document:
+    """A text with its lines. Positions count units of `encoding`: "utf-8", "utf-16" or "utf-32"."""
+
+    def __init__(self, text, encoding="utf-16"):
+        self._handle, self._lock, self._text = _Handle(), threading.Lock(), None
+        self._encoding = ENCODINGS[encoding]
+        data = text.encode()
+        _demand(_LIBRARY.laspidru_document_open(byref(self._handle), data, len(data)))
+
+    def close(self):
+        """Frees the text. Each later call raises LaspidruError."""
+        with self._lock:
+            self._text = None
+            _LIBRARY.laspidru_close(byref(self._handle))
+
+    def __del__(self):
+        if hasattr(self, "_lock"):
+            self.close()
+
+    def _length(self):
+        length = _Length()
+        _demand(_LIBRARY.laspidru_document_size(byref(self._handle), byref(length)))
+        return length
+
+    @property
+    def line_count(self):
+        with self._lock:
+            return self._length().lines
+
+    @property
+    def text(self):
+        with self._lock:
+            if self._text is None:
+                room = self._length().bytes
+                out, copied = ctypes.create_string_buffer(max(room, 1)), c_size_t()
+                _demand(_LIBRARY.laspidru_document_copy(byref(self._handle), 0, out, room, byref(copied)))
+                self._text = out.raw[:copied.value].decode()
+            return self._text
+
+    def change(self, changes):
+        """Makes the changes of a didChange, in order, or raises and makes none of them."""
+        edits, texts = _batch(changes)
+        fault = _Fault()
+        with self._lock:
+            code = _LIBRARY.laspidru_document_change(
+                byref(self._handle), self._encoding, edits, len(edits), texts, len(texts), byref(fault))
+            if code == 0:
+                self._text = None
+        if code in (INSIDE_CHARACTER, REVERSED_RANGE):
+            raise LaspidruError(code, fault.change, fault.at_end)
+        _demand(code)
+
+    def canonical(self, changes):
+        """The one canonical batch that means the same on the text: a list of changes as LSP writes them."""
+        edits, texts = _batch(changes)
+        batch, fault, count = _Handle(), _Fault(), c_size_t()
+        with self._lock:
+            code = _LIBRARY.laspidru_document_canonical(
+                byref(self._handle), self._encoding, edits, len(edits), texts, len(texts), byref(batch), byref(fault))
+        if code in (INSIDE_CHARACTER, REVERSED_RANGE):
+            raise LaspidruError(code, fault.change, fault.at_end)
+        _demand(code)
+        try:
+            _demand(_LIBRARY.laspidru_batch_len(byref(batch), byref(count)))
+            return [_change_at(batch, index) for index in range(count.value)]
+        finally:
+            _LIBRARY.laspidru_close(byref(batch))
+
+    def byte_offset(self, position):
+        """The byte offset of a position. One after the line's end is the line's end."""
+        offset = c_size_t()
+        with self._lock:
+            _demand(_LIBRARY.laspidru_document_offset(
+                byref(self._handle), self._encoding, _place(position), byref(offset)))
+        return offset.value
+
+    def position(self, byte_offset):
+        """The exact position of a byte offset, as LSP writes it."""
+        place = _Place()
+        with self._lock:
+            _demand(_LIBRARY.laspidru_document_position(
+                byref(self._handle), self._encoding, byte_offset, byref(place)))
+        return {"line": place.line, "character": place.character}
+
+
+def _change_at(batch, index):
+    edit, copied = _Edit(), c_size_t()
+    _demand(_LIBRARY.laspidru_batch_edit(byref(batch), index, byref(edit), _no_room(), 0, byref(copied)))
+    out = ctypes.create_string_buffer(max(edit.len, 1))
+    _demand(_LIBRARY.laspidru_batch_edit(byref(batch), index, byref(edit), out, edit.len, byref(copied)))
+    change = {"text": out.raw[:copied.value].decode()}
+    if not edit.is_whole:
+        change["range"] = {"start": {"line": edit.start.line, "character": edit.start.character},
+                           "end": {"line": edit.end.line, "character": edit.end.character}}
+    return change
+
+
+def _no_room():
+    """Room for no bytes: a pointer that isn't null."""
+    return ctypes.create_string_buffer(1)
+
+
+class TextDocument(Document):
+    """A document with the members of pygls' TextDocument."""
+
+    def __init__(self, uri, source="", version=None, language_id=None, encoding="utf-16"):
+        super().__init__(source, encoding)
+        self.uri, self.version, self.language_id = uri, version, language_id
+
+    @property
+    def source(self):
+        return self.text
+
+    @property
+    def lines(self):
+        """The lines, each with its line end, as LSP counts them: CR, LF and CRLF end a line and nothing else does."""
+        return [line for line in re.findall(r"[^\r\n]*(?:\r\n|\r|\n)|[^\r\n]+\Z", self.text)]
+
+    def apply_change(self, change):
+        self.change([change])
+
+    def offset_at_position(self, position):
+        """The index in `source` of a position."""
+        return len(self.text.encode()[:self.byte_offset(position)].decode())
+
+    def word_at_position(self, position, pattern=r"\w*"):
+        """The word that a position is in or touches."""
+        at = self.offset_at_position(position)
+        for word in re.finditer(pattern, self.text):
+            if word.start() <= at <= word.end() and word.group():
+                return word.group()
+        return ""

@@ -1,0 +1,118 @@
+"""The test of the binding for Python."""
+import random
+import unittest
+
+from laspidru import Document, LaspidruError, TextDocument
+
+
+def at(line, character):
+    return {"line": line, "character": character}
+
+
+def change(start, end, text):
+    return {"range": {"start": start, "end": end}, "text": text}
+
+
+def units(character, encoding):
+    return len(character.encode(encoding + "-le" if encoding != "utf-8" else encoding)) // {"utf-8": 1, "utf-16": 2, "utf-32": 4}[encoding]
+
+
+def line_starts(text):
+    """The indexes at which lines start, by a plain search."""
+    starts = [0]
+    for index, character in enumerate(text):
+        if character == "\n" or character == "\r" and text[index + 1:index + 2] != "\n":
+            starts.append(index + 1)
+    return starts
+
+
+def denoted(text, position, encoding):
+    """The index that a position denotes, or None: LSP 3.17 as a plain program."""
+    starts = line_starts(text)
+    if position["line"] >= len(starts):
+        return len(text)
+    index, count = starts[position["line"]], 0
+    while index < len(text) and text[index] not in "\r\n" and count < position["character"]:
+        count += units(text[index], encoding)
+        index += 1
+    return index if count <= position["character"] else None
+
+
+def changed(text, changes, encoding):
+    """What the changes leave of a text, or the number of the first faulty one."""
+    for number, one in enumerate(changes):
+        if "range" not in one:
+            text = one["text"]
+            continue
+        start = denoted(text, one["range"]["start"], encoding)
+        end = denoted(text, one["range"]["end"], encoding)
+        if start is None or end is None or start > end:
+            return number
+        text = text[:start] + one["text"] + text[end:]
+    return text
+
+
+class Tests(unittest.TestCase):
+    def test_change(self):
+        document = Document("a\r\nb\U0001F600")
+        document.change([change(at(1, 0), at(1, 1), "XY"), change(at(0, 0), at(0, 0), "Q")])
+        self.assertEqual(document.text, "Qa\r\nXY\U0001F600")
+        self.assertEqual(document.line_count, 2)
+
+    def test_fault(self):
+        document = Document("\U0001F600")
+        with self.assertRaises(LaspidruError) as raised:
+            document.change([change(at(0, 0), at(0, 0), "Z"), change(at(0, 1), at(0, 2), "")])
+        self.assertEqual((raised.exception.code, raised.exception.change, raised.exception.at_end), (6, 1, True))
+        self.assertEqual(document.text, "\U0001F600")
+
+    def test_closed(self):
+        document = Document("a")
+        document.close()
+        with self.assertRaises(LaspidruError):
+            document.change([])
+
+    def test_canonical(self):
+        document = Document("abc", "utf-8")
+        changes = [change(at(0, 1), at(0, 1), "X"), change(at(0, 2), at(0, 2), "Y")]
+        self.assertEqual(document.canonical(changes), [change(at(0, 1), at(0, 1), "XY")])
+        self.assertEqual(document.text, "abc")
+
+    def test_text_document(self):
+        document = TextDocument("file:///a", "one\u2028two\r\nthree", version=1)
+        self.assertEqual(document.lines, ["one\u2028two\r\n", "three"])
+        self.assertEqual(document.word_at_position(at(1, 2)), "three")
+        document.apply_change({"text": "\U0001F600x"})
+        self.assertEqual((document.source, document.offset_at_position(at(0, 2))), ("\U0001F600x", 1))
+
+    def test_random(self):
+        """Random batches against the plain program, in three encodings."""
+        chance = random.Random(1)
+        letters = ["a", "\r", "\n", "\r\n", "\u00e9", "\u2028", "\U0001F600"]
+
+        def text(most):
+            return "".join(chance.choice(letters) for _ in range(chance.randrange(most)))
+
+        def place():
+            return at(chance.randrange(4), chance.randrange(6))
+
+        for _ in range(2000):
+            encoding = chance.choice(["utf-8", "utf-16", "utf-32"])
+            old = text(10)
+            changes = [{"text": text(4)} if chance.random() < 0.1 else change(place(), place(), text(4))
+                       for _ in range(chance.randrange(4))]
+            wanted, document = changed(old, changes, encoding), Document(old, encoding)
+            if isinstance(wanted, str):
+                canonical = document.canonical(changes)
+                document.change(changes)
+                self.assertEqual(document.text, wanted)
+                self.assertEqual(changed(old, canonical, encoding), wanted)
+                self.assertEqual(document.line_count, len(line_starts(wanted)))
+            else:
+                with self.assertRaises(LaspidruError) as raised:
+                    document.change(changes)
+                self.assertEqual((raised.exception.change, document.text), (wanted, old))
+
+
+if __name__ == "__main__":
+    unittest.main()

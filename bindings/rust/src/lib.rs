@@ -1,0 +1,255 @@
+//! Texts that are kept as LSP 3.17 says, by a library that is proved (docs/EMBEDDING.md).
+//!
+//! ```
+//! use laspidru::{Change, Document, Encoding, Position, Range};
+//!
+//! let mut document = Document::new("abc\n", Encoding::Utf16)?;
+//! let range = Range { start: Position { line: 0, character: 1 }, end: Position { line: 0, character: 2 } };
+//! document.change(&[Change { range: Some(range), text: "X".into() }])?;
+//! assert_eq!(document.text(), "aXc\n");
+//! # Ok::<(), laspidru::Error>(())
+//! ```
+
+use std::fmt;
+
+mod ffi;
+
+/// What a position's character counts.
+#[derive(Clone, Copy, Debug, PartialEq, Eq, Hash)]
+pub enum Encoding {
+    Utf8 = 8,
+    Utf16 = 16,
+    Utf32 = 32,
+}
+
+/// A position: a line, counted from 0, and the units before it in that line.
+#[repr(C)]
+#[derive(Clone, Copy, Debug, Default, PartialEq, Eq, PartialOrd, Ord, Hash)]
+pub struct Position {
+    pub line: u32,
+    pub character: u32,
+}
+
+/// A range. `end` is exclusive.
+#[derive(Clone, Copy, Debug, Default, PartialEq, Eq, Hash)]
+pub struct Range {
+    pub start: Position,
+    pub end: Position,
+}
+
+/// A change of a `didChange`: a text in place of a range, or of the whole text.
+#[derive(Clone, Debug, PartialEq, Eq)]
+pub struct Change {
+    pub range: Option<Range>,
+    pub text: String,
+}
+
+/// Why a call was refused. It changed nothing.
+#[derive(Clone, Copy, Debug, PartialEq, Eq)]
+pub enum Error {
+    OutOfMemory,
+    /// A text has more than 1,073,741,824 bytes.
+    TooLong,
+    /// An end of a change's range lies inside a character.
+    InsideCharacter { change: usize, at_end: bool },
+    /// A change's range starts after its end.
+    ReversedRange { change: usize },
+    /// A position or an offset lies inside a character, or an offset inside a CRLF or past the end.
+    NoPlace,
+}
+
+impl fmt::Display for Error {
+    fn fmt(&self, f: &mut fmt::Formatter<'_>) -> fmt::Result {
+        match self {
+            Error::OutOfMemory => write!(f, "out of memory"),
+            Error::TooLong => write!(f, "the text is too long"),
+            Error::InsideCharacter { change, at_end } => {
+                let side = if *at_end { "end" } else { "start" };
+                write!(f, "change {change}: the {side} of its range lies inside a character")
+            }
+            Error::ReversedRange { change } => write!(f, "change {change}: the range is reversed"),
+            Error::NoPlace => write!(f, "no place of the text"),
+        }
+    }
+}
+
+impl std::error::Error for Error {}
+
+/// A text with its lines.
+pub struct Document {
+    handle: Box<ffi::Handle>,
+    text: String,
+    encoding: Encoding,
+}
+
+// The library proves that its handles may go to another thread.
+unsafe impl Send for Document {}
+
+impl Document {
+    /// A document of a text. Positions count units of `encoding`.
+    pub fn new(text: &str, encoding: Encoding) -> Result<Self, Error> {
+        let mut handle = Box::new(ffi::Handle::EMPTY);
+        let code = unsafe { ffi::laspidru_document_open(&mut *handle, text.as_ptr(), text.len()) };
+        demand(code, &ffi::Fault::default())?;
+        Ok(Document { handle, text: text.to_owned(), encoding })
+    }
+
+    /// The text.
+    pub fn text(&self) -> &str {
+        &self.text
+    }
+
+    /// How many lines the text has.
+    pub fn line_count(&mut self) -> usize {
+        self.length().lines
+    }
+
+    /// Makes the changes of a `didChange`, in order, or none of them.
+    pub fn change(&mut self, changes: &[Change]) -> Result<(), Error> {
+        let (edits, texts) = batch(changes);
+        let mut fault = ffi::Fault::default();
+        let code = unsafe {
+            ffi::laspidru_document_change(
+                &mut *self.handle,
+                self.encoding as u32,
+                edits.as_ptr(),
+                edits.len(),
+                texts.as_ptr(),
+                texts.len(),
+                &mut fault,
+            )
+        };
+        demand(code, &fault)?;
+        self.refresh();
+        Ok(())
+    }
+
+    /// The one canonical batch that means the same on the text, which stays as it is.
+    pub fn canonical(&mut self, changes: &[Change]) -> Result<Vec<Change>, Error> {
+        let (edits, texts) = batch(changes);
+        let mut fault = ffi::Fault::default();
+        let mut made = Batch(ffi::Handle::EMPTY);
+        let code = unsafe {
+            ffi::laspidru_document_canonical(
+                &mut *self.handle,
+                self.encoding as u32,
+                edits.as_ptr(),
+                edits.len(),
+                texts.as_ptr(),
+                texts.len(),
+                &mut made.0,
+                &mut fault,
+            )
+        };
+        demand(code, &fault)?;
+        Ok(made.changes())
+    }
+
+    /// The byte offset of a position. One after the line's end is the line's end.
+    pub fn offset(&mut self, position: Position) -> Result<usize, Error> {
+        let mut offset = 0;
+        let code = unsafe {
+            ffi::laspidru_document_offset(&mut *self.handle, self.encoding as u32, position, &mut offset)
+        };
+        if code == ffi::OK { Ok(offset) } else { Err(Error::NoPlace) }
+    }
+
+    /// The exact position of a byte offset.
+    pub fn position(&mut self, offset: usize) -> Result<Position, Error> {
+        let mut position = Position::default();
+        let code = unsafe {
+            ffi::laspidru_document_position(&mut *self.handle, self.encoding as u32, offset, &mut position)
+        };
+        if code == ffi::OK { Ok(position) } else { Err(Error::NoPlace) }
+    }
+
+    fn length(&mut self) -> ffi::Length {
+        let mut length = ffi::Length::default();
+        let code = unsafe { ffi::laspidru_document_size(&mut *self.handle, &mut length) };
+        assert_eq!(code, ffi::OK, "the handle of a document is full");
+        length
+    }
+
+    /// Copies the text out of the library.
+    fn refresh(&mut self) {
+        let mut bytes = vec![0; self.length().bytes];
+        let mut copied = 0;
+        let code = unsafe {
+            ffi::laspidru_document_copy(&mut *self.handle, 0, bytes.as_mut_ptr(), bytes.len(), &mut copied)
+        };
+        assert_eq!((code, copied), (ffi::OK, bytes.len()), "the whole text is copied");
+        self.text = String::from_utf8(bytes).expect("the library keeps UTF-8");
+    }
+}
+
+impl Drop for Document {
+    fn drop(&mut self) {
+        unsafe { ffi::laspidru_close(&mut *self.handle) }
+    }
+}
+
+impl fmt::Debug for Document {
+    fn fmt(&self, f: &mut fmt::Formatter<'_>) -> fmt::Result {
+        f.debug_struct("Document").field("text", &self.text).field("encoding", &self.encoding).finish()
+    }
+}
+
+/// A canonical batch of the library.
+struct Batch(ffi::Handle);
+
+impl Batch {
+    fn changes(&mut self) -> Vec<Change> {
+        let mut len = 0;
+        let code = unsafe { ffi::laspidru_batch_len(&mut self.0, &mut len) };
+        assert_eq!(code, ffi::OK, "the handle of a batch is full");
+        (0..len).map(|index| self.change(index)).collect()
+    }
+
+    /// Asks for the length of a change's text first, then for the text.
+    fn change(&mut self, index: usize) -> Change {
+        let (mut edit, mut bytes, mut copied) = (ffi::Edit::default(), Vec::new(), 0);
+        for _ in 0..2 {
+            bytes.resize(edit.len, 0);
+            let code = unsafe {
+                ffi::laspidru_batch_edit(
+                    &mut self.0,
+                    index,
+                    &mut edit,
+                    bytes.as_mut_ptr(),
+                    bytes.len(),
+                    &mut copied,
+                )
+            };
+            assert_eq!(code, ffi::OK, "the batch has this change");
+        }
+        let range = (!edit.is_whole).then_some(Range { start: edit.start, end: edit.end });
+        Change { range, text: String::from_utf8(bytes).expect("the library keeps UTF-8") }
+    }
+}
+
+impl Drop for Batch {
+    fn drop(&mut self) {
+        unsafe { ffi::laspidru_close(&mut self.0) }
+    }
+}
+
+/// A batch as the library takes it: its texts follow each other.
+fn batch(changes: &[Change]) -> (Vec<ffi::Edit>, Vec<u8>) {
+    let edit = |change: &Change| {
+        let range = change.range.unwrap_or_default();
+        ffi::Edit { start: range.start, end: range.end, len: change.text.len(), is_whole: change.range.is_none() }
+    };
+    let texts = changes.iter().flat_map(|change| change.text.bytes()).collect();
+    (changes.iter().map(edit).collect(), texts)
+}
+
+fn demand(code: u32, fault: &ffi::Fault) -> Result<(), Error> {
+    match code {
+        ffi::OK => Ok(()),
+        ffi::OUT_OF_MEMORY => Err(Error::OutOfMemory),
+        ffi::TOO_LONG => Err(Error::TooLong),
+        ffi::INSIDE_CHARACTER => Err(Error::InsideCharacter { change: fault.change, at_end: fault.at_end }),
+        ffi::REVERSED_RANGE => Err(Error::ReversedRange { change: fault.change }),
+        code => unreachable!("code {code} of a full handle and valid arguments"),
+    }
+}

@@ -1,0 +1,60 @@
+use laspidru::{Change, Document, Encoding, Error, Position, Range};
+
+fn at(line: u32, character: u32) -> Position {
+    Position { line, character }
+}
+
+fn change(start: Position, end: Position, text: &str) -> Change {
+    Change { range: Some(Range { start, end }), text: text.into() }
+}
+
+#[test]
+fn changes_in_order() -> Result<(), Error> {
+    let mut document = Document::new("a\r\nb\u{1F600}", Encoding::Utf16)?;
+    document.change(&[change(at(1, 0), at(1, 1), "XY"), change(at(0, 0), at(0, 0), "Q")])?;
+    assert_eq!(document.text(), "Qa\r\nXY\u{1F600}");
+    assert_eq!(document.line_count(), 2);
+    document.change(&[Change { range: None, text: "new".into() }])?;
+    assert_eq!(document.text(), "new");
+    Ok(())
+}
+
+#[test]
+fn refused_changes_leave_the_text() -> Result<(), Error> {
+    let mut document = Document::new("\u{1F600}b", Encoding::Utf16)?;
+    let faulty = [change(at(0, 0), at(0, 0), "Z"), change(at(0, 1), at(0, 2), "")];
+    assert_eq!(document.change(&faulty), Err(Error::InsideCharacter { change: 1, at_end: true }));
+    let reversed = [change(at(0, 2), at(0, 0), "")];
+    assert_eq!(document.change(&reversed), Err(Error::ReversedRange { change: 0 }));
+    assert_eq!(document.text(), "\u{1F600}b");
+    Ok(())
+}
+
+#[test]
+fn positions_both_ways() -> Result<(), Error> {
+    for (encoding, character) in [(Encoding::Utf8, 5), (Encoding::Utf16, 3), (Encoding::Utf32, 2)] {
+        let mut document = Document::new("a\r\nb\u{1F600}", encoding)?;
+        assert_eq!(document.offset(at(1, character)), Ok(8));
+        assert_eq!(document.position(8), Ok(at(1, character)));
+        assert_eq!(document.position(2), Err(Error::NoPlace));
+        assert_eq!(document.position(9), Err(Error::NoPlace));
+    }
+    Ok(())
+}
+
+#[test]
+fn canonical_batch() -> Result<(), Error> {
+    let mut document = Document::new("abc", Encoding::Utf8)?;
+    let changes = [change(at(0, 1), at(0, 1), "X"), change(at(0, 2), at(0, 2), "Y")];
+    assert_eq!(document.canonical(&changes)?, [change(at(0, 1), at(0, 1), "XY")]);
+    assert_eq!(document.text(), "abc");
+    Ok(())
+}
+
+#[test]
+fn goes_to_another_thread() -> Result<(), Error> {
+    let document = Document::new("abc", Encoding::Utf8)?;
+    let text = std::thread::spawn(move || document.text().to_owned()).join().unwrap();
+    assert_eq!(text, "abc");
+    Ok(())
+}

@@ -1,0 +1,114 @@
+/* Laspidru: texts that are kept as LSP 3.17 says, by a library that is proved. docs/EMBEDDING.md has examples.
+
+   Each function tests what it is passed and returns a code. Where the code isn't LASPIDRU_OK nothing has changed.
+   A handle of zeroes is empty. It is given to one call at a time, and never copied while it is full; it may be used
+   by any thread. What a handle holds is freed by laspidru_close. Pointers are never null, also where a length is 0. */
+#ifndef LASPIDRU_H
+#define LASPIDRU_H
+
+#ifdef __cplusplus
+extern "C" {
+typedef bool laspidru_bool;
+#else
+typedef _Bool laspidru_bool;
+#endif
+
+typedef __SIZE_TYPE__ laspidru_size;
+typedef __UINT32_TYPE__ laspidru_u32;
+
+/* Codes. */
+enum {
+    LASPIDRU_OK = 0,
+    LASPIDRU_NOT_UTF8 = 1,
+    LASPIDRU_OUT_OF_MEMORY = 2,
+    LASPIDRU_IN_USE = 3,           /* the handle is not empty */
+    LASPIDRU_EMPTY = 4,            /* the handle is empty */
+    LASPIDRU_TOO_LONG = 5,         /* a text has more than 1,073,741,824 bytes */
+    LASPIDRU_INSIDE_CHARACTER = 6, /* a position or offset inside a character, or an offset between CR and LF or past the end */
+    LASPIDRU_REVERSED_RANGE = 7,   /* a range starts after its end */
+    LASPIDRU_BAD_ENCODING = 8,     /* not one of the encodings */
+    LASPIDRU_BAD_LENGTH = 9,       /* the lengths of the edits exceed their texts */
+    LASPIDRU_OTHER_KIND = 10,      /* the handle holds an object of another kind */
+    LASPIDRU_OUT_OF_RANGE = 11     /* no such offset or edit */
+};
+
+/* Encodings: what a position's character counts. */
+enum { LASPIDRU_UTF8 = 8, LASPIDRU_UTF16 = 16, LASPIDRU_UTF32 = 32 };
+
+/* A handle: room for a document or a batch. */
+typedef struct laspidru_handle {
+    void *pointer;
+    laspidru_bool is_full;
+} laspidru_handle;
+
+/* A position: a line, counted from 0, and the units before it in that line. */
+typedef struct laspidru_place {
+    laspidru_u32 line;
+    laspidru_u32 character;
+} laspidru_place;
+
+/* A change: the next `len` bytes of the texts in place of a range, or of the whole text. */
+typedef struct laspidru_edit {
+    laspidru_place start;
+    laspidru_place end;
+    laspidru_size len;
+    laspidru_bool is_whole;
+} laspidru_edit;
+
+/* Which change of a batch a fault is about, counted from 0, and whether it is about the end of its range. */
+typedef struct laspidru_fault {
+    laspidru_size change;
+    laspidru_bool at_end;
+} laspidru_fault;
+
+/* How many bytes and how many lines a text has. */
+typedef struct laspidru_length {
+    laspidru_size bytes;
+    laspidru_size lines;
+} laspidru_length;
+
+/* Opens a document in an empty handle, by a copy of the text. */
+laspidru_u32 laspidru_document_open(laspidru_handle *document, const unsigned char *text, laspidru_size text_len);
+
+/* Frees what a handle holds, and leaves it empty. */
+void laspidru_close(laspidru_handle *handle);
+
+/* Makes the changes of a didChange, in order, or none of them. The texts of the edits follow each other in `texts`.
+   With INSIDE_CHARACTER and REVERSED_RANGE `fault` says which change is faulty. */
+laspidru_u32 laspidru_document_change(laspidru_handle *document, laspidru_u32 encoding,
+    const laspidru_edit *edits, laspidru_size edits_len, const unsigned char *texts, laspidru_size texts_len,
+    laspidru_fault *fault);
+
+/* How many bytes and lines the text has. */
+laspidru_u32 laspidru_document_size(laspidru_handle *document, laspidru_length *length);
+
+/* Copies the bytes of the text from `start` on, as many as `out` holds, and says how many. */
+laspidru_u32 laspidru_document_copy(laspidru_handle *document, laspidru_size start,
+    unsigned char *out, laspidru_size out_len, laspidru_size *copied);
+
+/* The byte offset of a position. A line after the last is the end of the text; a character after the line's last is
+   the end of the line. */
+laspidru_u32 laspidru_document_offset(laspidru_handle *document, laspidru_u32 encoding, laspidru_place position,
+    laspidru_size *offset);
+
+/* The exact position of a byte offset. */
+laspidru_u32 laspidru_document_position(laspidru_handle *document, laspidru_u32 encoding, laspidru_size offset,
+    laspidru_place *position);
+
+/* Puts the canonical batch of what a batch means on the text into the empty handle `batch`: one change for each
+   changed gap, from the last to the first. The document stays as it is. */
+laspidru_u32 laspidru_document_canonical(laspidru_handle *document, laspidru_u32 encoding,
+    const laspidru_edit *edits, laspidru_size edits_len, const unsigned char *texts, laspidru_size texts_len,
+    laspidru_handle *batch, laspidru_fault *fault);
+
+/* How many changes a batch has. */
+laspidru_u32 laspidru_batch_len(laspidru_handle *batch, laspidru_size *len);
+
+/* A change of a batch, counted from 0, with the length of its text; and as much of the text as `out` holds. */
+laspidru_u32 laspidru_batch_edit(laspidru_handle *batch, laspidru_size index, laspidru_edit *edit,
+    unsigned char *out, laspidru_size out_len, laspidru_size *copied);
+
+#ifdef __cplusplus
+}
+#endif
+#endif

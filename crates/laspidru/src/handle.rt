@@ -1,0 +1,122 @@
+//! A handle: room for an object that C holds.
+
+ghost use Rattle.std.specs.Prelude.{◌≡◌, Option, Some, None, IsSome, option_map};
+ghost use Rattle.std.specs.Option.{is_some};
+ghost use Rattle.laspidru.specs.declared.object.Object.{Object as HeldObject};
+ghost use Rattle.laspidru.specs.Held.{object_if};
+
+use crate::object::Object;
+use raw_box::RawBox;
+use std::alloc::Global;
+use std::marker::{Model, Send};
+use std::mem::replace;
+use std::ptr::null_mut;
+
+/// A handle: room for an object that C holds. C makes an empty one by zeroes.
+#[repr(C)]
+#[derive(Drop)]
+pub struct Handle {
+    pointer: *mut u8,
+    is_full: bool,
+    alloc: Global,
+    pub ghost value: { Option HeldObject },
+}
+
+impl Model for Handle {
+    ghost also_owns = { λ handle. object_if handle.is_full handle.alloc handle.pointer handle.value };
+}
+
+impl Handle {
+    /// An empty handle.
+    fn empty(alloc: Global) -> Self
+        ensures { result.value ≡ None }
+    {
+        Handle {
+            pointer: null_mut(),
+            is_full: false,
+            alloc,
+        }
+    }
+
+    /// A handle that holds an object.
+    fn of_raw(raw: RawBox<Object, Global>) -> Self
+        ensures { result.value ≡ Some raw.value }
+    {
+        let RawBox { pointer, alloc } = raw;
+        Handle {
+            pointer: pointer as *mut u8,
+            is_full: true,
+            alloc,
+        }
+    }
+
+    /// Whether it holds an object, and the handle itself.
+    fn parts(self) -> (bool, Self)
+        ensures full { result.0 ≡ is_some self.value }
+        ensures same { result.1.value ≡ self.value }
+    {
+        let Handle {
+            pointer,
+            is_full,
+            alloc,
+        } = self;
+        (
+            is_full,
+            Handle {
+                pointer,
+                is_full,
+                alloc,
+            },
+        )
+    }
+
+    /// The object of a full handle.
+    fn into_raw(self) -> RawBox<Object, Global>
+        requires { IsSome self.value }
+        ensures { self.value ≡ Some result.value }
+    {
+        let Handle {
+            pointer,
+            is_full: _,
+            alloc,
+        } = self;
+        RawBox {
+            pointer: pointer as *mut Object,
+            alloc,
+        }
+    }
+
+    /// Takes the object out, which leaves the handle empty.
+    pub(crate) fn take(&mut self, alloc: Global) -> Option<Box<Object>>
+        ensures taken { option_map (λ object. object.value) result ≡ self.old.value }
+        ensures left { self.new.value ≡ None }
+    {
+        let (is_full, taken) = replace(self, Handle::empty(alloc)).parts();
+        if is_full {
+            Some(taken.into_raw().into_box())
+        } else {
+            None
+        }
+    }
+
+    /// Puts an object into an empty handle.
+    pub(crate) fn put(&mut self, object: Box<Object>)
+        requires { self.old.value ≡ None }
+        ensures { self.new.value ≡ Some object.value }
+    {
+        *self = Handle::of_raw(RawBox::from_box(object));
+    }
+}
+
+// Its object goes to another thread with it.
+unsafe impl Send for Handle {}
+
+/// Takes what may go to another thread.
+fn sent<T: Send + Drop>(value: T) {
+    drop(value);
+}
+
+/// A handle may go to another thread.
+pub fn handle_is_send(handle: Handle) {
+    sent(handle);
+}

@@ -1,0 +1,51 @@
+//! What the line of a fault says. The types' own texts are derived, and a derive has no contract.
+
+ghost use Rattle.std.specs.Prelude.{Some};
+ghost use Rattle.lspsync.specs.FaultText.{fault_text, frame_text};
+
+use lsp_frame::FrameFault;
+use lsp_replay::EngineFault;
+use std::fmt;
+
+/// The text of a fault.
+#[derive(Clone, Copy)]
+pub struct FaultText(pub EngineFault);
+
+impl fmt::Display for FaultText {
+    ghost output = { λ text. Some (fault_text text.0) };
+
+    fn fmt<W: fmt::Write>(&self, f: &mut fmt::Formatter<W>) -> fmt::Result {
+        match self.0 {
+            EngineFault::Read => write!(f, "read fault"),
+            EngineFault::Write => write!(f, "write fault"),
+            EngineFault::Frame(fault) => FrameText(fault).fmt(f),
+            EngineFault::Truncated { place } => write!(f, "truncated at {place}"),
+            EngineFault::BodyTooLong { place } => write!(f, "body too long at {place}"),
+            EngineFault::NoMemory => write!(f, "out of memory"),
+            EngineFault::TooManyTurns => write!(f, "too many turns"),
+            EngineFault::BadLog { place } => write!(f, "bad log at {place}"),
+        }
+    }
+}
+
+/// The text of a fault of a frame.
+#[derive(Clone, Copy)]
+struct FrameText(FrameFault);
+
+impl fmt::Display for FrameText {
+    ghost output = { λ text. Some (frame_text text.0) };
+
+    fn fmt<W: fmt::Write>(&self, f: &mut fmt::Formatter<W>) -> fmt::Result {
+        match self.0 {
+            FrameFault::BadHeader { place } => write!(f, "frame fault F1 at {place}"),
+            FrameFault::HeaderTooLong { place } => write!(f, "frame fault F2 at {place}"),
+            FrameFault::MissingLength { place } => write!(f, "frame fault F3 at {place}"),
+            FrameFault::RepeatedHeader { place } => write!(f, "frame fault F4 at {place}"),
+            FrameFault::BadLength { place } => write!(f, "frame fault F5 at {place}"),
+            FrameFault::BodyTooLong { place } => write!(f, "frame fault F6 at {place}"),
+            FrameFault::BadCharset { place } => write!(f, "frame fault F7 at {place}"),
+            FrameFault::Failed => write!(f, "frame fault F8"),
+            FrameFault::NoMemory => write!(f, "out of memory"),
+        }
+    }
+}

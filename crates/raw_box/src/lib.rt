@@ -1,0 +1,38 @@
+//! A box as its raw pointer, which still owns what lies there.
+#![tactic(auto)]
+
+ghost use Rattle.std.specs.Prelude.{◌≡◌};
+ghost use Rattle.std_alloc.specs.Box.Ownership.{box_owns};
+
+use std::alloc::Allocator;
+use std::marker::Model;
+
+/// A box as its raw pointer. It owns the value behind the pointer and the right to free its block, so exactly one box comes back
+/// out of it.
+pub struct RawBox<T, A: Allocator> {
+    pub pointer: *mut T,
+    pub alloc: A,
+    pub ghost value: { T },
+}
+
+impl<T, A: Allocator> Model for RawBox<T, A> {
+    ghost also_owns = { λ raw. box_owns (A.dealloc_token raw.alloc) T.row raw.pointer raw.value };
+}
+
+impl<T: Drop, A: Allocator> RawBox<T, A> {
+    /// Takes a box apart. Costs nothing.
+    pub fn from_box(value: Box<T, A>) -> Self
+        ensures { result.value ≡ value.value }
+    {
+        let (pointer, alloc) = Box::into_raw_with_allocator(value);
+        RawBox { pointer, alloc }
+    }
+
+    /// Makes the box again. Costs nothing.
+    pub fn into_box(self) -> Box<T, A>
+        ensures { result.value ≡ self.value }
+    {
+        let RawBox { pointer, alloc } = self;
+        unsafe { Box::from_raw(alloc, pointer) }
+    }
+}
