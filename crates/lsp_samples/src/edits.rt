@@ -36,3 +36,18 @@ pub fn batch(alloc: Global, edits: &[Edit]) -> Result<Vec<Change>, AllocError> {
     }
     Ok(changes)
 }
+
+/// The batch of some rows; where memory runs out it is made once more, which is counted.
+pub fn batch_again(
+    alloc: Global,
+    edits: &[Edit],
+    refused: &mut usize,
+) -> Result<Vec<Change>, AllocError> {
+    match batch(alloc, edits) {
+        Ok(changes) => Ok(changes),
+        Err(AllocError) => {
+            *refused = refused.saturating_add(1);
+            batch(alloc, edits)
+        }
+    }
+}
