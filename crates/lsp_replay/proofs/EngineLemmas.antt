@@ -259,6 +259,11 @@ module _ (reading : Reading) (course : List Record → Course) (held : Option (L
   last_fault unflushed place s now held_now held_new TooManyTurns quiet nothing cut short kind w = short_last unflushed s now held_now held_new quiet nothing (short refl) w
   last_fault unflushed place s now held_now held_new (BadLog at) quiet nothing cut short kind w = absurd kind
 
+  -- Nothing was written of what the end gives.
+  pub went_whole_records : (s : Splitter) (now : List Record → Course) (held_now held_new : Option (List ℕ)) → IsQuiet now → Appends held_now held_new []
+      → Went reading course held input [] s now held_now → Reached reading course input held held_new (λ _. Unit {0})
+  went_whole_records s now held_now held_new quiet nothing w = went_so_far reading course held input [] s now held_now held_new (λ _. Unit {0}) w quiet nothing tt
+
 -- Bytes that are short of some bytes are short of more.
 pub still_short : (unflushed : Bool) (some more : List ℕ) → (0 < length some) ⊎ (unflushed ≡ true) → (0 < length (some ++ more)) ⊎ (unflushed ≡ true)
 still_short unflushed some more (inl long) = inl (omega (arith, long, length-append some more))

@@ -19,7 +19,7 @@ use Rattle.lsp_log.specs.Opening.{IsLineFront, IsBelowLine, IsUnfinished}
 use Rattle.lsp_log.specs.Splitting.{IsReady, IsOpen, Stands, held_of}
 use Rattle.lsp_log.specs.Laws.{RestLaw}
 use Rattle.lsp_replay.specs.Course.{Course}
-use Rattle.lsp_replay.specs.Engine.{Stopped, Reached, AtEnd, Ran, Called, NonePassedOver, PortState, IsPieceFault, IsRunFault}
+use Rattle.lsp_replay.specs.Engine.{Stopped, Reached, AtEnd, Ran, Called, NonePassedOver, PortState, WroteRecords, IsPieceFault, IsRunFault}
 use Rattle.lsp_replay.specs.Progress.{Went, Runs, IsEndFault, BothSpend}
 use Rattle.lsp_stream.specs.Ports.{Rose}
 use Rattle.lsp_stream.specs.Turns.{Spends, StaysWell, StaysFlushed}
@@ -259,6 +259,23 @@ module _ (reading : Reading) (course : List Record → Course) (left held : Opti
   ran_finished left_now ended state place s now held_now held_new (Ok outcome) told ends fails r = ran_to_end left_now ended state place s now held_now held_new outcome told (ends reading course held) r
   ran_finished left_now ended state place s now held_now held_new (Err fault) told ends fails r = ran_into_end_fault left_now ended state place s now held_now held_new fault told (fails reading course held) r
 
+  -- Memory ran out at a record.
+  pub piece_whole : (left_now : Option (List ℕ)) (ended : Bool) (place : ℕ) (piece : List ℕ) (s : Splitter) (now : List Record → Course) (held_now held_new : Option (List ℕ)) (unflushed : Bool) (fault : EngineFault)
+      → ((input : List ℕ) → Went reading course held input piece s now held_now → IsPieceFault reading course unflushed input held held_new fault)
+      → Runs reading course left held left_now ended place piece s now held_now → ◌≡◌ {A = Result Outcome EngineFault} (Err fault) (Err NoMemory) → WroteRecords reading course left left_now held held_new
+  piece_whole left_now ended place piece s now held_now held_new unflushed fault fails r is =
+      let same : fault ≡ NoMemory = cc in
+      record { input = r.input; read = r.read; reached = subst (IsPieceFault reading course unflushed r.input held held_new) same (fails r.input r.went) }
+
+  -- And at the end of the input.
+  pub end_whole : (left_now : Option (List ℕ)) (ended : Bool) (place : ℕ) (s : Splitter) (now : List Record → Course) (held_now held_new : Option (List ℕ)) (Holds : Type 0) (answer : Result Outcome EngineFault)
+      → IfErr answer (λ fault. fault ≡ NoMemory → Holds → (rules : Reading) (at_first : List Record → Course) (held_first : Option (List ℕ)) (input : List ℕ) → Went rules at_first held_first input [] s now held_now → Reached rules at_first input held_first held_new (λ _. Unit {0}))
+      → Holds → Runs reading course left held left_now ended place [] s now held_now → answer ≡ Err NoMemory → WroteRecords reading course left left_now held held_new
+  end_whole left_now ended place s now held_now held_new Holds (Ok outcome) whole one r is = absurd (let two : ◌≡◌ {A = Result Outcome EngineFault} (Ok outcome) (Err NoMemory) = is in cc)
+  end_whole left_now ended place s now held_now held_new Holds (Err fault) whole one r is =
+      let same : fault ≡ NoMemory = cc in
+      record { input = r.input; read = r.read; reached = whole same one reading course held r.input r.went }
+
 -- Which calls were made when a fault came.
 pub called_fault : (reads_old reads_new writes_old writes_new allowed turns : ℕ) (read_failed write_failed ended : Bool) (left : Option (List ℕ)) (fault : EngineFault) → BothSpend reads_old reads_new writes_old writes_new allowed turns
     → (fault ≡ TooManyTurns → turns ≡ 0) → (fault ≡ Read → (read_failed ≡ true) × Rose reads_old reads_new) → (fault ≡ Write → (write_failed ≡ true) × Rose writes_old writes_new)
@@ -329,6 +346,19 @@ pub told_fault : (read_failed_old read_failed_new write_failed_old write_failed_
 told_fault read_failed_old read_failed_new write_failed_old write_failed_new fault reads writes = record {
   reads = λ other. reads (λ is. other (ap Err is));
   writes = λ other. writes (λ is. other (ap Err is));
+}
+
+-- The same of what a call answered.
+pub told_result : (read_failed_old read_failed_new write_failed_old write_failed_mid write_failed_new : Bool) (r : Result Outcome EngineFault) → StaysWell read_failed_old read_failed_new
+    → StaysWell write_failed_old write_failed_mid → OnOk r (StaysWell write_failed_mid write_failed_new) → IfErr r (λ fault. fault ≢ Write → StaysWell write_failed_mid write_failed_new)
+    → NonePassedOver read_failed_old read_failed_new write_failed_old write_failed_new r
+told_result read_failed_old read_failed_new write_failed_old write_failed_mid write_failed_new (Ok t) reads before ok err = record {
+  reads = λ _. reads;
+  writes = λ _ well. ok (before well);
+}
+told_result read_failed_old read_failed_new write_failed_old write_failed_mid write_failed_new (Err fault) reads before ok err = record {
+  reads = λ _. reads;
+  writes = λ other well. err (λ is. other (ap Err is)) (before well);
 }
 
 -- Nothing was kept back when a fault came.

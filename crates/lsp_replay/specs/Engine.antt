@@ -132,6 +132,12 @@ pub record Ran (reading : Reading) (course : List Record → Course) (state : Po
       (λ outcome. Stopped reading course input held_old held_new (Ok outcome) ⊎ ((state.ended ≡ true) × AtEnd reading course input held_old held_new outcome))
       (IsRunFault reading course state input held_old held_new)
 
+-- What was written is the output of some records of what was read, each whole, and nothing behind it.
+pub record WroteRecords (reading : Reading) (course : List Record → Course) (left_old left_new held_old held_new : Option (List ℕ)) : Type 0 where
+  pub input : List ℕ
+  pub read : Consumes left_old left_new input
+  pub reached : Reached reading course input held_old held_new (λ _. Unit {0})
+
 -- Which calls were made: at most as many as allowed; a fault of reading or writing only where the reader or the
 -- writer tells that its last call failed, and as many calls as allowed where one more was to be made. And where the
 -- reader tells the end, all of its bytes were read.

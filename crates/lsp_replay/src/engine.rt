@@ -9,7 +9,7 @@ ghost use Rattle.lsp_log.specs.Log.{Reading, Record};
 ghost use Rattle.lsp_log.specs.Splitting.{IsReady, IsFed};
 ghost use Rattle.lsp_log.specs.Laws.{VersionLaw, FirstLaw};
 ghost use Rattle.lsp_replay.specs.Course.{Course};
-ghost use Rattle.lsp_replay.specs.Engine.{Stopped, AtEnd, IsPieceFault, Ran, Called, NonePassedOver, state_of};
+ghost use Rattle.lsp_replay.specs.Engine.{Stopped, AtEnd, Reached, IsPieceFault, Ran, Called, NonePassedOver, WroteRecords, state_of};
 ghost use Rattle.lsp_replay.specs.Progress.{IsHandled, IsHandleFault, IsLastFault, IsEndFault, Went};
 
 use crate::handler::{Handler, Output};
@@ -20,7 +20,7 @@ use lsp_stream::{EngineFault, Sink, Source, Turns, read_piece, write_given};
 use std::alloc::Global;
 
 /// How many bytes one read may give.
-const PIECE: usize = 4_096;
+const PIECE: usize = 65_536;
 
 /// How an input is read.
 #[derive(Clone, Copy)]
@@ -176,6 +176,9 @@ fn write_last<W: Sink, H: Handler>(
         AppendsShort (H.FLUSHES && not (W.has_flushed writer.new)) (W.held writer.old) (W.held writer.new)
         ((H.course handler.old []).last line_due)) }
     ensures kind { IfErr result IsLastFault }
+    // Where the end gives one part, none of it is written when memory runs out.
+    ensures whole { IfErr result (λ fault. fault ≡ EngineFault.NoMemory → H.parts handler.old ≡ 0 →
+        Appends (W.held writer.old) (W.held writer.new) []) }
     ensures failed { IfErr result (λ fault. fault ≡ EngineFault.Write →
         (W.has_failed writer.new ≡ true) × Rose (W.count writer.old) (W.count writer.new)) }
     ensures well { OnOk result (StaysWell (W.has_failed writer.old) (W.has_failed writer.new)) }
@@ -215,6 +218,10 @@ fn finish_run<W: Sink, H: Handler>(
     ensures fault { IfErr result (λ fault. (reading : Reading) (course : List Record → Course) (held : Option (List ℕ)) (input : List ℕ) →
         Went reading course held input [] splitter.now (H.course handler.old) (W.held writer.old) →
         IsEndFault reading course (H.FLUSHES && not (W.has_flushed writer.new)) input held (W.held writer.new) place fault) }
+    ensures whole { IfErr result (λ fault. fault ≡ EngineFault.NoMemory → H.parts handler.old ≡ 0 →
+        (reading : Reading) (course : List Record → Course) (held : Option (List ℕ)) (input : List ℕ) →
+        Went reading course held input [] splitter.now (H.course handler.old) (W.held writer.old) →
+        Reached reading course input held (W.held writer.new) (λ _. Unit {0})) }
     ensures failed { IfErr result (λ fault. fault ≡ EngineFault.Write →
         (W.has_failed writer.new ≡ true) × Rose (W.count writer.old) (W.count writer.new)) }
     ensures not_read { IfErr result (λ fault. fault ≢ EngineFault.Read) }
@@ -250,6 +257,10 @@ pub fn run_engine<R: Source, W: Sink, H: Handler>(
     ensures called { Called (R.count reader.old) (R.count reader.new) (W.count writer.old) (W.count writer.new) max_turns
         (R.has_failed reader.new) (W.has_failed writer.new) (R.has_ended reader.new) (R.left reader.new) result }
     ensures none_passed_over { NonePassedOver (R.has_failed reader.old) (R.has_failed reader.new) (W.has_failed writer.old) (W.has_failed writer.new) result }
+    // Where the end gives one part, what is written when memory runs out is the output of records, each whole.
+    ensures whole { ((h : H) → H.parts h ≡ 0) → result ≡ Err EngineFault.NoMemory →
+        WroteRecords (record { max_body = rules.limits.max_body; versions = rules.versions; only_one = rules.only_one }) (H.course handler.old)
+        (R.left reader.old) (R.left reader.new) (W.held writer.old) (W.held writer.new) }
     ensures passed_on { H.FLUSHES ≡ true → result ≢ Err EngineFault.Write → result ≢ Err EngineFault.TooManyTurns →
         StaysFlushed (W.has_flushed writer.old) (W.has_flushed writer.new) }
     // What its callers take from `lsp_log`.

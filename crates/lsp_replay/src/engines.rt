@@ -2,7 +2,7 @@
 //! of the bytes that were read (`ran`), and by all that are whole in them (`told`).
 
 ghost use Rattle.std.specs.Prelude.{◌≡◌, ◌≢◌, Err, not, true, false, IfOk};
-ghost use Rattle.lsp_replay.specs.Engine.{Ran, Called, NonePassedOver, state_of};
+ghost use Rattle.lsp_replay.specs.Engine.{Ran, Called, NonePassedOver, WroteRecords, state_of};
 ghost use Rattle.lsp_replay.specs.Engines.{log_config, normal, as_stream, as_log, as_converted, replies, report, verdicts, converted};
 ghost use Rattle.lsp_frame.specs.Limits.{AreInRange};
 ghost use Rattle.lsp_stream.specs.Turns.{StaysFlushed};
@@ -78,7 +78,7 @@ impl Settings {
 /// `exit`, with its status; nothing behind it is looked at. Where the input ends without one the status is 1.
 ///
 /// At most `max_turns` reads, writes and flushes are made. Linear in the input, and what the messages cost; keeps the open documents,
-/// one message and one piece of 4,096 bytes.
+/// one message and one piece of 65,536 bytes.
 pub fn serve<R: Source, W: Sink>(
     alloc: Global,
     reader: &mut R,
@@ -95,6 +95,9 @@ pub fn serve<R: Source, W: Sink>(
     // After an outcome, and after each fault but those of writing and of too many turns, all that was written is passed on.
     ensures passed_on { result ≢ Err EngineFault.Write → result ≢ Err EngineFault.TooManyTurns →
         StaysFlushed (W.has_flushed writer.old) (W.has_flushed writer.new) }
+    // Where memory runs out, what was written is the output of records, each whole.
+    ensures whole { result ≡ Err EngineFault.NoMemory → WroteRecords (as_stream config) (replies config)
+        (R.left reader.old) (R.left reader.new) (W.held writer.old) (W.held writer.new) }
     ensures called { Called (R.count reader.old) (R.count reader.new) (W.count writer.old) (W.count writer.new) max_turns
         (R.has_failed reader.new) (W.has_failed writer.new) (R.has_ended reader.new) (R.left reader.new) result }
     ensures none_passed_over { NonePassedOver (R.has_failed reader.old) (R.has_failed reader.new) (W.has_failed writer.old) (W.has_failed writer.new) result }
@@ -125,6 +128,9 @@ pub fn check<R: Source, W: Sink>(
     ensures told { RanOver (as_log settings) (verdicts settings)
         (state_of (R.has_ended reader.old) (R.has_ended reader.new) false)
         (R.left reader.old) (R.left reader.new) (W.held writer.old) (W.held writer.new) result }
+    // Where memory runs out, what was written is the output of records, each whole.
+    ensures whole { result ≡ Err EngineFault.NoMemory → WroteRecords (as_log settings) (verdicts settings)
+        (R.left reader.old) (R.left reader.new) (W.held writer.old) (W.held writer.new) }
     ensures called { Called (R.count reader.old) (R.count reader.new) (W.count writer.old) (W.count writer.new) max_turns
         (R.has_failed reader.new) (W.has_failed writer.new) (R.has_ended reader.new) (R.left reader.new) result }
     ensures none_passed_over { NonePassedOver (R.has_failed reader.old) (R.has_failed reader.new) (W.has_failed writer.old) (W.has_failed writer.new) result }
@@ -179,6 +185,9 @@ pub fn convert<R: Source, W: Sink>(
         (R.left reader.old) (R.left reader.new) (W.held writer.old) (W.held writer.new) result }
     // What was written is a log of which `replay` tells the same, where no reply in it is over the limit.
     ensures converted { IfOk result (Wrote settings (IsConverted settings) (R.left reader.old) (R.left reader.new) (W.held writer.old) (W.held writer.new)) }
+    // Where memory runs out, what was written is the output of records, each whole.
+    ensures whole { result ≡ Err EngineFault.NoMemory → WroteRecords (as_converted settings) (converted settings)
+        (R.left reader.old) (R.left reader.new) (W.held writer.old) (W.held writer.new) }
     ensures called { Called (R.count reader.old) (R.count reader.new) (W.count writer.old) (W.count writer.new) max_turns
         (R.has_failed reader.new) (W.has_failed writer.new) (R.has_ended reader.new) (R.left reader.new) result }
     ensures none_passed_over { NonePassedOver (R.has_failed reader.old) (R.has_failed reader.new) (W.has_failed writer.old) (W.has_failed writer.new) result }
@@ -218,6 +227,9 @@ pub fn normalise<R: Source, W: Sink>(
     // With squash, it is a log of which `replay` reports the same documents and the same status, and its own squashed form.
     ensures squashed { settings.squash ≡ true
         → IfOk result (Wrote settings (IsSquashed settings) (R.left reader.old) (R.left reader.new) (W.held writer.old) (W.held writer.new)) }
+    // Where memory runs out, what was written is the output of records, each whole.
+    ensures whole { result ≡ Err EngineFault.NoMemory → WroteRecords (as_log settings) (normalised settings)
+        (R.left reader.old) (R.left reader.new) (W.held writer.old) (W.held writer.new) }
     ensures called { Called (R.count reader.old) (R.count reader.new) (W.count writer.old) (W.count writer.new) max_turns
         (R.has_failed reader.new) (W.has_failed writer.new) (R.has_ended reader.new) (R.left reader.new) result }
     ensures none_passed_over { NonePassedOver (R.has_failed reader.old) (R.has_failed reader.new) (W.has_failed writer.old) (W.has_failed writer.new) result }
@@ -243,6 +255,9 @@ fn normalise_each<R: Source, W: Sink>(
         (state_of (R.has_ended reader.old) (R.has_ended reader.new) false)
         (R.left reader.old) (R.left reader.new) (W.held writer.old) (W.held writer.new) result }
     ensures normal { IfOk result (Wrote settings (IsNormal settings) (R.left reader.old) (R.left reader.new) (W.held writer.old) (W.held writer.new)) }
+    // Where memory runs out, what was written is the output of records, each whole.
+    ensures whole { result ≡ Err EngineFault.NoMemory → WroteRecords (as_log settings) (normal settings)
+        (R.left reader.old) (R.left reader.new) (W.held writer.old) (W.held writer.new) }
     ensures called { Called (R.count reader.old) (R.count reader.new) (W.count writer.old) (W.count writer.new) max_turns
         (R.has_failed reader.new) (W.has_failed writer.new) (R.has_ended reader.new) (R.left reader.new) result }
     ensures none_passed_over { NonePassedOver (R.has_failed reader.old) (R.has_failed reader.new) (W.has_failed writer.old) (W.has_failed writer.new) result }
@@ -268,6 +283,9 @@ fn normalise_squashed<R: Source, W: Sink>(
         (state_of (R.has_ended reader.old) (R.has_ended reader.new) false)
         (R.left reader.old) (R.left reader.new) (W.held writer.old) (W.held writer.new) result }
     ensures squashed { IfOk result (Wrote settings (IsSquashed settings) (R.left reader.old) (R.left reader.new) (W.held writer.old) (W.held writer.new)) }
+    // Where memory runs out, what was written is the output of records, each whole.
+    ensures whole { result ≡ Err EngineFault.NoMemory → WroteRecords (as_log settings) (squashed settings)
+        (R.left reader.old) (R.left reader.new) (W.held writer.old) (W.held writer.new) }
     ensures called { Called (R.count reader.old) (R.count reader.new) (W.count writer.old) (W.count writer.new) max_turns
         (R.has_failed reader.new) (W.has_failed writer.new) (R.has_ended reader.new) (R.left reader.new) result }
     ensures none_passed_over { NonePassedOver (R.has_failed reader.old) (R.has_failed reader.new) (W.has_failed writer.old) (W.has_failed writer.new) result }

@@ -13,8 +13,12 @@ mod tests;
 
 use crate::run::{Ending, refuse, run};
 use lsp_replay::Told;
+use std::env;
+use std::io::{self, BufWriter};
 use std::process::ExitCode;
-use std::{env, io};
+
+/// So many bytes of output are gathered before they are passed on; `serve` passes each reply on at once.
+const GATHERED: usize = 65_536;
 
 fn main(rt: HostRuntime) -> ExitCode {
     let ending = match answer(&rt) {
@@ -24,16 +28,17 @@ fn main(rt: HostRuntime) -> ExitCode {
     ExitCode::from(ending.status)
 }
 
-/// Runs the program over the process's own streams. Fails only where the words of its call could not be had.
+/// Runs the program over the process's own streams. Fails only where the words of its call could not be had, or no memory for its output.
 fn answer(rt: &HostRuntime) -> io::Result<Ending> {
     let alloc = rt.alloc();
     let given: Vec<String> = env::args(rt)?.collect(alloc)?;
     let words: Vec<&str> = given.iter().map(|word| word.as_str()).collect(alloc)?;
+    let output = BufWriter::with_capacity(alloc, GATHERED, rt.stdout())?;
     Ok(run(
         alloc,
         &words,
         &mut Told::new(rt.stdin()),
-        &mut Told::new(rt.stdout()),
+        &mut Told::new(output),
         &mut rt.stderr(),
     ))
 }

@@ -1,7 +1,7 @@
 use Rattle.std.proofs.Common.{◌≡◌, ◌&&◌, not, [], true, false, refl, sym, ◌∙◌, subst}
 use Rattle.std.specs.Io.KnownBytes.{Appends}
 use Rattle.lsp_stream.specs.Turns.{AppendsFront, AppendsShort}
-use Rattle.lsp_replay.proofs.EngineLemmas.{went_cut, went_at_end, last_fault, ok_and, err_and_two}
+use Rattle.lsp_replay.proofs.EngineLemmas.{went_cut, went_at_end, went_whole_records, last_fault, ok_and, err_and_two, err_and}
 use Rattle.lsp_replay.proofs.engine.finish_run.Goals as goal
 
 pub returns-then-not-at_rest-clause-fault : goal.returns-then-not-at_rest-clause-fault
@@ -28,3 +28,10 @@ returns-clause-at_end g c =
     (record { silent = g.met.H.Handler.silent c.args.handler.now; unstopped = g.met.H.Handler.unstopped c.args.handler.now })
     (c.at_rest.ensures.0 c.if-not-at_rest.false)
     (subst (λ b. Appends (g.W.Sink.held c.args.writer.now) (g.W.Sink.held c.write_last.new.writer) ((g.H.Handler.course c.args.handler.now []).last b)) c.line_due.ensures wrote) told w)
+
+pub returns-clause-whole : goal.returns-clause-whole
+returns-clause-whole g c =
+    err_and c.write_last.result _ _ _ c.write_last.ensures.front c.write_last.ensures.whole (λ fault front nothing is one reading course held input w.
+    went_whole_records reading course held input c.args.splitter.now (g.H.Handler.course c.args.handler.now) (g.W.Sink.held c.args.writer.now) (g.W.Sink.held c.write_last.new.writer)
+    (record { silent = g.met.H.Handler.silent c.args.handler.now; unstopped = g.met.H.Handler.unstopped c.args.handler.now })
+    (nothing is one) w)

@@ -3,7 +3,7 @@ use Rattle.std.proofs.lemmas.List.{length-take}
 use Rattle.std.specs.Io.KnownBytes.{Consumes}
 use Rattle.std.proofs.lemmas.Result.{err_from_is_err_and}
 use Rattle.lsp_replay.specs.Engine.{state_of}
-use Rattle.lsp_replay.proofs.RunLemmas.{runs_at_start, runs_on, runs_more, ran_stopped, ran_into_fault, ran_finished, ran_unread, ran_unopened, ran_refused, called_fault, piece_not_read, both_at_start, both_writes, both_reads, rose_more, told_fault, read_not_write, read_not_ended, n_is_zero, zero_is, not_at_end, passed_fault, passed_result}
+use Rattle.lsp_replay.proofs.RunLemmas.{runs_at_start, runs_on, runs_more, ran_stopped, ran_into_fault, ran_finished, ran_unread, ran_unopened, ran_refused, called_fault, piece_not_read, piece_whole, end_whole, told_result, both_at_start, both_writes, both_reads, rose_more, told_fault, read_not_write, read_not_ended, n_is_zero, zero_is, not_at_end, passed_fault, passed_result}
 use Rattle.lsp_replay.proofs.engine.run_engine.Goals as goal
 
 pub returns-in_err-opening-clause-ran : goal.returns-in_err-opening-clause-ran
@@ -137,3 +137,24 @@ pieces-preserved g c =
       flushed = λ holds before. c.in_ok-end.ensures.flushed holds (c.pieces.invariant.flushed holds before);
       spent = both_reads _ _ _ _ _ _ _ _ (both_writes _ _ _ _ _ _ _ _ c.pieces.invariant.spent c.in_ok-end.ensures.spent) c.in_ok-to.ensures.spent;
     }
+
+pub returns-in_err-end-clause-whole : goal.returns-in_err-end-clause-whole
+returns-in_err-end-clause-whole g c =
+    let p = err_from_is_err_and c.from_residual-in_err-end.result c.from_residual-in_err-end.ensures.1 in
+    rw (p.1, p.2) (λ _ is. piece_whole (record { max_body = c.args.rules.limits.max_body; versions = c.args.rules.versions; only_one = c.args.rules.only_one }) (g.H.Handler.course c.args.handler.now) (g.R.Source.left c.args.reader.now) (g.W.Sink.held c.args.writer.now)
+    (g.R.Source.left c.pieces.reader) c.pieces.ended c.pieces.place _ c.pieces.splitter (g.H.Handler.course c.pieces.handler) (g.W.Sink.held c.pieces.writer) (g.W.Sink.held c.take_piece.new.writer) _ _
+    (λ input w. c.in_err-end.ensures.fault (record { max_body = c.args.rules.limits.max_body; versions = c.args.rules.versions; only_one = c.args.rules.only_one }) (g.H.Handler.course c.args.handler.now) (g.W.Sink.held c.args.writer.now) input w) c.pieces.invariant.runs is)
+
+pub returns-then-ended-clause-whole : goal.returns-then-ended-clause-whole
+returns-then-ended-clause-whole g c = λ one is.
+    end_whole (record { max_body = c.args.rules.limits.max_body; versions = c.args.rules.versions; only_one = c.args.rules.only_one }) (g.H.Handler.course c.args.handler.now) (g.R.Source.left c.args.reader.now) (g.W.Sink.held c.args.writer.now)
+    (g.R.Source.left c.pieces.reader) c.pieces.ended c.pieces.place c.take_piece.new.splitter (g.H.Handler.course c.take_piece.new.handler) (g.W.Sink.held c.take_piece.new.writer) (g.W.Sink.held c.finish_run.new.writer)
+    _ c.finish_run.result c.finish_run.ensures.whole (one c.take_piece.new.handler)
+    (runs_on (record { max_body = c.args.rules.limits.max_body; versions = c.args.rules.versions; only_one = c.args.rules.only_one }) (g.H.Handler.course c.args.handler.now) (g.R.Source.left c.args.reader.now) (g.W.Sink.held c.args.writer.now) (g.R.Source.left c.pieces.reader) c.pieces.ended c.pieces.place _ c.pieces.splitter c.take_piece.new.splitter
+    (g.H.Handler.course c.pieces.handler) (g.H.Handler.course c.take_piece.new.handler) (g.W.Sink.held c.pieces.writer) (g.W.Sink.held c.take_piece.new.writer) c.in_ok-end.ensures.version
+    (λ input w. rw c.in_default.is at (c.in_ok-end.ensures.went (record { max_body = c.args.rules.limits.max_body; versions = c.args.rules.versions; only_one = c.args.rules.only_one }) (g.H.Handler.course c.args.handler.now) (g.W.Sink.held c.args.writer.now) input w)) c.pieces.invariant.runs) is
+
+pub returns-then-ended-clause-none_passed_over : goal.returns-then-ended-clause-none_passed_over
+returns-then-ended-clause-none_passed_over g c =
+    told_result _ _ _ _ _ c.finish_run.result c.pieces.invariant.reads_well
+    (λ before. c.in_ok-end.ensures.well (c.pieces.invariant.writes_well before)) c.finish_run.ensures.well c.finish_run.ensures.told

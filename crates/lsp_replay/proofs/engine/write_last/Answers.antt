@@ -34,6 +34,7 @@ parts-preserved g c =
         Appends-trans _ _ _ before.0 c.finish.new.made.items before.2
             (subst (λ (z : List ℕ). Appends (g.W.Sink.held c.parts.writer) (g.W.Sink.held c.write_given.new.writer) z) c.deref.ensures.value c.in_ok-write_given.ensures.wrote),
       );
+      first = λ one. absurd (omega (arith, part.2, (c.parts.invariant.first one).0));
       outcome = part.1 ∙ c.parts.invariant.outcome;
       well = λ before. c.in_ok-write_given.ensures.well (c.parts.invariant.well before);
       flushed = λ holds _. c.in_ok-write_given.ensures.flushed (c.FLUSHES.ensures ∙ holds);
