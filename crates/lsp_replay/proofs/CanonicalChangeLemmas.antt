@@ -1,6 +1,6 @@
 -- The canonical message of what some batch means on an open document: it is read as a change, which is accepted there, leaves what the batch
 -- leaves, and is its own canonical message.
-use Rattle.std.proofs.Common.{◌≡◌, ℕ, ℤ, ◌≤◌, false, nat_lt, int_le, List, [], ◌∷◌, map, length, IsUtf8, Option, Some, None, Ok, refl, sym, ap, ◌∙◌, subst, arith, w32, FitsSigned}
+use Rattle.std.proofs.Common.{◌≡◌, ℕ, ℤ, ◌≤◌, false, nat_lt, int_le, List, map, length, IsUtf8, Some, None, Ok, refl, ap, ◌∙◌, subst, arith, w32, FitsSigned}
 use Rattle.std.specs.Str.{chars}
 use Rattle.std.proofs.lemmas.Str.{scalars-chars}
 use Rattle.lsp_frame.specs.Limits.{AreInRange}

@@ -1,5 +1,5 @@
 -- Which records are accepted changes, and what becomes of them.
-use Rattle.std.proofs.Common.{◌≡◌, ◌≢◌, ◌⊎◌, inl, inr, ℕ, ◌≤◌, Bool, true, false, List, [], ◌∷◌, ◌++◌, length, Option, Some, None, refl, sym, ap, ◌∙◌, subst, nat_lt}
+use Rattle.std.proofs.Common.{◌≡◌, ◌≢◌, ◌⊎◌, inl, inr, ℕ, ◌≤◌, Bool, true, false, List, ◌++◌, length, Option, Some, None, refl, sym, ap, ◌∙◌, subst, nat_lt}
 use Rattle.std.specs.Prelude.{if◌then◌else◌, Err}
 use Rattle.std.proofs.lemmas.Bool.{ltb-false}
 use Rattle.lsp_message.specs.Message.{IdData, reading}
@@ -20,7 +20,7 @@ use Rattle.lsp_replay.specs.Joining.{refusal_of, server_after}
 use Rattle.lsp_replay.specs.Session.{Session, Verdict, answered, recorded, bad, Judged, judge, judge_from, judge_incoming, counted, versioned}
 use Rattle.lsp_replay.specs.Squashed.{Run, faulty, change_gives, step_if}
 use Rattle.lsp_replay.proofs.AskedLemmas.{IsProperAsked, IsProperIncoming, asked_proper}
-use Rattle.lsp_replay.proofs.JoiningLemmas.{running_accepted, running_leaves}
+use Rattle.lsp_replay.proofs.JoiningLemmas.{running_accepted}
 use Rattle.lsp_replay.proofs.JudgeLemmas.{asks_change}
 use Rattle.lsp_replay.proofs.NormalLemmas.{accepted, heard_has_none, same_server}
 use Rattle.lsp_replay.proofs.NumberedLemmas.{IsAlike, numbered}

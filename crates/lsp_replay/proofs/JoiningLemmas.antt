@@ -1,6 +1,6 @@
 -- A change that is accepted is joined to the batches of the open run, or begins batches of its own.
-use Rattle.std.proofs.Common.{◌≡◌, ◌≢◌, ◌⊎◌, inl, inr, ℕ, ℤ, Bool, true, false, List, [], ◌∷◌, map, length, int_le, ◌||◌, Option, Some, None, bytes_eq, refl, sym, ap, ◌∙◌, subst, ⊎_elim}
-use Rattle.std.specs.Prelude.{⊤, if◌then◌else◌, nat_lt, option_map, is_some, IfOk, Result, Ok, Err}
+use Rattle.std.proofs.Common.{◌≡◌, ◌≢◌, inl, inr, ℕ, ℤ, Bool, true, false, List, [], ◌∷◌, map, length, int_le, ◌||◌, Option, Some, None, bytes_eq, refl, sym, ap, ◌∙◌, subst, ⊎_elim}
+use Rattle.std.specs.Prelude.{⊤, if◌then◌else◌, nat_lt, IfOk, Result, Ok, Err}
 use Rattle.std.specs.declared.alloc.AllocError.{AllocError}
 use Rattle.std.proofs.lemmas.Bool.{cases_Bool}
 use Rattle.std.proofs.lemmas.Slice.Eq.{bytes_eq-Decides}
@@ -12,12 +12,11 @@ use Rattle.lsp_edit.specs.Batch.{Edit, Fault, meaning}
 use Rattle.lsp_edit.specs.Items.{Item}
 use Rattle.lsp_message.specs.Message.{IdData}
 use Rattle.lsp_message.specs.Params.{ChangeData}
-use Rattle.lsp_store.specs.declared.fault.StoreFault.{StoreFault}
 use Rattle.lsp_store.specs.declared.fault.StoreFault.TheVariants.{BodyTooLong}
 use Rattle.lsp_store.specs.Faults.{IsRefusal, fault_of}
-use Rattle.lsp_store.specs.Message.{body_refusal, else_refused}
-use Rattle.lsp_store.specs.Squash.{SquashData, HasReached, IsSquashAfter, squash_of, squash_after}
-use Rattle.lsp_store.specs.Table.{Entry, Refusal, already_open, too_many_documents, not_open, stale_version, edit, body_too_long, text_too_long, too_many_changes, batch_bytes, greatest_batch, after_change, change_refusal, changed as changed_entry, entry_at, entry_refusal, meaning_refusal, refusal_on}
+use Rattle.lsp_store.specs.Message.{else_refused}
+use Rattle.lsp_store.specs.Squash.{SquashData, HasReached, IsSquashAfter, squash_of}
+use Rattle.lsp_store.specs.Table.{Entry, Refusal, already_open, too_many_documents, not_open, stale_version, edit, body_too_long, text_too_long, too_many_changes, batch_bytes, greatest_batch, change_refusal, changed as changed_entry, entry_at, entry_refusal, meaning_refusal, refusal_on}
 use Rattle.lsp_store.proofs.LawLemmas.{found_changed}
 use Rattle.lsp_store.proofs.SquashLemmas.{after_is}
 use Rattle.lsp_server.specs.Answer.{changed}
@@ -28,8 +27,7 @@ use Rattle.lsp_server.specs.Step.{State, edit_of, encoding_of}
 use Rattle.lsp_replay.specs.declared.session.Writing.{Writing}
 use Rattle.lsp_replay.specs.declared.session.Writing.TheVariants.{AsItIs, TooLong, GoesOn, Begins}
 use Rattle.lsp_replay.specs.Engines.{normal_if}
-use Rattle.lsp_replay.specs.Session.{Session, Verdict, answered, bad, judge_incoming}
-use Rattle.lsp_replay.specs.Squashed.{joined_by}
+use Rattle.lsp_replay.specs.Session.{Session, answered, bad, judge_incoming}
 use Rattle.lsp_replay.specs.Joining.{IsOpenIn, IsOpenAfter, IsLonger, IsBegun, IsWriting, IsChangeWriting, refusal_of, server_after}
 
 -- ---- a canonical body that is too long is that of a change that is not refused

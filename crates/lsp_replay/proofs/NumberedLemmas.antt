@@ -11,9 +11,8 @@ use Rattle.lsp_server.specs.Incoming.{IncomingData, incoming_of}
 use Rattle.lsp_server.specs.Step.{step_on}
 use Rattle.lsp_log.specs.declared.record.Side.{Side}
 use Rattle.lsp_log.specs.declared.record.Side.TheVariants.{Client, Server}
-use Rattle.lsp_log.specs.declared.record.Head.{Head}
 use Rattle.lsp_log.specs.Log.{Record}
-use Rattle.lsp_replay.specs.Session.{Session, Verdict, bad, Judged, counted, judged, judge, judge_at, judge_from, judge_incoming, handled, hear_for, heard, settle_by, settle_in, result_for, versioned, is_ended, is_early}
+use Rattle.lsp_replay.specs.Session.{Session, bad, Judged, counted, judged, judge, judge_from, judge_incoming, handled, hear_for, heard, settle_by, settle_in, result_for, versioned, is_ended, is_early}
 
 abbrev pub numbered : ℕ → ℕ → Session → Session
 numbered records messages s = record { server = s.server; version = s.version; expected = s.expected; records = records; messages = messages; refusals = s.refusals }

@@ -1,23 +1,20 @@
 -- A run that is open: what its batches make together of the document before it is the document that is open now.
-use Rattle.std.proofs.Common.{◌≡◌, ℕ, ℤ, ◌≤◌, true, false, nat_lt, int_le, List, [], ◌∷◌, ◌++◌, map, length, bytes_eq, encode_utf8_all, IsUtf8, Option, Some, None, Ok, refl, sym, ap, ◌∙◌, subst, arith, w32, FitsSigned}
-use Rattle.std.specs.Str.{all_scalars, chars}
-use Rattle.std.proofs.lemmas.Bool.{le-ltb}
+use Rattle.std.proofs.Common.{◌≡◌, ℕ, ℤ, ◌≤◌, true, false, nat_lt, int_le, List, [], ◌∷◌, ◌++◌, map, length, bytes_eq, encode_utf8_all, IsUtf8, Some, None, Ok, refl, sym, ap, ◌∙◌, subst, arith, w32, FitsSigned}
+use Rattle.std.specs.Str.{chars}
 use Rattle.std.proofs.lemmas.Bool.{leb-false, lt-leb}
 use Rattle.std.proofs.Math.IntN.{pos, negsuc}
 use Rattle.std.proofs.lemmas.Slice.Eq.{bytes_eq-Decides}
 use Rattle.std.proofs.lemmas.Str.{chars-encodes, scalars-chars}
 use Rattle.lsp_frame.specs.Limits.{AreInRange}
 use Rattle.lsp_text.specs.Units.{units_in}
-use Rattle.lsp_text.specs.declared.encoding.Encoding.{Encoding}
 use Rattle.lsp_edit.specs.Items.{Item, plain, text_of}
 use Rattle.lsp_edit.specs.Batch.{Edit, meaning}
 use Rattle.lsp_edit.specs.Canonical.{canonical}
 use Rattle.lsp_edit.specs.Compose.{then_items}
 use Rattle.lsp_edit.proofs.ComposeLemmas.{text_of-then, then_means}
 use Rattle.lsp_edit.proofs.EditedLemmas.{plain_text}
-use Rattle.lsp_edit.proofs.LawLemmas.{canonical_law, units_some}
 use Rattle.lsp_message.specs.Params.{ChangeData}
-use Rattle.lsp_store.specs.Table.{Entry, bytes_after, entry_at, entry_refusal, meant_text}
+use Rattle.lsp_store.specs.Table.{Entry, bytes_after, entry_at, meant_text}
 use Rattle.lsp_store.specs.Message.{AreTexts}
 use Rattle.lsp_store.specs.Squash.{SquashData, items_meant, squash_batch, squash_of}
 use Rattle.lsp_store.proofs.MessageLemmas.{Accepts, accepted_parts}

@@ -1,28 +1,21 @@
 -- The open run of a log that is squashed, and the records that are written of it.
-use Rattle.std.proofs.Common.{◌≡◌, ◌≢◌, ℕ, ℤ, ◌+◌, ◌≤◌, Bool, true, false, nat_lt, List, [], ◌∷◌, ◌++◌, map, length, Option, Some, None, refl, sym, ap, ap₂, ◌∙◌, subst, arith, append_assoc, append-nil, bytes_eq}
-use Rattle.std.specs.Prelude.{⊤, if◌then◌else◌}
+use Rattle.std.proofs.Common.{◌≡◌, ◌≢◌, ℕ, ◌+◌, ◌≤◌, Bool, true, false, nat_lt, List, [], ◌∷◌, ◌++◌, map, length, Option, Some, None, refl, sym, ap, ap₂, ◌∙◌, subst, arith, append_assoc, append-nil, bytes_eq}
+use Rattle.std.specs.Prelude.{if◌then◌else◌}
 use Rattle.std.specs.Str.{chars}
-use Rattle.std.proofs.lemmas.Bool.{ltb-false, le-ltb}
+use Rattle.std.proofs.lemmas.Bool.{ltb-false}
 use Rattle.lsp_frame.specs.Faults.{place_behind}
-use Rattle.lsp_frame.specs.Frame.{frame, Spells}
+use Rattle.lsp_frame.specs.Frame.{frame}
 use Rattle.lsp_frame.specs.Limits.{Bounds, AreInRange}
 use Rattle.lsp_frame.proofs.WrittenLemmas.{written_spells}
 use Rattle.lsp_text.specs.Units.{units_in}
-use Rattle.lsp_edit.specs.Canonical.{canonical}
-use Rattle.lsp_edit.specs.Laws.{IsCanonical}
-use Rattle.lsp_edit.proofs.LawLemmas.{canonical_law, units_some}
 use Rattle.lsp_edit.proofs.EditedLemmas.{plain_text}
-use Rattle.lsp_edit.specs.Compose.{then_items}
-use Rattle.lsp_edit.specs.Items.{Item, plain, text_of}
-use Rattle.lsp_edit.specs.Batch.{Edit, meaning}
 use Rattle.lsp_message.specs.Message.{reading}
 use Rattle.lsp_message.specs.Params.{ChangeData}
 use Rattle.lsp_store.specs.Message.{change_body}
-use Rattle.lsp_store.specs.Squash.{SquashData, items_meant, squash_batch, squash_body, squash_of, squash_refusal}
-use Rattle.lsp_store.specs.Table.{Entry, Refusal, entry_at, entry_refusal}
-use Rattle.lsp_store.proofs.MessageLemmas.{Accepts, accepted_parts}
+use Rattle.lsp_store.specs.Squash.{SquashData, squash_batch, squash_body, squash_of, squash_refusal}
+use Rattle.lsp_store.specs.Table.{Entry, Refusal, entry_at}
 use Rattle.lsp_server.specs.declared.phase.Phase.TheVariants.{Running}
-use Rattle.lsp_server.specs.Incoming.{incoming_of, did_change}
+use Rattle.lsp_server.specs.Incoming.{incoming_of}
 use Rattle.lsp_server.specs.Answer.{changed}
 use Rattle.lsp_server.specs.Step.{State, edit_of, encoding_of}
 use Rattle.lsp_log.specs.declared.record.Version.{Version}
@@ -34,13 +27,12 @@ use Rattle.lsp_log.specs.declared.record.Side.{Side}
 use Rattle.lsp_store.proofs.LawLemmas.{MayChange, change_parts}
 use Rattle.lsp_replay.proofs.JoiningLemmas.{uri_at}
 use Rattle.lsp_replay.proofs.SingleLemmas.{IsSingle, is_single, single_record}
-use Rattle.lsp_replay.specs.Course.{Course, written_first}
+use Rattle.lsp_replay.specs.Course.{written_first}
 use Rattle.lsp_replay.specs.Engines.{course_in, replaying, front_of, line_if, change_in, normal_body}
-use Rattle.lsp_replay.specs.Joining.{refusal_of, server_after}
-use Rattle.lsp_replay.specs.Session.{Session, Verdict, answered, bad, judge, versioned}
-use Rattle.lsp_replay.specs.Squashed.{Run, Step, joined_by, begun, change_gives, longer, squash_step, squashed_in, run_bytes, end_bytes}
-use Rattle.lsp_replay.proofs.AskedLemmas.{IsProperAsked}
-use Rattle.lsp_replay.proofs.CanonicalChangeLemmas.{IsProperAt, IsCanonicalChange, canonical_at, canonical_change, is_canonical_change}
+use Rattle.lsp_replay.specs.Joining.{server_after}
+use Rattle.lsp_replay.specs.Session.{Session, answered, bad, judge, versioned}
+use Rattle.lsp_replay.specs.Squashed.{Run, joined_by, change_gives, longer, squash_step, squashed_in, run_bytes, end_bytes}
+use Rattle.lsp_replay.proofs.CanonicalChangeLemmas.{IsCanonicalChange, canonical_at, canonical_change}
 use Rattle.lsp_replay.proofs.ChangeLemmas.{IsAccepted, IsDone, is_done, proper_change, session_after}
 use Rattle.lsp_replay.proofs.JudgeLemmas.{IsVersionAt, judged_version}
 use Rattle.lsp_replay.proofs.NumberedLemmas.{IsAlike, alike_both, numbered}

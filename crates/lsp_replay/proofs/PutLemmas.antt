@@ -1,10 +1,10 @@
 -- The table of documents with another text and version of one of them.
-use Rattle.std.proofs.Common.{◌≡◌, ℕ, ℤ, true, false, List, [], ◌∷◌, Option, Some, None, bytes_eq, refl, sym, ap, ◌∙◌, ⊎_elim}
+use Rattle.std.proofs.Common.{◌≡◌, ℕ, ℤ, true, false, List, [], ◌∷◌, Some, None, bytes_eq, refl, ap, ⊎_elim}
 use Rattle.std.specs.Prelude.{if◌then◌else◌}
 use Rattle.std.proofs.lemmas.Bool.{cases_Bool}
 use Rattle.std.specs.Str.{chars}
 use Rattle.lsp_edit.specs.Batch.{Edit, meaning}
-use Rattle.lsp_store.specs.Table.{Entry, after_change, changed, entry_at, meant_text}
+use Rattle.lsp_store.specs.Table.{Entry, after_change, entry_at, meant_text}
 
 abbrev pub put : List Entry → List ℕ → ℤ → List ℕ → List Entry
 put [] uri version text = []

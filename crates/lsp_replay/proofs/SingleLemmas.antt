@@ -1,16 +1,14 @@
 -- The single message of an accepted change, where it begins a run and where it goes on with one.
-use Rattle.std.proofs.Common.{◌≡◌, ℕ, ◌+◌, ◌≤◌, true, false, nat_lt, Bool, List, [], ◌∷◌, ◌++◌, map, length, Option, Some, None, refl, sym, ap, ◌∙◌, subst, arith, append_assoc, append-nil, bytes_eq}
-use Rattle.std.specs.Prelude.{⊤}
+use Rattle.std.proofs.Common.{◌≡◌, ℕ, ◌≤◌, Bool, map, length, Some, refl, sym, ap, ◌∙◌, subst, arith}
 use Rattle.std.specs.Str.{chars}
 use Rattle.std.proofs.lemmas.Bool.{le-ltb}
-use Rattle.std.proofs.lemmas.Slice.Eq.{bytes_eq-Decides}
 use Rattle.lsp_frame.specs.Faults.{place_behind}
 use Rattle.lsp_frame.specs.Frame.{frame}
 use Rattle.lsp_frame.specs.Limits.{Bounds, AreInRange}
 use Rattle.lsp_frame.proofs.WrittenLemmas.{written_spells}
 use Rattle.lsp_text.specs.Units.{units_in}
 use Rattle.lsp_edit.specs.Compose.{then_items}
-use Rattle.lsp_edit.specs.Items.{Item, text_of}
+use Rattle.lsp_edit.specs.Items.{text_of}
 use Rattle.lsp_edit.specs.Laws.{IsCanonical}
 use Rattle.lsp_edit.specs.Batch.{meaning}
 use Rattle.lsp_edit.proofs.LawLemmas.{canonical_law, units_some}
@@ -22,17 +20,16 @@ use Rattle.lsp_store.specs.Table.{Entry, bytes_after, entry_at, meant_text}
 use Rattle.lsp_replay.proofs.PutLemmas.{put, change_puts}
 use Rattle.lsp_store.proofs.LawLemmas.{MayChange, change_parts}
 use Rattle.lsp_store.proofs.MessageLemmas.{Accepts, accepted_parts}
-use Rattle.lsp_server.specs.Incoming.{incoming_of, did_change}
-use Rattle.lsp_server.specs.Step.{State, edit_of, encoding_of}
+use Rattle.lsp_server.specs.Incoming.{incoming_of}
+use Rattle.lsp_server.specs.Step.{edit_of, encoding_of}
 use Rattle.lsp_log.specs.declared.record.Version.{Version}
 use Rattle.lsp_log.specs.Log.{Record, IsRecord}
 use Rattle.lsp_replay.specs.Engines.{normal_body}
-use Rattle.lsp_replay.specs.Joining.{refusal_of, server_after}
-use Rattle.lsp_replay.specs.Session.{Session, judge}
+use Rattle.lsp_replay.specs.Joining.{server_after}
+use Rattle.lsp_replay.specs.Session.{Session}
 use Rattle.lsp_replay.specs.Squashed.{joined_by}
 use Rattle.lsp_replay.proofs.CanonicalChangeLemmas.{IsProperAt, IsCanonicalChange, canonical_at, canonical_change, is_canonical_change}
 use Rattle.lsp_replay.proofs.ChangeLemmas.{IsAccepted, proper_change}
-use Rattle.lsp_replay.proofs.NumberedLemmas.{numbered}
 use Rattle.lsp_replay.proofs.StateLemmas.{IsHeldEntry, IsHeldState, held_at}
 
 -- A record is the canonical message of an accepted change: it is accepted, and does and joins what the change does.

@@ -1,21 +1,13 @@
 -- What `normalise` writes of a log with squash: a log of which `replay` reports the same documents, and of which the same is written.
-use Rattle.std.proofs.Common.{◌≡◌, ◌≢◌, ℕ, ◌+◌, ◌≤◌, Bool, true, false, List, [], ◌∷◌, ◌++◌, length, Option, Some, None, refl, sym, ap, ◌∙◌, subst, arith, append_assoc, append-nil, bytes_eq, ⊎_elim}
-use Rattle.std.specs.Prelude.{⊤, Result}
+use Rattle.std.proofs.Common.{◌≡◌, ◌≢◌, ℕ, ◌+◌, Bool, false, List, [], ◌∷◌, ◌++◌, length, Option, Some, None, refl, sym, ap, ◌∙◌, subst, arith, append_assoc, append-nil, bytes_eq}
+use Rattle.std.specs.Prelude.{⊤}
 use Rattle.std.proofs.lemmas.List.{length-append}
-use Rattle.lsp_frame.specs.Faults.{place_behind}
-use Rattle.lsp_frame.specs.Frame.{frame, Spells}
-use Rattle.lsp_frame.specs.Limits.{Bounds, AreInRange}
-use Rattle.lsp_message.specs.Message.{reading}
-use Rattle.lsp_message.specs.Params.{ChangeData}
-use Rattle.lsp_server.specs.Incoming.{incoming_of, did_change}
-use Rattle.lsp_server.specs.Step.{State}
 use Rattle.lsp_log.specs.declared.record.Version.{Version}
-use Rattle.lsp_log.specs.declared.record.Side.TheVariants.{Client}
 use Rattle.lsp_log.specs.Log.{Record, IsRecord, AreRecords, together, record_bytes, mark_of}
-use Rattle.lsp_log.proofs.LogLemmas.{are_push, due_behind, together_push, together_len}
+use Rattle.lsp_log.proofs.LogLemmas.{due_behind}
 use Rattle.lsp_replay.specs.Course.{Course, written_first}
-use Rattle.lsp_replay.specs.Engines.{gives, go_on, unless_bad, course_in, replaying, front_of, line_if, change_in}
-use Rattle.lsp_replay.specs.Session.{Session, Verdict, answered, recorded, bad, Judged, judge}
+use Rattle.lsp_replay.specs.Engines.{gives, go_on, unless_bad, course_in, replaying, line_if}
+use Rattle.lsp_replay.specs.Session.{Session, Verdict, answered, recorded, bad, judge}
 use Rattle.lsp_replay.specs.Squashed.{Run, Step, squash_step, squashed_in, end_bytes}
 use Rattle.lsp_replay.proofs.NumberedLemmas.{IsAlike}
 use Rattle.lsp_replay.proofs.JudgeLemmas.{IsVersionAt}

@@ -1,5 +1,5 @@
 -- With squash a log ends as without: at the same record, for the same cause, with the same status and counts.
-use Rattle.std.proofs.Common.{ℕ, ◌≡◌, true, false, nat_lt, List, [], ◌∷◌, length, Option, Some, None, Result, Ok, Err, refl, ap, ◌∙◌, ⊎_elim, bytes_eq}
+use Rattle.std.proofs.Common.{ℕ, ◌≡◌, true, false, nat_lt, List, [], ◌∷◌, length, Option, Some, None, Result, refl, ⊎_elim, bytes_eq}
 use Rattle.std.proofs.lemmas.Bool.{cases_Bool}
 use Rattle.lsp_message.specs.Message.{reading}
 use Rattle.lsp_message.specs.Params.{ChangeData}

@@ -1,8 +1,7 @@
 -- What `normalise` writes of a log with squash is a log, of which `replay` reports the same, and of which the same is written.
-use Rattle.std.proofs.Common.{◌≡◌, ◌≢◌, ◌⊎◌, inl, inr, ℕ, ◌+◌, Bool, true, false, List, [], ◌∷◌, ◌++◌, length, Option, Some, None, refl, sym, ap, ◌∙◌, subst, arith, append_assoc, append-nil, bytes_eq, ⊎_elim}
-use Rattle.std.specs.Prelude.{⊤, Result}
+use Rattle.std.proofs.Common.{◌≡◌, ◌≢◌, ℕ, ◌+◌, Bool, true, false, List, [], ◌∷◌, ◌++◌, length, Option, Some, None, refl, sym, ap, ◌∙◌, subst, append-nil, bytes_eq, ⊎_elim}
+use Rattle.std.specs.Prelude.{Result}
 use Rattle.std.proofs.lemmas.Bool.{cases_Bool}
-use Rattle.lsp_frame.specs.Faults.{place_behind}
 use Rattle.lsp_frame.specs.Limits.{Bounds, AreInRange}
 use Rattle.lsp_message.specs.Message.{reading}
 use Rattle.lsp_message.specs.Params.{ChangeData}
@@ -17,9 +16,9 @@ use Rattle.lsp_replay.specs.declared.engines.Settings.{Settings}
 use Rattle.lsp_replay.specs.declared.outcome.Outcome.{Outcome}
 use Rattle.lsp_stream.specs.declared.fault.EngineFault.{EngineFault}
 use Rattle.lsp_replay.specs.Course.{Course}
-use Rattle.lsp_replay.specs.Engines.{change_in, course_in, front_of, go_on, line_if, normal_body, normal_if, log_config, replaying, report}
+use Rattle.lsp_replay.specs.Engines.{change_in, course_in, front_of, go_on, line_if, normal_if, log_config, replaying, report}
 use Rattle.lsp_replay.specs.Laws.{SquashedLaw, IsSquashed, LeavesAlike, all_of}
-use Rattle.lsp_replay.specs.Session.{Session, Verdict, answered, bad, judge, opened}
+use Rattle.lsp_replay.specs.Session.{Session, answered, bad, judge, opened}
 use Rattle.lsp_replay.specs.Squashed.{Run, Step, squash_step, squashed_in, squashed, end_bytes, other_step}
 use Rattle.lsp_replay.proofs.ChangeLemmas.{IsAccepted, IsOtherKind, IsChangeKind, kind_of, not_bad_of, was_accepted}
 use Rattle.lsp_replay.proofs.JudgeLemmas.{IsVersionAt, judged_held, judged_version}

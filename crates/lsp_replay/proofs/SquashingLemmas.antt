@@ -1,13 +1,11 @@
 -- What a record gives with squash, by what is known of how it is written.
-use Rattle.std.proofs.Common.{◌≡◌, ◌≢◌, ℕ, ◌≤◌, ◌<◌, Bool, true, false, List, [], ◌∷◌, ◌++◌, length, Option, Some, None, refl, sym, ap, ◌∙◌, append_assoc, subst, nat_lt, le-ltb, lt-ltb}
-use Rattle.std.specs.Prelude.{⊤, if◌then◌else◌, Result, Err}
-use Rattle.std.specs.Str.{bytes_eq}
+use Rattle.std.proofs.Common.{◌≡◌, ◌≢◌, ℕ, ◌<◌, Bool, true, false, List, [], ◌∷◌, ◌++◌, length, Option, Some, None, refl, sym, ap, ◌∙◌, append_assoc, subst, nat_lt, le-ltb, lt-ltb}
+use Rattle.std.specs.Prelude.{if◌then◌else◌}
 use Rattle.lsp_frame.specs.Frame.{frame}
 use Rattle.lsp_message.specs.Params.{ChangeData}
-use Rattle.lsp_store.specs.Squash.{SquashData, squash_of}
-use Rattle.lsp_store.specs.Table.{Entry, entry_at}
-use Rattle.lsp_server.specs.Answer.{AnswerData, Sent, reply, changed, dropped, ignored, already_ended, refused, exits}
-use Rattle.lsp_server.specs.Step.{State, encoding_of}
+use Rattle.lsp_store.specs.Squash.{SquashData}
+use Rattle.lsp_server.specs.Answer.{reply, changed, dropped, ignored, already_ended, refused, exits}
+use Rattle.lsp_server.specs.Step.{State}
 use Rattle.lsp_log.specs.Log.{Record}
 use Rattle.lsp_stream.specs.declared.fault.EngineFault.TheVariants.{BadLog, BodyTooLong}
 use Rattle.lsp_message.specs.Message.{reading}
@@ -17,8 +15,8 @@ use Rattle.lsp_log.specs.Log.{mark_of}
 use Rattle.lsp_replay.specs.Course.{after, written_first}
 use Rattle.lsp_replay.specs.Engines.{change_in, front_of, go_on, line_if, normal_if, normal_body}
 use Rattle.lsp_replay.specs.Session.{Session, Verdict, answered, recorded, bad, judge}
-use Rattle.lsp_replay.specs.Squashed.{Run, Step, squash_step, squashed_in, run_of, run_bytes, end_bytes, begun, longer, joined_by, faulty, change_gives, change_step, other_step, step_if}
-use Rattle.lsp_replay.specs.Joining.{IsChange, IsFramed, IsLonger, IsOther, IsBegun}
+use Rattle.lsp_replay.specs.Squashed.{Run, Step, squash_step, squashed_in, run_of, run_bytes, end_bytes, begun, longer, faulty, change_gives, other_step, step_if}
+use Rattle.lsp_replay.specs.Joining.{IsChange, IsLonger, IsOther, IsBegun}
 
 -- any record but an accepted change
 pub step_other : (server : State) (r : Record) (front : List ℕ) (run : Option Run) (change : Option ChangeData) (verdict : Verdict) → verdict ≢ bad → normal_if server change verdict ≡ None

@@ -1,4 +1,4 @@
-use Rattle.std.specs.Prelude.{◌≡◌, ◌&&◌, ℕ, List, not}
+use Rattle.std.specs.Prelude.{◌≡◌, ◌&&◌, not}
 use Rattle.std.proofs.Common.{rules, Bool, subst}
 use Rattle.std.proofs.lemmas.Result.{err_from_is_err_and}
 use Rattle.lsp_stream.specs.declared.fault.EngineFault.TheVariants.{TooManyTurns}

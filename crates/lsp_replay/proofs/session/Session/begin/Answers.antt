@@ -1,4 +1,4 @@
-use Rattle.std.proofs.Common.{rules, ◌≡◌, ap, refl, map, string_bytes, w32, to_z, of_z}
+use Rattle.std.proofs.Common.{rules, ◌≡◌, ap, refl, w32, to_z, of_z}
 use Rattle.std.proofs.lemmas.Int.{to_z-of_z}
 use Rattle.lsp_message.specs.Seen.{change_view}
 use Rattle.lsp_store.specs.Squash.{squash_of}

@@ -1,4 +1,4 @@
-use Rattle.std.proofs.Common.{rules, ◌≡◌, ◌≢◌, ap, refl, sym, map, string_bytes, Some, None, w32, to_z, of_z}
+use Rattle.std.proofs.Common.{rules, ◌≡◌, ◌≢◌, refl, sym, string_bytes, Some, None, w32, to_z, of_z}
 use Rattle.std.proofs.lemmas.Int.{to_z-of_z}
 use Rattle.lsp_message.specs.Seen.{change_view}
 use Rattle.lsp_store.specs.Table.{entry_at}

@@ -1,4 +1,3 @@
-use Rattle.std.proofs.Common.{◌≡◌}
 use Rattle.lsp_replay.proofs.NormalLemmas.{same_server}
 use Rattle.lsp_replay.proofs.session.Session.judge_and_join.Goals as goal
 
