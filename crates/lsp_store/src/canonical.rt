@@ -25,7 +25,8 @@ use std::alloc::Global;
 /// Refuses a batch that has more changes than the limit allows. Takes no memory.
 pub fn may_be_written(limits: &Limits, changes: &[Change]) -> Result<(), StoreFault>
     ensures ok { OnOk result (length changes.now ≤ limits.now.max_changes) }
-    ensures error { IfErr result (λ fault. (fault ≡ TooManyChanges) × (limits.now.max_changes < length changes.now)) }
+    ensures error { IfErr result (λ fault. (fault ≡ TooManyChanges)
+        × (limits.now.max_changes < length changes.now)) }
 {
     if changes.len() > limits.max_changes() {
         return Err(StoreFault::TooManyChanges);
