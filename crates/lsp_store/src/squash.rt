@@ -82,7 +82,8 @@ impl Squash {
         ensures error { IfErr result (IsRefusal (add_refusal self.old version (map edit_of changes.now))) }
         // Memory is taken only once nothing but the meaning can refuse the batch.
         ensures memory { result ≡ Err NoMemory
-            → IsLeftToMeaning self.old.limits (reached_entry self.old) version (map edit_of changes.now) }
+            → IsLeftToMeaning self.old.limits (reached_entry self.old) version
+            (map edit_of changes.now) }
     {
         self.reached.change_joined(
             &mut self.joined,
