@@ -240,6 +240,8 @@ impl IndexedText {
         requires fits { sum_by (λ change. string_len change.text) changes.now ≤ MAX_NEW_TEXT }
         ensures ok { IfOk result (λ delta. IsDelta
             (meaning (units_in encoding) (chars self.now) (map edit_of changes.now)) self.now (delta_parts delta)) }
+        ensures within { OnOk result (IsOk (text_within max_len self.now
+            (meaning (units_in encoding) (chars self.now) (map edit_of changes.now)))) }
         ensures error { IfErr result (λ fault. (fault ≡ NoMemory)
             ⊎ (text_within max_len self.now
             (meaning (units_in encoding) (chars self.now) (map edit_of changes.now)) ≡ Err fault)) }

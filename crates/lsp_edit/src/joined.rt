@@ -1,6 +1,6 @@
 //! Batches of changes on a text, one after another, joined.
 
-ghost use Rattle.std.specs.Prelude.{◌≡◌, ◌≤◌, ◌⊎◌, Err, IfErr, IfOk, Ok, OnErr, OnOk, length, map, string_bytes, string_len, sum_by};
+ghost use Rattle.std.specs.Prelude.{◌≡◌, ◌≤◌, ◌⊎◌, Err, IfErr, IfOk, IsOk, Ok, OnErr, OnOk, length, map, string_bytes, string_len, sum_by};
 ghost use Rattle.std.specs.Str.{chars};
 ghost use Rattle.lsp_text.specs.Units.{units_in};
 ghost use Rattle.lsp_edit.specs.declared.indexed.TextFault.TheVariants.{NoMemory};
@@ -110,6 +110,8 @@ impl Joined {
         requires size { length reached.now ≤ MAX_OLD_TEXT }
         requires fits { sum_by (λ change. string_len change.text) changes.now ≤ MAX_NEW_TEXT }
         ensures ok { OnOk result (IsJoined (units_in encoding) self.old (map edit_of changes.now) self.new) }
+        ensures within { OnOk result (IsOk (text_within max_len reached.now
+            (meaning (units_in encoding) (chars reached.now) (map edit_of changes.now)))) }
         ensures unchanged { OnErr result (self.new ≡ self.old) }
         ensures error { IfErr result (λ fault. (fault ≡ NoMemory)
             ⊎ (text_within max_len reached.now

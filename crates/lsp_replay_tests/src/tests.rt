@@ -99,6 +99,8 @@ enum Command {
     Check,
     Replay,
     Normalise,
+    /// `normalise` with squash.
+    Squash,
     Convert,
 }
 
@@ -208,6 +210,13 @@ fn call<R: Source, W: Sink>(
         Command::Check => check(alloc, from, to, settings, turns),
         Command::Replay => replay(alloc, from, to, settings, turns),
         Command::Normalise => normalise(alloc, from, to, settings, turns),
+        Command::Squash => {
+            let settings = Settings {
+                squash: true,
+                ..settings
+            };
+            normalise(alloc, from, to, settings, turns)
+        }
         Command::Convert => convert(alloc, from, to, settings, turns),
     }
 }

@@ -1,5 +1,5 @@
 -- Batches of changes on one document, as one: what the fields that are kept are.
-use Rattle.std.proofs.Common.{ℕ, ℤ, ◌≡◌, ◌≤◌, true, false, nat_lt, int_le, List, [], ◌++◌, length, sum_by, IsUtf8, encode_utf8_all, Option, None, Ok, refl, sym, ap, ap₂, ◌∙◌, subst, arith}
+use Rattle.std.proofs.Common.{ℕ, ℤ, ◌≡◌, ◌≤◌, true, false, nat_lt, int_le, List, [], ◌++◌, length, sum_by, IsUtf8, encode_utf8_all, Option, None, Ok, Err, ◌⊎◌, refl, sym, ap, ap₂, ◌∙◌, subst, arith}
 use Rattle.std.proofs.lemmas.Bool.{le-ltb}
 use Rattle.std.proofs.lemmas.List.Sums.{sum_by-le-sum_by}
 use Rattle.std.proofs.lemmas.Str.{chars-encodes, encodes-chars, scalars-chars}
@@ -9,6 +9,9 @@ use Rattle.lsp_frame.specs.Limits.{Bounds}
 use Rattle.lsp_text.specs.Units.{units_in}
 use Rattle.lsp_text.specs.declared.encoding.Encoding.{Encoding}
 use Rattle.lsp_edit.specs.Items.{Item, plain, text_of}
+use Rattle.lsp_edit.specs.Indexed.{text_within}
+use Rattle.lsp_edit.specs.declared.indexed.TextFault.{TextFault}
+use Rattle.lsp_edit.specs.declared.indexed.TextFault.TheVariants.{NoMemory}
 use Rattle.lsp_edit.specs.Batch.{Edit, meaning}
 use Rattle.lsp_edit.specs.Canonical.{canonical}
 use Rattle.lsp_edit.specs.Compose.{then_items}
@@ -22,9 +25,11 @@ use Rattle.lsp_store.specs.declared.held.Held.{Held}
 use Rattle.lsp_store.specs.Faults.{IsRefusal}
 use Rattle.lsp_store.specs.Message.{AreTexts, body_refusal, change_body}
 use Rattle.lsp_store.specs.Opened.{entry_under}
-use Rattle.lsp_store.specs.Squash.{HasReached, IsSquashAfter, SquashData, add_refusal, squash_after, items_meant, squash_batch, squash_of, squash_refusal}
-use Rattle.lsp_store.specs.Table.{Entry, Refusal, batch_bytes, bytes_after, changed, greatest_batch, entry_refusal, meant_text}
+use Rattle.lsp_store.specs.Squash.{HasReached, IsSquashAfter, SquashData, add_refusal, reached_entry, squash_after, items_meant, squash_batch, squash_of, squash_refusal}
+use Rattle.lsp_store.specs.Table.{Entry, IsLeftToMeaning, Refusal, batch_bytes, bytes_after, changed, greatest_batch, entry_refusal, meant_text}
+use Rattle.lsp_store.proofs.MessageLemmas.{accepted_parts}
 use Rattle.lsp_store.proofs.ProperLemmas.{bytes_sum}
+use Rattle.lsp_store.proofs.RefusalLemmas.{only_memory}
 use Rattle.lsp_store.proofs.ScalarLemmas.{scalar-meaning, scalar-text}
 
 -- what callers see of the fields
@@ -65,6 +70,11 @@ module _ (uri : List ℕ) (limits : Bounds) (encoding : Encoding) (joined : Join
 
   pub add_error : (version : ℤ) (more : List Edit) (fault : StoreFault) → IsRefusal (entry_refusal limits (units_in encoding) (entry_under uri held) version more) fault → IsRefusal (add_refusal kept version more) fault
   add_error version more fault error = subst (λ (r : Option Refusal). IsRefusal r fault) (refusal_is version more) error
+
+  pub left_to_meaning : (version : ℤ) (more : List Edit) → IsLeftToMeaning limits (entry_under uri held) version more → IsLeftToMeaning kept.limits (reached_entry kept) version more
+  left_to_meaning version more left =
+      let at_text = subst (λ (t : List ℕ). IsLeftToMeaning limits (record { uri = uri; language = []; version = held.version; text = t }) version more) text_is left in
+      subst (λ (k : SquashData). IsLeftToMeaning k.limits (reached_entry k) version more) view at_text
 
   -- ---- a batch more
 
@@ -193,3 +203,14 @@ joins_after uri limits encoding joined next before version next_version kept mor
     next_is =
         ap₂ (λ (j : JoinedData) (v : ℤ). seen uri limits encoding j v) is.is version_is
         ∙ ap (λ (k : SquashData). record k { items = then_items k.items is.others; version = version }) view
+
+-- A batch that is accepted is refused only where memory runs out.
+pub memory_alone : (uri : List ℕ) (limits : Bounds) (encoding : Encoding) (joined : JoinedData) (before : ℤ) (kept : SquashData) → seen uri limits encoding joined before ≡ kept
+    → (entry : Entry) (version : ℤ) (more : List Edit) → entry_refusal kept.limits (units_in kept.encoding) entry version more ≡ None
+    → (reached : List ℕ) → reached ≡ entry.text
+    → (fault : TextFault) → (fault ≡ NoMemory) ⊎ (text_within limits.max_text reached (meaning (units_in encoding) (chars reached) more) ≡ Err fault) → fault ≡ NoMemory
+memory_alone uri limits encoding joined before kept view entry version more accepted reached same fault error =
+    let may : entry_refusal limits (units_in encoding) entry version more ≡ None = subst (λ (k : SquashData). entry_refusal k.limits (units_in k.encoding) entry version more ≡ None) (sym view) accepted in
+    let a = accepted_parts limits (units_in encoding) entry version more may in
+    only_memory limits entry.text (meaning (units_in encoding) (chars entry.text) more) a.items a.means a.short fault
+    (subst (λ (t : List ℕ). (fault ≡ NoMemory) ⊎ (text_within limits.max_text t (meaning (units_in encoding) (chars t) more) ≡ Err fault)) same error)

@@ -2,15 +2,16 @@
 
 ghost use Rattle.std.specs.Prelude.{◌≡◌, None, IfErr, IfOk, OnErr, OnOk, map, string_bytes};
 ghost use Rattle.lsp_text.specs.Units.{units_in};
+ghost use Rattle.lsp_edit.specs.declared.indexed.TextFault.TheVariants.{NoMemory};
 ghost use Rattle.lsp_edit.specs.Edited.{edit_of};
 ghost use Rattle.lsp_store.specs.Faults.{IsRefusal};
 ghost use Rattle.lsp_store.specs.Squash.{HasReached, IsSquashAfter, squash_frame, squash_of, squash_refusal};
 ghost use Rattle.lsp_store.specs.Table.{changed, entry_refusal};
 
-use crate::canonical::framed_change;
+use crate::canonical::{framed_change, may_be_written};
 use crate::document::Document;
 use crate::fault::StoreFault;
-use lsp_edit::{Change, Joined};
+use lsp_edit::{Change, Joined, TextFault};
 use lsp_frame::Limits;
 use lsp_text::Encoding;
 use std::alloc::{AllocError, Global};
@@ -25,6 +26,13 @@ pub struct Batches {
     encoding: Encoding,
     version: i32,
     joined: Joined,
+}
+
+/// The fault of a batch that is accepted, which fails only where memory runs out.
+fn out_of_memory(_fault: TextFault) -> AllocError
+    requires { _fault ≡ NoMemory }
+{
+    AllocError
 }
 
 impl Model for Batches {
@@ -95,10 +103,9 @@ impl Batches {
         document.show_utf8();
         let max_text = self.limits.max_text();
         let reached = &document.held.text;
-        // An accepted batch fails only where memory runs out.
-        let Ok(()) = self.joined.add(self.encoding, reached, changes, max_text) else {
-            return Err(AllocError);
-        };
+        if let Err(fault) = self.joined.add(self.encoding, reached, changes, max_text) {
+            return Err(out_of_memory(fault));
+        }
         self.version = version;
         Ok(())
     }
@@ -110,9 +117,7 @@ impl Batches {
         ensures error { IfErr result (IsRefusal (squash_refusal self.now)) }
     {
         let batch = self.joined.canonical(self.encoding)?;
-        if batch.len() > self.limits.max_changes() {
-            return Err(StoreFault::TooManyChanges);
-        }
+        may_be_written(&self.limits, &batch)?;
         let alloc = *self.uri.allocator();
         framed_change(alloc, &self.limits, &self.uri, self.version, batch)
     }

@@ -1,13 +1,13 @@
 //! The one message in which an accepted batch of changes is written.
 
-ghost use Rattle.std.specs.Prelude.{◌≡◌, ◌≤◌, ◌↔◌, List, None, Err, IfErr, IfOk, OnOk, length, map};
+ghost use Rattle.std.specs.Prelude.{◌≡◌, ◌<◌, ◌≤◌, ◌↔◌, List, None, Err, IfErr, IfOk, OnOk, length, map};
 ghost use Rattle.lsp_frame.specs.Frame.{frame};
 ghost use Rattle.lsp_text.specs.Units.{units_in};
 ghost use Rattle.lsp_edit.specs.Batch.{Edit};
 ghost use Rattle.lsp_edit.specs.Edited.{edit_of};
 ghost use Rattle.lsp_message.specs.Outgoing.{OutgoingData, body_of};
 ghost use Rattle.lsp_message.specs.Sent.{IsProper, IsReadAsSent, IsReadBack};
-ghost use Rattle.lsp_store.specs.declared.fault.StoreFault.TheVariants.{NoMemory};
+ghost use Rattle.lsp_store.specs.declared.fault.StoreFault.TheVariants.{NoMemory, TooManyChanges};
 ghost use Rattle.lsp_store.specs.Faults.{IsRefusal};
 ghost use Rattle.lsp_store.specs.Opened.{MayTakeMemory};
 ghost use Rattle.lsp_store.specs.Table.{change_refusal};
@@ -21,6 +21,18 @@ use lsp_frame::{Limits, encode};
 use lsp_message::{ChangeParams, Outgoing, write};
 use lsp_text::Encoding;
 use std::alloc::Global;
+
+/// Refuses a batch that has more changes than the limit allows. Takes no memory.
+pub fn may_be_written(limits: &Limits, changes: &[Change]) -> Result<(), StoreFault>
+    ensures ok { OnOk result (length changes.now ≤ limits.now.max_changes) }
+    ensures error { IfErr result (λ fault. (fault ≡ TooManyChanges)
+        × (limits.now.max_changes < length changes.now)) }
+{
+    if changes.len() > limits.max_changes() {
+        return Err(StoreFault::TooManyChanges);
+    }
+    Ok(())
+}
 
 /// The frame of the `textDocument/didChange` of a batch.
 pub fn framed_change(

@@ -1,12 +1,13 @@
 //! A document that is reached by batches of changes, which are joined as they come.
 
-ghost use Rattle.std.specs.Prelude.{◌≡◌, ℕ, List, None, IfErr, OnErr, OnOk, map};
+ghost use Rattle.std.specs.Prelude.{◌≡◌, ℕ, List, None, Err, IfErr, OnErr, OnOk, map};
 ghost use Rattle.lsp_text.specs.Units.{units_in};
 ghost use Rattle.lsp_edit.specs.Edited.{edit_of};
 ghost use Rattle.lsp_edit.specs.Joined.{IsJoined, IsReached};
+ghost use Rattle.lsp_store.specs.declared.fault.StoreFault.TheVariants.{NoMemory};
 ghost use Rattle.lsp_store.specs.Faults.{IsRefusal};
 ghost use Rattle.lsp_store.specs.Opened.{entry_under};
-ghost use Rattle.lsp_store.specs.Table.{entry_refusal};
+ghost use Rattle.lsp_store.specs.Table.{IsLeftToMeaning, entry_refusal};
 
 use crate::fault::StoreFault;
 use crate::held::Held;
@@ -36,6 +37,10 @@ impl Held {
         ensures joined_unchanged { OnErr result (joined.new ≡ joined.old) }
         ensures error { IfErr result (λ fault. (uri : List ℕ) → IsRefusal (entry_refusal limits.now
             (units_in encoding) (entry_under uri self.old) version (map edit_of changes.now)) fault) }
+        // Memory is taken only once nothing but the meaning can refuse the batch.
+        ensures memory { result ≡ Err NoMemory → (uri : List ℕ)
+            → IsLeftToMeaning limits.now (entry_under uri self.old) version
+            (map edit_of changes.now) }
     {
         self.may_change(limits, version, changes)?;
         joined.change(encoding, &mut self.text, changes, limits.max_text())?;

@@ -1,11 +1,13 @@
 //! Batches of changes on one document, as one.
 
-ghost use Rattle.std.specs.Prelude.{◌≡◌, None, IfErr, IfOk, OnErr, OnOk, map, string_bytes};
+ghost use Rattle.std.specs.Prelude.{◌≡◌, None, Err, IfErr, IfOk, OnErr, OnOk, map, string_bytes};
 ghost use Rattle.lsp_edit.specs.Edited.{edit_of};
+ghost use Rattle.lsp_store.specs.declared.fault.StoreFault.TheVariants.{NoMemory};
 ghost use Rattle.lsp_store.specs.Faults.{IsRefusal};
-ghost use Rattle.lsp_store.specs.Squash.{IsSquashAfter, add_refusal, squash_frame, squash_of, squash_refusal};
+ghost use Rattle.lsp_store.specs.Squash.{IsSquashAfter, add_refusal, reached_entry, squash_frame, squash_of, squash_refusal};
+ghost use Rattle.lsp_store.specs.Table.{IsLeftToMeaning};
 
-use crate::canonical::framed_change;
+use crate::canonical::{framed_change, may_be_written};
 use crate::document::Document;
 use crate::fault::StoreFault;
 use crate::held::Held;
@@ -78,6 +80,10 @@ impl Squash {
         ensures ok { OnOk result (IsSquashAfter self.old version (map edit_of changes.now) self.new) }
         ensures unchanged { OnErr result (self.new ≡ self.old) }
         ensures error { IfErr result (IsRefusal (add_refusal self.old version (map edit_of changes.now))) }
+        // Memory is taken only once nothing but the meaning can refuse the batch.
+        ensures memory { result ≡ Err NoMemory
+            → IsLeftToMeaning self.old.limits (reached_entry self.old) version
+            (map edit_of changes.now) }
     {
         self.reached.change_joined(
             &mut self.joined,
@@ -98,9 +104,7 @@ impl Squash {
         ensures error { IfErr result (IsRefusal (squash_refusal self.now)) }
     {
         let batch = self.joined.canonical(self.encoding)?;
-        if batch.len() > self.limits.max_changes() {
-            return Err(StoreFault::TooManyChanges);
-        }
+        may_be_written(&self.limits, &batch)?;
         let alloc = *self.uri.allocator();
         let version = self.reached.version;
         framed_change(alloc, &self.limits, &self.uri, version, batch)

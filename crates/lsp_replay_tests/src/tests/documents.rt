@@ -101,7 +101,7 @@ fn accepted_changes_alone_are_written_anew(rt: HostRuntime) -> Result<(), Fail> 
 }
 
 /// A change of the whole text to so many letters. Its canonical body has 214 bytes more than they are.
-fn letters(alloc: Global, count: usize, version: i32) -> Result<String, AllocError> {
+pub(super) fn letters(alloc: Global, count: usize, version: i32) -> Result<String, AllocError> {
     let mut whole = String::from_str(alloc, r#"{"text":""#)?;
     for _ in 0..count {
         whole.push('x')?;

@@ -1,5 +1,6 @@
 //! Readers and writers that give little, are interrupted or fail.
 
+use super::squashed::{BOTH, TYPED};
 use super::*;
 
 /// A run of an engine, and how it goes on.
@@ -39,7 +40,7 @@ static SERVED: [Case; 1] = [Case {
 }];
 
 /// The log commands over a log of version 1.
-static OVER_1: [Case; 4] = [
+static OVER_1: [Case; 5] = [
     Case {
         command: Command::Check,
         input: Bytes::Frames(WORKED),
@@ -70,6 +71,17 @@ static OVER_1: [Case; 4] = [
         reads: &[],
         order: b"RWWWR",
     },
+    // The run is written once the input has ended.
+    Case {
+        command: Command::Squash,
+        input: Bytes::Frames(&[INITIALIZE, OPEN, WHOLE, TYPED]),
+        output: Bytes::Frames(&[INITIALIZE, OPEN, BOTH]),
+        end: Ended(0, 4, 0),
+        records: &[(172, 172), (340, 340)],
+        flushes: &[],
+        reads: &[],
+        order: b"RWWRW",
+    },
     Case {
         command: Command::Convert,
         input: Bytes::Frames(WORKED),
@@ -83,7 +95,7 @@ static OVER_1: [Case; 4] = [
 ];
 
 /// Those that take one, over a log of version 2.
-static OVER_2: [Case; 3] = [
+static OVER_2: [Case; 4] = [
     Case {
         command: Command::Check,
         input: Bytes::Marked(CONVERTED),
@@ -113,6 +125,22 @@ static OVER_2: [Case; 3] = [
         flushes: &[],
         reads: &[],
         order: b"RWWWWR",
+    },
+    Case {
+        command: Command::Squash,
+        input: Bytes::Marked(&[
+            (">", INITIALIZE),
+            ("<", REPLY),
+            (">", OPEN),
+            (">", WHOLE),
+            (">", TYPED),
+        ]),
+        output: Bytes::Marked(&[(">", INITIALIZE), ("<", REPLY), (">", OPEN), (">", BOTH)]),
+        end: Ended(0, 4, 0),
+        records: &[(191, 191), (344, 344), (513, 513)],
+        flushes: &[],
+        reads: &[],
+        order: b"RWWWRW",
     },
 ];
 

@@ -178,6 +178,41 @@ fn refused_normalise(rt: HostRuntime) -> Result<(), Fail> {
     Ok(())
 }
 
+/// A letter in an empty text.
+const PUT_X: &str =
+    r#"{"jsonrpc":"2.0","method":"textDocument/didChange","params":{"contentChanges":[{"range":{"end":{"character":0,"line":0},"start":{"character":0,"line":0}},"text":"x"}],"textDocument":{"uri":"file:///a","version":2}}}"#;
+
+/// A letter behind it.
+const PUT_Y: &str =
+    r#"{"jsonrpc":"2.0","method":"textDocument/didChange","params":{"contentChanges":[{"range":{"end":{"character":1,"line":0},"start":{"character":1,"line":0}},"text":"y"}],"textDocument":{"uri":"file:///a","version":3}}}"#;
+
+/// Both letters, as one.
+const PUT_BOTH: &str =
+    r#"{"jsonrpc":"2.0","method":"textDocument/didChange","params":{"contentChanges":[{"range":{"end":{"character":0,"line":0},"start":{"character":0,"line":0}},"text":"xy"}],"textDocument":{"uri":"file:///a","version":3}}}"#;
+
+static SQUASHED: Wanted = Wanted {
+    command: Command::Squash,
+    input: Bytes::Frames(&[SHORT, EMPTY, PUT_X, PUT_Y]),
+    parts: &[
+        HEADER_OF_SHORT,
+        SHORT,
+        "Content-Length: 142\r\n\r\n",
+        EMPTY,
+        "Content-Length: 216\r\n\r\n",
+        PUT_BOTH,
+    ],
+    lengths: &[80, 245, 484],
+    end: Ended(0, 4, 0),
+};
+
+#[test]
+fn refused_squash(rt: HostRuntime) -> Result<(), Fail> {
+    let refused = SQUASHED.runs_again(rt.alloc())?;
+    assert!(rt; refused.is_some());
+    println!(rt; "refused {}", refused.unwrap_or(0))?;
+    Ok(())
+}
+
 /// Two frames, and two records of version 2.
 static COPIED: [Wanted; 2] = [
     Wanted {

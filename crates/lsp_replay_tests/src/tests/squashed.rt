@@ -1,5 +1,6 @@
 //! Logs in which changes of one document follow each other, and what they are squashed to.
 
+use super::documents::letters;
 use super::*;
 
 /// A document of two lines, the last of them empty.
@@ -14,11 +15,11 @@ const SAVE: &str =
     r#"{"jsonrpc":"2.0","method":"textDocument/didSave","params":{"textDocument":{"uri":"file:///a"}}}"#;
 
 /// A letter more behind `aXc`.
-const TYPED: &str =
+pub(super) const TYPED: &str =
     r#"{"jsonrpc":"2.0","method":"textDocument/didChange","params":{"contentChanges":[{"range":{"end":{"character":3,"line":0},"start":{"character":3,"line":0}},"text":"d"}],"textDocument":{"uri":"file:///a","version":3}}}"#;
 
 /// The whole text and the letter, as one.
-const BOTH: &str =
+pub(super) const BOTH: &str =
     r#"{"jsonrpc":"2.0","method":"textDocument/didChange","params":{"contentChanges":[{"range":{"end":{"character":3,"line":0},"start":{"character":0,"line":0}},"text":"aXcd"}],"textDocument":{"uri":"file:///a","version":3}}}"#;
 
 /// A letter before `abc`.
@@ -70,7 +71,7 @@ struct Squashed(Bytes, Bytes, usize);
 
 const MANY: usize = 65_536;
 
-static LOGS: [Squashed; 11] = [
+static LOGS: [Squashed; 12] = [
     Squashed(
         Bytes::Frames(&[INITIALIZE, OPEN_LINES, LINE_END, NEXT]),
         Bytes::Frames(&[INITIALIZE, OPEN_LINES, BC]),
@@ -114,6 +115,12 @@ static LOGS: [Squashed; 11] = [
     Squashed(
         Bytes::Frames(&[INITIALIZE, OPEN, OPEN_OTHER, WHOLE, OTHER, TYPED]),
         Bytes::Frames(&[INITIALIZE, OPEN, OPEN_OTHER, CANONICAL, OTHER, TYPED]),
+        MANY,
+    ),
+    // A notification that the server ignores ends it too, and one that it doesn't know.
+    Squashed(
+        Bytes::Frames(&[INITIALIZE, OPEN, WHOLE, INITIALIZED, TYPED]),
+        Bytes::Frames(&[INITIALIZE, OPEN, CANONICAL, INITIALIZED, TYPED]),
         MANY,
     ),
     // The run is not the last of the log.
@@ -209,7 +216,7 @@ fn squashed_logs_have_these_lengths(rt: HostRuntime) -> Result<(), Fail> {
 }
 
 /// Inputs with a fault behind a run that hasn't ended: the fault, and what was written before it.
-static FAULTY: [(Bytes, EngineFault, Bytes); 3] = [
+static FAULTY: [(Bytes, EngineFault, Bytes); 4] = [
     (
         Bytes::Then(&[INITIALIZE, OPEN, WHOLE, TYPED], b"Content-Length: 9"),
         EngineFault::Truncated { place: 761 },
@@ -227,6 +234,18 @@ static FAULTY: [(Bytes, EngineFault, Bytes); 3] = [
         ),
         EngineFault::Truncated { place: 878 },
         Bytes::Frames(&[INITIALIZE, OPEN, CANONICAL, SAVE]),
+    ),
+    // A mark that is none.
+    (
+        Bytes::Marked(&[
+            (">", INITIALIZE),
+            ("<", REPLY),
+            (">", OPEN),
+            (">", WHOLE),
+            ("?", TYPED),
+        ]),
+        EngineFault::BadLog { place: 680 },
+        Bytes::Marked(&[(">", INITIALIZE), ("<", REPLY), (">", OPEN)]),
     ),
 ];
 
@@ -247,6 +266,78 @@ fn is_left_out(alloc: Global, row: &(Bytes, EngineFault, Bytes)) -> Result<bool,
 fn a_run_that_has_not_ended_is_not_written_after_a_fault(rt: HostRuntime) -> Result<(), Fail> {
     for row in &FAULTY {
         assert!(rt; is_left_out(rt.alloc(), row)?);
+    }
+    Ok(())
+}
+
+/// Bodies of 4,096 bytes, and one change in a message.
+fn narrow() -> Result<Settings, Fail> {
+    Ok(Settings {
+        limits: Limits::new(4_096, 8_192, 2, 1)?,
+        ..settings()?
+    })
+}
+
+/// A change that puts so many letters in at the front. It is canonical, and its body has 214 bytes more than they are.
+fn put_letters(alloc: Global, count: usize, version: i32) -> Result<String, AllocError> {
+    let mut put = String::from_str(
+        alloc,
+        r#"{"range":{"end":{"character":0,"line":0},"start":{"character":0,"line":0}},"text":""#,
+    )?;
+    for _ in 0..count {
+        put.push('x')?;
+    }
+    put.push_str(r#""}"#)?;
+    change(alloc, version, &put)
+}
+
+/// Is a run of two changes, which put so many letters in, written as one message? Else it is to stay as it is.
+fn is_one_message(alloc: Global, first: usize, second: usize, is_one: bool) -> Result<bool, Fail> {
+    let both = put_letters(alloc, first.saturating_add(second), 3)?;
+    let one = log(alloc, &[INITIALIZE, OPEN, &both])?;
+    let (first, second) = (
+        put_letters(alloc, first, 2)?,
+        put_letters(alloc, second, 3)?,
+    );
+    let input = log(alloc, &[INITIALIZE, OPEN, &first, &second])?;
+    let run = run_with(alloc, Command::Squash, &input, narrow()?, SMOOTH)?;
+    Ok(run.answer == Ended(0, 4, 0).answer() && run.output == if is_one { one } else { input })
+}
+
+#[test]
+fn the_body_of_a_run_reaches_the_limit(rt: HostRuntime) -> Result<(), Fail> {
+    assert!(rt; is_one_message(rt.alloc(), 2_000, 1_882, true)?);
+    assert!(rt; is_one_message(rt.alloc(), 2_000, 1_883, false)?);
+    Ok(())
+}
+
+/// Bodies of records up to an open run, those of them that are written, and the place of the record after them.
+type Open = (&'static [&'static str], &'static [&'static str], u64);
+
+/// The run is of the document of the faulty change, or of another one.
+static OPEN_RUNS: [Open; 2] = [
+    (&[INITIALIZE, OPEN, BEFORE], &[INITIALIZE, OPEN], 578),
+    (
+        &[INITIALIZE, OPEN, OPEN_OTHER, OTHER],
+        &[INITIALIZE, OPEN, OPEN_OTHER],
+        746,
+    ),
+];
+
+/// Is nothing of the run written where the message of the next change is too long?
+fn is_lost(alloc: Global, row: &Open) -> Result<bool, Fail> {
+    let (before, written, place) = row;
+    let mut input = log(alloc, before)?;
+    input.extend_from_slice(&log(alloc, &[letters(alloc, 3_883, 3)?.as_str()])?)?;
+    let run = run_with(alloc, Command::Squash, &input, narrow()?, SMOOTH)?;
+    let fault = EngineFault::BodyTooLong { place: *place };
+    Ok(run.answer == Err(fault) && run.output == log(alloc, written)?)
+}
+
+#[test]
+fn a_message_that_is_too_long_leaves_the_open_run_out(rt: HostRuntime) -> Result<(), Fail> {
+    for row in &OPEN_RUNS {
+        assert!(rt; is_lost(rt.alloc(), row)?, "{}", row.2);
     }
     Ok(())
 }
