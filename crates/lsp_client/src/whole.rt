@@ -74,12 +74,7 @@ fn document_after(
         (IsLeftToMeaning limits.now document.now version (map edit_of changes.now)) }
 {
     may_change(document, limits, version, changes)?;
-    let before = document.text();
-    // The text of an open document is shorter than that; only its contract doesn't say so.
-    if before.len() > MAX_OLD_TEXT {
-        return Err(StoreFault::NoMemory);
-    }
-    let lines = document.lines();
+    let (before, lines) = (document.text(), document.lines());
     let left = text_left(alloc, before, lines, encoding, changes, limits.max_text())?;
     Ok(left)
 }

@@ -10,6 +10,7 @@ ghost use Rattle.lsp_text.specs.Units.{units_in};
 ghost use Rattle.lsp_store.specs.Opened.{entry_under};
 
 use crate::held::Held;
+use lsp_edit::MAX_OLD_TEXT;
 use lsp_text::{Encoding, InsideCharacter, Lines, Position};
 use std::marker::Model;
 
@@ -60,7 +61,8 @@ impl<'a> Document<'a> {
 
     /// The text as it is now.
     pub fn text(&self) -> &'a str
-        ensures { result.now ≡ self.now.text }
+        ensures text { result.now ≡ self.now.text }
+        ensures short { length result.now ≤ MAX_OLD_TEXT }
     {
         self.held.text.text()
     }
