@@ -17,17 +17,17 @@ returns-in_err-left-clause-error c =
     let version : to_z w32 (of_z w32 c.args.version) ≡ c.args.version = to_z-of_z w32 c.args.version (search rules) in
     let p = err_from_is_err_and c.from_residual-in_err-left.result c.from_residual-in_err-left.ensures.1 in
     let may = rw version at (c.in_ok-may_change.ensures.may (units_in c.args.encoding)) in
-    rw (p.1, p.2, may) (text_told c.args.limits.now c.args.document.now.text _ _ (rw (c.max_text.ensures.value, c.text-before.ensures) at c.in_err-left.ensures.error))
+    rw (p.1, p.2, may) (text_told c.args.limits.now c.args.document.now.text _ _ (rw (c.max_text.ensures.value, c.text-before.ensures.text) at c.in_err-left.ensures.error))
 
 pub returns-clause-accepted : goal.returns-clause-accepted
 returns-clause-accepted c =
     let version : to_z w32 (of_z w32 c.args.version) ≡ c.args.version = to_z-of_z w32 c.args.version (search rules) in
     (rw version at (c.in_ok-may_change.ensures.may (units_in c.args.encoding)))
-    ∙ (meaning_accepted c.args.limits.now c.args.document.now.text _ _ (rw (c.max_text.ensures.value, c.text-before.ensures) at c.in_ok-left.ensures.ok)).0
+    ∙ (meaning_accepted c.args.limits.now c.args.document.now.text _ _ (rw (c.max_text.ensures.value, c.text-before.ensures.text) at c.in_ok-left.ensures.ok)).0
 
 pub returns-clause-ok : goal.returns-clause-ok
 returns-clause-ok c =
-    (meaning_accepted c.args.limits.now c.args.document.now.text _ _ (rw (c.max_text.ensures.value, c.text-before.ensures) at c.in_ok-left.ensures.ok)).1
+    (meaning_accepted c.args.limits.now c.args.document.now.text _ _ (rw (c.max_text.ensures.value, c.text-before.ensures.text) at c.in_ok-left.ensures.ok)).1
 
 pub returns-in_err-may_change-clause-memory : goal.returns-in_err-may_change-clause-memory
 returns-in_err-may_change-clause-memory c = λ e.
