@@ -4,8 +4,16 @@
 #
 #   examples/with-emacs.sh [FOLDER]      FOLDER keeps the record and the file; without it they are thrown away
 #
-# It needs Emacs with eglot (on Debian 12: apt-get install emacs-nox elpa-eglot). The status is 0 where both texts are equal.
+# It needs Emacs with eglot (on Debian 12: apt-get install emacs-nox elpa-eglot). The status is 0 where both texts are equal, 1 where they
+# aren't, 2 where something that is needed isn't there.
 set -eu
+fail() {
+    echo "with-emacs.sh: $1" >&2
+    exit 2
+}
+command -v emacs >/dev/null || fail "there is no emacs: on Debian, apt-get install emacs-nox elpa-eglot"
+emacs --batch -q --eval "(package-initialize)" --eval "(require 'eglot)" 2>/dev/null ||
+    fail "this Emacs has no eglot: on Debian 12, apt-get install elpa-eglot (Emacs 29 and later has it)"
 program="$(cd "$(dirname "$0")/.." && pwd)/lspsync"
 if [ $# -gt 0 ]; then
     folder="$1"
@@ -14,7 +22,7 @@ else
     folder="$(mktemp -d)"
     trap 'rm -rf "$folder"' EXIT
 fi
-"$program" --help >/dev/null # builds it where it isn't built yet
+"$program" --help >/dev/null || fail "lspsync can't be run; what it said is above" # builds it where it isn't built yet
 cd "$folder"
 printf 'first line\nsecond line\nthird line\n' >notes.txt
 
@@ -47,10 +55,14 @@ cat >session.el <<'ELISP'
 (eglot-shutdown (eglot-current-server))
 ELISP
 LSPSYNC="$program" emacs --batch -q --eval "(package-initialize)" -l session.el 2>emacs.log || cat emacs.log
+if [ ! -s session.log ]; then
+    cat emacs.log >&2
+    fail "Emacs sent nothing to its language server; what it said is above"
+fi
 
 echo "what a server answers to each message:"
-"$program" check <session.log
-"$program" replay <session.log >replayed.json
+"$program" check <session.log || [ $? = 1 ] # where something was refused the texts are still compared
+"$program" replay <session.log >replayed.json || [ $? = 1 ]
 echo "the documents at the end:"
 cat replayed.json
 emacs --batch -Q --eval '(progn (require (quote json))

@@ -5,8 +5,16 @@
 #
 #   examples/with-neovim.sh [FOLDER]      FOLDER keeps the record and the file; without it they are thrown away
 #
-# It needs Neovim 0.7 or later (on Debian: apt-get install neovim). The status is 0 where both texts are equal.
+# It needs Neovim 0.7 or later (on Debian: apt-get install neovim). The status is 0 where both texts are equal, 1 where they aren't,
+# 2 where something that is needed isn't there.
 set -eu
+fail() {
+    echo "with-neovim.sh: $1" >&2
+    exit 2
+}
+command -v nvim >/dev/null || fail "there is no nvim: on Debian 12, apt-get install neovim"
+nvim --headless -u NONE -i NONE -n -c 'if has("nvim-0.7") | qall! | else | cquit | endif' 2>/dev/null ||
+    fail "Neovim 0.7 or later is needed: on Debian 12, apt-get install neovim"
 program="$(cd "$(dirname "$0")/.." && pwd)/lspsync"
 if [ $# -gt 0 ]; then
     folder="$1"
@@ -15,7 +23,7 @@ else
     folder="$(mktemp -d)"
     trap 'rm -rf "$folder"' EXIT
 fi
-"$program" --help >/dev/null # builds it where it isn't built yet
+"$program" --help >/dev/null || fail "lspsync can't be run; what it said is above" # builds it where it isn't built yet
 cd "$folder"
 printf 'first line\nsecond line\nthird line\n' >notes.txt
 
@@ -50,11 +58,15 @@ vim.lsp.stop_client(id)
 vim.wait(1000, function() return done end, 10) -- `tee` may stay until Neovim closes its end
 vim.cmd("qall!")
 LUA
-LSPSYNC="$program" nvim --headless -u NONE -i NONE -n notes.txt -S session.lua 2>neovim.log
+LSPSYNC="$program" nvim --headless -u NONE -i NONE -n notes.txt -S session.lua 2>neovim.log || cat neovim.log
+if [ ! -s session.log ]; then
+    cat neovim.log >&2
+    fail "Neovim sent nothing to its language server; what it said is above"
+fi
 
 echo "what a server answers to each message:"
-"$program" check <session.log
-"$program" replay <session.log >replayed.json
+"$program" check <session.log || [ $? = 1 ] # where something was refused the texts are still compared
+"$program" replay <session.log >replayed.json || [ $? = 1 ]
 echo "the documents at the end:"
 cat replayed.json
 cat >text.lua <<'LUA'

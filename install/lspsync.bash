@@ -1,0 +1,31 @@
+# Completion of lspsync for bash.
+_lspsync() {
+    local word=${COMP_WORDS[COMP_CWORD]} before=${COMP_WORDS[COMP_CWORD - 1]} command=${COMP_WORDS[1]}
+    local commands="serve check replay normalise convert help" words
+    # bash cuts `--name=value` at the `=`
+    if [ "$word" = = ]; then
+        word=
+    elif [ "$before" = = ]; then
+        before=${COMP_WORDS[COMP_CWORD - 2]}
+    fi
+    case $before in
+        --encoding) words="utf-8 utf-16 utf-32" ;;
+        --sync) words="full incremental" ;;
+        --max-body | --max-text) words=16777216 ;;
+        --max-docs) words=1024 ;;
+        --max-changes) words=65536 ;;
+        *)
+            words="--encoding --max-body --max-text --max-docs --max-changes --help"
+            case $command in
+                serve) words="$words --sync" ;;
+                normalise) words="$words --squash" ;;
+                check | replay | convert) ;;
+                help) words=$commands ;;
+                *) words="$commands --help" ;;
+            esac
+            [ "$COMP_CWORD" -gt 1 ] || words="$commands --help"
+            ;;
+    esac
+    mapfile -t COMPREPLY < <(compgen -W "$words" -- "$word")
+}
+complete -o default -F _lspsync lspsync
