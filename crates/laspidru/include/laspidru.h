@@ -1,6 +1,7 @@
 /* Laspidru: texts that are kept as LSP 3.17 says, by a library that is proved. docs/EMBEDDING.md has examples.
 
-   Each function tests what it is passed and returns a code. Where the code isn't LASPIDRU_OK nothing has changed.
+   Each function tests what it is passed and returns a code. Where the code isn't LASPIDRU_OK nothing has changed. Memory
+   is taken last: LASPIDRU_OUT_OF_MEMORY is returned only where the arguments are not refused.
    A handle of zeroes is empty. It is given to one call at a time, and never copied while it is full; it may be used
    by any thread. What a handle holds is freed by laspidru_close. Pointers are never null, also where a length is 0. */
 #ifndef LASPIDRU_H

@@ -1,17 +1,13 @@
 //! The functions on documents.
 
-ghost use Rattle.std.specs.Prelude.{◌≡◌, ◌≢◌, Some, None, Ok, Err, IfErr, IfOk, IfSome, IsSome, map, option_map};
-ghost use Rattle.std.specs.Str.{chars};
-ghost use Rattle.lsp_text.specs.LineStarts.{IsPlace};
-ghost use Rattle.lsp_edit.specs.Edited.{edit_of};
-ghost use Rattle.lsp_edit.specs.declared.fault.EditFault.TheVariants.{InsideCharacter, ReversedRange};
-ghost use Rattle.lsp_edit.specs.declared.indexed.TextFault.TheVariants.{Edit as EditOf};
+ghost use Rattle.std.specs.Prelude.{◌≡◌, ◌≢◌, ◌≤◌, None, Ok, Some, IfErr, IfOk, length};
 ghost use Rattle.laspidru.specs.declared.object.Object.TheVariants.{Document};
-ghost use Rattle.laspidru.specs.Objects.{HoldsOf, IsCopy, IsExact, IsSizeOf, answer, encoding_numbered, offset_in, position_at, text_in, text_of};
-ghost use Rattle.laspidru.specs.Batches.{edits_of, left_by, side_at};
+ghost use Rattle.laspidru.specs.Batches.{IsLeft, batch_asked, fitting, left_by, refused_edit};
+ghost use Rattle.laspidru.specs.Codes.{IsAnswer, IsAnswerOrNoMemory, IsRefusedOr, both, unless};
+ghost use Rattle.laspidru.specs.Objects.{IsCopy, IsPositionAt, IsSize, document_in, document_of, encoding_at, in_use, offset_asked, position_at, rest_asked, text_asked};
 
-use crate::bytes::copy_bytes;
-use crate::changes::{changes_of, encoding_of, position_of, report};
+use crate::bytes::{copy_bytes, utf8_text};
+use crate::changes::{changes_of, encoding_of, fits, position_of, refusal_of, report};
 use crate::codes::{
     BAD_ENCODING, EMPTY, IN_USE, INSIDE_CHARACTER, NOT_UTF8, OK, OTHER_KIND, OUT_OF_MEMORY,
     OUT_OF_RANGE, REVERSED_RANGE, TOO_LONG,
@@ -19,51 +15,54 @@ use crate::codes::{
 use crate::handle::Handle;
 use crate::object::Object;
 use crate::place::{Edit, Fault, Place, Size};
-use lsp_edit::{Change, IndexedText, MAX_OLD_TEXT, fits};
+use lsp_edit::{IndexedText, MAX_OLD_TEXT};
 use lsp_text::Encoding;
-use std::alloc::Global;
+use std::alloc::{AllocError, Global};
 
-/// A document of a text in UTF-8.
-fn opened(alloc: Global, text: &[u8]) -> Result<Box<Object>, u32>
-    ensures ok { IfOk result (λ object. object.value ≡ Document text.now) }
-    ensures error { IfErr result (λ code. code ≢ OK) }
+/// A text to be opened, or why it can't be.
+fn text_of(bytes: &[u8]) -> Result<&str, u32>
+    ensures ok { IfOk result (λ text. text_asked bytes.now ≡ Ok text.now) }
+    ensures error { IfErr result (λ code. text_asked bytes.now ≡ Err code) }
 {
-    if text.len() > MAX_OLD_TEXT {
+    if bytes.len() > MAX_OLD_TEXT {
         return Err(TOO_LONG);
     }
-    let Ok(text) = std::str::from_utf8(text) else {
-        return Err(NOT_UTF8);
-    };
-    let Ok(copy) = text.to_string(alloc) else {
-        return Err(OUT_OF_MEMORY);
-    };
-    let Ok(document) = IndexedText::new(alloc, copy) else {
-        return Err(OUT_OF_MEMORY);
-    };
-    match Box::new(alloc, Object::Document(document)) {
-        Ok(object) => Ok(object),
-        Err(_) => Err(OUT_OF_MEMORY),
+    match utf8_text(bytes) {
+        Some(text) => Ok(text),
+        None => Err(NOT_UTF8),
     }
+}
+
+/// A document of a copy of a text.
+fn opened(alloc: Global, text: &str) -> Result<Box<Object>, AllocError>
+    requires { length text.now ≤ MAX_OLD_TEXT }
+    ensures { IfOk result (λ object. object.value ≡ Document text.now) }
+{
+    let document = IndexedText::new(alloc, text.to_string(alloc)?)?;
+    Ok(Box::new(alloc, Object::Document(document))?)
 }
 
 /// Opens a document in an empty handle, by a copy of the text.
 #[unsafe(no_mangle)]
 pub extern "C" fn laspidru_document_open(alloc: Global, handle: &mut Handle, text: &[u8]) -> u32
-    ensures ok { result ≡ OK → handle.new.value ≡ Some (Document text.now) }
+    ensures answer { let asked = unless (in_use handle.old.value) (text_asked text.now) in
+        IsAnswerOrNoMemory asked result
+        (λ text. (result ≡ OK) × (handle.new.value ≡ Some (Document text))) }
     ensures unchanged { result ≢ OK → handle.new.value ≡ handle.old.value }
-    ensures empty { result ≡ OK → handle.old.value ≡ None }
 {
     if let Some(held) = handle.take(alloc) {
         handle.put(held);
         return IN_USE;
     }
-    match opened(alloc, text) {
-        Ok(object) => {
-            handle.put(object);
-            OK
-        }
-        Err(code) => code,
-    }
+    let text = match text_of(text) {
+        Ok(text) => text,
+        Err(code) => return code,
+    };
+    let Ok(object) = opened(alloc, text) else {
+        return OUT_OF_MEMORY;
+    };
+    handle.put(object);
+    OK
 }
 
 /// Frees what a handle holds. An empty handle stays empty.
@@ -76,29 +75,30 @@ pub extern "C" fn laspidru_close(alloc: Global, handle: &mut Handle)
 
 /// Makes the changes of a batch on an object.
 fn change_object(
+    alloc: Global,
     object: &mut Object,
     encoding: Encoding,
-    changes: &[Change],
+    edits: &[Edit],
+    texts: &[u8],
     fault: &mut Fault,
 ) -> u32
-    ensures ok { result ≡ OK → option_map Ok (text_of object.new)
-        ≡ answer (left_by MAX_OLD_TEXT (map edit_of changes.now)) (Some encoding) (text_of object.old) }
-    ensures document { result ≡ OK → IsSome (text_of object.new) }
+    requires { refused_edit edits.now texts.now ≡ None }
+    ensures answer { IsAnswerOrNoMemory
+        (fitting encoding edits.now texts.now (document_of object.old)) result
+        (λ asked. IsLeft (left_by asked) result (Some object.new) fault.new) }
     ensures unchanged { result ≢ OK → object.new ≡ object.old }
-    ensures inside { result ≡ INSIDE_CHARACTER
-        → answer (left_by MAX_OLD_TEXT (map edit_of changes.now)) (Some encoding) (text_of object.old)
-        ≡ Some (Err (EditOf (InsideCharacter fault.new.change (side_at fault.new.at_end)))) }
-    ensures reversed { result ≡ REVERSED_RANGE
-        → answer (left_by MAX_OLD_TEXT (map edit_of changes.now)) (Some encoding) (text_of object.old)
-        ≡ Some (Err (EditOf (ReversedRange fault.new.change))) }
+    ensures fault { result ≢ INSIDE_CHARACTER → result ≢ REVERSED_RANGE → fault.new ≡ fault.old }
 {
     let Object::Document(document) = object else {
         return OTHER_KIND;
     };
-    if !fits(changes) || document.text().len() > MAX_OLD_TEXT {
+    if !fits(edits) || document.text().len() > MAX_OLD_TEXT {
         return TOO_LONG;
     }
-    match document.change(encoding, changes, MAX_OLD_TEXT) {
+    let Ok(changes) = changes_of(alloc, edits, texts) else {
+        return OUT_OF_MEMORY;
+    };
+    match document.change(encoding, &changes, MAX_OLD_TEXT) {
         Ok(()) => OK,
         Err(error) => report(error, fault),
     }
@@ -115,31 +115,22 @@ pub extern "C" fn laspidru_document_change(
     texts: &[u8],
     fault: &mut Fault,
 ) -> u32
-    ensures ok { result ≡ OK → option_map Ok (text_in handle.new.value)
-        ≡ answer (left_by MAX_OLD_TEXT (edits_of edits.now texts.now)) (encoding_numbered encoding)
-        (text_in handle.old.value) }
-    ensures document { result ≡ OK → IsSome (text_in handle.new.value) }
+    ensures answer { IsAnswerOrNoMemory
+        (batch_asked encoding edits.now texts.now (document_in handle.old.value)) result
+        (λ asked. IsLeft (left_by asked) result handle.new.value fault.new) }
     ensures unchanged { result ≢ OK → handle.new.value ≡ handle.old.value }
-    ensures inside { result ≡ INSIDE_CHARACTER
-        → answer (left_by MAX_OLD_TEXT (edits_of edits.now texts.now)) (encoding_numbered encoding)
-        (text_in handle.old.value)
-        ≡ Some (Err (EditOf (InsideCharacter fault.new.change (side_at fault.new.at_end)))) }
-    ensures reversed { result ≡ REVERSED_RANGE
-        → answer (left_by MAX_OLD_TEXT (edits_of edits.now texts.now)) (encoding_numbered encoding)
-        (text_in handle.old.value)
-        ≡ Some (Err (EditOf (ReversedRange fault.new.change))) }
+    ensures fault { result ≢ INSIDE_CHARACTER → result ≢ REVERSED_RANGE → fault.new ≡ fault.old }
 {
     let Some(encoding) = encoding_of(encoding) else {
         return BAD_ENCODING;
     };
-    let changes = match changes_of(alloc, edits, texts) {
-        Ok(changes) => changes,
-        Err(code) => return code,
-    };
+    if let Some(code) = refusal_of(edits, texts) {
+        return code;
+    }
     let Some(mut object) = handle.take(alloc) else {
         return EMPTY;
     };
-    let code = change_object(&mut object, encoding, &changes, fault);
+    let code = change_object(alloc, &mut object, encoding, edits, texts, fault);
     handle.put(object);
     code
 }
@@ -147,9 +138,8 @@ pub extern "C" fn laspidru_document_change(
 /// How many bytes and how many lines an object's text has.
 #[tactic(auto, using(lsp_text::proofs::IndexesLemmas::indexes_count))]
 fn object_size(object: &Object, out: &mut Size) -> u32
-    ensures ok { result ≡ OK → IsSizeOf out.new (text_of object.now) }
+    ensures answer { IsAnswer (document_of object.now) result (IsSize out.new) }
     ensures unchanged { result ≢ OK → out.new ≡ out.old }
-    ensures other { result ≢ OK → text_of object.now ≡ None }
 {
     let Object::Document(document) = object else {
         return OTHER_KIND;
@@ -164,10 +154,9 @@ fn object_size(object: &Object, out: &mut Size) -> u32
 /// How many bytes and how many lines the text has.
 #[unsafe(no_mangle)]
 pub extern "C" fn laspidru_document_size(alloc: Global, handle: &mut Handle, out: &mut Size) -> u32
-    ensures ok { result ≡ OK → IsSizeOf out.new (text_in handle.old.value) }
+    ensures answer { IsAnswer (document_in handle.old.value) result (IsSize out.new) }
     ensures handle { handle.new.value ≡ handle.old.value }
     ensures unchanged { result ≢ OK → out.new ≡ out.old }
-    ensures none { result ≢ OK → text_in handle.old.value ≡ None }
 {
     let Some(object) = handle.take(alloc) else {
         return EMPTY;
@@ -179,17 +168,18 @@ pub extern "C" fn laspidru_document_size(alloc: Global, handle: &mut Handle, out
 
 /// Copies the bytes of an object's text from `start` on, as many as `out` holds.
 fn object_copy(object: &Object, start: usize, out: &mut [u8], copied: &mut usize) -> u32
-    ensures ok { result ≡ OK → IsCopy start out.old out.new copied.new (text_of object.now) }
+    ensures answer { IsAnswer (rest_asked start (document_of object.now)) result
+        (IsCopy out.old out.new copied.new) }
     ensures unchanged { result ≢ OK → (out.new ≡ out.old) × (copied.new ≡ copied.old) }
 {
     let Object::Document(document) = object else {
         return OTHER_KIND;
     };
-    if copy_bytes(document.text().as_bytes(), start, out, copied) {
-        OK
-    } else {
-        OUT_OF_RANGE
-    }
+    let Some((_, rest)) = document.text().as_bytes().split_at_checked(start) else {
+        return OUT_OF_RANGE;
+    };
+    *copied = copy_bytes(rest, out);
+    OK
 }
 
 /// Copies the bytes of the text from `start` on, as many as `out` holds, and says how many.
@@ -201,7 +191,8 @@ pub extern "C" fn laspidru_document_copy(
     out: &mut [u8],
     copied: &mut usize,
 ) -> u32
-    ensures ok { result ≡ OK → IsCopy start out.old out.new copied.new (text_in handle.old.value) }
+    ensures answer { IsAnswer (rest_asked start (document_in handle.old.value)) result
+        (IsCopy out.old out.new copied.new) }
     ensures handle { handle.new.value ≡ handle.old.value }
     ensures unchanged { result ≢ OK → (out.new ≡ out.old) × (copied.new ≡ copied.old) }
 {
@@ -215,11 +206,10 @@ pub extern "C" fn laspidru_document_copy(
 
 /// The byte offset that a position denotes in an object's text.
 fn object_offset(object: &Object, encoding: Encoding, position: Place, out: &mut usize) -> u32
-    ensures ok { result ≡ OK
-        → answer (offset_in (position_at position)) (Some encoding) (text_of object.now) ≡ Some (Some out.new) }
+    ensures answer { IsAnswer
+        (offset_asked (position_at position) (Ok encoding) (document_of object.now)) result
+        (λ offset. out.new ≡ offset) }
     ensures unchanged { result ≢ OK → out.new ≡ out.old }
-    ensures inside { result ≡ INSIDE_CHARACTER
-        → answer (offset_in (position_at position)) (Some encoding) (text_of object.now) ≡ Some None }
 {
     let Object::Document(document) = object else {
         return OTHER_KIND;
@@ -245,14 +235,11 @@ pub extern "C" fn laspidru_document_offset(
     position: Place,
     out: &mut usize,
 ) -> u32
-    ensures ok { result ≡ OK
-        → answer (offset_in (position_at position)) (encoding_numbered encoding) (text_in handle.old.value)
-        ≡ Some (Some out.new) }
+    ensures answer { let document = document_in handle.old.value in IsAnswer
+        (offset_asked (position_at position) (encoding_at encoding) document) result
+        (λ offset. out.new ≡ offset) }
     ensures handle { handle.new.value ≡ handle.old.value }
     ensures unchanged { result ≢ OK → out.new ≡ out.old }
-    ensures inside { result ≡ INSIDE_CHARACTER
-        → answer (offset_in (position_at position)) (encoding_numbered encoding) (text_in handle.old.value)
-        ≡ Some None }
 {
     let Some(encoding) = encoding_of(encoding) else {
         return BAD_ENCODING;
@@ -267,11 +254,9 @@ pub extern "C" fn laspidru_document_offset(
 
 /// The exact position of a byte offset in an object's text.
 fn object_position(object: &Object, encoding: Encoding, offset: usize, out: &mut Place) -> u32
-    ensures ok { result ≡ OK
-        → answer (offset_in (position_at out.new)) (Some encoding) (text_of object.now) ≡ Some (Some offset) }
-    ensures exact { result ≡ OK → HoldsOf (IsExact offset out.new) (Some encoding) (text_of object.now) }
+    ensures answer { IsRefusedOr (document_of object.now) result
+        (λ text. IsPositionAt offset encoding text result out.new) }
     ensures unchanged { result ≢ OK → out.new ≡ out.old }
-    ensures inside { result ≡ INSIDE_CHARACTER → IfSome (text_of object.now) (λ text. ¬ (IsPlace (chars text) offset)) }
 {
     let Object::Document(document) = object else {
         return OTHER_KIND;
@@ -297,15 +282,10 @@ pub extern "C" fn laspidru_document_position(
     offset: usize,
     out: &mut Place,
 ) -> u32
-    ensures ok { result ≡ OK
-        → answer (offset_in (position_at out.new)) (encoding_numbered encoding) (text_in handle.old.value)
-        ≡ Some (Some offset) }
-    ensures exact { result ≡ OK → HoldsOf (IsExact offset out.new) (encoding_numbered encoding)
-        (text_in handle.old.value) }
+    ensures answer { IsRefusedOr (both (encoding_at encoding) (document_in handle.old.value)) result
+        (λ asked. IsPositionAt offset asked.0 asked.1 result out.new) }
     ensures handle { handle.new.value ≡ handle.old.value }
     ensures unchanged { result ≢ OK → out.new ≡ out.old }
-    ensures inside { result ≡ INSIDE_CHARACTER
-        → IfSome (text_in handle.old.value) (λ text. ¬ (IsPlace (chars text) offset)) }
 {
     let Some(encoding) = encoding_of(encoding) else {
         return BAD_ENCODING;
