@@ -30,7 +30,7 @@ enum {
     LASPIDRU_BAD_ENCODING = 8,     /* not one of the encodings */
     LASPIDRU_BAD_LENGTH = 9,       /* the lengths of the edits exceed their texts */
     LASPIDRU_OTHER_KIND = 10,      /* the handle holds an object of another kind */
-    LASPIDRU_OUT_OF_RANGE = 11     /* no such offset or edit */
+    LASPIDRU_OUT_OF_RANGE = 11     /* no such line, offset or edit */
 };
 
 /* Encodings: what a position's character counts. */
@@ -62,6 +62,12 @@ typedef struct laspidru_fault {
     laspidru_bool at_end;
 } laspidru_fault;
 
+/* Where a line starts and ends, in bytes. Its line end is not in it. */
+typedef struct laspidru_line {
+    laspidru_size start;
+    laspidru_size end;
+} laspidru_line;
+
 /* How many bytes and how many lines a text has. */
 typedef struct laspidru_length {
     laspidru_size bytes;
@@ -82,6 +88,9 @@ laspidru_u32 laspidru_document_change(laspidru_handle *document, laspidru_u32 en
 
 /* How many bytes and lines the text has. */
 laspidru_u32 laspidru_document_size(laspidru_handle *document, laspidru_length *length);
+
+/* Where a line, counted from 0, starts, and where it ends without its line end. */
+laspidru_u32 laspidru_document_line(laspidru_handle *document, laspidru_u32 line, laspidru_line *range);
 
 /* Copies the bytes of the text from `start` on, as many as `out` holds, and says how many. */
 laspidru_u32 laspidru_document_copy(laspidru_handle *document, laspidru_size start,

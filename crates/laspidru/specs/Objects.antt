@@ -7,12 +7,13 @@ use Rattle.lsp_text.specs.declared.encoding.Encoding.TheVariants.{Utf8, Utf16, U
 use Rattle.lsp_text.specs.declared.position.Position.{Position}
 use Rattle.lsp_text.specs.LineStarts.{IsPlace}
 use Rattle.lsp_text.specs.Positions.{denoted, exact_position}
-use Rattle.lsp_text.specs.TextLines.{line_ends}
+use Rattle.lsp_text.specs.TextLines.{line_ends, line_start, line_stop}
 use Rattle.lsp_text.specs.Text.{place_of}
 use Rattle.lsp_text.specs.Units.{units_in}
 use Rattle.lsp_edit.specs.declared.change.Change.{Change}
 use Rattle.lsp_edit.specs.declared.composed.TheConstants.{MAX_OLD_TEXT}
 use Rattle.laspidru.specs.declared.codes.TheConstants.{BAD_ENCODING, EMPTY, IN_USE, INSIDE_CHARACTER, NOT_UTF8, OK, OTHER_KIND, OUT_OF_RANGE, TOO_LONG}
+use Rattle.laspidru.specs.declared.place.Line.{Line}
 use Rattle.laspidru.specs.declared.place.Place.{Place}
 use Rattle.laspidru.specs.declared.place.Size.{Size}
 use Rattle.laspidru.specs.declared.object.Object.{Object}
@@ -65,6 +66,16 @@ encoding_at number = ok_or (encoding_numbered number) BAD_ENCODING
 -- How many bytes and lines a text has.
 abbrev pub IsSize : Size → List ℕ → Type 0
 IsSize size text = (size.bytes ≡ length text) × (size.lines ≡ line_ends (chars text) + 1)
+
+-- a text with a line of this number
+abbrev pub line_asked : ℕ → Result (List ℕ) ℕ → Result (List ℕ) ℕ
+line_asked line document = and_then document (λ text.
+    if nat_lt (line_ends (chars text)) line then Err OUT_OF_RANGE else Ok text)
+
+-- Where the line starts, and where it ends before its line end.
+pub record IsLine (number : ℕ) (line : Line) (text : List ℕ) : Type 0 where
+  pub start : line.start ≡ place_of (chars text) (line_start (chars text) number)
+  pub end : line.end ≡ place_of (chars text) (line_stop (chars text) number)
 
 -- the bytes of a text from `start` on
 abbrev pub rest_asked : ℕ → Result (List ℕ) ℕ → Result (List ℕ) ℕ

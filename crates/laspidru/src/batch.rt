@@ -57,7 +57,8 @@ fn object_canonical(
 }
 
 /// Puts the canonical batch of what a batch means on the text into an empty handle: one change for each changed gap, from the last
-/// to the first. The document stays as it is.
+/// to the first. The document stays as it is. Codes and cost are those of `laspidru_document_change`, with IN_USE of `batch` before
+/// EMPTY.
 #[unsafe(no_mangle)]
 pub extern "C" fn laspidru_document_canonical(
     alloc: Global,
@@ -105,7 +106,7 @@ fn object_len(object: &Object, out: &mut usize) -> u32
     OK
 }
 
-/// How many changes a batch has.
+/// How many changes a batch has, in constant time. Codes: EMPTY, OTHER_KIND.
 #[unsafe(no_mangle)]
 pub extern "C" fn laspidru_batch_len(alloc: Global, batch: &mut Handle, out: &mut usize) -> u32
     ensures answer { IsAnswer (batch_in batch.old.value) result
@@ -175,7 +176,8 @@ fn object_edit(
     OK
 }
 
-/// A change of a batch, counted from 0, with the length of its text; and as much of the text as `out` holds.
+/// A change of a batch, counted from 0, with the length of its text; and as much of the text as `out` holds. Codes, in this order:
+/// EMPTY, OTHER_KIND, OUT_OF_RANGE. Costs the copy.
 #[unsafe(no_mangle)]
 pub extern "C" fn laspidru_batch_edit(
     alloc: Global,

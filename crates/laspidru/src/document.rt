@@ -1,10 +1,14 @@
 //! The functions on documents.
 
-ghost use Rattle.std.specs.Prelude.{◌≡◌, ◌≢◌, ◌≤◌, None, Ok, Some, IfErr, IfOk, length};
+ghost use Rattle.std.specs.Prelude.{◌≡◌, ◌≢◌, ◌<◌, ◌≤◌, List, None, Ok, Some, IfErr, IfNone, IfOk, IfSome, OnSome, length, ℕ};
+ghost use Rattle.std.specs.Str.{chars};
+ghost use Rattle.lsp_text.specs.LineStarts.{Indexes};
+ghost use Rattle.lsp_text.specs.Text.{place_of};
+ghost use Rattle.lsp_text.specs.TextLines.{line_ends, line_start, line_stop};
 ghost use Rattle.laspidru.specs.declared.object.Object.TheVariants.{Document};
 ghost use Rattle.laspidru.specs.Batches.{IsLeft, batch_asked, fitting, left_by, refused_edit};
 ghost use Rattle.laspidru.specs.Codes.{IsAnswer, IsAnswerOrNoMemory, IsRefusedOr, both, unless};
-ghost use Rattle.laspidru.specs.Objects.{IsCopy, IsPositionAt, IsSize, document_in, document_of, encoding_at, in_use, offset_asked, position_at, rest_asked, text_asked};
+ghost use Rattle.laspidru.specs.Objects.{IsCopy, IsLine, IsPositionAt, IsSize, document_in, document_of, encoding_at, in_use, line_asked, offset_asked, position_at, rest_asked, text_asked};
 
 use crate::bytes::{copy_bytes, utf8_text};
 use crate::changes::{changes_of, encoding_of, fits, position_of, refusal_of, report};
@@ -14,9 +18,9 @@ use crate::codes::{
 };
 use crate::handle::Handle;
 use crate::object::Object;
-use crate::place::{Edit, Fault, Place, Size};
+use crate::place::{Edit, Fault, Line, Place, Size};
 use lsp_edit::{IndexedText, MAX_OLD_TEXT};
-use lsp_text::Encoding;
+use lsp_text::{Encoding, Lines, Position, Starts, line_laws, position_laws};
 use std::alloc::{AllocError, Global};
 
 /// A text to be opened, or why it can't be.
@@ -42,7 +46,8 @@ fn opened(alloc: Global, text: &str) -> Result<Box<Object>, AllocError>
     Ok(Box::new(alloc, Object::Document(document))?)
 }
 
-/// Opens a document in an empty handle, by a copy of the text.
+/// Opens a document in an empty handle, by a copy of the text. Codes, in this order: IN_USE, TOO_LONG, NOT_UTF8; OUT_OF_MEMORY.
+/// Costs a copy of the text and two passes over it.
 #[unsafe(no_mangle)]
 pub extern "C" fn laspidru_document_open(alloc: Global, handle: &mut Handle, text: &[u8]) -> u32
     ensures answer { let asked = unless (in_use handle.old.value) (text_asked text.now) in
@@ -65,7 +70,7 @@ pub extern "C" fn laspidru_document_open(alloc: Global, handle: &mut Handle, tex
     OK
 }
 
-/// Frees what a handle holds. An empty handle stays empty.
+/// Frees what a handle holds. An empty handle stays empty. There is no code.
 #[unsafe(no_mangle)]
 pub extern "C" fn laspidru_close(alloc: Global, handle: &mut Handle)
     ensures { handle.new.value ≡ None }
@@ -105,7 +110,9 @@ fn change_object(
 }
 
 /// Makes the changes of a `didChange`, in order, or none of them (LSP 3.17, DidChangeTextDocumentParams). The texts of the edits
-/// follow each other in `texts`. Where a change has no result, `fault` says which.
+/// follow each other in `texts`. Codes, in this order: BAD_ENCODING; BAD_LENGTH or NOT_UTF8 of the first such edit; EMPTY,
+/// OTHER_KIND, TOO_LONG; OUT_OF_MEMORY, or INSIDE_CHARACTER, REVERSED_RANGE or TOO_LONG where the batch leaves no text. With the two
+/// codes of a faulty change `fault` says which it is. Costs a pass over the texts, their copy, and [`IndexedText::change`].
 #[unsafe(no_mangle)]
 pub extern "C" fn laspidru_document_change(
     alloc: Global,
@@ -151,7 +158,7 @@ fn object_size(object: &Object, out: &mut Size) -> u32
     OK
 }
 
-/// How many bytes and how many lines the text has.
+/// How many bytes and how many lines the text has, in constant time. Codes: EMPTY, OTHER_KIND.
 #[unsafe(no_mangle)]
 pub extern "C" fn laspidru_document_size(alloc: Global, handle: &mut Handle, out: &mut Size) -> u32
     ensures answer { IsAnswer (document_in handle.old.value) result (IsSize out.new) }
@@ -162,6 +169,87 @@ pub extern "C" fn laspidru_document_size(alloc: Global, handle: &mut Handle, out
         return EMPTY;
     };
     let code = object_size(&object, out);
+    handle.put(object);
+    code
+}
+
+/// Where a line starts.
+fn line_start_of(lines: &Lines, line: usize) -> usize
+    requires { line < length lines.now }
+    ensures { (text : List ℕ) → Indexes lines.now text → line ≤ line_ends (chars text)
+        → result ≡ place_of (chars text) (line_start (chars text) line) }
+{
+    line_laws();
+    lines.looks().at(line)
+}
+
+/// Where the content of a line ends.
+fn line_stop_of(text: &str, lines: &Lines, line: u32) -> usize
+    requires indexed { Indexes lines.now text.now }
+    requires line { line ≤ line_ends (chars text.now) }
+    ensures { result ≡ place_of (chars text.now) (line_stop (chars text.now) line) }
+{
+    // No line has so many bytes.
+    let past_line = Position {
+        line,
+        character: u32::MAX,
+    };
+    position_laws();
+    lines
+        .resolve(text, Encoding::Utf8, past_line)
+        .unwrap_or(text.len())
+}
+
+/// Where a line starts and ends, if the text has it.
+fn line_of(text: &str, lines: &Lines, line: u32) -> Option<Line>
+    requires { Indexes lines.now text.now }
+    ensures some { IfSome result (λ found. IsLine line found text.now) }
+    ensures there { OnSome result (line ≤ line_ends (chars text.now)) }
+    ensures none { IfNone result (line_ends (chars text.now) < line) }
+{
+    if line as usize >= lines.count() {
+        return None;
+    }
+    Some(Line {
+        start: line_start_of(lines, line as usize),
+        end: line_stop_of(text, lines, line),
+    })
+}
+
+/// Where a line of an object's text starts and ends.
+fn object_line(object: &Object, line: u32, out: &mut Line) -> u32
+    ensures answer { IsAnswer (line_asked line (document_of object.now)) result
+        (IsLine line out.new) }
+    ensures unchanged { result ≢ OK → out.new ≡ out.old }
+{
+    let Object::Document(document) = object else {
+        return OTHER_KIND;
+    };
+    let Some(found) = line_of(document.text(), document.lines(), line) else {
+        return OUT_OF_RANGE;
+    };
+    *out = found;
+    OK
+}
+
+/// Where a line starts, and where it ends without its line end, in constant time. Codes, in this order: EMPTY, OTHER_KIND,
+/// OUT_OF_RANGE.
+#[unsafe(no_mangle)]
+pub extern "C" fn laspidru_document_line(
+    alloc: Global,
+    handle: &mut Handle,
+    line: u32,
+    out: &mut Line,
+) -> u32
+    ensures answer { IsAnswer (line_asked line (document_in handle.old.value)) result
+        (IsLine line out.new) }
+    ensures handle { handle.new.value ≡ handle.old.value }
+    ensures unchanged { result ≢ OK → out.new ≡ out.old }
+{
+    let Some(object) = handle.take(alloc) else {
+        return EMPTY;
+    };
+    let code = object_line(&object, line, out);
     handle.put(object);
     code
 }
@@ -182,7 +270,8 @@ fn object_copy(object: &Object, start: usize, out: &mut [u8], copied: &mut usize
     OK
 }
 
-/// Copies the bytes of the text from `start` on, as many as `out` holds, and says how many.
+/// Copies the bytes of the text from `start` on, as many as `out` holds, and says how many. Codes, in this order: EMPTY, OTHER_KIND,
+/// OUT_OF_RANGE. Costs the copy.
 #[unsafe(no_mangle)]
 pub extern "C" fn laspidru_document_copy(
     alloc: Global,
@@ -227,6 +316,7 @@ fn object_offset(object: &Object, encoding: Encoding, position: Place, out: &mut
 }
 
 /// The byte offset that a position denotes: the end of the text after its last line, the end of the line after its last character.
+/// Codes, in this order: BAD_ENCODING, EMPTY, OTHER_KIND, INSIDE_CHARACTER. Costs the line up to the character, in UTF-8 nothing.
 #[unsafe(no_mangle)]
 pub extern "C" fn laspidru_document_offset(
     alloc: Global,
@@ -273,7 +363,8 @@ fn object_position(object: &Object, encoding: Encoding, offset: usize, out: &mut
     OK
 }
 
-/// The exact position of a byte offset.
+/// The exact position of a byte offset. Codes, in this order: BAD_ENCODING, EMPTY, OTHER_KIND; INSIDE_CHARACTER, also for an offset
+/// between CR and LF or past the end. Costs a search among the lines, and the line up to the offset.
 #[unsafe(no_mangle)]
 pub extern "C" fn laspidru_document_position(
     alloc: Global,
