@@ -102,6 +102,30 @@ static void test_positions(void) {
     laspidru_close(&document);
 }
 
+static void test_lines(void) {
+    struct {
+        const char *text;
+        laspidru_u32 line, code;
+        laspidru_size start, end;
+    } rows[] = {
+        {sample, 0, LASPIDRU_OK, 0, 1},   {sample, 1, LASPIDRU_OK, 3, 8},   {sample, 2, LASPIDRU_OUT_OF_RANGE, 77, 77},
+        {"", 0, LASPIDRU_OK, 0, 0},       {"", 1, LASPIDRU_OUT_OF_RANGE, 77, 77},
+        {"\r\rx\n", 0, LASPIDRU_OK, 0, 0}, {"\r\rx\n", 1, LASPIDRU_OK, 1, 1}, {"\r\rx\n", 2, LASPIDRU_OK, 2, 3},
+        {"\r\rx\n", 3, LASPIDRU_OK, 4, 4}, {"\r\rx\n", 4294967295u, LASPIDRU_OUT_OF_RANGE, 77, 77},
+    };
+    laspidru_handle document = {0};
+    laspidru_line range = {77, 77};
+    laspidru_size i;
+    CHECK(laspidru_document_line(&document, 0, &range) == LASPIDRU_EMPTY && range.start == 77);
+    for (i = 0; i < sizeof rows / sizeof rows[0]; i++) {
+        range = (laspidru_line){77, 77};
+        CHECK(open_text(&document, rows[i].text) == LASPIDRU_OK);
+        CHECK(laspidru_document_line(&document, rows[i].line, &range) == rows[i].code);
+        CHECK(range.start == rows[i].start && range.end == rows[i].end);
+        laspidru_close(&document);
+    }
+}
+
 static void test_change(void) {
     laspidru_handle document = {0};
     laspidru_fault fault = {9, 0};
@@ -203,6 +227,7 @@ int main(void) {
     test_open();
     test_copy();
     test_positions();
+    test_lines();
     test_change();
     test_canonical();
     test_refused();

@@ -133,6 +133,29 @@ static napi_value line_count(napi_env env, napi_callback_info info) {
     return out;
 }
 
+/* line(document, number): a line without its line end */
+static napi_value line(napi_env env, napi_callback_info info) {
+    napi_value found[MOST_ARGUMENTS], out = NULL;
+    laspidru_handle *document;
+    laspidru_u32 number;
+    laspidru_line range;
+    laspidru_size copied = 0;
+    if (!arguments(env, info, 2, found) || napi_get_value_external(env, found[0], (void **)&document) != napi_ok ||
+        napi_get_value_uint32(env, found[1], &number) != napi_ok)
+        return refuse_arguments(env);
+    laspidru_u32 code = laspidru_document_line(document, number, &range);
+    if (code != LASPIDRU_OK)
+        return refuse(env, code);
+    unsigned char *bytes = malloc(range.end - range.start + 1);
+    if (bytes == NULL)
+        return refuse(env, LASPIDRU_OUT_OF_MEMORY);
+    code = laspidru_document_copy(document, range.start, bytes, range.end - range.start, &copied);
+    if (code == LASPIDRU_OK && napi_create_string_utf8(env, (const char *)bytes, copied, &out) != napi_ok)
+        code = LASPIDRU_OUT_OF_MEMORY;
+    free(bytes);
+    return code == LASPIDRU_OK ? out : refuse(env, code);
+}
+
 /* offset(document, encoding, line, character): a byte offset */
 static napi_value offset(napi_env env, napi_callback_info info) {
     napi_value found[MOST_ARGUMENTS], out = NULL;
@@ -178,6 +201,7 @@ NAPI_MODULE_INIT() {
     const napi_property_descriptor functions[] = {
         {"open", 0, open_document, 0, 0, 0, napi_default, 0}, {"change", 0, change, 0, 0, 0, napi_default, 0},
         {"text", 0, text, 0, 0, 0, napi_default, 0},          {"lineCount", 0, line_count, 0, 0, 0, napi_default, 0},
+        {"line", 0, line, 0, 0, 0, napi_default, 0},
         {"offset", 0, offset, 0, 0, 0, napi_default, 0},      {"position", 0, position, 0, 0, 0, napi_default, 0},
     };
     napi_define_properties(env, exports, sizeof functions / sizeof *functions, functions);

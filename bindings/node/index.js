@@ -44,6 +44,11 @@ class TextDocument {
     return addon.lineCount(this.#document);
   }
 
+  /** A line, counted from 0, without its line end. The rest of the text is not read. */
+  lineAt(line) {
+    return addon.line(this.#document, line);
+  }
+
   getText(range) {
     this.#text ??= addon.text(this.#document);
     return range ? this.#text.slice(this.offsetAt(range.start), this.offsetAt(range.end)) : this.#text;

@@ -8,6 +8,8 @@ const change = (start, end, text) => ({ range: { start, end }, text });
 
 const document = TextDocument.create('file:///a', 'plain', 1, 'a\r\nb\u{1F600}');
 assert.strictEqual(document.lineCount, 2);
+assert.deepStrictEqual([document.lineAt(0), document.lineAt(1)], ['a', 'b\u{1F600}']);
+assert.throws(() => document.lineAt(2), { code: 'OUT_OF_RANGE' });
 assert.deepStrictEqual(document.positionAt(6), at(1, 3));
 assert.strictEqual(document.offsetAt(at(1, 3)), 6);
 assert.strictEqual(document.offsetAt(at(0, 9)), 1);

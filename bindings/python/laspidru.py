@@ -13,7 +13,7 @@ from ctypes import POINTER, byref, c_bool, c_char_p, c_size_t, c_uint32, c_void_
 
 UTF8, UTF16, UTF32 = 8, 16, 32
 ENCODINGS = {"utf-8": UTF8, "utf-16": UTF16, "utf-32": UTF32}
-INSIDE_CHARACTER, REVERSED_RANGE, OUT_OF_MEMORY = 6, 7, 2
+INSIDE_CHARACTER, REVERSED_RANGE, OUT_OF_MEMORY, OUT_OF_RANGE = 6, 7, 2, 11
 WHY = {1: "the text is not UTF-8", 2: "out of memory", 3: "the handle is in use", 4: "the document is closed",
        5: "the text is too long", 6: "a position lies inside a character", 7: "a range is reversed",
        8: "unknown encoding", 9: "the lengths of the edits exceed their texts", 10: "an object of another kind",
@@ -36,6 +36,10 @@ class _Fault(ctypes.Structure):
     _fields_ = [("change", c_size_t), ("at_end", c_bool)]
 
 
+class _Line(ctypes.Structure):
+    _fields_ = [("start", c_size_t), ("end", c_size_t)]
+
+
 class _Length(ctypes.Structure):
     _fields_ = [("bytes", c_size_t), ("lines", c_size_t)]
 
@@ -48,6 +52,7 @@ def _library():
         "document_open": [handle, c_char_p, c_size_t],
         "document_change": batch + [POINTER(_Fault)],
         "document_size": [handle, POINTER(_Length)],
+        "document_line": [handle, c_uint32, POINTER(_Line)],
         "document_copy": [handle, c_size_t, c_void_p, c_size_t, size],
         "document_offset": [handle, c_uint32, _Place, size],
         "document_position": [handle, c_uint32, c_size_t, POINTER(_Place)],
@@ -140,6 +145,18 @@ class Document:
     def line_count(self):
         with self._lock:
             return self._length().lines
+
+    def line(self, number):
+        """A line, counted from 0, without its line end. The rest of the text is not read."""
+        if not 0 <= number < 2 ** 32:
+            raise LaspidruError(OUT_OF_RANGE)
+        line, copied = _Line(), c_size_t()
+        with self._lock:
+            _demand(_LIBRARY.laspidru_document_line(byref(self._handle), number, byref(line)))
+            room = line.end - line.start
+            out = ctypes.create_string_buffer(max(room, 1))
+            _demand(_LIBRARY.laspidru_document_copy(byref(self._handle), line.start, out, room, byref(copied)))
+        return out.raw[:copied.value].decode()
 
     @property
     def text(self):

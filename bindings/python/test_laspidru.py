@@ -1,5 +1,6 @@
 """The test of the binding for Python."""
 import random
+import re
 import unittest
 
 from laspidru import Document, LaspidruError, TextDocument
@@ -66,6 +67,14 @@ class Tests(unittest.TestCase):
         self.assertEqual((raised.exception.code, raised.exception.change, raised.exception.at_end), (6, 1, True))
         self.assertEqual(document.text, "\U0001F600")
 
+    def test_line(self):
+        document = Document("a\r\nb\U0001F600\u2028\n")
+        self.assertEqual([document.line(number) for number in range(3)], ["a", "b\U0001F600\u2028", ""])
+        for number in (-1, 3, 2 ** 32):
+            with self.assertRaises(LaspidruError) as raised:
+                document.line(number)
+            self.assertEqual(raised.exception.code, 11)
+
     def test_closed(self):
         document = Document("a")
         document.close()
@@ -107,7 +116,8 @@ class Tests(unittest.TestCase):
                 document.change(changes)
                 self.assertEqual(document.text, wanted)
                 self.assertEqual(changed(old, canonical, encoding), wanted)
-                self.assertEqual(document.line_count, len(line_starts(wanted)))
+                lines = [document.line(number) for number in range(document.line_count)]
+                self.assertEqual(lines, re.split("\r\n|\r|\n", wanted))
             else:
                 with self.assertRaises(LaspidruError) as raised:
                     document.change(changes)

@@ -1,6 +1,7 @@
 /* Laspidru: texts that are kept as LSP 3.17 says, by a library that is proved. docs/EMBEDDING.md has examples.
 
-   Each function tests what it is passed and returns a code. Where the code isn't LASPIDRU_OK nothing has changed.
+   Each function tests what it is passed and returns a code. Where the code isn't LASPIDRU_OK nothing has changed. Memory
+   is taken last: LASPIDRU_OUT_OF_MEMORY is returned only where the arguments are not refused.
    A handle of zeroes is empty. It is given to one call at a time, and never copied while it is full; it may be used
    by any thread. What a handle holds is freed by laspidru_close. Pointers are never null, also where a length is 0. */
 #ifndef LASPIDRU_H
@@ -29,7 +30,7 @@ enum {
     LASPIDRU_BAD_ENCODING = 8,     /* not one of the encodings */
     LASPIDRU_BAD_LENGTH = 9,       /* the lengths of the edits exceed their texts */
     LASPIDRU_OTHER_KIND = 10,      /* the handle holds an object of another kind */
-    LASPIDRU_OUT_OF_RANGE = 11     /* no such offset or edit */
+    LASPIDRU_OUT_OF_RANGE = 11     /* no such line, offset or edit */
 };
 
 /* Encodings: what a position's character counts. */
@@ -61,6 +62,12 @@ typedef struct laspidru_fault {
     laspidru_bool at_end;
 } laspidru_fault;
 
+/* Where a line starts and ends, in bytes. Its line end is not in it. */
+typedef struct laspidru_line {
+    laspidru_size start;
+    laspidru_size end;
+} laspidru_line;
+
 /* How many bytes and how many lines a text has. */
 typedef struct laspidru_length {
     laspidru_size bytes;
@@ -81,6 +88,9 @@ laspidru_u32 laspidru_document_change(laspidru_handle *document, laspidru_u32 en
 
 /* How many bytes and lines the text has. */
 laspidru_u32 laspidru_document_size(laspidru_handle *document, laspidru_length *length);
+
+/* Where a line, counted from 0, starts, and where it ends without its line end. */
+laspidru_u32 laspidru_document_line(laspidru_handle *document, laspidru_u32 line, laspidru_line *range);
 
 /* Copies the bytes of the text from `start` on, as many as `out` holds, and says how many. */
 laspidru_u32 laspidru_document_copy(laspidru_handle *document, laspidru_size start,

@@ -1,22 +1,30 @@
 -- The batch that C passes: its texts follow each other in one row of bytes.
-use Rattle.std.specs.Prelude.{ℕ, ◌≡◌, length, slice_get, string_bytes, string_len, Bool, true, false, List, [], ◌∷◌, take, drop, map, Option, Some, None, Result}
-use Rattle.std.specs.Str.{chars}
+use Rattle.std.specs.Prelude.{ℕ, ◌≡◌, ◌⊎◌, ◌&&◌, if◌then◌else◌, nat_le, nat_lt, length, slice_get, string_bytes, string_len, sum_by, Bool, true, false, List, [], ◌∷◌, take, drop, map, Option, Some, None, Result, Ok, Err}
+use Rattle.std.specs.Option.{ok_or}
+use Rattle.std.specs.Str.{chars, is_utf8}
 use Rattle.lsp_text.specs.declared.position.Range.{Range}
 use Rattle.lsp_text.specs.declared.encoding.Encoding.{Encoding}
 use Rattle.lsp_text.specs.Units.{units_in}
+use Rattle.lsp_edit.specs.declared.change.Change.{Change}
+use Rattle.lsp_edit.specs.declared.change.TheConstants.{MAX_NEW_TEXT}
+use Rattle.lsp_edit.specs.declared.composed.TheConstants.{MAX_OLD_TEXT}
+use Rattle.lsp_edit.specs.declared.fault.EditFault.TheVariants as edit
 use Rattle.lsp_edit.specs.declared.fault.Side.{Side}
 use Rattle.lsp_edit.specs.declared.fault.Side.TheVariants.{Start, Stop}
 use Rattle.lsp_edit.specs.declared.indexed.TextFault.{TextFault}
+use Rattle.lsp_edit.specs.declared.indexed.TextFault.TheVariants.{Edit as EditOf, TooLong, NoMemory}
 use Rattle.lsp_edit.specs.Batch as batch
 use Rattle.lsp_edit.specs.Batch.{meaning}
 use Rattle.lsp_edit.specs.Edited.{edit_of}
 use Rattle.lsp_edit.specs.Indexed.{IsCanonicalBatch, text_within}
+use Rattle.laspidru.specs.declared.codes.TheConstants.{BAD_LENGTH, INSIDE_CHARACTER, NOT_UTF8, OK, OUT_OF_MEMORY, OUT_OF_RANGE, REVERSED_RANGE, TOO_LONG}
 use Rattle.laspidru.specs.declared.object.Object.{Object}
 use Rattle.laspidru.specs.declared.object.Object.TheVariants.{Document, Batch}
 use Rattle.laspidru.specs.declared.place.Place.{Place}
 use Rattle.laspidru.specs.declared.place.Edit.{Edit}
-use Rattle.laspidru.specs.Objects.{position_at, IsCopy}
-use Rattle.lsp_edit.specs.declared.change.Change.{Change}
+use Rattle.laspidru.specs.declared.place.Fault.{Fault}
+use Rattle.laspidru.specs.Codes.{and_then, unless}
+use Rattle.laspidru.specs.Objects.{encoding_at, position_at, IsCopy}
 
 -- the range of an edit, if it isn't one of the whole text
 abbrev pub range_if : Bool → Place → Place → Option Range
@@ -30,33 +38,85 @@ edit_with edit own = record { range = range_if edit.is_whole edit.start edit.end
 -- the edits, each with its part of the texts
 abbrev pub edits_of : List Edit → List ℕ → List batch.Edit
 edits_of [] texts = []
-edits_of (edit ∷ rest) texts = edit_with edit (take edit.len texts) ∷ edits_of rest (drop edit.len texts)
+edits_of (edit ∷ rest) texts =
+    edit_with edit (take edit.len texts) ∷ edits_of rest (drop edit.len texts)
 
--- what a batch leaves of a text, if that has at most `max_len` bytes
-abbrev pub left_by : ℕ → List batch.Edit → Encoding → List ℕ → Result (List ℕ) TextFault
-left_by max_len edits encoding text = text_within max_len text (meaning (units_in encoding) (chars text) edits)
+-- The first edit whose text isn't there, or isn't UTF-8, is refused.
+abbrev pub refused_edit : List Edit → List ℕ → Option ℕ
+refused_edit [] texts = None
+refused_edit (edit ∷ rest) texts =
+    if nat_lt (length texts) edit.len then Some BAD_LENGTH
+    else if is_utf8 (take edit.len texts) then refused_edit rest (drop edit.len texts)
+    else Some NOT_UTF8
+
+-- how many bytes the texts of edits have
+abbrev pub len_of : List Edit → ℕ
+len_of edits = sum_by (λ edit. edit.len) edits
+
+-- A batch on a text, in an encoding.
+pub record Asked : Type 0 where
+  pub encoding : Encoding
+  pub edits : List batch.Edit
+  pub text : List ℕ
+
+-- a batch on the text of a document, if neither is too long
+abbrev pub fitting : Encoding → List Edit → List ℕ → Result (List ℕ) ℕ → Result Asked ℕ
+fitting encoding edits texts document = and_then document (λ text.
+    if nat_le (len_of edits) MAX_NEW_TEXT && nat_le (length text) MAX_OLD_TEXT
+    then Ok (record { encoding = encoding; edits = edits_of edits texts; text = text })
+    else Err TOO_LONG)
+
+-- a batch as C passes it
+abbrev pub batch_asked : ℕ → List Edit → List ℕ → Result (List ℕ) ℕ → Result Asked ℕ
+batch_asked number edits texts document = and_then (encoding_at number) (λ encoding.
+    unless (refused_edit edits texts) (fitting encoding edits texts document))
+
+-- what a batch leaves of the text, if that isn't too long
+abbrev pub left_by : Asked → Result (List ℕ) TextFault
+left_by asked =
+    let means = meaning (units_in asked.encoding) (chars asked.text) asked.edits in
+    text_within MAX_OLD_TEXT asked.text means
 
 -- which end of a range a fault is about
 abbrev pub side_at : Bool → Side
 side_at true = Stop
 side_at false = Start
 
--- The handle holds the canonical batch of these edits on the text.
-abbrev pub HasCanonical : ℕ → List batch.Edit → Option Object → Encoding → List ℕ → Type 0
-HasCanonical max_len edits (Some (Batch changes)) encoding text =
-    IsCanonicalBatch (units_in encoding) max_len text edits (map edit_of changes.items)
-HasCanonical max_len edits (Some (Document other)) encoding text = ⊥
-HasCanonical max_len edits None encoding text = ⊥
+-- A fault is reported by its code; one of a change with the number of that change, and the end of its range.
+abbrev pub IsReport : TextFault → ℕ → Fault → Type 0
+IsReport (EditOf (edit.InsideCharacter change side)) code out =
+    (code ≡ INSIDE_CHARACTER) × (out.change ≡ change) × (side_at out.at_end ≡ side)
+IsReport (EditOf (edit.ReversedRange change)) code out =
+    (code ≡ REVERSED_RANGE) × (out.change ≡ change) × (out.at_end ≡ false)
+IsReport (EditOf edit.NoMemory) code out = code ≡ OUT_OF_MEMORY
+IsReport TooLong code out = code ≡ TOO_LONG
+IsReport NoMemory code out = code ≡ OUT_OF_MEMORY
 
--- How many changes there are.
-abbrev pub IsLenOf : ℕ → Option (List Change) → Type 0
-IsLenOf len (Some changes) = len ≡ length changes
-IsLenOf len None = ⊥
+-- The handle holds the text that is left; else it is reported why there is none.
+abbrev pub IsLeft : Result (List ℕ) TextFault → ℕ → Option Object → Fault → Type 0
+IsLeft (Ok text) code held out = (code ≡ OK) × (held ≡ Some (Document text))
+IsLeft (Err fault) code held out = IsReport fault code out
 
--- the change at an index, if there is one
-abbrev pub item_at : ℕ → Option (List Change) → Option Change
-item_at index (Some changes) = slice_get changes index
-item_at index None = None
+-- The object is the canonical batch of what was asked.
+abbrev pub IsBatchOf : Asked → Object → Type 0
+IsBatchOf asked (Batch changes) =
+    let made = map edit_of changes.items in
+    IsCanonicalBatch (units_in asked.encoding) MAX_OLD_TEXT asked.text asked.edits made
+IsBatchOf asked (Document other) = ⊥
+
+-- the same of what a handle holds
+abbrev pub HoldsBatchOf : Asked → Option Object → Type 0
+HoldsBatchOf asked (Some object) = IsBatchOf asked object
+HoldsBatchOf asked None = ⊥
+
+-- The handle holds the canonical batch, if the batch leaves a text; else it is reported why there is none.
+abbrev pub IsCanonicalIf : Result (List ℕ) TextFault → Asked → ℕ → Option Object → Fault → Type 0
+IsCanonicalIf (Ok text) asked code held out = (code ≡ OK) × HoldsBatchOf asked held
+IsCanonicalIf (Err fault) asked code held out = IsReport fault code out
+
+-- a change of a batch, by its number
+abbrev pub change_asked : ℕ → Result (List Change) ℕ → Result Change ℕ
+change_asked index batch = and_then batch (λ changes. ok_or (slice_get changes index) OUT_OF_RANGE)
 
 -- The edit is this change, with the length of its text.
 pub record IsEdit (edit : Edit) (change : Change) : Type 0 where
@@ -64,6 +124,6 @@ pub record IsEdit (edit : Edit) (change : Change) : Type 0 where
   pub range : range_if edit.is_whole edit.start edit.end ≡ change.range
 
 -- The edit is this change, and its text was copied as far as there is room.
-abbrev pub IsEditOf : Option Change → Edit → List ℕ → List ℕ → ℕ → Type 0
-IsEditOf (Some change) edit old new copied = IsEdit edit change × IsCopy 0 old new copied (Some (string_bytes change.text))
-IsEditOf None edit old new copied = ⊥
+abbrev pub IsEditOf : Edit → List ℕ → List ℕ → ℕ → Change → Type 0
+IsEditOf edit old new copied change =
+    IsEdit edit change × IsCopy old new copied (string_bytes change.text)

@@ -1,3 +1,4 @@
 pub mod Held
+pub mod Codes
 pub mod Objects
 pub mod Batches

@@ -1,76 +1,114 @@
 -- What the objects behind handles hold, and what is asked of a text in one of the three encodings.
-use Rattle.std.specs.Prelude.{ℕ, ◌≡◌, ◌≤◌, ◌+◌, ◌-◌, ◌++◌, List, length, min, take, drop, Option, Some, None, if◌then◌else◌, nat_eq, option_map}
-use Rattle.std.specs.Str.{chars}
+use Rattle.std.specs.Prelude.{ℕ, ◌≡◌, ◌≤◌, ◌+◌, ◌++◌, ◌⊎◌, List, length, min, take, drop, Option, Some, None, Result, Ok, Err, if◌then◌else◌, nat_eq, nat_lt, option_map}
+use Rattle.std.specs.Option.{ok_or}
+use Rattle.std.specs.Str.{chars, is_utf8}
 use Rattle.lsp_text.specs.declared.encoding.Encoding.{Encoding}
 use Rattle.lsp_text.specs.declared.encoding.Encoding.TheVariants.{Utf8, Utf16, Utf32}
 use Rattle.lsp_text.specs.declared.position.Position.{Position}
+use Rattle.lsp_text.specs.LineStarts.{IsPlace}
 use Rattle.lsp_text.specs.Positions.{denoted, exact_position}
-use Rattle.lsp_text.specs.TextLines.{line_ends}
+use Rattle.lsp_text.specs.TextLines.{line_ends, line_start, line_stop}
 use Rattle.lsp_text.specs.Text.{place_of}
 use Rattle.lsp_text.specs.Units.{units_in}
+use Rattle.lsp_edit.specs.declared.change.Change.{Change}
+use Rattle.lsp_edit.specs.declared.composed.TheConstants.{MAX_OLD_TEXT}
+use Rattle.laspidru.specs.declared.codes.TheConstants.{BAD_ENCODING, EMPTY, IN_USE, INSIDE_CHARACTER, NOT_UTF8, OK, OTHER_KIND, OUT_OF_RANGE, TOO_LONG}
+use Rattle.laspidru.specs.declared.place.Line.{Line}
 use Rattle.laspidru.specs.declared.place.Place.{Place}
 use Rattle.laspidru.specs.declared.place.Size.{Size}
-use Rattle.lsp_edit.specs.declared.change.Change.{Change}
 use Rattle.laspidru.specs.declared.object.Object.{Object}
 use Rattle.laspidru.specs.declared.object.Object.TheVariants.{Document, Batch}
+use Rattle.laspidru.specs.Codes.{and_then}
+
+-- A handle that is to be filled is refused where it holds an object.
+abbrev pub in_use : Option Object → Option ℕ
+in_use (Some object) = Some IN_USE
+in_use None = None
+
+-- a text to be opened, if it isn't too long and is UTF-8
+abbrev pub text_asked : List ℕ → Result (List ℕ) ℕ
+text_asked text =
+    if nat_lt MAX_OLD_TEXT (length text) then Err TOO_LONG
+    else if is_utf8 text then Ok text
+    else Err NOT_UTF8
 
 -- the text of a document
-abbrev pub text_of : Object → Option (List ℕ)
-text_of (Document text) = Some text
-text_of (Batch changes) = None
+abbrev pub document_of : Object → Result (List ℕ) ℕ
+document_of (Document text) = Ok text
+document_of (Batch changes) = Err OTHER_KIND
 
 -- the text of the document behind a handle
-abbrev pub text_in : Option Object → Option (List ℕ)
-text_in (Some object) = text_of object
-text_in None = None
+abbrev pub document_in : Option Object → Result (List ℕ) ℕ
+document_in (Some object) = document_of object
+document_in None = Err EMPTY
 
 -- the changes of a batch
-abbrev pub changes_of : Object → Option (List Change)
-changes_of (Document text) = None
-changes_of (Batch changes) = Some changes.items
+abbrev pub batch_of : Object → Result (List Change) ℕ
+batch_of (Document text) = Err OTHER_KIND
+batch_of (Batch changes) = Ok changes.items
 
 -- the changes of the batch behind a handle
-abbrev pub changes_in : Option Object → Option (List Change)
-changes_in (Some object) = changes_of object
-changes_in None = None
+abbrev pub batch_in : Option Object → Result (List Change) ℕ
+batch_in (Some object) = batch_of object
+batch_in None = Err EMPTY
 
 -- the encoding that a number of C stands for
 abbrev pub encoding_numbered : ℕ → Option Encoding
 encoding_numbered number =
-    if nat_eq number 8 then Some Utf8 else if nat_eq number 16 then Some Utf16 else if nat_eq number 32 then Some Utf32 else None
+    if nat_eq number 8 then Some Utf8
+    else if nat_eq number 16 then Some Utf16
+    else if nat_eq number 32 then Some Utf32
+    else None
 
--- an answer about a text in an encoding, where both are there
-abbrev pub answer : {X : Type 0} → (Encoding → List ℕ → X) → Option Encoding → Option (List ℕ) → Option X
-answer f (Some encoding) (Some text) = Some (f encoding text)
-answer f (Some encoding) None = None
-answer f None text = None
+abbrev pub encoding_at : ℕ → Result Encoding ℕ
+encoding_at number = ok_or (encoding_numbered number) BAD_ENCODING
 
--- the byte offset that a position denotes, if it lies inside no character
-abbrev pub offset_in : Position → Encoding → List ℕ → Option ℕ
-offset_in position encoding text = option_map (place_of (chars text)) (denoted (units_in encoding) (chars text) position)
+-- How many bytes and lines a text has.
+abbrev pub IsSize : Size → List ℕ → Type 0
+IsSize size text = (size.bytes ≡ length text) × (size.lines ≡ line_ends (chars text) + 1)
+
+-- a text with a line of this number
+abbrev pub line_asked : ℕ → Result (List ℕ) ℕ → Result (List ℕ) ℕ
+line_asked line document = and_then document (λ text.
+    if nat_lt (line_ends (chars text)) line then Err OUT_OF_RANGE else Ok text)
+
+-- Where the line starts, and where it ends before its line end.
+pub record IsLine (number : ℕ) (line : Line) (text : List ℕ) : Type 0 where
+  pub start : line.start ≡ place_of (chars text) (line_start (chars text) number)
+  pub end : line.end ≡ place_of (chars text) (line_stop (chars text) number)
+
+-- the bytes of a text from `start` on
+abbrev pub rest_asked : ℕ → Result (List ℕ) ℕ → Result (List ℕ) ℕ
+rest_asked start document =
+    and_then document (λ text.
+    if nat_lt (length text) start then Err OUT_OF_RANGE else Ok (drop start text))
+
+-- `new` is `old` with its head replaced by `copied` of these bytes, as many as there are and `old` holds.
+abbrev pub IsCopy : List ℕ → List ℕ → ℕ → List ℕ → Type 0
+IsCopy old new copied bytes =
+    (copied ≡ min (length bytes) (length old)) × (new ≡ take copied bytes ++ drop copied old)
 
 -- the position of a place of C
 abbrev pub position_at : Place → Position
 position_at place = record { line = place.line; character = place.character }
 
--- A fact of a text in an encoding, both of which are there.
-abbrev pub HoldsOf : (Encoding → List ℕ → Type 0) → Option Encoding → Option (List ℕ) → Type 0
-HoldsOf fact (Some encoding) (Some text) = fact encoding text
-HoldsOf fact (Some encoding) None = ⊥
-HoldsOf fact None text = ⊥
+-- the byte offset that a position denotes, if it lies inside no character
+abbrev pub offset_in : Position → Encoding → List ℕ → Option ℕ
+offset_in position encoding text =
+    option_map (place_of (chars text)) (denoted (units_in encoding) (chars text) position)
 
--- The place is the exact position of each character index at this byte offset.
-abbrev pub IsExact : ℕ → Place → Encoding → List ℕ → Type 0
-IsExact offset place encoding text = (k : ℕ) → k ≤ length (chars text) → place_of (chars text) k ≡ offset
-    → position_at place ≡ exact_position (units_in encoding) (chars text) k
+abbrev pub offset_asked : Position → Result Encoding ℕ → Result (List ℕ) ℕ → Result ℕ ℕ
+offset_asked position encoding document = and_then encoding (λ units. and_then document (λ text.
+    ok_or (offset_in position units text) INSIDE_CHARACTER))
 
--- How many bytes and lines the text has.
-abbrev pub IsSizeOf : Size → Option (List ℕ) → Type 0
-IsSizeOf size (Some text) = (size.bytes ≡ length text) × (size.lines ≡ line_ends (chars text) + 1)
-IsSizeOf size None = ⊥
+-- The place denotes this byte offset, and is the exact position of each character index there.
+pub record IsExact (offset : ℕ) (place : Place) (encoding : Encoding) (text : List ℕ) : Type 0 where
+  pub denotes : offset_in (position_at place) encoding text ≡ Some offset
+  pub exact : (k : ℕ) → k ≤ length (chars text) → place_of (chars text) k ≡ offset
+      → position_at place ≡ exact_position (units_in encoding) (chars text) k
 
--- `new` is `old` with its head replaced by `copied` bytes of the text from `start` on, as many as there are and `old` holds.
-abbrev pub IsCopy : ℕ → List ℕ → List ℕ → ℕ → Option (List ℕ) → Type 0
-IsCopy start old new copied (Some text) = (start ≤ length text) × (copied ≡ min (length text - start) (length old))
-    × (new ≡ take copied (drop start text) ++ drop copied old)
-IsCopy start old new copied None = ⊥
+-- The place is the exact position of a byte offset, if that lies inside no character and splits no CRLF.
+abbrev pub IsPositionAt : ℕ → Encoding → List ℕ → ℕ → Place → Type 0
+IsPositionAt offset encoding text code place =
+    ((code ≡ OK) × IsPlace (chars text) offset × IsExact offset place encoding text)
+    ⊎ ((code ≡ INSIDE_CHARACTER) × (¬ (IsPlace (chars text) offset)))

@@ -1,52 +1,64 @@
 //! The functions on canonical batches.
 
-ghost use Rattle.std.specs.Prelude.{◌≡◌, ◌≢◌, Some, None, IfErr, IfOk, map};
-ghost use Rattle.lsp_edit.specs.Edited.{edit_of};
-ghost use Rattle.laspidru.specs.Objects.{HoldsOf, changes_in, changes_of as changes_held, position_at, encoding_numbered, text_in, text_of};
-ghost use Rattle.laspidru.specs.Batches.{HasCanonical, IsEditOf, IsLenOf, IsEdit, edits_of, item_at};
+ghost use Rattle.std.specs.Prelude.{◌≡◌, ◌≢◌, None, length};
+ghost use Rattle.laspidru.specs.Batches.{HoldsBatchOf, IsBatchOf, IsCanonicalIf, IsEdit, IsEditOf, IsReport, batch_asked, change_asked, fitting, left_by, refused_edit};
+ghost use Rattle.laspidru.specs.Codes.{IsAnswer, IsAnswerOrNoMemory, unless};
+ghost use Rattle.laspidru.specs.Objects.{batch_in, batch_of, document_in, document_of, in_use, position_at};
 
 use crate::bytes::copy_bytes;
-use crate::changes::{changes_of, encoding_of, report};
+use crate::changes::{changes_of, encoding_of, fits, refusal_of, report};
 use crate::codes::{
-    BAD_ENCODING, EMPTY, IN_USE, OK, OTHER_KIND, OUT_OF_MEMORY, OUT_OF_RANGE, TOO_LONG,
+    BAD_ENCODING, EMPTY, IN_USE, INSIDE_CHARACTER, OK, OTHER_KIND, OUT_OF_MEMORY, OUT_OF_RANGE,
+    REVERSED_RANGE, TOO_LONG,
 };
 use crate::handle::Handle;
 use crate::object::Object;
 use crate::place::{Edit, Fault, Place};
-use lsp_edit::{Change, MAX_OLD_TEXT, fits};
+use lsp_edit::{Change, MAX_OLD_TEXT};
 use lsp_text::{Encoding, Position};
 use std::alloc::Global;
 
-/// The canonical batch of changes on an object's text.
+/// Puts the canonical batch of a batch on an object's text into an empty handle.
 fn object_canonical(
     alloc: Global,
     object: &Object,
     encoding: Encoding,
-    changes: &[Change],
+    edits: &[Edit],
+    texts: &[u8],
+    batch: &mut Handle,
     fault: &mut Fault,
-) -> Result<Box<Object>, u32>
-    ensures ok { IfOk result (λ made. HoldsOf (HasCanonical MAX_OLD_TEXT (map edit_of changes.now) (Some made.value))
-        (Some encoding) (text_of object.now)) }
-    ensures error { IfErr result (λ code. code ≢ OK) }
+) -> u32
+    requires checked { refused_edit edits.now texts.now ≡ None }
+    requires empty { batch.old.value ≡ None }
+    ensures answer { IsAnswerOrNoMemory
+        (fitting encoding edits.now texts.now (document_of object.now)) result
+        (λ asked. IsCanonicalIf (left_by asked) asked result batch.new.value fault.new) }
+    ensures unchanged { result ≢ OK → batch.new.value ≡ None }
+    ensures fault { result ≢ INSIDE_CHARACTER → result ≢ REVERSED_RANGE → fault.new ≡ fault.old }
 {
     let Object::Document(document) = object else {
-        return Err(OTHER_KIND);
+        return OTHER_KIND;
     };
-    if !fits(changes) || document.text().len() > MAX_OLD_TEXT {
-        return Err(TOO_LONG);
+    if !fits(edits) || document.text().len() > MAX_OLD_TEXT {
+        return TOO_LONG;
     }
-    let made = match document.canonical(encoding, changes, MAX_OLD_TEXT) {
+    let Ok(changes) = changes_of(alloc, edits, texts) else {
+        return OUT_OF_MEMORY;
+    };
+    let made = match document.canonical(encoding, &changes, MAX_OLD_TEXT) {
         Ok(made) => made,
-        Err(error) => return Err(report(error, fault)),
+        Err(error) => return report(error, fault),
     };
-    match Box::new(alloc, Object::Batch(made)) {
-        Ok(object) => Ok(object),
-        Err(_) => Err(OUT_OF_MEMORY),
-    }
+    let Ok(object) = Box::new(alloc, Object::Batch(made)) else {
+        return OUT_OF_MEMORY;
+    };
+    batch.put(object);
+    OK
 }
 
 /// Puts the canonical batch of what a batch means on the text into an empty handle: one change for each changed gap, from the last
-/// to the first. The document stays as it is.
+/// to the first. The document stays as it is. Codes and cost are those of `laspidru_document_change`, with IN_USE of `batch` before
+/// EMPTY.
 #[unsafe(no_mangle)]
 pub extern "C" fn laspidru_document_canonical(
     alloc: Global,
@@ -57,19 +69,19 @@ pub extern "C" fn laspidru_document_canonical(
     batch: &mut Handle,
     fault: &mut Fault,
 ) -> u32
-    ensures ok { result ≡ OK → HoldsOf (HasCanonical MAX_OLD_TEXT (edits_of edits.now texts.now) batch.new.value)
-        (encoding_numbered encoding) (text_in handle.old.value) }
+    ensures answer { let text = unless (in_use batch.old.value) (document_in handle.old.value) in
+        IsAnswerOrNoMemory (batch_asked encoding edits.now texts.now text) result
+        (λ asked. IsCanonicalIf (left_by asked) asked result batch.new.value fault.new) }
     ensures handle { handle.new.value ≡ handle.old.value }
     ensures unchanged { result ≢ OK → batch.new.value ≡ batch.old.value }
-    ensures empty { result ≡ OK → batch.old.value ≡ None }
+    ensures fault { result ≢ INSIDE_CHARACTER → result ≢ REVERSED_RANGE → fault.new ≡ fault.old }
 {
     let Some(encoding) = encoding_of(encoding) else {
         return BAD_ENCODING;
     };
-    let changes = match changes_of(alloc, edits, texts) {
-        Ok(changes) => changes,
-        Err(code) => return code,
-    };
+    if let Some(code) = refusal_of(edits, texts) {
+        return code;
+    }
     if let Some(held) = batch.take(alloc) {
         batch.put(held);
         return IN_USE;
@@ -77,20 +89,14 @@ pub extern "C" fn laspidru_document_canonical(
     let Some(object) = handle.take(alloc) else {
         return EMPTY;
     };
-    let made = object_canonical(alloc, &object, encoding, &changes, fault);
+    let code = object_canonical(alloc, &object, encoding, edits, texts, batch, fault);
     handle.put(object);
-    match made {
-        Ok(made) => {
-            batch.put(made);
-            OK
-        }
-        Err(code) => code,
-    }
+    code
 }
 
 /// How many changes a batch has.
 fn object_len(object: &Object, out: &mut usize) -> u32
-    ensures ok { result ≡ OK → IsLenOf out.new (changes_held object.now) }
+    ensures answer { IsAnswer (batch_of object.now) result (λ changes. out.new ≡ length changes) }
     ensures unchanged { result ≢ OK → out.new ≡ out.old }
 {
     let Object::Batch(changes) = object else {
@@ -100,10 +106,11 @@ fn object_len(object: &Object, out: &mut usize) -> u32
     OK
 }
 
-/// How many changes a batch has.
+/// How many changes a batch has, in constant time. Codes: EMPTY, OTHER_KIND.
 #[unsafe(no_mangle)]
 pub extern "C" fn laspidru_batch_len(alloc: Global, batch: &mut Handle, out: &mut usize) -> u32
-    ensures ok { result ≡ OK → IsLenOf out.new (changes_in batch.old.value) }
+    ensures answer { IsAnswer (batch_in batch.old.value) result
+        (λ changes. out.new ≡ length changes) }
     ensures handle { batch.new.value ≡ batch.old.value }
     ensures unchanged { result ≢ OK → out.new ≡ out.old }
 {
@@ -153,8 +160,8 @@ fn object_edit(
     out: &mut [u8],
     copied: &mut usize,
 ) -> u32
-    ensures ok { result ≡ OK
-        → IsEditOf (item_at index (changes_held object.now)) edit.new out.old out.new copied.new }
+    ensures answer { IsAnswer (change_asked index (batch_of object.now)) result
+        (IsEditOf edit.new out.old out.new copied.new) }
     ensures unchanged { result ≢ OK
         → (edit.new ≡ edit.old) × (out.new ≡ out.old) × (copied.new ≡ copied.old) }
 {
@@ -164,14 +171,13 @@ fn object_edit(
     let Some(change) = changes.get(index) else {
         return OUT_OF_RANGE;
     };
-    if !copy_bytes(change.text.as_bytes(), 0, out, copied) {
-        return OUT_OF_RANGE;
-    }
+    *copied = copy_bytes(change.text.as_bytes(), out);
     *edit = edit_of_change(change);
     OK
 }
 
-/// A change of a batch, counted from 0, with the length of its text; and as much of the text as `out` holds.
+/// A change of a batch, counted from 0, with the length of its text; and as much of the text as `out` holds. Codes, in this order:
+/// EMPTY, OTHER_KIND, OUT_OF_RANGE. Costs the copy.
 #[unsafe(no_mangle)]
 pub extern "C" fn laspidru_batch_edit(
     alloc: Global,
@@ -181,8 +187,8 @@ pub extern "C" fn laspidru_batch_edit(
     out: &mut [u8],
     copied: &mut usize,
 ) -> u32
-    ensures ok { result ≡ OK
-        → IsEditOf (item_at index (changes_in batch.old.value)) out_edit.new out.old out.new copied.new }
+    ensures answer { IsAnswer (change_asked index (batch_in batch.old.value)) result
+        (IsEditOf out_edit.new out.old out.new copied.new) }
     ensures handle { batch.new.value ≡ batch.old.value }
     ensures unchanged { result ≢ OK
         → (out_edit.new ≡ out_edit.old) × (out.new ≡ out.old) × (copied.new ≡ copied.old) }

@@ -1,19 +1,19 @@
 //! A batch as C passes it, and which fault of it is reported.
 
-ghost use Rattle.std.specs.Prelude.{◌≡◌, ◌≢◌, IfErr, IfOk, map};
+ghost use Rattle.std.specs.Prelude.{◌≡◌, ◌≢◌, ◌≤◌, ◌↔◌, None, IfOk, IsTrue, length, map, string_len, sum_by, true};
+ghost use Rattle.std.specs.Str.{is_utf8};
 ghost use Rattle.lsp_edit.specs.Edited.{edit_of};
-ghost use Rattle.lsp_edit.specs.declared.fault.EditFault.TheVariants.{InsideCharacter, ReversedRange};
-ghost use Rattle.lsp_edit.specs.declared.indexed.TextFault.TheVariants.{Edit as EditOf, TooLong};
 ghost use Rattle.laspidru.specs.Objects.{encoding_numbered, position_at};
-ghost use Rattle.laspidru.specs.Batches.{edit_with, edits_of, side_at};
+ghost use Rattle.laspidru.specs.Batches.{IsReport, edit_with, edits_of, len_of, refused_edit};
 
+use crate::bytes::utf8_text;
 use crate::codes::{
-    BAD_LENGTH, INSIDE_CHARACTER, NOT_UTF8, OK, OUT_OF_MEMORY, REVERSED_RANGE, TOO_LONG,
+    BAD_LENGTH, INSIDE_CHARACTER, NOT_UTF8, OUT_OF_MEMORY, REVERSED_RANGE, TOO_LONG,
 };
 use crate::place::{Edit, Fault, Place};
-use lsp_edit::{Change, EditFault, Side, TextFault};
+use lsp_edit::{Change, EditFault, MAX_NEW_TEXT, Side, TextFault};
 use lsp_text::{Encoding, Position, Range};
-use std::alloc::Global;
+use std::alloc::{AllocError, Global};
 
 /// The encoding that a number stands for: 8, 16 or 32.
 pub(crate) fn encoding_of(number: u32) -> Option<Encoding>
@@ -37,18 +37,45 @@ pub(crate) fn position_of(place: Place) -> Position
     }
 }
 
-/// An edit with its text.
-fn change_of(alloc: Global, edit: Edit, own: &[u8]) -> Result<Change, u32>
-    ensures ok { IfOk result (λ change. edit_of change ≡ edit_with edit own.now) }
-    ensures error { IfErr result (λ code. code ≢ OK) }
-    ensures no_fault { IfErr result (λ code. (code ≢ INSIDE_CHARACTER) × (code ≢ REVERSED_RANGE)) }
+/// The code of the first edit whose text isn't there or isn't UTF-8. Takes no memory.
+pub(crate) fn refusal_of(edits: &[Edit], texts: &[u8]) -> Option<u32>
+    ensures { result ≡ refused_edit edits.now texts.now }
 {
-    let Ok(own) = std::str::from_utf8(own) else {
-        return Err(NOT_UTF8);
-    };
-    let Ok(text) = own.to_string(alloc) else {
-        return Err(OUT_OF_MEMORY);
-    };
+    let mut rest = texts;
+    for edit in edits {
+        let Some((own, more)) = rest.split_at_checked(edit.len) else {
+            return Some(BAD_LENGTH);
+        };
+        if utf8_text(own).is_none() {
+            return Some(NOT_UTF8);
+        }
+        rest = more;
+    }
+    None
+}
+
+/// Whether the texts of edits have together at most [`MAX_NEW_TEXT`] bytes.
+pub(crate) fn fits(edits: &[Edit]) -> bool
+    ensures { IsTrue result ↔ (len_of edits.now ≤ MAX_NEW_TEXT) }
+{
+    let mut room = MAX_NEW_TEXT;
+    for edit in edits {
+        if edit.len > room {
+            return false;
+        }
+        room -= edit.len;
+    }
+    true
+}
+
+/// An edit with its text.
+fn change_of(alloc: Global, edit: Edit, own: &[u8]) -> Result<Change, AllocError>
+    requires { is_utf8 own.now ≡ true }
+    ensures ok { IfOk result (λ change. edit_of change ≡ edit_with edit own.now) }
+    ensures len { IfOk result (λ change. string_len change.text ≡ length own.now) }
+{
+    // SAFETY: `refusal_of` has read each text.
+    let text = unsafe { std::str::from_utf8_unchecked(own) }.to_string(alloc)?;
     let range = if edit.is_whole {
         None
     } else {
@@ -61,33 +88,30 @@ fn change_of(alloc: Global, edit: Edit, own: &[u8]) -> Result<Change, u32>
 }
 
 /// The changes of a batch, each with its part of the texts.
-pub(crate) fn changes_of(alloc: Global, edits: &[Edit], texts: &[u8]) -> Result<Vec<Change>, u32>
+pub(crate) fn changes_of(
+    alloc: Global,
+    edits: &[Edit],
+    texts: &[u8],
+) -> Result<Vec<Change>, AllocError>
+    requires { refused_edit edits.now texts.now ≡ None }
     ensures ok { IfOk result (λ changes. map edit_of changes.items ≡ edits_of edits.now texts.now) }
-    ensures error { IfErr result (λ code. code ≢ OK) }
-    ensures no_fault { IfErr result (λ code. (code ≢ INSIDE_CHARACTER) × (code ≢ REVERSED_RANGE)) }
+    ensures len { IfOk result (λ changes.
+        sum_by (λ change. string_len change.text) changes.items ≡ len_of edits.now) }
 {
     let mut changes = Vec::new(alloc);
     let mut rest = texts;
     for edit in edits {
-        let Some((own, more)) = rest.split_at_checked(edit.len) else {
-            return Err(BAD_LENGTH);
-        };
+        let (own, more) = rest.split_at(edit.len);
         rest = more;
-        let change = change_of(alloc, *edit, own)?;
-        if changes.push(change).is_err() {
-            return Err(OUT_OF_MEMORY);
-        }
+        changes.push(change_of(alloc, *edit, own)?)?;
     }
     Ok(changes)
 }
 
 /// The code of a fault. A fault of a change is written to `out`, another leaves it as it is.
 pub(crate) fn report(fault: TextFault, out: &mut Fault) -> u32
-    ensures error { result ≢ OK }
-    ensures inside { result ≡ INSIDE_CHARACTER
-        → fault ≡ EditOf (InsideCharacter out.new.change (side_at out.new.at_end)) }
-    ensures reversed { result ≡ REVERSED_RANGE → fault ≡ EditOf (ReversedRange out.new.change) }
-    ensures too_long { result ≡ TOO_LONG → fault ≡ TooLong }
+    ensures report { IsReport fault result out.new }
+    ensures unchanged { result ≢ INSIDE_CHARACTER → result ≢ REVERSED_RANGE → out.new ≡ out.old }
 {
     match fault {
         TextFault::Edit(EditFault::InsideCharacter { change, side }) => {

@@ -1,72 +1,76 @@
 //! The functions on documents.
 
-ghost use Rattle.std.specs.Prelude.{◌≡◌, ◌≢◌, Some, None, Ok, Err, IfErr, IfOk, IfSome, IsSome, map, option_map};
+ghost use Rattle.std.specs.Prelude.{◌≡◌, ◌≢◌, ◌<◌, ◌≤◌, List, None, Ok, Some, IfErr, IfNone, IfOk, IfSome, OnSome, length, ℕ};
 ghost use Rattle.std.specs.Str.{chars};
-ghost use Rattle.lsp_text.specs.LineStarts.{IsPlace};
-ghost use Rattle.lsp_edit.specs.Edited.{edit_of};
-ghost use Rattle.lsp_edit.specs.declared.fault.EditFault.TheVariants.{InsideCharacter, ReversedRange};
-ghost use Rattle.lsp_edit.specs.declared.indexed.TextFault.TheVariants.{Edit as EditOf};
+ghost use Rattle.lsp_text.specs.LineStarts.{Indexes};
+ghost use Rattle.lsp_text.specs.Text.{place_of};
+ghost use Rattle.lsp_text.specs.TextLines.{line_ends, line_start, line_stop};
 ghost use Rattle.laspidru.specs.declared.object.Object.TheVariants.{Document};
-ghost use Rattle.laspidru.specs.Objects.{HoldsOf, IsCopy, IsExact, IsSizeOf, answer, encoding_numbered, offset_in, position_at, text_in, text_of};
-ghost use Rattle.laspidru.specs.Batches.{edits_of, left_by, side_at};
+ghost use Rattle.laspidru.specs.Batches.{IsLeft, batch_asked, fitting, left_by, refused_edit};
+ghost use Rattle.laspidru.specs.Codes.{IsAnswer, IsAnswerOrNoMemory, IsRefusedOr, both, unless};
+ghost use Rattle.laspidru.specs.Objects.{IsCopy, IsLine, IsPositionAt, IsSize, document_in, document_of, encoding_at, in_use, line_asked, offset_asked, position_at, rest_asked, text_asked};
 
-use crate::bytes::copy_bytes;
-use crate::changes::{changes_of, encoding_of, position_of, report};
+use crate::bytes::{copy_bytes, utf8_text};
+use crate::changes::{changes_of, encoding_of, fits, position_of, refusal_of, report};
 use crate::codes::{
     BAD_ENCODING, EMPTY, IN_USE, INSIDE_CHARACTER, NOT_UTF8, OK, OTHER_KIND, OUT_OF_MEMORY,
     OUT_OF_RANGE, REVERSED_RANGE, TOO_LONG,
 };
 use crate::handle::Handle;
 use crate::object::Object;
-use crate::place::{Edit, Fault, Place, Size};
-use lsp_edit::{Change, IndexedText, MAX_OLD_TEXT, fits};
-use lsp_text::Encoding;
-use std::alloc::Global;
+use crate::place::{Edit, Fault, Line, Place, Size};
+use lsp_edit::{IndexedText, MAX_OLD_TEXT};
+use lsp_text::{Encoding, Lines, Position, Starts, line_laws, position_laws};
+use std::alloc::{AllocError, Global};
 
-/// A document of a text in UTF-8.
-fn opened(alloc: Global, text: &[u8]) -> Result<Box<Object>, u32>
-    ensures ok { IfOk result (λ object. object.value ≡ Document text.now) }
-    ensures error { IfErr result (λ code. code ≢ OK) }
+/// A text to be opened, or why it can't be.
+fn text_of(bytes: &[u8]) -> Result<&str, u32>
+    ensures ok { IfOk result (λ text. text_asked bytes.now ≡ Ok text.now) }
+    ensures error { IfErr result (λ code. text_asked bytes.now ≡ Err code) }
 {
-    if text.len() > MAX_OLD_TEXT {
+    if bytes.len() > MAX_OLD_TEXT {
         return Err(TOO_LONG);
     }
-    let Ok(text) = std::str::from_utf8(text) else {
-        return Err(NOT_UTF8);
-    };
-    let Ok(copy) = text.to_string(alloc) else {
-        return Err(OUT_OF_MEMORY);
-    };
-    let Ok(document) = IndexedText::new(alloc, copy) else {
-        return Err(OUT_OF_MEMORY);
-    };
-    match Box::new(alloc, Object::Document(document)) {
-        Ok(object) => Ok(object),
-        Err(_) => Err(OUT_OF_MEMORY),
+    match utf8_text(bytes) {
+        Some(text) => Ok(text),
+        None => Err(NOT_UTF8),
     }
 }
 
-/// Opens a document in an empty handle, by a copy of the text.
+/// A document of a copy of a text.
+fn opened(alloc: Global, text: &str) -> Result<Box<Object>, AllocError>
+    requires { length text.now ≤ MAX_OLD_TEXT }
+    ensures { IfOk result (λ object. object.value ≡ Document text.now) }
+{
+    let document = IndexedText::new(alloc, text.to_string(alloc)?)?;
+    Ok(Box::new(alloc, Object::Document(document))?)
+}
+
+/// Opens a document in an empty handle, by a copy of the text. Codes, in this order: IN_USE, TOO_LONG, NOT_UTF8; OUT_OF_MEMORY.
+/// Costs a copy of the text and two passes over it.
 #[unsafe(no_mangle)]
 pub extern "C" fn laspidru_document_open(alloc: Global, handle: &mut Handle, text: &[u8]) -> u32
-    ensures ok { result ≡ OK → handle.new.value ≡ Some (Document text.now) }
+    ensures answer { let asked = unless (in_use handle.old.value) (text_asked text.now) in
+        IsAnswerOrNoMemory asked result
+        (λ text. (result ≡ OK) × (handle.new.value ≡ Some (Document text))) }
     ensures unchanged { result ≢ OK → handle.new.value ≡ handle.old.value }
-    ensures empty { result ≡ OK → handle.old.value ≡ None }
 {
     if let Some(held) = handle.take(alloc) {
         handle.put(held);
         return IN_USE;
     }
-    match opened(alloc, text) {
-        Ok(object) => {
-            handle.put(object);
-            OK
-        }
-        Err(code) => code,
-    }
+    let text = match text_of(text) {
+        Ok(text) => text,
+        Err(code) => return code,
+    };
+    let Ok(object) = opened(alloc, text) else {
+        return OUT_OF_MEMORY;
+    };
+    handle.put(object);
+    OK
 }
 
-/// Frees what a handle holds. An empty handle stays empty.
+/// Frees what a handle holds. An empty handle stays empty. There is no code.
 #[unsafe(no_mangle)]
 pub extern "C" fn laspidru_close(alloc: Global, handle: &mut Handle)
     ensures { handle.new.value ≡ None }
@@ -76,36 +80,39 @@ pub extern "C" fn laspidru_close(alloc: Global, handle: &mut Handle)
 
 /// Makes the changes of a batch on an object.
 fn change_object(
+    alloc: Global,
     object: &mut Object,
     encoding: Encoding,
-    changes: &[Change],
+    edits: &[Edit],
+    texts: &[u8],
     fault: &mut Fault,
 ) -> u32
-    ensures ok { result ≡ OK → option_map Ok (text_of object.new)
-        ≡ answer (left_by MAX_OLD_TEXT (map edit_of changes.now)) (Some encoding) (text_of object.old) }
-    ensures document { result ≡ OK → IsSome (text_of object.new) }
+    requires { refused_edit edits.now texts.now ≡ None }
+    ensures answer { IsAnswerOrNoMemory
+        (fitting encoding edits.now texts.now (document_of object.old)) result
+        (λ asked. IsLeft (left_by asked) result (Some object.new) fault.new) }
     ensures unchanged { result ≢ OK → object.new ≡ object.old }
-    ensures inside { result ≡ INSIDE_CHARACTER
-        → answer (left_by MAX_OLD_TEXT (map edit_of changes.now)) (Some encoding) (text_of object.old)
-        ≡ Some (Err (EditOf (InsideCharacter fault.new.change (side_at fault.new.at_end)))) }
-    ensures reversed { result ≡ REVERSED_RANGE
-        → answer (left_by MAX_OLD_TEXT (map edit_of changes.now)) (Some encoding) (text_of object.old)
-        ≡ Some (Err (EditOf (ReversedRange fault.new.change))) }
+    ensures fault { result ≢ INSIDE_CHARACTER → result ≢ REVERSED_RANGE → fault.new ≡ fault.old }
 {
     let Object::Document(document) = object else {
         return OTHER_KIND;
     };
-    if !fits(changes) || document.text().len() > MAX_OLD_TEXT {
+    if !fits(edits) || document.text().len() > MAX_OLD_TEXT {
         return TOO_LONG;
     }
-    match document.change(encoding, changes, MAX_OLD_TEXT) {
+    let Ok(changes) = changes_of(alloc, edits, texts) else {
+        return OUT_OF_MEMORY;
+    };
+    match document.change(encoding, &changes, MAX_OLD_TEXT) {
         Ok(()) => OK,
         Err(error) => report(error, fault),
     }
 }
 
 /// Makes the changes of a `didChange`, in order, or none of them (LSP 3.17, DidChangeTextDocumentParams). The texts of the edits
-/// follow each other in `texts`. Where a change has no result, `fault` says which.
+/// follow each other in `texts`. Codes, in this order: BAD_ENCODING; BAD_LENGTH or NOT_UTF8 of the first such edit; EMPTY,
+/// OTHER_KIND, TOO_LONG; OUT_OF_MEMORY, or INSIDE_CHARACTER, REVERSED_RANGE or TOO_LONG where the batch leaves no text. With the two
+/// codes of a faulty change `fault` says which it is. Costs a pass over the texts, their copy, and [`IndexedText::change`].
 #[unsafe(no_mangle)]
 pub extern "C" fn laspidru_document_change(
     alloc: Global,
@@ -115,31 +122,22 @@ pub extern "C" fn laspidru_document_change(
     texts: &[u8],
     fault: &mut Fault,
 ) -> u32
-    ensures ok { result ≡ OK → option_map Ok (text_in handle.new.value)
-        ≡ answer (left_by MAX_OLD_TEXT (edits_of edits.now texts.now)) (encoding_numbered encoding)
-        (text_in handle.old.value) }
-    ensures document { result ≡ OK → IsSome (text_in handle.new.value) }
+    ensures answer { IsAnswerOrNoMemory
+        (batch_asked encoding edits.now texts.now (document_in handle.old.value)) result
+        (λ asked. IsLeft (left_by asked) result handle.new.value fault.new) }
     ensures unchanged { result ≢ OK → handle.new.value ≡ handle.old.value }
-    ensures inside { result ≡ INSIDE_CHARACTER
-        → answer (left_by MAX_OLD_TEXT (edits_of edits.now texts.now)) (encoding_numbered encoding)
-        (text_in handle.old.value)
-        ≡ Some (Err (EditOf (InsideCharacter fault.new.change (side_at fault.new.at_end)))) }
-    ensures reversed { result ≡ REVERSED_RANGE
-        → answer (left_by MAX_OLD_TEXT (edits_of edits.now texts.now)) (encoding_numbered encoding)
-        (text_in handle.old.value)
-        ≡ Some (Err (EditOf (ReversedRange fault.new.change))) }
+    ensures fault { result ≢ INSIDE_CHARACTER → result ≢ REVERSED_RANGE → fault.new ≡ fault.old }
 {
     let Some(encoding) = encoding_of(encoding) else {
         return BAD_ENCODING;
     };
-    let changes = match changes_of(alloc, edits, texts) {
-        Ok(changes) => changes,
-        Err(code) => return code,
-    };
+    if let Some(code) = refusal_of(edits, texts) {
+        return code;
+    }
     let Some(mut object) = handle.take(alloc) else {
         return EMPTY;
     };
-    let code = change_object(&mut object, encoding, &changes, fault);
+    let code = change_object(alloc, &mut object, encoding, edits, texts, fault);
     handle.put(object);
     code
 }
@@ -147,9 +145,8 @@ pub extern "C" fn laspidru_document_change(
 /// How many bytes and how many lines an object's text has.
 #[tactic(auto, using(lsp_text::proofs::IndexesLemmas::indexes_count))]
 fn object_size(object: &Object, out: &mut Size) -> u32
-    ensures ok { result ≡ OK → IsSizeOf out.new (text_of object.now) }
+    ensures answer { IsAnswer (document_of object.now) result (IsSize out.new) }
     ensures unchanged { result ≢ OK → out.new ≡ out.old }
-    ensures other { result ≢ OK → text_of object.now ≡ None }
 {
     let Object::Document(document) = object else {
         return OTHER_KIND;
@@ -161,13 +158,12 @@ fn object_size(object: &Object, out: &mut Size) -> u32
     OK
 }
 
-/// How many bytes and how many lines the text has.
+/// How many bytes and how many lines the text has, in constant time. Codes: EMPTY, OTHER_KIND.
 #[unsafe(no_mangle)]
 pub extern "C" fn laspidru_document_size(alloc: Global, handle: &mut Handle, out: &mut Size) -> u32
-    ensures ok { result ≡ OK → IsSizeOf out.new (text_in handle.old.value) }
+    ensures answer { IsAnswer (document_in handle.old.value) result (IsSize out.new) }
     ensures handle { handle.new.value ≡ handle.old.value }
     ensures unchanged { result ≢ OK → out.new ≡ out.old }
-    ensures none { result ≢ OK → text_in handle.old.value ≡ None }
 {
     let Some(object) = handle.take(alloc) else {
         return EMPTY;
@@ -177,22 +173,105 @@ pub extern "C" fn laspidru_document_size(alloc: Global, handle: &mut Handle, out
     code
 }
 
+/// Where a line starts.
+fn line_start_of(lines: &Lines, line: usize) -> usize
+    requires { line < length lines.now }
+    ensures { (text : List ℕ) → Indexes lines.now text → line ≤ line_ends (chars text)
+        → result ≡ place_of (chars text) (line_start (chars text) line) }
+{
+    line_laws();
+    lines.looks().at(line)
+}
+
+/// Where the content of a line ends.
+fn line_stop_of(text: &str, lines: &Lines, line: u32) -> usize
+    requires indexed { Indexes lines.now text.now }
+    requires line { line ≤ line_ends (chars text.now) }
+    ensures { result ≡ place_of (chars text.now) (line_stop (chars text.now) line) }
+{
+    // No line has so many bytes.
+    let past_line = Position {
+        line,
+        character: u32::MAX,
+    };
+    position_laws();
+    lines
+        .resolve(text, Encoding::Utf8, past_line)
+        .unwrap_or(text.len())
+}
+
+/// Where a line starts and ends, if the text has it.
+fn line_of(text: &str, lines: &Lines, line: u32) -> Option<Line>
+    requires { Indexes lines.now text.now }
+    ensures some { IfSome result (λ found. IsLine line found text.now) }
+    ensures there { OnSome result (line ≤ line_ends (chars text.now)) }
+    ensures none { IfNone result (line_ends (chars text.now) < line) }
+{
+    if line as usize >= lines.count() {
+        return None;
+    }
+    Some(Line {
+        start: line_start_of(lines, line as usize),
+        end: line_stop_of(text, lines, line),
+    })
+}
+
+/// Where a line of an object's text starts and ends.
+fn object_line(object: &Object, line: u32, out: &mut Line) -> u32
+    ensures answer { IsAnswer (line_asked line (document_of object.now)) result
+        (IsLine line out.new) }
+    ensures unchanged { result ≢ OK → out.new ≡ out.old }
+{
+    let Object::Document(document) = object else {
+        return OTHER_KIND;
+    };
+    let Some(found) = line_of(document.text(), document.lines(), line) else {
+        return OUT_OF_RANGE;
+    };
+    *out = found;
+    OK
+}
+
+/// Where a line starts, and where it ends without its line end, in constant time. Codes, in this order: EMPTY, OTHER_KIND,
+/// OUT_OF_RANGE.
+#[unsafe(no_mangle)]
+pub extern "C" fn laspidru_document_line(
+    alloc: Global,
+    handle: &mut Handle,
+    line: u32,
+    out: &mut Line,
+) -> u32
+    ensures answer { IsAnswer (line_asked line (document_in handle.old.value)) result
+        (IsLine line out.new) }
+    ensures handle { handle.new.value ≡ handle.old.value }
+    ensures unchanged { result ≢ OK → out.new ≡ out.old }
+{
+    let Some(object) = handle.take(alloc) else {
+        return EMPTY;
+    };
+    let code = object_line(&object, line, out);
+    handle.put(object);
+    code
+}
+
 /// Copies the bytes of an object's text from `start` on, as many as `out` holds.
 fn object_copy(object: &Object, start: usize, out: &mut [u8], copied: &mut usize) -> u32
-    ensures ok { result ≡ OK → IsCopy start out.old out.new copied.new (text_of object.now) }
+    ensures answer { IsAnswer (rest_asked start (document_of object.now)) result
+        (IsCopy out.old out.new copied.new) }
     ensures unchanged { result ≢ OK → (out.new ≡ out.old) × (copied.new ≡ copied.old) }
 {
     let Object::Document(document) = object else {
         return OTHER_KIND;
     };
-    if copy_bytes(document.text().as_bytes(), start, out, copied) {
-        OK
-    } else {
-        OUT_OF_RANGE
-    }
+    let Some((_, rest)) = document.text().as_bytes().split_at_checked(start) else {
+        return OUT_OF_RANGE;
+    };
+    *copied = copy_bytes(rest, out);
+    OK
 }
 
-/// Copies the bytes of the text from `start` on, as many as `out` holds, and says how many.
+/// Copies the bytes of the text from `start` on, as many as `out` holds, and says how many. Codes, in this order: EMPTY, OTHER_KIND,
+/// OUT_OF_RANGE. Costs the copy.
 #[unsafe(no_mangle)]
 pub extern "C" fn laspidru_document_copy(
     alloc: Global,
@@ -201,7 +280,8 @@ pub extern "C" fn laspidru_document_copy(
     out: &mut [u8],
     copied: &mut usize,
 ) -> u32
-    ensures ok { result ≡ OK → IsCopy start out.old out.new copied.new (text_in handle.old.value) }
+    ensures answer { IsAnswer (rest_asked start (document_in handle.old.value)) result
+        (IsCopy out.old out.new copied.new) }
     ensures handle { handle.new.value ≡ handle.old.value }
     ensures unchanged { result ≢ OK → (out.new ≡ out.old) × (copied.new ≡ copied.old) }
 {
@@ -215,11 +295,10 @@ pub extern "C" fn laspidru_document_copy(
 
 /// The byte offset that a position denotes in an object's text.
 fn object_offset(object: &Object, encoding: Encoding, position: Place, out: &mut usize) -> u32
-    ensures ok { result ≡ OK
-        → answer (offset_in (position_at position)) (Some encoding) (text_of object.now) ≡ Some (Some out.new) }
+    ensures answer { IsAnswer
+        (offset_asked (position_at position) (Ok encoding) (document_of object.now)) result
+        (λ offset. out.new ≡ offset) }
     ensures unchanged { result ≢ OK → out.new ≡ out.old }
-    ensures inside { result ≡ INSIDE_CHARACTER
-        → answer (offset_in (position_at position)) (Some encoding) (text_of object.now) ≡ Some None }
 {
     let Object::Document(document) = object else {
         return OTHER_KIND;
@@ -237,6 +316,7 @@ fn object_offset(object: &Object, encoding: Encoding, position: Place, out: &mut
 }
 
 /// The byte offset that a position denotes: the end of the text after its last line, the end of the line after its last character.
+/// Codes, in this order: BAD_ENCODING, EMPTY, OTHER_KIND, INSIDE_CHARACTER. Costs the line up to the character, in UTF-8 nothing.
 #[unsafe(no_mangle)]
 pub extern "C" fn laspidru_document_offset(
     alloc: Global,
@@ -245,14 +325,11 @@ pub extern "C" fn laspidru_document_offset(
     position: Place,
     out: &mut usize,
 ) -> u32
-    ensures ok { result ≡ OK
-        → answer (offset_in (position_at position)) (encoding_numbered encoding) (text_in handle.old.value)
-        ≡ Some (Some out.new) }
+    ensures answer { let document = document_in handle.old.value in IsAnswer
+        (offset_asked (position_at position) (encoding_at encoding) document) result
+        (λ offset. out.new ≡ offset) }
     ensures handle { handle.new.value ≡ handle.old.value }
     ensures unchanged { result ≢ OK → out.new ≡ out.old }
-    ensures inside { result ≡ INSIDE_CHARACTER
-        → answer (offset_in (position_at position)) (encoding_numbered encoding) (text_in handle.old.value)
-        ≡ Some None }
 {
     let Some(encoding) = encoding_of(encoding) else {
         return BAD_ENCODING;
@@ -267,11 +344,9 @@ pub extern "C" fn laspidru_document_offset(
 
 /// The exact position of a byte offset in an object's text.
 fn object_position(object: &Object, encoding: Encoding, offset: usize, out: &mut Place) -> u32
-    ensures ok { result ≡ OK
-        → answer (offset_in (position_at out.new)) (Some encoding) (text_of object.now) ≡ Some (Some offset) }
-    ensures exact { result ≡ OK → HoldsOf (IsExact offset out.new) (Some encoding) (text_of object.now) }
+    ensures answer { IsRefusedOr (document_of object.now) result
+        (λ text. IsPositionAt offset encoding text result out.new) }
     ensures unchanged { result ≢ OK → out.new ≡ out.old }
-    ensures inside { result ≡ INSIDE_CHARACTER → IfSome (text_of object.now) (λ text. ¬ (IsPlace (chars text) offset)) }
 {
     let Object::Document(document) = object else {
         return OTHER_KIND;
@@ -288,7 +363,8 @@ fn object_position(object: &Object, encoding: Encoding, offset: usize, out: &mut
     OK
 }
 
-/// The exact position of a byte offset.
+/// The exact position of a byte offset. Codes, in this order: BAD_ENCODING, EMPTY, OTHER_KIND; INSIDE_CHARACTER, also for an offset
+/// between CR and LF or past the end. Costs a search among the lines, and the line up to the offset.
 #[unsafe(no_mangle)]
 pub extern "C" fn laspidru_document_position(
     alloc: Global,
@@ -297,15 +373,10 @@ pub extern "C" fn laspidru_document_position(
     offset: usize,
     out: &mut Place,
 ) -> u32
-    ensures ok { result ≡ OK
-        → answer (offset_in (position_at out.new)) (encoding_numbered encoding) (text_in handle.old.value)
-        ≡ Some (Some offset) }
-    ensures exact { result ≡ OK → HoldsOf (IsExact offset out.new) (encoding_numbered encoding)
-        (text_in handle.old.value) }
+    ensures answer { IsRefusedOr (both (encoding_at encoding) (document_in handle.old.value)) result
+        (λ asked. IsPositionAt offset asked.0 asked.1 result out.new) }
     ensures handle { handle.new.value ≡ handle.old.value }
     ensures unchanged { result ≢ OK → out.new ≡ out.old }
-    ensures inside { result ≡ INSIDE_CHARACTER
-        → IfSome (text_in handle.old.value) (λ text. ¬ (IsPlace (chars text) offset)) }
 {
     let Some(encoding) = encoding_of(encoding) else {
         return BAD_ENCODING;

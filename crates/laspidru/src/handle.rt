@@ -23,7 +23,7 @@ pub struct Handle {
 }
 
 impl Model for Handle {
-    ghost also_owns = { λ handle. object_if handle.is_full handle.alloc handle.pointer handle.value };
+    ghost also_owns = { λ it. object_if it.is_full it.alloc it.pointer it.value };
 }
 
 impl Handle {

@@ -25,4 +25,4 @@ pub use codes::{
 };
 pub use handle::Handle;
 pub use object::Object;
-pub use place::{Edit, Fault, Place, Size};
+pub use place::{Edit, Fault, Line, Place, Size};

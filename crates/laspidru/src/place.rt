@@ -26,6 +26,14 @@ pub struct Fault {
     pub at_end: bool,
 }
 
+/// Where a line starts and ends, in bytes. Its line end is not in it.
+#[repr(C)]
+#[derive(Clone, Copy, Debug, PartialEq, Eq)]
+pub struct Line {
+    pub start: usize,
+    pub end: usize,
+}
+
 /// How many bytes and how many lines a text has.
 #[repr(C)]
 #[derive(Clone, Copy, Debug, PartialEq, Eq)]
