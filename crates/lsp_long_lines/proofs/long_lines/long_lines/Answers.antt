@@ -1,0 +1,41 @@
+use Rattle.std.proofs.Common.{◌≡◌, ◌∙◌, ℕ, ◌+◌, ◌≤◌, List, [], ◌∷◌, ◌++◌, Vec, Global, sym, ap, subst, arith}
+use Rattle.std.specs.Str.{chars, IsUtf8}
+use Rattle.lsp_text.specs.declared.position.Range.{Range}
+use Rattle.lsp_text.specs.TextLines.{line_ends}
+use Rattle.lsp_text.specs.Units.{units_in}
+use Rattle.lsp_text.proofs.ExactLemmas.{indexes_few}
+use Rattle.lsp_long_lines.proofs.LineEndLemmas.{stops, ends_before, stops-long, stops-short}
+use Rattle.lsp_long_lines.proofs.long_lines.long_lines.Goals as goal
+use Rattle.lsp_long_lines.proofs.long_lines.long_lines.Goals.{in-Some+in_ok-push, in_default}
+
+pub overflow_cast-line-end : goal.overflow_cast-line-end
+overflow_cast-line-end c =
+    let utf8 : IsUtf8 c.args.document.now.text = subst (λ (b : List ℕ). IsUtf8 b) c.text-text.ensures c.text-text.utf8 in
+    omega (arith, c.count-line-end.ensures.count, indexes_few c.args.document.now.text c.lines-lines.result.now utf8 c.lines-lines.ensures)
+
+pub excess-requires-clause-line : goal.excess-requires-clause-line
+excess-requires-clause-line c =
+    let there : c.loop-line.line ≤ line_ends (chars c.args.document.now.text) =
+    omega (arith, c.count-line-end.ensures.line_ends c.args.document.now.text c.lines-lines.ensures) in
+    subst (λ (b : List ℕ). c.loop-line.line ≤ line_ends (chars b)) (sym c.text-text.ensures) there
+
+pub loop-line-preserved : goal.loop-line-preserved
+loop-line-preserved c =
+    elim c.match-excess.branch [
+      | in-Some+in_ok-push w ↦
+          let items : c.match-excess.ranges.items ≡ c.loop-line.ranges.items ++ w.in-Some.range ∷ [] =
+          ap (λ (v : Vec Range Global). v.items) w.ranges-is ∙ w.in_ok-push.ensures.items in
+          ap stops items ∙ stops-long (units_in c.args.encoding) c.args.document.now.text c.text-text.result.now c.loop-line.line c.loop-line.ranges.items w.in-Some.range
+          c.text-text.ensures w.in-Some.ensures.long w.in-Some.ensures.stop c.loop-line.invariant
+      | in_default w ↦
+          let items : c.match-excess.ranges.items ≡ c.loop-line.ranges.items = ap (λ (v : Vec Range Global). v.items) w.ranges-is in
+          ap stops items ∙ stops-short (units_in c.args.encoding) c.args.document.now.text c.text-text.result.now c.loop-line.line c.loop-line.ranges.items
+          c.text-text.ensures w.in_default.ensures.long c.loop-line.invariant
+    ]
+
+pub returns : goal.returns
+returns c =
+    let text = chars c.args.document.now.text in
+    let all : c.loop-line.line ≡ line_ends text + 1 =
+    omega (arith, c.count-line-end.ensures.line_ends c.args.document.now.text c.lines-lines.ensures) in
+    subst (λ (n : ℕ). stops c.loop-line.ranges.items ≡ ends_before (units_in c.args.encoding) text n) all c.loop-line.invariant

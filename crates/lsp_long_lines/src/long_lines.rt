@@ -1,0 +1,69 @@
+//! The long lines of a document: what this server finds, and a server of your own wouldn't.
+
+ghost use Rattle.std.specs.Prelude.{◌≡◌, ◌≤◌, IfOk, IfSome, is_some, map};
+ghost use Rattle.std.specs.Str.{chars};
+ghost use Rattle.lsp_text.specs.LineStarts.{Indexes};
+ghost use Rattle.lsp_text.specs.TextLines.{line_ends};
+ghost use Rattle.lsp_text.specs.Units.{units_in};
+ghost use Rattle.lsp_long_lines.specs.LongLines.{is_long, line_end, long_lines as long_lines_of};
+
+use lsp_store::Document;
+use lsp_text::{Encoding, Lines, Position, Range};
+use std::alloc::{AllocError, Global};
+
+/// How many units of the session's encoding a line may have.
+const LIMIT: u32 = 100;
+
+/// What each long line has too much, in exact positions. Costs one step a line, and in UTF-16 and UTF-32 the text.
+pub fn long_lines(
+    alloc: Global,
+    document: &Document<'_>,
+    encoding: Encoding,
+) -> Result<Vec<Range>, AllocError>
+    // There is a range for each long line and no other, in their order, up to the line's end.
+    ensures { let units = units_in encoding in let text = chars document.now.text in
+        IfOk result (λ ranges. map (λ range. range.stop) ranges.items
+        ≡ map (line_end units text) (long_lines_of units text)) }
+{
+    let (text, lines) = (document.text(), document.lines());
+    let mut ranges = Vec::new(alloc);
+    for line in 0..lines.count() as u32 {
+        if let Some(range) = excess(lines, text, encoding, line) {
+            ranges.push(range)?;
+        }
+    }
+    Ok(ranges)
+}
+
+/// What a line has too much, up to its end; none where it isn't long.
+fn excess(lines: &Lines, text: &str, encoding: Encoding, line: u32) -> Option<Range>
+    requires indexed { Indexes lines.now text.now }
+    requires line { line ≤ line_ends (chars text.now) }
+    ensures long { is_some result ≡ is_long (units_in encoding) (chars text.now) line }
+    ensures stop { IfSome result (λ range.
+        range.stop ≡ line_end (units_in encoding) (chars text.now) line) }
+{
+    let stop = end_of_line(lines, text, encoding, line);
+    if stop.character <= LIMIT {
+        return None;
+    }
+    // The limit may lie inside a character: then that character is too much.
+    let start = (0..=LIMIT)
+        .rev()
+        .map(|character| Position { line, character })
+        .find(|start| lines.resolve(text, encoding, *start).is_ok())
+        .unwrap_or(stop);
+    Some(Range { start, stop })
+}
+
+/// The exact position of the end of a line's content.
+fn end_of_line(lines: &Lines, text: &str, encoding: Encoding, line: u32) -> Position
+    requires indexed { Indexes lines.now text.now }
+    requires line { line ≤ line_ends (chars text.now) }
+    ensures { result ≡ line_end (units_in encoding) (chars text.now) line }
+{
+    let character = u32::MAX;
+    let past_end = Position { line, character };
+    let end = lines.resolve(text, encoding, past_end).unwrap();
+    lines.position(text, encoding, end)
+}

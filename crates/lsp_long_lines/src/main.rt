@@ -1,0 +1,102 @@
+//! A language server that marks each line of more than 100 characters: what a server over these crates looks like.
+//!
+//! A `Framer` takes the bytes of standard input apart into the bodies of messages. A `Server` reads each body, keeps the open documents
+//! by it, and replies where the protocol's lifecycle wants a reply. What is left is this server's own: `answer` publishes the diagnostics
+//! of each document that was opened, changed or closed, and `long_lines` finds them in its text and kept lines.
+//!
+//! README.md says how an editor starts it.
+#![tactic(auto)]
+
+mod long_lines;
+
+use anyhow::Result;
+use lsp_frame::{Framer, Limits, frame};
+use lsp_server::{Answer, Config, EncodingChoice, Incoming, Server, Sync};
+use lsp_text::{Encoding, Range};
+use serde_json::{Value, json};
+use std::alloc::{AllocError, Global};
+use std::io::{BufRead, BufReader, Write};
+use std::process::ExitCode;
+
+/// Serves one session. The status of the process is the one that `exit` asks for, and 1 where the input ends without it.
+fn main(rt: HostRuntime) -> Result<ExitCode> {
+    // In UTF-32 a unit is a character. An editor that doesn't offer it gets UTF-16, which each of them knows.
+    let prefer = Encoding::Utf32;
+    let config = Config {
+        // Bytes of a message, bytes of a document, open documents, and changes in one message.
+        limits: Limits::new(16_777_216, 16_777_216, 1_024, 65_536)?,
+        choice: EncodingChoice::Negotiated { prefer },
+        sync: Sync::Incremental,
+    };
+    let mut framer = Framer::new(rt.alloc(), config.limits);
+    let mut server = Server::new(rt.alloc(), config);
+    let mut input = BufReader::new(rt.alloc(), rt.stdin())?;
+    for _ in 0..u64::MAX {
+        let taken = framer.feed(input.fill_buf()?)?;
+        // Nothing is taken only where nothing is left.
+        if taken == 0 {
+            break;
+        }
+        input.consume(taken);
+        if let Some(body) = framer.body() {
+            if let Some(status) = answer(rt.alloc(), &mut server, body, &mut rt.stdout())? {
+                return Ok(ExitCode::from(status));
+            }
+            framer.next();
+        }
+    }
+    Ok(ExitCode::FAILURE)
+}
+
+/// Answers one message. Returns the status of the process where that is to end.
+fn answer<W: Write>(
+    alloc: Global,
+    server: &mut Server,
+    body: &[u8],
+    output: &mut W,
+) -> Result<Option<u8>> {
+    let incoming = server.read(body)?;
+    let uri = String::from_str(alloc, document_of(&incoming))?;
+    match server.handle_incoming(incoming)? {
+        Answer::Reply { frame, .. } => output.write_all(&frame)?,
+        Answer::Changed => output.write_all(&diagnostics(alloc, server, &uri)?)?,
+        Answer::Exit(status) => return Ok(Some(status)),
+        Answer::Dropped | Answer::Ignored | Answer::Refused(_) => {}
+    }
+    output.flush()?;
+    Ok(None)
+}
+
+/// The URI of the document that a notification opens, changes or closes; empty for any other message.
+fn document_of(incoming: &Incoming) -> &str {
+    match incoming {
+        Incoming::DidOpen(Some(params)) => &params.uri,
+        Incoming::DidChange(Some(params)) => &params.uri,
+        Incoming::DidClose(Some(params)) => &params.uri,
+        _ => "",
+    }
+}
+
+/// The frame that publishes a document's diagnostics (LSP 3.17, PublishDiagnostics Notification): none where it is closed.
+fn diagnostics(alloc: Global, server: &Server, uri: &str) -> Result<Vec<u8>, AllocError> {
+    let mut found = Vec::new(alloc);
+    if let (Some(document), Some(encoding)) = (server.store().get(uri), server.encoding()) {
+        for range in long_lines::long_lines(alloc, &document, encoding)? {
+            found.push(diagnostic(alloc, range)?)?;
+        }
+    }
+    let notification = json!(in alloc; {
+        "jsonrpc": "2.0",
+        "method": "textDocument/publishDiagnostics",
+        "params": {"uri": uri, "diagnostics": found},
+    })?;
+    frame(alloc, &notification.to_vec(alloc)?)
+}
+
+/// A warning over a range.
+fn diagnostic(alloc: Global, range: Range) -> Result<Value, AllocError> {
+    let start = json!(in alloc; {"line": range.start.line, "character": range.start.character})?;
+    let end = json!(in alloc; {"line": range.stop.line, "character": range.stop.character})?;
+    let message = "a line of more than 100 characters";
+    json!(in alloc; {"range": {"start": start, "end": end}, "severity": 2, "message": message})
+}
