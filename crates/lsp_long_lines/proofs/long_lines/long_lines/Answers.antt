@@ -10,14 +10,14 @@ use Rattle.lsp_long_lines.proofs.long_lines.long_lines.Goals.{in-Some+in_ok-push
 
 pub overflow_cast-line-end : goal.overflow_cast-line-end
 overflow_cast-line-end c =
-    let utf8 : IsUtf8 c.args.document.now.text = subst (λ (b : List ℕ). IsUtf8 b) c.text-text.ensures c.text-text.utf8 in
+    let utf8 : IsUtf8 c.args.document.now.text = subst (λ (b : List ℕ). IsUtf8 b) c.text-text.ensures.text c.text-text.utf8 in
     omega (arith, c.count-line-end.ensures.count, indexes_few c.args.document.now.text c.lines-lines.result.now utf8 c.lines-lines.ensures)
 
 pub excess-requires-clause-line : goal.excess-requires-clause-line
 excess-requires-clause-line c =
     let there : c.loop-line.line ≤ line_ends (chars c.args.document.now.text) =
     omega (arith, c.count-line-end.ensures.line_ends c.args.document.now.text c.lines-lines.ensures) in
-    subst (λ (b : List ℕ). c.loop-line.line ≤ line_ends (chars b)) (sym c.text-text.ensures) there
+    subst (λ (b : List ℕ). c.loop-line.line ≤ line_ends (chars b)) (sym c.text-text.ensures.text) there
 
 pub loop-line-preserved : goal.loop-line-preserved
 loop-line-preserved c =
@@ -26,11 +26,11 @@ loop-line-preserved c =
           let items : c.match-excess.ranges.items ≡ c.loop-line.ranges.items ++ w.in-Some.range ∷ [] =
           ap (λ (v : Vec Range Global). v.items) w.ranges-is ∙ w.in_ok-push.ensures.items in
           ap stops items ∙ stops-long (units_in c.args.encoding) c.args.document.now.text c.text-text.result.now c.loop-line.line c.loop-line.ranges.items w.in-Some.range
-          c.text-text.ensures w.in-Some.ensures.long w.in-Some.ensures.stop c.loop-line.invariant
+          c.text-text.ensures.text w.in-Some.ensures.long w.in-Some.ensures.stop c.loop-line.invariant
       | in_default w ↦
           let items : c.match-excess.ranges.items ≡ c.loop-line.ranges.items = ap (λ (v : Vec Range Global). v.items) w.ranges-is in
           ap stops items ∙ stops-short (units_in c.args.encoding) c.args.document.now.text c.text-text.result.now c.loop-line.line c.loop-line.ranges.items
-          c.text-text.ensures w.in_default.ensures.long c.loop-line.invariant
+          c.text-text.ensures.text w.in_default.ensures.long c.loop-line.invariant
     ]
 
 pub returns : goal.returns
