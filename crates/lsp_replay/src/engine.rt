@@ -219,7 +219,8 @@ fn finish_run<W: Sink, H: Handler>(
         Went reading course held input [] splitter.now (H.course handler.old) (W.held writer.old) →
         IsEndFault reading course (H.FLUSHES && not (W.has_flushed writer.new)) input held (W.held writer.new) place fault) }
     ensures whole { IfErr result (λ fault. fault ≡ EngineFault.NoMemory → H.parts handler.old ≡ 0 →
-        (reading : Reading) (course : List Record → Course) (held : Option (List ℕ)) (input : List ℕ) →
+        (reading : Reading) (course : List Record → Course)
+        (held : Option (List ℕ)) (input : List ℕ) →
         Went reading course held input [] splitter.now (H.course handler.old) (W.held writer.old) →
         Reached reading course input held (W.held writer.new) (λ _. Unit {0})) }
     ensures failed { IfErr result (λ fault. fault ≡ EngineFault.Write →
@@ -259,7 +260,11 @@ pub fn run_engine<R: Source, W: Sink, H: Handler>(
     ensures none_passed_over { NonePassedOver (R.has_failed reader.old) (R.has_failed reader.new) (W.has_failed writer.old) (W.has_failed writer.new) result }
     // Where the end gives one part, what is written when memory runs out is the output of records, each whole.
     ensures whole { ((h : H) → H.parts h ≡ 0) → result ≡ Err EngineFault.NoMemory →
-        WroteRecords (record { max_body = rules.limits.max_body; versions = rules.versions; only_one = rules.only_one }) (H.course handler.old)
+        WroteRecords (record {
+          max_body = rules.limits.max_body;
+          versions = rules.versions;
+          only_one = rules.only_one;
+        }) (H.course handler.old)
         (R.left reader.old) (R.left reader.new) (W.held writer.old) (W.held writer.new) }
     ensures passed_on { H.FLUSHES ≡ true → result ≢ Err EngineFault.Write → result ≢ Err EngineFault.TooManyTurns →
         StaysFlushed (W.has_flushed writer.old) (W.has_flushed writer.new) }

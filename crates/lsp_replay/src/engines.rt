@@ -96,7 +96,8 @@ pub fn serve<R: Source, W: Sink>(
     ensures passed_on { result ≢ Err EngineFault.Write → result ≢ Err EngineFault.TooManyTurns →
         StaysFlushed (W.has_flushed writer.old) (W.has_flushed writer.new) }
     // Where memory runs out, what was written is the output of records, each whole.
-    ensures whole { result ≡ Err EngineFault.NoMemory → WroteRecords (as_stream config) (replies config)
+    ensures whole { result ≡ Err EngineFault.NoMemory →
+        WroteRecords (as_stream config) (replies config)
         (R.left reader.old) (R.left reader.new) (W.held writer.old) (W.held writer.new) }
     ensures called { Called (R.count reader.old) (R.count reader.new) (W.count writer.old) (W.count writer.new) max_turns
         (R.has_failed reader.new) (W.has_failed writer.new) (R.has_ended reader.new) (R.left reader.new) result }
@@ -129,7 +130,8 @@ pub fn check<R: Source, W: Sink>(
         (state_of (R.has_ended reader.old) (R.has_ended reader.new) false)
         (R.left reader.old) (R.left reader.new) (W.held writer.old) (W.held writer.new) result }
     // Where memory runs out, what was written is the output of records, each whole.
-    ensures whole { result ≡ Err EngineFault.NoMemory → WroteRecords (as_log settings) (verdicts settings)
+    ensures whole { result ≡ Err EngineFault.NoMemory →
+        WroteRecords (as_log settings) (verdicts settings)
         (R.left reader.old) (R.left reader.new) (W.held writer.old) (W.held writer.new) }
     ensures called { Called (R.count reader.old) (R.count reader.new) (W.count writer.old) (W.count writer.new) max_turns
         (R.has_failed reader.new) (W.has_failed writer.new) (R.has_ended reader.new) (R.left reader.new) result }
@@ -186,7 +188,8 @@ pub fn convert<R: Source, W: Sink>(
     // What was written is a log of which `replay` tells the same, where no reply in it is over the limit.
     ensures converted { IfOk result (Wrote settings (IsConverted settings) (R.left reader.old) (R.left reader.new) (W.held writer.old) (W.held writer.new)) }
     // Where memory runs out, what was written is the output of records, each whole.
-    ensures whole { result ≡ Err EngineFault.NoMemory → WroteRecords (as_converted settings) (converted settings)
+    ensures whole { result ≡ Err EngineFault.NoMemory →
+        WroteRecords (as_converted settings) (converted settings)
         (R.left reader.old) (R.left reader.new) (W.held writer.old) (W.held writer.new) }
     ensures called { Called (R.count reader.old) (R.count reader.new) (W.count writer.old) (W.count writer.new) max_turns
         (R.has_failed reader.new) (W.has_failed writer.new) (R.has_ended reader.new) (R.left reader.new) result }
@@ -228,7 +231,8 @@ pub fn normalise<R: Source, W: Sink>(
     ensures squashed { settings.squash ≡ true
         → IfOk result (Wrote settings (IsSquashed settings) (R.left reader.old) (R.left reader.new) (W.held writer.old) (W.held writer.new)) }
     // Where memory runs out, what was written is the output of records, each whole.
-    ensures whole { result ≡ Err EngineFault.NoMemory → WroteRecords (as_log settings) (normalised settings)
+    ensures whole { result ≡ Err EngineFault.NoMemory →
+        WroteRecords (as_log settings) (normalised settings)
         (R.left reader.old) (R.left reader.new) (W.held writer.old) (W.held writer.new) }
     ensures called { Called (R.count reader.old) (R.count reader.new) (W.count writer.old) (W.count writer.new) max_turns
         (R.has_failed reader.new) (W.has_failed writer.new) (R.has_ended reader.new) (R.left reader.new) result }
@@ -256,7 +260,8 @@ fn normalise_each<R: Source, W: Sink>(
         (R.left reader.old) (R.left reader.new) (W.held writer.old) (W.held writer.new) result }
     ensures normal { IfOk result (Wrote settings (IsNormal settings) (R.left reader.old) (R.left reader.new) (W.held writer.old) (W.held writer.new)) }
     // Where memory runs out, what was written is the output of records, each whole.
-    ensures whole { result ≡ Err EngineFault.NoMemory → WroteRecords (as_log settings) (normal settings)
+    ensures whole { result ≡ Err EngineFault.NoMemory →
+        WroteRecords (as_log settings) (normal settings)
         (R.left reader.old) (R.left reader.new) (W.held writer.old) (W.held writer.new) }
     ensures called { Called (R.count reader.old) (R.count reader.new) (W.count writer.old) (W.count writer.new) max_turns
         (R.has_failed reader.new) (W.has_failed writer.new) (R.has_ended reader.new) (R.left reader.new) result }
@@ -284,7 +289,8 @@ fn normalise_squashed<R: Source, W: Sink>(
         (R.left reader.old) (R.left reader.new) (W.held writer.old) (W.held writer.new) result }
     ensures squashed { IfOk result (Wrote settings (IsSquashed settings) (R.left reader.old) (R.left reader.new) (W.held writer.old) (W.held writer.new)) }
     // Where memory runs out, what was written is the output of records, each whole.
-    ensures whole { result ≡ Err EngineFault.NoMemory → WroteRecords (as_log settings) (squashed settings)
+    ensures whole { result ≡ Err EngineFault.NoMemory →
+        WroteRecords (as_log settings) (squashed settings)
         (R.left reader.old) (R.left reader.new) (W.held writer.old) (W.held writer.new) }
     ensures called { Called (R.count reader.old) (R.count reader.new) (W.count writer.old) (W.count writer.new) max_turns
         (R.has_failed reader.new) (W.has_failed writer.new) (R.has_ended reader.new) (R.left reader.new) result }
