@@ -234,7 +234,7 @@ fn batch<R: Runtime + AllocGlobal>(rt: &R, text: &str, count: u32) -> Result<()>
     report(rt, "two such batches told as one", size, &count, &both)
 }
 
-/// What a second batch does to the text that a first one left, told over the first one's text. Only the telling is counted.
+/// What a second batch does to the text that a first one left, over the first one's text. Only that composition is counted.
 fn told_as_one<R: Runtime + AllocGlobal>(
     rt: &R,
     text: &str,

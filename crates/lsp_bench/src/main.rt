@@ -3,7 +3,7 @@
 //! other sizes: megabytes of `text`, `lookups` in each text, `lines` of the text that is edited, `edits` at each place.
 //! `lsp_bench edits` changes texts, and `lsp_bench documents` open documents, of which the first form makes a few changes.
 //! `lsp_bench pairs` makes a million keystrokes through both ends of a session, the first form two thousand.
-//! `lsp_bench parse` frames and parses what standard input has, and tells how much that was.
+//! `lsp_bench parse` frames and parses what standard input has, and prints how much that was.
 #![tactic(auto)]
 
 mod documents;
@@ -93,7 +93,7 @@ fn time_frames(rt: &(impl Runtime + AllocGlobal), megabytes: u16) -> Result<()> 
     Ok(())
 }
 
-/// The number behind a name among the arguments, or what stands for it.
+/// The number after a name among the arguments, or its default.
 fn size(rt: &(impl Runtime + AllocGlobal), name: &str, default: u32) -> Result<u32> {
     for word in env::args(rt)? {
         if let Some(number) = word.as_str().strip_prefix(name) {

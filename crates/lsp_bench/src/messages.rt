@@ -14,7 +14,7 @@ use std::time::{Duration, Instant};
 
 const MEGABYTE: usize = 1_048_576;
 
-/// The least time of this many rounds is told.
+/// The least time of this many rounds is printed.
 const ROUNDS: u32 = 5;
 
 /// A line of the text that is opened.

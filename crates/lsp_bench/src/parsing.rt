@@ -22,7 +22,7 @@ pub struct Parsed {
 }
 
 impl Parsed {
-    /// Parses a body, and gives up at once what was made of it.
+    /// Parses a body, and drops at once what was read.
     fn take(&mut self, alloc: Global, body: &[u8]) -> Result<()> {
         let value = Value::from_slice(alloc, body)?;
         self.frames = self.frames.saturating_add(1);

@@ -16,7 +16,7 @@ use lsp_text::{Encoding, Lines, Range};
 use std::alloc::{AllocError, Global};
 use std::mem;
 
-/// Puts the change of a gap behind others, if the gap is changed: its text takes the place of the old text's bytes from `low` to `high`.
+/// Puts the change of a gap after others, if the gap is changed: its text takes the place of the old text's bytes from `low` to `high`.
 fn put_gap(
     changes: &mut Vec<Change>,
     lines: &Lines,
@@ -42,7 +42,7 @@ fn put_gap(
     Ok(())
 }
 
-/// The canonical batch of what spans stand for: one change for each gap between kept bytes that is changed, from the last gap to the
+/// The canonical batch of spans: one change for each gap between kept bytes that is changed, from the last gap to the
 /// first. Costs the spans, and one exact position for each end of a changed gap.
 pub fn canonical_of<'a>(
     alloc: Global,

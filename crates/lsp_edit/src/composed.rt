@@ -42,7 +42,7 @@ fn apply_all<'a>(
 }
 
 /// What a batch makes of a text: its changes are applied one after another (LSP 3.17, DidChangeTextDocumentParams). The first change
-/// that has no result is told. Costs what each change costs to apply.
+/// that has no result is reported. Costs what each change costs to apply.
 pub fn compose<'a>(
     alloc: Global,
     before: &'a str,

@@ -1,4 +1,4 @@
-//! The text that spans stand for, made in one copy and then changed in place.
+//! The text of spans, made in one copy and then changed in place.
 
 ghost use Rattle.std.specs.Prelude.{◌≡◌, ◌≤◌, IfOk, IsCharBoundary, MatchOption, length, string_bytes};
 ghost use Rattle.std.specs.List.{replace_range};
@@ -19,7 +19,7 @@ pub struct Current {
 }
 
 impl Current {
-    /// What was made before, or the text that spans stand for, made now.
+    /// What was made before, or the text of spans, made now.
     pub fn or_new<'a>(
         made: Option<Self>,
         alloc: Global,
@@ -38,7 +38,7 @@ impl Current {
         }
     }
 
-    /// The text that spans stand for, with its lines. `len` is how many bytes it has.
+    /// The text of spans, with its lines. `len` is how many bytes it has.
     pub fn new<'a>(
         alloc: Global,
         before: &'a str,
@@ -55,7 +55,7 @@ impl Current {
     }
 
     /// Puts a new text in place of the bytes between two places, and moves the lines that follow. Costs what [`put_in_place`] does.
-    /// Where a growth is refused the copy is given up.
+    /// Where a growth is refused the copy is dropped.
     pub fn replaced(self, start: usize, stop: usize, new: &str) -> Result<Self, AllocError>
         requires order { start ≤ stop }
         requires start { IsCharBoundary (string_bytes self.text) start }
@@ -72,7 +72,7 @@ impl Current {
     }
 }
 
-/// The text that spans stand for. `len` is how many bytes it will have.
+/// The text of spans. `len` is how many bytes it will have.
 pub fn text_of_spans<'a>(
     alloc: Global,
     before: &'a str,

@@ -9,7 +9,7 @@ ghost use Rattle.lsp_edit.specs.Faults.{ends_of, places_at};
 use crate::fault::{EditFault, Side};
 use lsp_text::{Encoding, Lines, Range};
 
-/// The places of a range's two ends in the text that `lines` index. `change` is the number of the change that a fault tells.
+/// The places of a range's two ends in the text that `lines` index. `change` is the number of the change that a fault reports.
 pub fn ends(
     lines: &Lines,
     text: &str,

@@ -20,7 +20,7 @@ pub enum EditFault {
     /// An end of the change's range lies inside a character.
     #[error("change {change}: {side:?} lies inside a character")]
     InsideCharacter { change: usize, side: Side },
-    /// The change's range starts behind its end.
+    /// The change's range starts after its end.
     #[error("change {change}: the range is reversed")]
     ReversedRange { change: usize },
     /// No memory was left.

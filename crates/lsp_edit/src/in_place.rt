@@ -9,7 +9,7 @@ use lsp_text::Lines;
 use std::alloc::AllocError;
 
 /// Puts a text in place of the bytes from `start` to `stop` of a text whose lines are kept. All room is made first: where memory is
-/// refused, nothing changes. Costs a copy of the bytes that are removed, one move of those behind them, and what the lines cost.
+/// refused, nothing changes. Costs a copy of the bytes that are removed, one move of those after them, and what the lines cost.
 pub fn put_in_place(
     text: &mut String,
     lines: &mut Lines,

@@ -173,8 +173,8 @@ impl IndexedText {
     }
 
     /// Makes the text what a batch means on it (LSP 3.17, DidChangeTextDocumentParams), if that has at most `max_len` bytes; the texts
-    /// between may have more. The first change that has no result is told. Where anything is refused nothing changes. One change of a
-    /// range costs its two positions, one move of the text behind it, and one pass over the line starts that follow. A longer batch costs
+    /// between may have more. The first change that has no result is reported. Where anything is refused nothing changes. One change of a
+    /// range costs its two positions, one move of the text after it, and one pass over the line starts that follow. A longer batch costs
     /// one copy of the text and of its line starts, if it doesn't begin with a whole text, and for each change its two positions, its
     /// text, and the bytes and the lines between it and the change before. No spans are kept.
     pub fn change(

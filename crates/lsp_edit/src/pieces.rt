@@ -32,7 +32,7 @@ use std::marker::Model;
 pub const MAX_TEXT: usize = 2_147_483_648;
 
 /// A text that changes are applied to, one after another. It borrows the old text and the texts of the changes, and copies neither
-/// to tell what became of the old text.
+/// to say what became of the old text.
 #[derive(Drop)]
 pub struct Pieces<'a> {
     alloc: Global,
@@ -108,8 +108,8 @@ impl<'a> Pieces<'a> {
         Self::begin(alloc, before, KeptLines::Lent(lines))
     }
 
-    /// What two runs of changes make together, the second over the text that the first left: told over the text that the first is over,
-    /// with the changes of both. Costs the spans of both, and lends the lines of the first.
+    /// What two runs of changes make together, the second over the text that the first left. It is over the text that the first is over,
+    /// with the changes of both. Costs the spans of both, and borrows the lines of the first.
     pub fn then<'b, 'c>(
         alloc: Global,
         first: &'c Pieces<'a>,
@@ -159,7 +159,7 @@ impl<'a> Pieces<'a> {
         self.len
     }
 
-    /// The places of a range's two ends in the text as it is now. `change` is the number that a fault tells.
+    /// The places of a range's two ends in the text as it is now. `change` is the number that a fault reports.
     fn places(&mut self, encoding: Encoding, range: Range) -> Result<(usize, usize), EditFault>
         ensures same { self.new ≡ self.old }
         ensures memory { result ≡ Err NoMemory → self.old.edited.changes ≢ 0 }
@@ -225,8 +225,8 @@ impl<'a> Pieces<'a> {
     }
 
     /// Applies a change to the text as it is now (LSP 3.17, TextDocumentContentChangeEvent). A fault leaves everything as it was, and
-    /// tells how many changes were applied before. Costs a walk over the spans from the last change to this one and one move of those behind
-    /// it; from the second change with a range on also one move of the text and of the line starts behind it (at the second, one copy of the text).
+    /// says how many changes were applied before. Costs a walk over the spans from the last change to this one and one move of those after
+    /// it; from the second change with a range on also one move of the text and of the line starts after it (at the second, one copy of the text).
     pub fn apply(&mut self, encoding: Encoding, change: &'a Change) -> Result<(), EditFault>
         requires { length (edited_bytes self.old.edited) + string_len change.now.text ≤ MAX_TEXT }
         ensures applied { OnOk result (Applied (units_in encoding) self.old.edited
@@ -273,7 +273,7 @@ impl<'a> Pieces<'a> {
         )
     }
 
-    /// The spans that stand for the text as it is now: runs of the old text in order, and texts of the changes or parts of them, none cut
+    /// The spans of the text as it is now: runs of the old text in order, and texts of the changes or parts of them, none cut
     /// inside a character. None is empty, two of the old text that touch are one, and there are at most two more than one for each change.
     pub fn spans(&self) -> &[Span<'a>]
         ensures parts { parts_of result.now ≡ self.now.parts }

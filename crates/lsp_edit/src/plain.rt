@@ -1,5 +1,5 @@
-//! The definitions as a plain program: one item for each character, and each step as the definitions tell it. It says what `compose`
-//! and `Pieces` say, stands beside them to be read, and is compared with them.
+//! The definitions as a plain program: one item for each character, and each step as the definitions say. It says what `compose`
+//! and `Pieces` say, is there to be read beside them, and is compared with them.
 
 ghost use Rattle.std.specs.Prelude.{◌≡◌, ◌+◌, ◌++◌, ◌≤◌, ◌<◌, ℕ, IfErr, IfOk, OnErr, OnOk, Ok, Some, true, MatchResult, IsCharBoundary, List, [], map, length, take, drop, string_bytes, string_len, sum_by, encode_utf8_all};
 ghost use Rattle.std.specs.Str.{chars};
@@ -177,7 +177,7 @@ impl<'a> Plain<'a> {
     }
 }
 
-/// An item over a text, told over what the items of that text are over.
+/// An item over a text, as one over what the items of that text are over.
 fn told_through(first: &[Item], item: Item) -> Item
     ensures { item_of result ≡ spec_told_through (items_in_order first.now) (item_of item) }
 {
@@ -193,7 +193,7 @@ fn told_through(first: &[Item], item: Item) -> Item
     }
 }
 
-/// Items over the text of the first, told over what the first are over.
+/// Items over the text of the first, as items over what the first are over.
 fn then_items(alloc: Global, first: &[Item], second: &[Item]) -> Result<Vec<Item>, AllocError>
     ensures { IfOk result (λ made. items_in_order made.items ≡ spec_then_items (items_in_order first.now) (items_in_order second.now)) }
 {
@@ -242,7 +242,7 @@ fn spelled(alloc: Global, characters: &[char]) -> Result<String, AllocError>
     Ok(text)
 }
 
-/// The character that an item stands for.
+/// The character of an item.
 fn character_of(old: &[char], item: Item) -> char
     ensures { result ≡ spec_character_of old.now (item_of item) }
 {
@@ -252,7 +252,7 @@ fn character_of(old: &[char], item: Item) -> char
     }
 }
 
-/// The characters that items stand for.
+/// The characters of items.
 fn text_of(alloc: Global, old: &[char], items: &[Item]) -> Result<Vec<char>, AllocError>
     ensures { IfOk result (λ text. text.items ≡ spec_text_of old.now (items_in_order items.now)) }
 {
@@ -274,7 +274,7 @@ fn numbered(alloc: Global, count: usize) -> Result<Vec<Item>, AllocError>
     Ok(items)
 }
 
-/// Puts new characters behind items.
+/// Puts new characters after items.
 fn push_new(items: &mut Vec<Item>, text: &[char]) -> Result<(), AllocError>
     ensures { OnOk result (items_in_order items.new.items ≡ items_in_order items.old.items ++ map NewItem text.now) }
 {
@@ -321,7 +321,7 @@ fn index_of(alloc: Global, text: &str, place: usize) -> Result<usize, AllocError
     Ok(front.len())
 }
 
-/// The place of an index: how many bytes stand before it.
+/// The place of an index: how many bytes come before it.
 fn place_of(alloc: Global, old: &[char], index: usize) -> Result<usize, AllocError>
     requires { index ≤ length old.now }
     ensures { IfOk result (λ place. place ≡ length (encode_utf8_all (take index old.now))) }
@@ -330,7 +330,7 @@ fn place_of(alloc: Global, old: &[char], index: usize) -> Result<usize, AllocErr
     Ok(front.len())
 }
 
-/// Puts the change of a gap behind others, if the gap is changed.
+/// Puts the change of a gap after others, if the gap is changed.
 fn put_gap(
     changes: &mut Vec<Change>,
     before: &str,

@@ -6,7 +6,7 @@ ghost use Rattle.lsp_edit.specs.Parts.{AreBefore, AreCut, AreOrdered, ArePassed,
 use crate::span::Span;
 use std::alloc::{AllocError, Global};
 
-/// Puts a span behind others. Two runs of the old text that touch become one.
+/// Puts a span after others. Two runs of the old text that touch become one.
 pub fn put<'a>(spans: &mut Vec<Span<'a>>, span: Span<'a>) -> Result<(), AllocError>
     ensures { OnOk result (parts_of spans.new.items ≡ put_part (parts_of spans.old.items) (part_of span.entry)) }
 {
@@ -23,7 +23,7 @@ pub fn put<'a>(spans: &mut Vec<Span<'a>>, span: Span<'a>) -> Result<(), AllocErr
     Ok(())
 }
 
-/// Puts the first bytes of spans, up to a place, behind others. A span that the place lies in is cut.
+/// Puts the first bytes of spans, up to a place, after others. A span that the place lies in is cut.
 pub fn push_front<'a>(
     out: &mut Vec<Span<'a>>,
     spans: &[Span<'a>],
@@ -47,7 +47,7 @@ pub fn push_front<'a>(
     Ok(())
 }
 
-/// The span of an index, before which `passed` bytes stand; or, of those before it, the last one that begins before a place.
+/// The span of an index, which has `passed` bytes before it; or, of those before it, the last one that begins before a place.
 fn back_to(spans: &[Span], index: usize, passed: usize, place: usize) -> (usize, usize)
     requires marked { IsMark spans.now index passed }
     requires ordered { AreOrdered (parts_of spans.now) }
@@ -86,7 +86,7 @@ fn passed_by(spans: &[Span], index: usize, passed: usize, low: usize) -> (usize,
 }
 
 /// How many spans end before a place, and how many bytes those have. The next one is cut there, or ends there. The walk begins at the
-/// span of an index, before which `passed` bytes stand.
+/// span of an index, which has `passed` bytes before it.
 fn ended_by(spans: &[Span], index: usize, passed: usize, place: usize) -> (usize, usize)
     requires marked { IsMark spans.now index passed }
     requires ordered { AreOrdered (parts_of spans.now) }
@@ -105,8 +105,8 @@ fn ended_by(spans: &[Span], index: usize, passed: usize, place: usize) -> (usize
     passed_by(spans, index, passed, place - 1)
 }
 
-/// What takes the place of spans from the first one to that of the index `last`: what stands in the first before the place `start`,
-/// the new text, and what stands in the last behind the place `stop`, both counted from the start of their spans.
+/// What takes the place of spans from the first one to that of the index `last`: what the first has before the place `start`,
+/// the new text, and what the last has after the place `stop`, both counted from the start of their spans.
 fn between<'a>(
     alloc: Global,
     spans: &[Span<'a>],
@@ -133,9 +133,9 @@ fn between<'a>(
     Ok(made)
 }
 
-/// Puts a new text in place of the bytes between two places: at most two spans more. Tells the span that was cut there, or stands there
-/// now: how many stand before it, and how many bytes those have. A refused growth changes nothing. Costs a walk to the place from the
-/// span of the index `near`, before which `before` bytes stand, and one move of the spans that follow.
+/// Puts a new text in place of the bytes between two places: at most two spans more. Returns the span that was cut there, or is there
+/// now: how many come before it, and how many bytes those have. A refused growth changes nothing. Costs a walk to the place from the
+/// span of the index `near`, which has `before` bytes before it, and one move of the spans that follow.
 pub fn replace<'a>(
     spans: &mut Vec<Span<'a>>,
     near: usize,

@@ -8,7 +8,7 @@ use crate::span::Span;
 use std::alloc::AllocError;
 use std::marker::Model;
 
-/// Spans in a row. It remembers the span at which it was changed last: how many stand before it, and how many bytes those have.
+/// Spans in a row. It remembers the span at which it was changed last: how many come before it, and how many bytes those have.
 #[derive(Drop)]
 pub struct Row<'a> {
     spans: Vec<Span<'a>>,

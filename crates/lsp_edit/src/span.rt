@@ -15,7 +15,7 @@ pub enum Span<'a> {
 }
 
 impl<'a> Span<'a> {
-    /// How many bytes it stands for.
+    /// How many bytes it has.
     pub(crate) fn len(self) -> usize
         requires { IsOrdered (part_of self) }
         ensures { result ≡ part_len (part_of self.entry) }
@@ -40,7 +40,7 @@ impl<'a> Span<'a> {
         }
     }
 
-    /// What stands behind its first `count` bytes.
+    /// What comes after its first `count` bytes.
     pub(crate) fn back(self, count: usize) -> Self
         requires { IsCut (part_of self) count }
         ensures { part_of result ≡ back_part (part_of self.entry) count }
@@ -71,7 +71,7 @@ impl<'a> Span<'a> {
         }
     }
 
-    /// The bytes it stands for, where `before` is the old text.
+    /// Its bytes, where `before` is the old text.
     pub(crate) fn read(self, before: &'a str) -> &'a str
         requires { IsPart before.now (part_of self) }
         ensures { result.now ≡ bytes_in before.now (part_of self.entry) }

@@ -1,4 +1,4 @@
-//! Spans over a text that other spans stand for, told over what those are told over.
+//! Spans over a text that other spans make, as spans over what those are over.
 
 ghost use Rattle.std.specs.Prelude.{◌≡◌, ◌-◌, ◌≤◌, ◌∷◌, OnOk, IfOk, length, drop};
 ghost use Rattle.lsp_edit.specs.Parts.{AreCut, Ascend, ArePassed, AreThrough, back_parts, front_parts, part_of, parts_of, put_parts, through_parts};
@@ -7,7 +7,7 @@ use crate::replace::{push_front, put};
 use crate::span::Span;
 use std::alloc::{AllocError, Global};
 
-/// Puts the first bytes of a span and of those behind it behind others.
+/// Puts the first bytes of a span and of those that follow it after others.
 fn push_from<'a>(
     out: &mut Vec<Span<'a>>,
     first: Span<'a>,
@@ -27,7 +27,7 @@ fn push_from<'a>(
     push_front(out, behind, count - first.len())
 }
 
-/// Puts the spans of `count` bytes from a place on behind others. Tells how many spans end at or before that place, and how many bytes
+/// Puts the spans of `count` bytes from a place on after others. Returns how many spans end at or before that place, and how many bytes
 /// those have.
 fn push_between<'a>(
     out: &mut Vec<Span<'a>>,
@@ -53,7 +53,7 @@ fn push_between<'a>(
     Ok((spans.len(), passed))
 }
 
-/// The spans of `second`, which stand over the text of `first`, told over what `first` is told over. Costs one walk over both.
+/// The spans of `second`, which are over the text of `first`, as spans over what `first` is over. Costs one walk over both.
 pub fn spans_through<'a>(
     alloc: Global,
     first: &[Span<'a>],

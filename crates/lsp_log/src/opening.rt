@@ -1,4 +1,4 @@
-//! The first bytes of an input, as many as tell its version.
+//! The first bytes of an input, as many as decide its version.
 
 ghost use Rattle.std.specs.Prelude.{◌≡◌, ◌≢◌, ◌<◌, ◌≤◌, ◌^◌, ◌++◌, ◌↔◌, ◌⊎◌, [], ℕ, List, true, false, IfOk, IfErr, OnOk, length, take, drop};
 ghost use Rattle.std.specs.Io.KnownBytes.{Consumes, IsAtEnd};
@@ -82,7 +82,7 @@ fn may_be_line(bytes: &[u8]) -> bool
     bytes.len() < VERSION_LINE.len() && VERSION_LINE.starts_with(bytes)
 }
 
-/// The version of an input that begins with these bytes, as far as they tell.
+/// The version of an input that begins with these bytes, as far as they decide it.
 fn version_of(bytes: &[u8], versions: bool) -> Version
     ensures { IsVersion versions result bytes.now }
 {

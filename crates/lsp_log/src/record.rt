@@ -40,7 +40,7 @@ pub enum Side {
 }
 
 impl Side {
-    /// The side that a mark of version 2 stands for.
+    /// The side of a mark of version 2.
     pub fn of_mark(mark: u8) -> Option<Side>
         ensures { MatchOption result ((mark ≢ 62) × (mark ≢ 60)) (λ side. mark_of Version.Two side ≡ mark ∷ []) }
     {

@@ -12,7 +12,7 @@ use lsp_frame::{Framer, Limits};
 use lsp_stream::EngineFault;
 use std::alloc::Global;
 
-/// Takes a log apart into its records, in whatever pieces it comes. It stands behind the line of the log's version,
+/// Takes a log apart into its records, in whatever pieces it comes. It begins after the line of the log's version,
 /// and holds at most one record.
 #[derive(Drop)]
 pub struct Splitter {

@@ -13,14 +13,14 @@ use lsp_server::{Answer, Config};
 use lsp_stream::EngineFault;
 use std::alloc::{AllocError, Global};
 
-/// Writes each record with its mark, and behind it the reply.
+/// Writes each record with its mark, and after it the reply.
 #[derive(Drop)]
 pub struct Convert {
     pub session: Session,
 }
 
 impl Convert {
-    /// The line stands in front of the first record, or alone where there is none.
+    /// The line is in front of the first record, or alone where there is none.
     fn push_line(&self, made: &mut Vec<u8>) -> Result<(), AllocError>
         ensures { OnOk result (made.new.items ≡ made.old.items ++ line_before self.now.session) }
     {

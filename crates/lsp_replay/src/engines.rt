@@ -28,7 +28,7 @@ use std::alloc::Global;
 #[derive(Clone, Copy, Debug, PartialEq, Eq)]
 pub struct Settings {
     pub limits: Limits,
-    /// The encoding of positions in a log of version 1; one of version 2 tells its own.
+    /// The encoding of positions in a log of version 1; one of version 2 says its own.
     pub encoding: Encoding,
     /// Does [`normalise`] write changes of one document that follow each other as one message? The other commands ignore it.
     pub squash: bool,
@@ -75,7 +75,7 @@ impl Settings {
 }
 
 /// A server's end of a session: writes each reply to the client's frames as it comes, and flushes it before more is read. Ends at
-/// `exit`, with its status; nothing behind it is looked at. Where the input ends without one the status is 1.
+/// `exit`, with its status; nothing after it is read. Where the input ends without one the status is 1.
 ///
 /// At most `max_turns` reads, writes and flushes are made. Linear in the input, and what the messages cost; keeps the open documents,
 /// one message and one piece of 65,536 bytes.
@@ -168,7 +168,7 @@ pub fn replay<R: Source, W: Sink>(
     run_engine(alloc, reader, writer, &mut replay, rules, max_turns)
 }
 
-/// A log of version 2 of one of version 1: its line, then each record with its mark, and behind it the server's reply, if it gives one.
+/// A log of version 2 of one of version 1: its line, then each record with its mark, and after it the server's reply, if it gives one.
 /// The status is 1 where something was refused, else 0. A log of version 2 is refused as soon as its line was read.
 ///
 /// Costs and memory are those of [`serve`].
@@ -185,7 +185,7 @@ pub fn convert<R: Source, W: Sink>(
     ensures told { RanOver (as_converted settings) (converted settings)
         (state_of (R.has_ended reader.old) (R.has_ended reader.new) false)
         (R.left reader.old) (R.left reader.new) (W.held writer.old) (W.held writer.new) result }
-    // What was written is a log of which `replay` tells the same, where no reply in it is over the limit.
+    // What was written is a log of which `replay` reports the same, where no reply in it is over the limit.
     ensures converted { IfOk result (Wrote settings (IsConverted settings) (R.left reader.old) (R.left reader.new) (W.held writer.old) (W.held writer.new)) }
     // Where memory runs out, what was written is the output of records, each whole.
     ensures whole { result ≡ Err EngineFault.NoMemory →
@@ -224,7 +224,7 @@ pub fn normalise<R: Source, W: Sink>(
     ensures told { RanOver (as_log settings) (normalised settings)
         (state_of (R.has_ended reader.old) (R.has_ended reader.new) false)
         (R.left reader.old) (R.left reader.new) (W.held writer.old) (W.held writer.new) result }
-    // Without squash, what was written is a log of which `replay` tells the same, and its own normal form.
+    // Without squash, what was written is a log of which `replay` reports the same, and its own normal form.
     ensures normal { settings.squash ≡ false
         → IfOk result (Wrote settings (IsNormal settings) (R.left reader.old) (R.left reader.new) (W.held writer.old) (W.held writer.new)) }
     // With squash, it is a log of which `replay` reports the same documents and the same status, and its own squashed form.

@@ -12,7 +12,7 @@ use lsp_stream::EngineFault;
 /// Which bytes a record's output is.
 #[derive(Clone, Copy, Debug, PartialEq, Eq)]
 pub enum Output {
-    /// Its frame, as it stands in the input.
+    /// Its frame, as it is in the input.
     Frame,
     /// Those that were made for it.
     Made,
@@ -22,7 +22,7 @@ pub enum Output {
 #[derive(Clone, Copy, Debug, PartialEq, Eq)]
 pub struct Given {
     pub output: Output,
-    /// How the run ends, where this record is the last that is looked at.
+    /// How the run ends, where this record is the last that is read.
     pub end: Option<Outcome>,
 }
 

@@ -15,7 +15,7 @@ use lsp_server::Config;
 use lsp_stream::EngineFault;
 use std::alloc::{AllocError, Global};
 
-/// Writes each record as it stands, and an accepted change in its one canonical message.
+/// Writes each record as it is, and an accepted change as its canonical message.
 #[derive(Drop)]
 pub struct Normalise {
     pub session: Session,
@@ -70,7 +70,7 @@ impl Handler for Normalise {
     }
 }
 
-/// Writes a record that stands in a log, with its mark: as it is, or as its one message was told.
+/// Writes a record of a log, with its mark: as it is, or as its canonical message.
 #[tactic(auto, using(crate::proofs::NormalLemmas::written_as_is, crate::proofs::NormalLemmas::written_framed, crate::proofs::NormalLemmas::written_too_long))]
 fn push_record(
     made: &mut Vec<u8>,

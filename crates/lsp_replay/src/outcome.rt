@@ -1,6 +1,6 @@
 //! How a run of an engine ends.
 
-/// An input whose end came, or behind which nothing is looked at.
+/// An input whose end came, or after which nothing is read.
 #[derive(Clone, Copy, Debug, PartialEq, Eq)]
 pub struct Outcome {
     /// The exit status of the program: 0 or 1.

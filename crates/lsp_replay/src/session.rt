@@ -42,7 +42,7 @@ pub enum Verdict {
     Bad,
 }
 
-/// How the one message is told in which an accepted change is written.
+/// How the canonical message of an accepted change is returned.
 #[derive(Debug, PartialEq, Eq, Drop)]
 pub enum Canonical {
     /// Its frame.
@@ -70,7 +70,7 @@ pub struct Session {
     alloc: Global,
     server: Server,
     version: Version,
-    // The id of the accepted `initialize`, until a log of version 2 tells the result.
+    // The id of the accepted `initialize`, until a log of version 2 has the result.
     expected: Option<Id>,
     records: u64,
     messages: u64,
@@ -124,7 +124,7 @@ impl Session {
         &self.server
     }
 
-    /// The version of the log, as far as its records told it.
+    /// The version of the log, as far as its records say.
     pub fn version(&self) -> Version
         ensures { result ≡ self.now.version }
     {
@@ -207,7 +207,7 @@ impl Session {
         Ok(told)
     }
 
-    /// Judges a record of one side, and tells the one message of an accepted change.
+    /// Judges a record of one side, and returns the canonical message of an accepted change.
     #[tactic(auto, using(crate::proofs::NormalLemmas::heard_has_none))]
     fn write_from(
         &mut self,
@@ -228,7 +228,7 @@ impl Session {
         }
     }
 
-    /// Judges a client's record, and tells the one message of an accepted change.
+    /// Judges a client's record, and returns the canonical message of an accepted change.
     fn take_and_write(
         &mut self,
         incoming: Incoming,
@@ -414,7 +414,7 @@ impl Session {
         Ok(batches)
     }
 
-    /// The first record of a log of version 2 tells its version.
+    /// The first record of a log of version 2 says its version.
     fn see_version(&mut self, line_due: bool)
         ensures { self.new ≡ versioned self.old line_due }
     {
@@ -445,7 +445,7 @@ impl Session {
         Ok(Verdict::Answered(answer))
     }
 
-    /// Is it a change that comes before the result of `initialize`, which tells its encoding?
+    /// Is it a change that comes before the result of `initialize`, which says its encoding?
     fn is_early(&self, incoming: &Incoming) -> bool
         ensures { result ≡ is_early self.now (incoming_view incoming.now) }
     {
@@ -454,7 +454,7 @@ impl Session {
             && matches!(incoming, Incoming::DidChange(_))
     }
 
-    /// The id of an `initialize` that is accepted, in a log that will tell the result.
+    /// The id of an `initialize` that is accepted, in a log that will have the result.
     fn begun_by(&self, incoming: &Incoming) -> Result<Option<Id>, AllocError>
         ensures { IfOk result (λ begun. MatchOption begun
             (expected_after self.now (incoming_view incoming.now) ≡ self.now.expected)
@@ -472,7 +472,7 @@ impl Session {
         }
     }
 
-    /// Judges a server's record: the result of `initialize` alone is looked at.
+    /// Judges a server's record: the result of `initialize` alone is read.
     fn hear(&mut self, body: &[u8]) -> Result<Verdict, AllocError>
         ensures verdict { IfOk result (λ v. verdict_view v ≡ (hear_for self.old self.old.expected body.now).verdict) }
         ensures session { OnOk result (self.new ≡ (hear_for self.old self.old.expected body.now).session) }

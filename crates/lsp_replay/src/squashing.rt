@@ -26,7 +26,7 @@ const WRITTEN: Given = Given {
 /// What may be written for a run, beside the message of its batches.
 #[derive(Drop)]
 struct Texts {
-    // What stands in front of its first record's frame.
+    // What is in front of its first record's frame.
     front: Vec<u8>,
     // Its records as they are written without squash.
     singles: Vec<u8>,
@@ -81,7 +81,7 @@ impl Texts {
     }
 }
 
-/// Writes each record as it stands, and each run of accepted changes of one document in one message, once the run has ended.
+/// Writes each record as it is, and each run of accepted changes of one document in one message, once the run has ended.
 #[derive(Drop)]
 pub struct Squashing {
     session: Session,
@@ -186,7 +186,7 @@ impl Handler for Squashing {
     }
 }
 
-/// What stands in front of a record's frame.
+/// What is in front of a record's frame.
 fn push_front(output: &mut Vec<u8>, head: Head, version: Version) -> Result<(), AllocError>
     ensures { OnOk result (output.new.items ≡ output.old.items ++ (line_if head.line_due ++ mark_of version head.side)) }
 {

@@ -7,7 +7,7 @@ use lsp_frame::Limits;
 use lsp_message::{Offers, SyncKind};
 use lsp_text::Encoding;
 
-/// What a server is set up with: its limits, how the encoding of positions is chosen, and how it asks to be told of changes.
+/// What a server is set up with: its limits, how the encoding of positions is chosen, and how it asks to hear of changes.
 #[derive(Clone, Copy, Debug, PartialEq, Eq)]
 pub struct Config {
     pub limits: Limits,
@@ -37,7 +37,7 @@ impl EncodingChoice {
     }
 }
 
-/// How the server asks to be told of changes (LSP 3.17, TextDocumentSyncKind). It takes both forms whatever it asked for.
+/// How the server asks to hear of changes (LSP 3.17, TextDocumentSyncKind). It takes both forms whatever it asked for.
 #[derive(Clone, Copy, Debug, PartialEq, Eq, Hash)]
 pub enum Sync {
     /// By changed ranges.

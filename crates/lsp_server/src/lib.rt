@@ -52,12 +52,12 @@
 //! ```
 //!
 //! Both programs are tested whole, in `lsp_server_tests/src/tests/front_page.rt`.
-//! `server.store().get(uri)` lends the document as it is now; `lsp_text` turns its positions, in `server.encoding()`, into places.
+//! `server.store().get(uri)` returns the document as it is now; `lsp_text` turns its positions, in `server.encoding()`, into places.
 //!
 //! - `server`: the server, and the table of its steps.
 //! - `answer`: what comes back.
 //! - `config`: limits, the choice of an encoding, how changes are asked for.
-//! - `phase`: where a session stands.
+//! - `phase`: where a session is.
 //! - `laws`: what holds of every step.
 #![tactic(auto)]
 

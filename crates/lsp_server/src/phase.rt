@@ -1,4 +1,4 @@
-/// Where a session stands (LSP 3.17, Server lifecycle).
+/// Where a session is (LSP 3.17, Server lifecycle).
 #[derive(Clone, Copy, Debug, PartialEq, Eq, Hash)]
 pub enum Phase {
     /// No `initialize` was accepted yet. Document messages are dropped, requests other than `initialize` refused.

@@ -25,7 +25,7 @@ use std::alloc::{AllocError, Global};
 use std::marker::Model;
 
 /// The server's end of one session (LSP 3.17, Server lifecycle, Text Document Synchronization). Clauses see how it was set up, where the
-/// session stands, the encoding that was chosen, and the open documents.
+/// session is, the encoding that was chosen, and the open documents.
 #[derive(Drop)]
 pub struct Server {
     alloc: Global,
@@ -76,7 +76,7 @@ impl Server {
         }
     }
 
-    /// Where the session stands.
+    /// Where the session is.
     pub fn phase(&self) -> Phase
         ensures { result ≡ self.now.phase }
     {
@@ -381,7 +381,7 @@ impl Server {
         }
     }
 
-    /// From now on changes are counted in this encoding (LSP 3.17, PositionEncodingKind), whatever was chosen: for a capture that tells what
+    /// From now on changes are counted in this encoding (LSP 3.17, PositionEncodingKind), whatever was chosen: for a capture that says what
     /// another server chose. Before an `initialize` is accepted it does nothing. Takes no memory.
     pub fn settle(&mut self, encoding: Encoding)
         ensures { self.new ≡ settled self.old encoding }

@@ -35,7 +35,7 @@ pub enum StoreFault {
     /// S8: the message's body has this many bytes, more than `max_body`.
     #[error("the body has {len} bytes, more than the limit")]
     BodyTooLong { len: usize },
-    /// S9: no memory was left. The same call can be made again.
+    /// S9: out of memory. The same call can be made again.
     #[error("out of memory")]
     NoMemory,
 }

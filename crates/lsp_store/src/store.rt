@@ -140,8 +140,8 @@ impl Store {
     /// Changes an open document (LSP 3.17, DidChangeTextDocument): it gets the text that the batch means, and the version. Characters of
     /// positions are counted in the units of `encoding`. Refuses, in this order, [`StoreFault::NotOpen`], [`StoreFault::StaleVersion`],
     /// [`StoreFault::TooManyChanges`], [`StoreFault::Edit`], and [`StoreFault::TextTooLong`] where the text that the batch leaves has more
-    /// than `max_text` bytes, whatever stood between; and [`StoreFault::NoMemory`]. Costs a hash look-up, and what the batch costs to apply
-    /// ([`lsp_edit::IndexedText::change`]): for one change of a range its two positions, one move of the text behind it, and one pass over
+    /// than `max_text` bytes, whatever came between; and [`StoreFault::NoMemory`]. Costs a hash look-up, and what the batch costs to apply
+    /// ([`lsp_edit::IndexedText::change`]): for one change of a range its two positions, one move of the text after it, and one pass over
     /// the line starts that follow.
     pub fn change(
         &mut self,

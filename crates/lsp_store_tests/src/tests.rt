@@ -15,7 +15,7 @@ use std::alloc::Global;
 
 pub(super) const URI: &str = "file:///a";
 
-/// The limits of a test. A fault stands for those that are out of range: no test has them.
+/// The limits of a test. A fault is in place of those that are out of range: no test has them.
 pub(super) fn limits_of(
     body: usize,
     text: usize,

@@ -33,7 +33,7 @@ pub enum EngineFault {
     /// P7: the call that was to be made would be one more than allowed.
     #[error("too many turns")]
     TooManyTurns,
-    /// P8: what stands here belongs in no log. The place is the record's first byte.
+    /// P8: what is here belongs in no log. The place is the record's first byte.
     #[error("bad log at {place}")]
     BadLog { place: u64 },
 }

@@ -1,6 +1,6 @@
 //! Readers and writers whose calls can be looked back on, and calls in a bounded number.
 //!
-//! - `port`: a reader and a writer that say how their last call went; `told` makes them of those of std.
+//! - `port`: a reader and a writer that say how their last call ended; `told` makes them of those of std.
 //! - `stop`: a reader and a writer over memory that fail, are interrupted or take few bytes at chosen calls.
 //! - `turns`: reads, writes and flushes in a bounded number of calls.
 //! - `fault`: why a run from a reader to a writer ends early.

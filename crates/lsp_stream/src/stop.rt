@@ -19,7 +19,7 @@ pub enum Call {
     Fail,
 }
 
-/// The next call of a script, or how the calls behind its end go.
+/// The next call of a script, or how the calls after its end do.
 fn next_call(script: &mut &[Call], others: Call) -> Call
     ensures call { result ≡ call_of script.old.now others }
     ensures rest { script.new.now ≡ rest_of script.old.now }

@@ -1,4 +1,4 @@
-//! A reader or a writer of std that tells how its calls went.
+//! A reader or a writer of std that says how its calls ended.
 
 ghost use Rattle.std.specs.Prelude.{◌≡◌, ◌↔◌, true, false};
 ghost use Rattle.std.specs.Io.{ReadsAtMost, WritesAtMost};

@@ -182,7 +182,7 @@ fn refused_normalise(rt: HostRuntime) -> Result<(), Fail> {
 const PUT_X: &str =
     r#"{"jsonrpc":"2.0","method":"textDocument/didChange","params":{"contentChanges":[{"range":{"end":{"character":0,"line":0},"start":{"character":0,"line":0}},"text":"x"}],"textDocument":{"uri":"file:///a","version":2}}}"#;
 
-/// A letter behind it.
+/// A letter after it.
 const PUT_Y: &str =
     r#"{"jsonrpc":"2.0","method":"textDocument/didChange","params":{"contentChanges":[{"range":{"end":{"character":1,"line":0},"start":{"character":1,"line":0}},"text":"y"}],"textDocument":{"uri":"file:///a","version":3}}}"#;
 

@@ -14,7 +14,7 @@ const OPEN_OTHER: &str =
 const SAVE: &str =
     r#"{"jsonrpc":"2.0","method":"textDocument/didSave","params":{"textDocument":{"uri":"file:///a"}}}"#;
 
-/// A letter more behind `aXc`.
+/// A letter more after `aXc`.
 pub(super) const TYPED: &str =
     r#"{"jsonrpc":"2.0","method":"textDocument/didChange","params":{"contentChanges":[{"range":{"end":{"character":3,"line":0},"start":{"character":3,"line":0}},"text":"d"}],"textDocument":{"uri":"file:///a","version":3}}}"#;
 
@@ -46,7 +46,7 @@ const APART: &str =
 const STALE: &str =
     r#"{"jsonrpc":"2.0","method":"textDocument/didChange","params":{"contentChanges":[{"range":{"end":{"character":0,"line":0},"start":{"character":0,"line":0}},"text":"z"}],"textDocument":{"uri":"file:///a","version":2}}}"#;
 
-/// A place far behind the end of `a\n`.
+/// A place far past the end of `a\n`.
 const LINE_END: &str =
     r#"{"jsonrpc":"2.0","method":"textDocument/didChange","params":{"contentChanges":[{"range":{"end":{"character":3,"line":7},"start":{"character":3,"line":7}},"text":"b"}],"textDocument":{"uri":"file:///a","version":2}}}"#;
 
@@ -215,7 +215,7 @@ fn squashed_logs_have_these_lengths(rt: HostRuntime) -> Result<(), Fail> {
     Ok(())
 }
 
-/// Inputs with a fault behind a run that hasn't ended: the fault, and what was written before it.
+/// Inputs with a fault after a run that hasn't ended: the fault, and what was written before it.
 static FAULTY: [(Bytes, EngineFault, Bytes); 4] = [
     (
         Bytes::Then(&[INITIALIZE, OPEN, WHOLE, TYPED], b"Content-Length: 9"),

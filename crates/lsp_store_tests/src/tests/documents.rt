@@ -373,7 +373,7 @@ static THREE_OPENED: [Row; 4] = [
 
 static OPENED_AGAIN: [Row; 1] = [(Step::Open(URI, 1, ""), Ok(()), Some((1, "")))];
 
-/// Goes a document that is closed and opened again behind the others?
+/// Does a document that is closed and opened again come after the others?
 fn goes_last(store: &mut Store, alloc: Global) -> bool {
     if wrong_row(store, alloc, &THREE_OPENED).is_some() || !is_order(store, &["b", "c"]) {
         return false;

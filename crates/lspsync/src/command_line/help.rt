@@ -1,4 +1,4 @@
-//! The texts of help. They stand in functions, so that proofs don't look into them.
+//! The texts of help. They are in functions, so that proofs don't look into them.
 
 /// What help says of a command.
 #[derive(Clone, Copy, Debug)]
