@@ -10,7 +10,7 @@ kept [] = []
 kept (Old index ∷ items) = index ∷ kept items
 kept (New character ∷ items) = kept items
 
--- The gap texts: the new characters before the first kept one, between neighbouring kept ones, and behind the last.
+-- The gap texts: the new characters before the first kept one, between neighbouring kept ones, and after the last.
 abbrev pub put_first : ℕ → List (List ℕ) → List (List ℕ)
 put_first character [] = []
 put_first character (gap ∷ gaps) = (character ∷ gap) ∷ gaps
@@ -25,13 +25,13 @@ pub record DoTheSame (items others : List Item) : Type 0 where
   pub same_kept : kept items ≡ kept others
   pub same_texts : gap_texts items ≡ gap_texts others
 
--- A gap: where it lies in the old text, and the text that is to stand there.
+-- A gap: where it lies in the old text, and the text that is to be there.
 pub record Gap : Type 0 where
   pub low : ℕ
   pub high : ℕ
   pub text : List ℕ
 
--- Each gap goes from behind a kept character, or from 0, to the next kept one, or to the end of the old text.
+-- Each gap goes from after a kept character, or from 0, to the next kept one, or to the end of the old text.
 abbrev pub gaps_between : List ℕ → List ℕ → List (List ℕ) → List Gap
 gaps_between [] highs texts = []
 gaps_between (low ∷ lows) [] texts = []
@@ -41,7 +41,7 @@ gaps_between (low ∷ lows) (high ∷ highs) (text ∷ texts) = record { low = l
 abbrev pub gaps : List ℕ → List Item → List Gap
 gaps old items = gaps_between (0 ∷ map suc (kept items)) (kept items ++ length old ∷ []) (gap_texts items)
 
--- A gap is changed if it holds an old character, or new ones stand there.
+-- A gap is changed if it holds an old character, or new ones are there.
 abbrev pub is_changed : Gap → Bool
 is_changed gap = nat_lt gap.low gap.high || nat_lt 0 (length gap.text)
 

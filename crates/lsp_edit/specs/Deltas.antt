@@ -36,7 +36,7 @@ pub record IsOver (old : List ℕ) (items : List Item) (parts : List Part) : Typ
   pub are : AreParts middle parts
   pub keeps : Keeps (chars middle) 0 (items_of (chars middle) parts)
 
--- the items that rows of parts are together, one after another behind the items of others
+-- the items that rows of parts are together, one after another after the items of others
 abbrev pub items_over : List ℕ → List Item → List (List Part) → List Item
 items_over old items [] = items
 items_over old items (parts ∷ rows) = items_over old (then_items items (items_of (text_of old items) parts)) rows

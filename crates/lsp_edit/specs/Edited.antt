@@ -17,7 +17,7 @@ pub record Edited : Type 0 where
   pub items : List Item
   pub changes : ℕ
 
--- The same, and the parts that its spans stand for.
+-- The same, and the parts of its spans.
 pub record Spanned : Type 0 where
   pub edited : Edited
   pub parts : List Part
@@ -55,7 +55,7 @@ abbrev pub lines_of : KeptLines → List ℕ
 lines_of (Own lines) = lines
 lines_of (Lent lines) = lines.now
 
--- What holds of the fields of pieces: the lines are those of the old text, the spans stand for parts of it and of new texts, none of
+-- What holds of the fields of pieces: the lines are those of the old text, the spans are parts of it and of new texts, none of
 -- which touches the next, they keep each of its CRLFs whole, and there are at most two more of them for each change.
 pub record ArePieces (before lines : List ℕ) (parts : List Part) (len changes : ℕ) : Type 0 where
   pub utf8 : is_utf8 before ≡ true

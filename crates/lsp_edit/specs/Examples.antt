@@ -34,7 +34,7 @@ leaves old batch = left_of old (meaning (units_in Utf16) old batch)
 abbrev pub left : List ℕ → List Edit → Result Left (ℕ × Fault)
 left text batch = Ok (record { text = text; batch = batch })
 
--- what two batches leave, one after the other, told through the first
+-- what two batches leave, one after the other, as one through the first
 abbrev pub through : List ℕ → List ℕ → Result (List Item) (ℕ × Fault) → Result (List Item) (ℕ × Fault) → Result Left (ℕ × Fault)
 through old middle (Ok first) (Ok second) = left_of old (Ok (then_items first second))
 through old middle (Ok first) (Err fault) = Err fault
@@ -57,7 +57,7 @@ pub record HoldsOnExamples : Type 0 where
   -- changes that touch are one change
   pub touching_changes : leaves (codes "abcde") (change 0 1 0 2 (codes "X") ∷ change 0 3 0 4 (codes "Y") ∷ change 0 2 0 3 [] ∷ [])
       ≡ left (codes "aXYe") (change 0 1 0 4 (codes "XY") ∷ [])
-  -- a line end that arises from two, and an insertion behind it
+  -- a line end that arises from two, and an insertion after it
   pub a_new_line_end : leaves (97 ∷ 13 ∷ 88 ∷ 10 ∷ 98 ∷ []) (change 1 0 1 1 [] ∷ change 1 0 1 0 (codes "Q") ∷ [])
       ≡ left (97 ∷ 13 ∷ 10 ∷ 81 ∷ 98 ∷ []) (change 2 0 2 0 (codes "Q") ∷ change 1 0 1 1 [] ∷ [])
   -- a line end is kept whole or not at all
@@ -77,7 +77,7 @@ pub record HoldsOnExamples : Type 0 where
   -- ranges count in the text that they meet, those of the canonical batch also in the old text
   pub a_deletion_and_an_end : leaves (codes "abcdefgh") (change 0 0 0 3 [] ∷ change 0 5 0 5 (codes "xyz") ∷ [])
       ≡ left (codes "defghxyz") (change 0 8 0 8 (codes "xyz") ∷ change 0 0 0 3 [] ∷ [])
-  -- an insertion behind the last line end, one behind it, and both together
+  -- an insertion after the last line end, one after it, and both together
   pub behind_the_last_line_end : leaves (97 ∷ 10 ∷ []) (change 7 3 7 3 (codes "b") ∷ []) ≡ left (97 ∷ 10 ∷ 98 ∷ []) (change 1 0 1 0 (codes "b") ∷ [])
   pub two_batches : through (97 ∷ 10 ∷ []) (97 ∷ 10 ∷ 98 ∷ []) (meaning (units_in Utf16) (97 ∷ 10 ∷ []) (change 7 3 7 3 (codes "b") ∷ [])) (meaning (units_in Utf16) (97 ∷ 10 ∷ 98 ∷ []) (change 1 1 1 1 (codes "c") ∷ []))
       ≡ left (97 ∷ 10 ∷ 98 ∷ 99 ∷ []) (change 1 0 1 0 (codes "bc") ∷ [])

@@ -1,4 +1,4 @@
--- How the calls of this crate tell a fault.
+-- How the calls of this crate report a fault.
 use Rattle.std.specs.Prelude.{ℕ, ◌≡◌, ◌⊎◌, if◌then◌else◌, nat_le, List, Option, Some, None, Result, Ok, Err}
 use Rattle.lsp_text.specs.declared.position.Range.{Range}
 use Rattle.lsp_text.specs.Text.{place_of}
@@ -9,13 +9,13 @@ use Rattle.lsp_edit.specs.declared.fault.Side.TheVariants.{Start, Stop}
 use Rattle.lsp_edit.specs.Items.{Item}
 use Rattle.lsp_edit.specs.Batch.{Fault, InsideStart, InsideStop, Reversed}
 
--- the fault of a change, told with the change's number
+-- the fault of a change, with the change's number
 abbrev pub fault_at : ℕ → Fault → EditFault
 fault_at number InsideStart = InsideCharacter number Start
 fault_at number InsideStop = InsideCharacter number Stop
 fault_at number Reversed = ReversedRange number
 
--- A fault tells want of memory, or the first change that has no result, and why.
+-- A fault says out of memory, or the first change that has no result, and why.
 abbrev pub TellsFault : ℕ → Result (List Item) Fault → EditFault → Type 0
 TellsFault number made fault = (fault ≡ NoMemory) ⊎ ((why : Fault) × (made ≡ Err why) × (fault ≡ fault_at number why))
 
@@ -36,6 +36,6 @@ abbrev pub places_at : ℕ → List ℕ → Result (ℕ × ℕ) Fault → Result
 places_at number text (Ok ends) = Ok (place_of text ends.0, place_of text ends.1)
 places_at number text (Err why) = Err (fault_at number why)
 
--- The places of a range's ends or their fault are answered, or want of memory.
+-- The places of a range's ends or their fault are answered, or out of memory.
 abbrev pub IsPlaces : Result (ℕ × ℕ) EditFault → Result (ℕ × ℕ) EditFault → Type 0
 IsPlaces answer wanted = (answer ≡ Err NoMemory) ⊎ (answer ≡ wanted)

@@ -12,7 +12,7 @@ use Rattle.lsp_edit.specs.Canonical.{canonical}
 use Rattle.lsp_edit.specs.Faults.{fault_at}
 use Rattle.lsp_edit.specs.Laws.{IsCanonical}
 
--- the bytes of the text that items stand for, over a text of these bytes
+-- the bytes of the text of items, over a text of these bytes
 abbrev pub bytes_left : List ℕ → List Item → List ℕ
 bytes_left before items = encode_utf8_all (text_of (chars before) items)
 
@@ -25,7 +25,7 @@ text_within max_len before (Ok items) = if nat_lt max_len (length (bytes_left be
 abbrev pub alone : Range → List ℕ → List Edit
 alone range new = record { range = Some range; text = chars new } ∷ []
 
--- how a fault of a change is told
+-- how a fault of a change is reported
 abbrev pub told_as : EditFault → TextFault
 told_as (edit.InsideCharacter change side) = EditOf (edit.InsideCharacter change side)
 told_as (edit.ReversedRange change) = EditOf (edit.ReversedRange change)

@@ -2,19 +2,19 @@
 use Rattle.std.specs.Prelude.{ℕ, List, length, map, slice_index}
 use Rattle.lsp_text.specs.TextLines.{numbers_from}
 
--- An item is an old character, told by its index in the old text, or a new character.
+-- An item is an old character, given by its index in the old text, or a new character.
 pub data Item : Type 0 where
   Old New : ℕ → Item
 
--- The old text as it stands: each of its characters, in order.
+-- The old text unchanged: each of its characters, in order.
 abbrev pub plain : List ℕ → List Item
 plain old = map Old (numbers_from 0 (length old))
 
--- The character that an item stands for.
+-- The character of an item.
 abbrev pub character_of : List ℕ → Item → ℕ
 character_of old (Old index) = slice_index old index
 character_of old (New character) = character
 
--- The text that items stand for, over an old text.
+-- The text of items, over an old text.
 abbrev pub text_of : List ℕ → List Item → List ℕ
 text_of old items = map (character_of old) items

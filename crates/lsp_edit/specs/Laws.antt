@@ -8,7 +8,7 @@ use Rattle.lsp_edit.specs.Batch.{Edit, after_change, meaning}
 use Rattle.lsp_edit.specs.Canonical.{DoTheSame, Gap, gaps, is_changed, canonical}
 use Rattle.lsp_edit.specs.Compose.{then_items}
 
--- Of an old CRLF, both characters are kept or neither, and nothing is put between: behind the CR stands its LF, and before the LF
+-- Of an old CRLF, both characters are kept or neither, and nothing is put between: after the CR is its LF, and before the LF
 -- its CR.
 pub record KeepsPairs (old : List ℕ) (items : List Item) : Type 0 where
   pub behind_return : (front rest : List Item) (index : ℕ) → splits_crlf old (suc index) ≡ true → items ≡ front ++ Old index ∷ rest

@@ -1,4 +1,4 @@
--- What spans stand for: parts of the old text, told by places, and parts of new texts.
+-- The parts of spans: parts of the old text, given by places, and parts of new texts.
 use Rattle.std.specs.Prelude.{ℕ, suc, ◌≡◌, ◌+◌, ◌-◌, ◌<◌, ◌≤◌, Bool, true, false, if◌then◌else◌, ◌==◌, nat_lt, List, [], ◌∷◌, ◌++◌, length, map, take, drop, flat_map, sum_by, IsCharBoundary}
 use Rattle.std.specs.Char.{len_utf8}
 use Rattle.std.specs.Str.{chars, is_utf8}
@@ -53,7 +53,7 @@ abbrev pub AreParts : List ℕ → List Part → Type 0
 AreParts old [] = Unit {0}
 AreParts old (part ∷ parts) = IsPart old part × AreParts old parts
 
--- the first bytes of a part, and those behind them
+-- the first bytes of a part, and those after them
 abbrev pub front_part : Part → ℕ → Part
 front_part (OldPart from to) count = OldPart from (from + count)
 front_part (NewPart bytes) count = NewPart (take count bytes)
@@ -62,7 +62,7 @@ abbrev pub back_part : Part → ℕ → Part
 back_part (OldPart from to) count = OldPart (from + count) to
 back_part (NewPart bytes) count = NewPart (drop count bytes)
 
--- the parts before a place, and those behind it
+-- the parts before a place, and those after it
 abbrev pub front_parts : List Part → ℕ → List Part
 front_parts [] place = []
 front_parts (part ∷ parts) place =
@@ -76,7 +76,7 @@ back_parts (part ∷ parts) place =
     if nat_lt place (part_len part) then back_part part place ∷ parts
     else back_parts parts (place - part_len part)
 
--- A part put behind parts: two parts of the old text that touch become one.
+-- A part put after parts: two parts of the old text that touch become one.
 abbrev pub joined : Part → Part → List Part
 joined (OldPart from to) (OldPart next end) = if to == next then OldPart from end ∷ [] else OldPart from to ∷ OldPart next end ∷ []
 joined (OldPart from to) (NewPart bytes) = OldPart from to ∷ NewPart bytes ∷ []
@@ -87,7 +87,7 @@ put_part [] part = part ∷ []
 put_part (first ∷ []) part = joined first part
 put_part (first ∷ second ∷ parts) part = first ∷ put_part (second ∷ parts) part
 
--- A part that may be cut behind its first bytes.
+-- A part that may be cut after its first bytes.
 abbrev pub IsCut : Part → ℕ → Type 0
 IsCut (OldPart from to) count = (from ≤ to) × (count ≤ to - from)
 IsCut (NewPart bytes) count = IsCharBoundary bytes count
@@ -103,7 +103,7 @@ AreCut [] place = Unit {0}
 AreCut (part ∷ parts) place =
     IsOrdered part × (place < part_len part → IsCut part place) × (part_len part ≤ place → AreCut parts (place - part_len part))
 
--- Parts put behind others, where only the first can touch what stands before it.
+-- Parts put after others, where only the first can touch what comes before it.
 abbrev pub put_parts : List Part → List Part → List Part
 put_parts parts [] = parts
 put_parts parts (first ∷ rest) = put_part parts first ++ rest
@@ -130,7 +130,7 @@ touch (OldPart from to) (OldPart next end) = to == next
 touch (OldPart from to) (NewPart bytes) = false
 touch (NewPart bytes) part = false
 
--- A part does not touch the first of those behind it; and of parts no one touches the next.
+-- A part does not touch the first of those after it; and of parts no one touches the next.
 abbrev pub IsApart : Part → List Part → Type 0
 IsApart part [] = Unit {0}
 IsApart part (next ∷ parts) = touch part next ≡ false
@@ -143,7 +143,7 @@ NoneTouch (part ∷ parts) = IsApart part parts × NoneTouch parts
 abbrev pub between_parts : List Part → ℕ → ℕ → List Part
 between_parts parts from to = front_parts (back_parts parts from) (to - from)
 
--- What a part over the text of other parts is over what those are over; and parts, put behind others one after another.
+-- What a part over the text of other parts is over what those are over; and parts, put after others one after another.
 abbrev pub through_part : List Part → Part → List Part
 through_part first (OldPart from to) = between_parts first from to
 through_part first (NewPart bytes) = NewPart bytes ∷ []
@@ -170,7 +170,7 @@ Ascend low [] = Unit {0}
 Ascend low (OldPart from to ∷ parts) = (low ≤ from) × (from ≤ to) × Ascend to parts
 Ascend low (NewPart bytes ∷ parts) = Ascend low parts
 
--- `rest` are the parts behind the first `passed` bytes: places from `low` on are found among them as among all parts.
+-- `rest` are the parts after the first `passed` bytes: places from `low` on are found among them as among all parts.
 pub record ArePassed (parts rest : List Part) (passed low : ℕ) : Type 0 where
   pub within : passed ≤ low
   pub same : (place : ℕ) → low ≤ place → back_parts rest (place - passed) ≡ back_parts parts place
@@ -181,18 +181,18 @@ abbrev pub AreOrdered : List Part → Type 0
 AreOrdered [] = Unit {0}
 AreOrdered (part ∷ parts) = IsOrdered part × AreOrdered parts
 
--- The parts before a place behind `low` are `front` and those of `rest` before it.
+-- The parts before a place after `low` are `front` and those of `rest` before it.
 abbrev pub AreBefore : List Part → List Part → List Part → ℕ → ℕ → Type 0
 AreBefore parts front rest passed low = (place : ℕ) → low < place → front_parts parts place ≡ front ++ front_parts rest (place - passed)
 
--- So many spans stand before one of them or before the end, and those have so many bytes.
+-- So many spans come before one of them or before the end, and those have so many bytes.
 abbrev pub span_len : Span → ℕ
 span_len span = part_len (part_of span)
 
 abbrev pub IsMark : List Span → ℕ → ℕ → Type 0
 IsMark spans index place = (index ≤ length spans) × (place ≡ sum_by span_len (take index spans))
 
--- The first part, if there is one, goes on behind a place.
+-- The first part, if there is one, goes on after a place.
 abbrev pub EndsBehind : List Part → ℕ → Type 0
 EndsBehind [] place = Unit {0}
 EndsBehind (part ∷ parts) place = place < part_len part
@@ -202,7 +202,7 @@ abbrev pub IsFirstCut : List Part → ℕ → Type 0
 IsFirstCut [] place = Unit {0}
 IsFirstCut (part ∷ parts) place = IsCut part place
 
--- What stands in the first part before a place, and what stands there behind it, put behind parts.
+-- What the first part has before a place, and what it has after it, put after parts.
 abbrev pub first_front : List Part → ℕ → List Part
 first_front [] place = []
 first_front (part ∷ parts) place = if place == 0 then [] else front_part part place ∷ []

@@ -8,7 +8,7 @@ use Rattle.lsp_edit.specs.Batch.{Edit}
 use Rattle.lsp_edit.specs.Canonical.{Gap, is_changed, change_of}
 use Rattle.lsp_edit.specs.Keeps.{Keeps}
 
--- what an item of the program stands for, and items, one after another
+-- the items of an item of the program, and of items, one after another
 abbrev pub item_of : PlainItem → Item
 item_of (PlainOld index) = Old index
 item_of (PlainNew character) = New character

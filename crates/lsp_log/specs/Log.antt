@@ -21,7 +21,7 @@ pub record Reading : Type 0 where
 abbrev pub version_line : List ℕ
 version_line = codes "lsp-session-log 2\n"
 
--- what stands in front of the records
+-- what is in front of the records
 abbrev pub line_of : Version → List ℕ
 line_of One = []
 line_of Two = version_line
@@ -52,14 +52,14 @@ abbrev pub together : Version → List Record → List ℕ → List ℕ
 together version [] rest = rest
 together version (r ∷ rs) rest = record_bytes version r ++ together version rs rest
 
--- Does the line of a log of version 2 belong to what comes behind these records? It belongs to the first record's
+-- Does the line of a log of version 2 belong to what comes after these records? It belongs to the first record's
 -- output, and without records to that of the end.
 abbrev pub is_line_due : Version → List Record → Bool
 is_line_due One rs = false
 is_line_due Two [] = true
 is_line_due Two (r ∷ rs) = false
 
--- a record whose first byte stands at a place
+-- a record whose first byte is at a place
 pub record IsRecord (max_body : ℕ) (version : Version) (place : ℕ) (line_due : Bool) (r : Record) : Type 0 where
   pub spells : Spells max_body r.spelling r.body
   pub side : version ≡ One → r.head.side ≡ Client

@@ -1,4 +1,4 @@
--- Where a splitter stands in a log.
+-- Where a splitter is in a log.
 use Rattle.std.specs.Prelude.{ℕ, ◌≡◌, ◌-◌, false, true, List, [], ◌++◌, length, Option, None, Some}
 use Rattle.lsp_frame.specs.Stream.{IsFrame, IsPart, HoldsOne}
 use Rattle.lsp_frame.specs.Faults.{place_behind}
@@ -37,11 +37,11 @@ IsSide One None = ⊥
 IsSide One (Some side) = side ≡ Client
 IsSide Two side = Unit {0}
 
--- the input at a splitter: the records that were given up, the bytes that it holds, and what is still to come
+-- the input at a splitter: the records that were released, the bytes that it holds, and what is still to come
 abbrev pub log_at : Splitter → List Record → List ℕ → Log
 log_at s records more = record { version = s.version; records = records; rest = held_of s ++ more }
 
--- The input was taken up to these bytes, which are still to come, and these records were given up.
+-- The input was taken up to these bytes, which are still to come, and these records were released.
 pub record Stands (reading : Reading) (input more : List ℕ) (records : List Record) (s : Splitter) : Type 0 where
   pub reads : IsReadAs reading input (log_at s records more)
   pub limit : s.framer.limits.max_body ≡ reading.max_body

@@ -72,7 +72,7 @@ open_close_of value = if is_missing value then Some false else option_and_then a
 abbrev pub encoding_of : Option Data → Option (Option Encoding)
 encoding_of value = if is_missing value then Some (Some Utf16) else option_map encoding_named (text_in value)
 
--- whether opening and closing is told, and how changes are
+-- whether opening and closing is reported, and how changes are
 abbrev pub sync_by : Members → Option (Bool × SyncKind)
 sync_by ms = do
   open_close ← open_close_of (get_member (codes "openClose") ms)

@@ -31,6 +31,6 @@ pub record HoldsOnExamples : Type 0 where
   pub the_greatest_character : coordinate_in (Some (number (unsigned 4294967295))) ≡ Some 4294967295
   pub a_character_above : coordinate_in (Some (number (unsigned 4294967296))) ≡ None
   pub a_line_below : coordinate_in (Some (number (negative (negsuc 0)))) ≡ None
-  -- the whole text, and a member that isn't looked at
+  -- the whole text, and a member that is ignored
   pub a_null_range : edit_read (codes "{\"range\":null,\"text\":\"a\"}") ≡ Some (record { range = None; text = codes "a" })
   pub a_range_length : edit_read (codes "{\"rangeLength\":\"x\",\"text\":\"a\"}") ≡ Some (record { range = None; text = codes "a" })

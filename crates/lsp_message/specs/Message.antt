@@ -45,7 +45,7 @@ abbrev pub call_of : Option Data → List ℕ → Option Data → Reading
 call_of None method params = message (notification method params)
 call_of (Some id) method params = option_map_or (λ i. message (request i method params)) (id_in id) (not_a_message None)
 
--- An answer, by the id that it names, its error and its result: an error that isn't null tells a failure, whatever the result is.
+-- An answer, by the id that it names, its error and its result: an error that isn't null means a failure, whatever the result is.
 abbrev pub outcome_of : Option IdData → Option Data → Option Data → Reading
 outcome_of id error result =
     if option_map_or (λ e. not (is_null e)) error false then message (response id failed)
@@ -67,7 +67,7 @@ message_with (Some method) id params error result = option_map_or (λ m. call_of
 abbrev pub is_version_two : Option Data → Bool
 is_version_two version = option_map_or (λ s. bytes_eq s (codes "2.0")) (text_in version) false
 
--- An object is a message by its members, of which the version is looked at first.
+-- An object is a message by its members, of which the version is read first.
 abbrev pub message_by : Option Data → Option Data → Option Data → Option Data → Option Data → Option Data → Reading
 message_by version method id params error result =
     if is_version_two version then message_with method id params error result else not_a_message (id_found id)

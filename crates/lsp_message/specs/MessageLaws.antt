@@ -1,4 +1,4 @@
--- Laws over what an object is read as: the rows of the table of messages, each by itself, and what is looked at.
+-- Laws over what an object is read as: the rows of the table of messages, each by itself, and what is read.
 use Rattle.std.specs.Prelude.{ℕ, ◌≡◌, ◌↔◌, true, false, List, [], ◌∷◌, Option, Some, None, codes, ⊤}
 use Rattle.serde_json.specs.Data.{Num, Data, null, number, string, object, Items, Members}
 use Rattle.serde_json.specs.Find.{get_member, as_object, as_str, as_i64}
@@ -67,7 +67,7 @@ pub record MessageRows : Type 0 where
   pub requests :
       (ms : Members) (name : List ℕ) (id : IdData) → IsTwo ms → text_in (method_of ms) ≡ Some name → id_found (id_of ms) ≡ Some id →
       message_of (object ms) ≡ message (request id name (params_of ms))
-  -- An error that isn't null tells a failure, whatever the result is.
+  -- An error that isn't null means a failure, whatever the result is.
   pub failures :
       (ms : Members) (id : Option IdData) → IsTwo ms → method_of ms ≡ None → NamesRequest (id_of ms) id →
       is_missing (error_of ms) ≡ false → message_of (object ms) ≡ message (response id failed)
@@ -84,12 +84,12 @@ IsIdOf (text s) value = value ≡ string s
 abbrev pub IdLaw : Type 0
 IdLaw = (value : Data) (id : IdData) → (id_in value ≡ Some id) ↔ IsIdOf id value
 
--- A notification has no id: none stands in the object.
+-- A notification has no id: none is in the object.
 abbrev pub NotificationLaw : Type 0
 NotificationLaw =
     (ms : Members) (name : List ℕ) (params : Option Data) → message_of (object ms) ≡ message (notification name params) → id_of ms ≡ None
 
--- The id that a refused object has is the one that stands in it.
+-- The id that a refused object has is the one in it.
 abbrev pub RefusalLaw : Type 0
 RefusalLaw = (ms : Members) (id : IdData) → message_of (object ms) ≡ not_a_message (Some id) → id_found (id_of ms) ≡ Some id
 
@@ -104,7 +104,7 @@ message_names = codes "jsonrpc" ∷ codes "method" ∷ codes "id" ∷ codes "par
 abbrev pub open_names : List (List ℕ)
 open_names = codes "uri" ∷ codes "languageId" ∷ codes "version" ∷ codes "text" ∷ []
 
--- Members that aren't named are not looked at.
+-- Members that aren't named are ignored.
 pub record NamedLaw : Type 0 where
   pub messages : (ms others : Members) → AgreeOn message_names ms others → message_of (object ms) ≡ message_of (object others)
   pub opened : (ms others : Members) → AgreeOn open_names ms others → open_by ms ≡ open_by others

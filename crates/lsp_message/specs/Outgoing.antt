@@ -1,5 +1,5 @@
 -- The messages that are written (LSP 3.17, Initialize, Initialized, Shutdown, Exit, DidOpen, DidChange, DidClose), and the JSON value of
--- each. Members stand in the order of their names' bytes. A body is the compact text of the value.
+-- each. Members are in the order of their names' bytes. A body is the compact text of the value.
 use Rattle.std.specs.Prelude.{ℕ, ℤ, negsuc, true, List, [], ◌∷◌, map, filter, Option, Some, None, codes}
 use Rattle.serde_json.specs.Data.{Data, null, boolean, number, unsigned, string, array, object, Members, no_members, member}
 use Rattle.serde_json.specs.Find.{of_integer}
@@ -82,7 +82,7 @@ error_reply_value id error = object (member (codes "error") (error_value error) 
 
 -- ---- params and results
 
--- The offers stand in the order utf-8, utf-16, utf-32.
+-- The offers are in the order utf-8, utf-16, utf-32.
 abbrev pub names_of : Offers → List Data
 names_of offers = map (λ encoding. string (name_of encoding)) (filter (is_offered offers) (Utf8 ∷ Utf16 ∷ Utf32 ∷ []))
 

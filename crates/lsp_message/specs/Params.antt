@@ -1,5 +1,5 @@
 -- The typed parameters of the three document messages (LSP 3.17, DidOpen, DidChange, DidClose Text Document Notification). A member
--- that isn't named here isn't looked at; a wrong type, a missing member or a number out of range gives none.
+-- that isn't named here is ignored; a wrong type, a missing member or a number out of range gives none.
 use Rattle.std.specs.Prelude.{ℕ, ◌^◌, ℤ, pos, negsuc, int_lt, List, [], ◌∷◌, Option, Some, None, option_map, option_and_then, codes, nat_lt, ◌||◌, if◌then◌else◌, ⊤, IsSome, IsSomeAnd}
 use Rattle.serde_json.specs.Data.{Data, Items, no_items, item, Members}
 use Rattle.serde_json.specs.Find.{get_member, as_object}
@@ -52,7 +52,7 @@ range_in value = do
   stop ← position_in (member_at (codes "end") value)
   Some (record { start = start; stop = stop })
 
--- No range, or null, stands for the whole text.
+-- No range, or null, means the whole text.
 abbrev pub range_of : Option Data → Option (Option Range)
 range_of value = if is_missing value then Some None else option_map Some (range_in value)
 

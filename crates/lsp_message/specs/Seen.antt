@@ -1,4 +1,4 @@
--- What the types of `src/` stand for in the definitions.
+-- What the types of `src/` are in the definitions.
 use Rattle.std.specs.Prelude.{◌≡◌, ◌<◌, ℕ, List, length, map, option_map, string_bytes, Result, Ok, Err}
 use Rattle.serde_json.specs.Errors.{IsMemory}
 use Rattle.serde_json.specs.View.{view}

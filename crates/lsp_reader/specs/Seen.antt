@@ -1,4 +1,4 @@
--- What the type of `src/incoming.rt` stands for.
+-- What the type of `src/incoming.rt` is in the definitions.
 use Rattle.std.specs.Prelude.{option_map, string_bytes}
 use Rattle.lsp_message.specs.Seen.{id_view, open_view, change_view, close_view}
 use Rattle.lsp_reader.specs.declared.incoming.Incoming.{Incoming}

@@ -21,11 +21,11 @@ pub record Course : Type 0 where
 abbrev pub written_first : List ℕ → Course → Course
 written_first bytes c = record c { out = bytes ++ c.out }
 
--- some output, and then an answer: nothing behind it is looked at
+-- some output, and then an answer: nothing after it is read
 abbrev pub stopped : List ℕ → Result Outcome EngineFault → Course
 stopped bytes answer = record { out = bytes; stop = Some answer; last = λ _. []; outcome = record { status = 0; messages = 0; refused = 0 } }
 
--- a record's output, and then the course of those behind it, or the end that the record brings
+-- a record's output, and then the course of those after it, or the end that the record brings
 abbrev pub after : List ℕ → Option Outcome → Course → Course
 after bytes None c = written_first bytes c
 after bytes (Some outcome) c = stopped bytes (Ok outcome)

@@ -39,7 +39,7 @@ pub record RanOut (reading : Reading) (course : List Record → Course) (unflush
   pub reads : IsReadAs reading input log
   pub wrote : AppendsShort unflushed old new (course log.records).out
 
--- what the end of the input gives behind the records of a log
+-- what the end of the input gives after the records of a log
 abbrev pub last_of : (List Record → Course) → Log → List ℕ
 last_of course log = (course log.records).last (is_line_due log.version log.records)
 
@@ -78,7 +78,7 @@ pub record PortState : Type 0 where
 abbrev pub state_of : Bool → Bool → Bool → PortState
 state_of ended_before ended unflushed = record { ended_before = ended_before; ended = ended; unflushed = unflushed }
 
--- What stands written when a fault comes before the end of the input, and what the fault says of the input. No read
+-- What is written when a fault comes before the end of the input, and what the fault says of the input. No read
 -- fails here, and no input is cut.
 abbrev pub IsPieceFault : Reading → (List Record → Course) → Bool → List ℕ → Option (List ℕ) → Option (List ℕ) → EngineFault → Type 0
 IsPieceFault reading course unflushed input old new Read = ⊥
@@ -98,7 +98,7 @@ pub record IsRefused (reading : Reading) (input : List ℕ) (old new : Option (L
   pub placed : place ≡ 0
   pub wrote : Appends old new []
 
--- The reader told the end, and a fault came in writing what the end of the input gives.
+-- The reader said the end, and a fault came in writing what the end of the input gives.
 abbrev pub BreaksAtEnd : Reading → (List Record → Course) → Bool → List ℕ → Option (List ℕ) → Option (List ℕ) → Type 0
 BreaksAtEnd reading course ended input old new = (ended ≡ true) × BrokenAtEnd reading course input old new
 
@@ -110,7 +110,7 @@ TurnsRanOut reading course state input old new =
     ⊎ (((state.ended ≡ true) × RanOutAtEnd reading course state.unflushed input old new)
     ⊎ ((state.ended_before ≡ false → state.ended ≡ false) × Reached reading course input old new (IsUnfinished reading input)))
 
--- What stands written when a fault comes, and what the fault says of the input.
+-- What is written when a fault comes, and what the fault says of the input.
 abbrev pub IsRunFault : Reading → (List Record → Course) → PortState → List ℕ → Option (List ℕ) → Option (List ℕ) → EngineFault → Type 0
 IsRunFault reading course state input old new Read = Reached reading course input old new (IsUnfinished reading input)
 IsRunFault reading course state input old new Write = Broken reading course input old new ⊎ BreaksAtEnd reading course state.ended input old new
@@ -132,15 +132,15 @@ pub record Ran (reading : Reading) (course : List Record → Course) (state : Po
       (λ outcome. Stopped reading course input held_old held_new (Ok outcome) ⊎ ((state.ended ≡ true) × AtEnd reading course input held_old held_new outcome))
       (IsRunFault reading course state input held_old held_new)
 
--- What was written is the output of some records of what was read, each whole, and nothing behind it.
+-- What was written is the output of some records of what was read, each whole, and nothing after it.
 pub record WroteRecords (reading : Reading) (course : List Record → Course) (left_old left_new held_old held_new : Option (List ℕ)) : Type 0 where
   pub input : List ℕ
   pub read : Consumes left_old left_new input
   pub reached : Reached reading course input held_old held_new (λ _. Unit {0})
 
 -- Which calls were made: at most as many as allowed; a fault of reading or writing only where the reader or the
--- writer tells that its last call failed, and as many calls as allowed where one more was to be made. And where the
--- reader tells the end, all of its bytes were read.
+-- writer says that its last call failed, and as many calls as allowed where one more was to be made. And where the
+-- reader says the end, all of its bytes were read.
 pub record Called (reads_old reads_new writes_old writes_new allowed : ℕ) (read_failed write_failed ended : Bool) (left : Option (List ℕ)) (result : Result Outcome EngineFault) : Type 0 where
   pub turns : reads_new + writes_new ≤ reads_old + writes_old + allowed
   pub too_many : result ≡ Err TooManyTurns → reads_new + 1 < 2 ^ 64 → writes_new + 1 < 2 ^ 64 → reads_new + writes_new ≡ reads_old + writes_old + allowed
@@ -148,7 +148,7 @@ pub record Called (reads_old reads_new writes_old writes_new allowed : ℕ) (rea
   pub write_fault : result ≡ Err Write → (write_failed ≡ true) × Rose writes_old writes_new
   pub at_end : result ≢ Err TooManyTurns → ended ≡ true → IsAtEnd left × Rose reads_old reads_new
 
--- No failure was passed over: where the last read failed, the fault of reading is told, and where the last write or flush failed, that of
+-- No failure was passed over: where the last read failed, the fault of reading is the answer, and where the last write or flush failed, that of
 -- writing, unless one that came before the run had failed already.
 pub record NonePassedOver (read_failed_old read_failed_new write_failed_old write_failed_new : Bool) (result : Result Outcome EngineFault) : Type 0 where
   pub reads : result ≢ Err Read → StaysWell read_failed_old read_failed_new

@@ -174,7 +174,7 @@ normal_body server p = canonical_body (units_in (encoding_of server)) server.tab
 abbrev pub line_if : Bool → List ℕ
 line_if line_due = if line_due then version_line else []
 
--- what stands in front of a record's frame
+-- what is in front of a record's frame
 abbrev pub front_of : Session → Record → List ℕ
 front_of s r = line_if r.head.line_due ++ mark_of s.version r.head.side
 
@@ -208,7 +208,7 @@ abbrev pub reply_record : Verdict → List ℕ
 reply_record (answered (reply m)) = codes "<" ++ m.frame
 reply_record verdict = []
 
--- The line stands in front of the first record, or alone where there is none.
+-- The line is in front of the first record, or alone where there is none.
 abbrev pub line_before : Session → List ℕ
 line_before s = if s.records == 0 then version_line else []
 

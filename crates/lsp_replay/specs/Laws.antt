@@ -17,7 +17,7 @@ use Rattle.lsp_replay.specs.Squashed.{squashed}
 abbrev pub all_of : (List Record → Course) → Log → List ℕ
 all_of course log = (course log.records).out ++ last_of course log
 
--- The bytes are a log, records and nothing else, of which `replay` tells what it tells of these records: the same documents, with the same
+-- The bytes are a log, records and nothing else, of which `replay` says what it says of these records: the same documents, with the same
 -- status and counts.
 pub record TellsAlike (settings : Settings) (records : List Record) (bytes : List ℕ) : Type 0 where
   pub log : Log
@@ -63,7 +63,7 @@ abbrev pub AreRepliesWithin : ℕ → Session → List Record → Type 0
 AreRepliesWithin max_body s [] = Unit {0}
 AreRepliesWithin max_body s (r ∷ rs) = IsReplyWithin max_body (judge s r).verdict × AreRepliesWithin max_body (judge s r).session rs
 
--- What `convert` writes of a log is a log of which `replay` tells the same, if the limit on bodies lets the replies in it pass. Its own
+-- What `convert` writes of a log is a log of which `replay` says the same, if the limit on bodies lets the replies in it pass. Its own
 -- status and counts are those of `replay`.
 pub record IsConverted (settings : Settings) (records : List Record) (bytes : List ℕ) : Type 0 where
   pub outcome : (converted settings records).outcome ≡ (report settings records).outcome

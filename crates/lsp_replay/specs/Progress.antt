@@ -29,7 +29,7 @@ abbrev pub IsHandled : (old new : List Record → Course) → Option (List ℕ) 
 IsHandled old new held_old held_new r None = GoesOn old new held_old held_new r
 IsHandled old new held_old held_new r (Some outcome) = Ends old held_old held_new r (Ok outcome)
 
--- what stands written when a fault comes at a record
+-- what is written when a fault comes at a record
 abbrev pub IsHandleFault : (List Record → Course) → Bool → Option (List ℕ) → Option (List ℕ) → Record → EngineFault → Type 0
 IsHandleFault old unflushed held_old held_new r Read = ⊥
 IsHandleFault old unflushed held_old held_new r Write = AppendsFront held_old held_new (old (r ∷ [])).out
@@ -50,7 +50,7 @@ pub record Went (reading : Reading) (course : List Record → Course) (held : Op
   pub courses : (others : List Record) → course (records ++ others) ≡ written_first out (course_now others)
   pub wrote : Appends held held_now out
 
--- The same between two reads, with all that was read. Once the reader told the end no more bytes come; until then
+-- The same between two reads, with all that was read. Once the reader said the end no more bytes come; until then
 -- the input has its version whatever follows.
 pub record Runs (reading : Reading) (course : List Record → Course) (left held left_now : Option (List ℕ)) (ended : Bool) (place : ℕ) (piece : List ℕ) (s : Splitter) (course_now : List Record → Course) (held_now : Option (List ℕ)) : Type 0 where
   pub input : List ℕ
@@ -78,7 +78,7 @@ IsLastFault NoMemory = Unit {0}
 IsLastFault TooManyTurns = Unit {0}
 IsLastFault (BadLog place) = ⊥
 
--- what stands written when a fault comes at the end of the input, and what the fault says of the input
+-- what is written when a fault comes at the end of the input, and what the fault says of the input
 abbrev pub IsEndFault : Reading → (List Record → Course) → Bool → List ℕ → Option (List ℕ) → Option (List ℕ) → ℕ → EngineFault → Type 0
 IsEndFault reading course unflushed input old new len Read = ⊥
 IsEndFault reading course unflushed input old new len Write = BrokenAtEnd reading course input old new

@@ -25,8 +25,8 @@ use Rattle.lsp_log.specs.declared.record.Side.TheVariants.{Client, Server}
 use Rattle.lsp_log.specs.declared.record.Head.{Head}
 use Rattle.lsp_log.specs.Log.{Record}
 
--- The server that a log is run on; the log's version, which its first record tells; the id of the accepted `initialize`, as long as a log
--- of version 2 has not told the result; how many records came, how many bodies were handled, and how many of those were refused.
+-- The server that a log is run on; the log's version, which its first record says; the id of the accepted `initialize`, as long as a log
+-- of version 2 has not had the result; how many records came, how many bodies were handled, and how many of those were refused.
 pub record Session : Type 0 where
   pub server : State
   pub version : Version
@@ -81,7 +81,7 @@ abbrev pub is_change : IncomingData → Bool
 is_change (did_change params) = true
 is_change m = false
 
--- A change comes too early while the result of `initialize`, which tells its encoding, is still to come.
+-- A change comes too early while the result of `initialize`, which says its encoding, is still to come.
 abbrev pub is_early : Session → IncomingData → Bool
 is_early s m = is_some s.expected && is_running s.server.phase && is_change m
 
@@ -108,7 +108,7 @@ judge_incoming s m =
     else if is_early s m then judged bad s
     else handled s m (step_on s.server m).state (as_sent (step_on s.server m).answer)
 
--- ---- a server's record, of which the result of `initialize` alone is looked at
+-- ---- a server's record, of which the result of `initialize` alone is read
 
 abbrev pub same_id : IdData → IdData → Bool
 same_id (read.whole m) (read.whole n) = int_eq m n
@@ -147,7 +147,7 @@ abbrev pub judge_from : Session → Side → List ℕ → Judged
 judge_from s Client body = judge_incoming s (incoming_of (reading body))
 judge_from s Server body = hear_for s s.expected body
 
--- The first record of a log of version 2 tells its version.
+-- The first record of a log of version 2 says its version.
 abbrev pub versioned : Session → Bool → Session
 versioned s line_due = if line_due then record s { version = Two } else s
 
@@ -157,7 +157,7 @@ counted j = record j { session = record j.session { records = one_more j.session
 abbrev pub judge_at : Session → Head → List ℕ → Judged
 judge_at s head body = counted (judge_from (versioned s head.line_due) head.side body)
 
--- What becomes of a record, and what the session is behind it.
+-- What becomes of a record, and what the session is after it.
 abbrev pub judge : Session → Record → Judged
 judge s r = judge_at s r.head r.body
 
@@ -165,6 +165,6 @@ judge s r = judge_at s r.head r.body
 abbrev pub opened : Config → Session
 opened config = record { server = start config; version = One; expected = None; records = 0; messages = 0; refusals = 0 }
 
--- The status of a log command tells whether something was refused.
+-- The status of a log command says whether something was refused.
 abbrev pub outcome_of : Session → Outcome
 outcome_of s = record { status = (if s.refusals == 0 then 0 else 1); messages = s.messages; refused = s.refusals }

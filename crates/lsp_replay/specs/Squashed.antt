@@ -21,7 +21,7 @@ use Rattle.lsp_replay.specs.Session.{Session, Verdict, answered, bad, Judged, ju
 -- ---- a run: accepted changes of one document, one after another
 
 pub record Run : Type 0 where
-  -- what stands in front of its first record's frame
+  -- what is in front of its first record's frame
   pub front : List ℕ
   -- its records as they are written without squash
   pub singles : List ℕ

@@ -1,4 +1,4 @@
--- What was written and answered, told by all the records that are whole in the bytes that were read.
+-- What was written and answered, by all the records that are whole in the bytes that were read.
 use Rattle.std.specs.Prelude.{ℕ, ◌≡◌, ◌⊎◌, Bool, true, false, List, [], length, Option, Some, None, Result, Ok, Err}
 use Rattle.std.specs.Io.KnownBytes.{Consumes, Appends}
 use Rattle.lsp_frame.specs.Faults.{place_behind}
@@ -35,7 +35,7 @@ pub record CutAtEnd (course : List Record → Course) (held_old held_new : Optio
   pub goes_on : (course all.records).stop ≡ None
   pub wrote : AppendsFront held_old held_new (all_of course all)
 
--- What was written is a first part of the output; and where the reader told the end perhaps a first part of what that gives, too.
+-- What was written is a first part of the output; and where the reader said the end perhaps a first part of what that gives, too.
 abbrev pub IsFirstPart : (List Record → Course) → Bool → Option (List ℕ) → Option (List ℕ) → Log → Type 0
 IsFirstPart course ended held_old held_new all =
     AppendsFront held_old held_new (course all.records).out ⊎ ((ended ≡ true) × CutAtEnd course held_old held_new all)
@@ -53,7 +53,7 @@ IsShort reading course state input held_old held_new all =
     ⊎ (((state.ended ≡ true) × ShortAtEnd course state.unflushed held_old held_new all)
     ⊎ ((state.ended_before ≡ false → state.ended ≡ false) × IsUnfinished reading input all × Passed course held_old held_new all))
 
--- what each fault tells
+-- what each fault says
 abbrev pub IsFaultTold : Reading → (List Record → Course) → PortState → List ℕ → Option (List ℕ) → Option (List ℕ) → Log → EngineFault → Type 0
 IsFaultTold reading course state input held_old held_new all Read = IsUnfinished reading input all × Passed course held_old held_new all
 IsFaultTold reading course state input held_old held_new all Write = IsFirstPart course state.ended held_old held_new all
@@ -67,13 +67,13 @@ IsFaultTold reading course state input held_old held_new all TooManyTurns = IsSh
 IsFaultTold reading course state input held_old held_new all (BadLog place) =
     EndedBy course held_old held_new (Err (BadLog place)) all ⊎ (IsBadMark input place all × Passed course held_old held_new all)
 
--- what each answer tells
+-- what each answer says
 abbrev pub IsTold : Reading → (List Record → Course) → PortState → List ℕ → Option (List ℕ) → Option (List ℕ) → Log → Result Outcome EngineFault → Type 0
 IsTold reading course state input held_old held_new all (Ok outcome) =
     EndedBy course held_old held_new (Ok outcome) all ⊎ ((state.ended ≡ true) × PassedEnd course held_old held_new outcome all)
 IsTold reading course state input held_old held_new all (Err fault) = IsFaultTold reading course state input held_old held_new all fault
 
--- An engine ran: whatever records are all that are whole in the bytes that it read, they tell what it wrote and answered.
+-- An engine ran: whatever records are all that are whole in the bytes that it read, they decide what it wrote and answered.
 pub record RanOver (reading : Reading) (course : List Record → Course) (state : PortState) (left_old left_new held_old held_new : Option (List ℕ)) (result : Result Outcome EngineFault) : Type 0 where
   pub input : List ℕ
   pub read : Consumes left_old left_new input

@@ -1,4 +1,4 @@
--- What the types of `src/session.rt` stand for in the definitions.
+-- What the types of `src/session.rt` are in the definitions.
 use Rattle.std.specs.Prelude.{ℕ, ◌≡◌, ◌<◌, ◌≤◌, List, length, Option, Some, None}
 use Rattle.lsp_frame.specs.Frame.{frame}
 use Rattle.lsp_server.specs.Seen.{answer_view}
@@ -13,7 +13,7 @@ verdict_view (Answered answer) = spec.answered (answer_view answer)
 verdict_view Recorded = spec.recorded
 verdict_view Bad = spec.bad
 
--- A canonical body is told: its frame, or that it is too long. Where there is none, nothing is told.
+-- A canonical body gives its frame, or that it is too long. Where there is none, there is nothing.
 abbrev pub IsTold : ℕ → Option (List ℕ) → Option Canonical → Type 0
 IsTold max_body None told = told ≡ None
 IsTold max_body (Some body) None = ⊥

@@ -16,7 +16,7 @@ abbrev pub chosen : EncodingChoice → Offers → Encoding
 chosen (Fixed encoding) offers = encoding
 chosen (Negotiated prefer) offers = if is_offered offers prefer then prefer else Utf16
 
--- How the server asks to be told of changes.
+-- How the server asks to hear of changes.
 abbrev pub kind_of : Sync → SyncKind
 kind_of Incremental = kind.Incremental
 kind_of Full = kind.Full

@@ -59,7 +59,7 @@ ConfigLaw = (s : State) (body : Reading) → (step s body).state.config ≡ s.co
 abbrev pub DocumentsLaw : Type 0
 DocumentsLaw = (s : State) (body : Reading) → (step s body).answer ≢ changed → (step s body).state.table ≡ s.table
 
--- whether an answer tells that nothing was done
+-- whether an answer says that nothing was done
 abbrev pub IsRefusal : AnswerData OutgoingData → Type 0
 IsRefusal (reply (error_reply id error)) = Unit {0}
 IsRefusal (reply m) = ⊥

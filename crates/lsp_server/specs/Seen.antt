@@ -1,4 +1,4 @@
--- What the types of `src/` stand for in the definitions.
+-- What the types of `src/` are in the definitions.
 pub use Rattle.lsp_reader.specs.Seen.{incoming_view}
 use Rattle.lsp_server.specs.declared.answer.Answer.{Answer}
 use Rattle.lsp_server.specs.declared.answer.Answer.TheVariants.{Reply, Changed, Dropped, Ignored, Refused}

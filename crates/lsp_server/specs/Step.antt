@@ -22,7 +22,7 @@ use Rattle.lsp_server.specs.Answer.{AnswerData, reply, changed, dropped, ignored
 use Rattle.lsp_server.specs.Choice.{chosen, kind_of}
 use Rattle.lsp_reader.specs.Incoming.{IncomingData, not_json, not_a_message, response, initialize, shutdown, other_request, exit, did_open, did_change, did_close, other_notification, incoming_of}
 
--- A server: how it was set up, where its session stands, the encoding that was chosen, if one was, and the open documents.
+-- A server: how it was set up, where its session is, the encoding that was chosen, if one was, and the open documents.
 pub record State : Type 0 where
   pub config : Config
   pub phase : Phase

@@ -16,7 +16,7 @@ use Rattle.lsp_store.specs.Table.{Entry, Refusal, body_too_long, entry_at, chang
 abbrev pub written_edit : Edit → EditData
 written_edit change = record { range = change.range; text = encode_utf8_all change.text }
 
--- the message that tells a batch, and its body
+-- the message of a batch, and its body
 abbrev pub change_message : List ℕ → ℤ → List Edit → OutgoingData
 change_message uri version batch = did_change (record { uri = uri; version = version; changes = map written_edit batch })
 

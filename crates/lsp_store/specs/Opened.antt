@@ -25,7 +25,7 @@ pub record Takes (old : StoreData) (command : Command) (new : StoreData) : Type 
   pub table : after_command old.limits old.table command ≡ Ok new.table
   pub limits : new.limits ≡ old.limits
 
--- A command is refused for the cause that stands in the table, or for want of memory.
+-- A command is refused for the cause that is in the table, or for out of memory.
 abbrev pub IsRefused : StoreData → Command → StoreFault → Type 0
 IsRefused old command fault = IsRefusal (command_refusal old.limits old.table command) fault
 

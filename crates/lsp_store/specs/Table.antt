@@ -15,7 +15,7 @@ pub record Entry : Type 0 where
   pub version : ℤ
   pub text : List ℕ
 
--- Why a command is refused; a stale version tells the version that is held, an edit the first faulty change and its fault, and a body
+-- Why a command is refused; a stale version says the version that is held, an edit the first faulty change and its fault, and a body
 -- too long its length.
 pub data Refusal : Type 0 where
   already_open too_many_documents text_too_long not_open too_many_changes : Refusal
@@ -51,7 +51,7 @@ batch_bytes batch = sum_by (λ change. length (encode_utf8_all change.text)) bat
 abbrev pub greatest_batch : ℕ
 greatest_batch = 1073741824
 
--- the bytes of the text that items stand for, over a text of these bytes
+-- the bytes of the text of items, over a text of these bytes
 abbrev pub bytes_after : List ℕ → List Item → List ℕ
 bytes_after text items = encode_utf8_all (text_of (chars text) items)
 

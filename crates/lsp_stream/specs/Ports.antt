@@ -1,4 +1,4 @@
--- What the calls of a reader and of a writer tell.
+-- What the calls of a reader and of a writer say.
 use Rattle.std.specs.Prelude.{◌≡◌, ◌≢◌, ℕ, ◌+◌, ◌<◌, ◌-◌, ◌^◌, min, max, Bool, true, ◌&&◌, ◌==◌, List, length, Result, Ok, Err}
 use Rattle.std.specs.declared.io.Error.{Error}
 use Rattle.std.specs.declared.io.ErrorKind.TheVariants.{Interrupted}
@@ -38,6 +38,6 @@ IsEnd room (Err e) = ⊥
 abbrev pub one_more : ℕ → ℕ
 one_more n = max n (min (n + 1) (2 ^ 64 - 1))
 
--- A count rose, or stands at its greatest value.
+-- A count rose, or is at its greatest value.
 abbrev pub Rose : ℕ → ℕ → Type 0
 Rose old new = new + 1 < 2 ^ 64 → old < new

@@ -6,12 +6,12 @@ use Rattle.std.specs.IoError.{error_kind}
 use Rattle.lsp_stream.specs.declared.stop.Call.{Call}
 use Rattle.lsp_stream.specs.declared.stop.Call.TheVariants.{Take, Interrupt, Fail}
 
--- the next call of a script, or one of those behind its end
+-- the next call of a script, or one of those after its end
 abbrev pub call_of : List Call → Call → Call
 call_of [] others = others
 call_of (call ∷ rest) others = call
 
--- what the script has for the calls behind it
+-- what the script has for the calls after it
 abbrev pub rest_of : List Call → List Call
 rest_of [] = []
 rest_of (call ∷ rest) = rest

@@ -1,8 +1,8 @@
--- How many calls were made, and what stands written.
+-- How many calls were made, and what is written.
 use Rattle.std.specs.Prelude.{◌≡◌, ◌⊎◌, Bool, true, false, ℕ, ◌+◌, ◌<◌, ◌≤◌, ◌^◌, List, ◌++◌, length, Option}
 use Rattle.std.specs.Io.KnownBytes.{Appends}
 
--- Each call took one of the turns that were left. Counts that stay at their greatest value can't tell all.
+-- Each call took one of the turns that were left. Counts that stay at their greatest value can't say all.
 pub record Spends (count_old count_new left_old left_new : ℕ) : Type 0 where
   pub within : left_new ≤ left_old
   pub least : count_old ≤ count_new
@@ -18,7 +18,7 @@ abbrev pub AppendsShort : Bool → Option (List ℕ) → Option (List ℕ) → L
 AppendsShort unflushed old new bytes =
     (front rest : List ℕ) × (bytes ≡ front ++ rest) × Appends old new front × ((0 < length rest) ⊎ (unflushed ≡ true))
 
--- No failure stands: where the last call before these had not failed, the last one now did not either.
+-- No failure is passed over: where the last call before these had not failed, the last one now did not either.
 abbrev pub StaysWell : Bool → Bool → Type 0
 StaysWell failed_old failed_new = failed_old ≡ false → failed_new ≡ false
 

@@ -33,7 +33,7 @@ pub record AreLimits (options : ArgMatches) (limits : Bounds) : Type 0 where
 abbrev pub encoding_given : ArgMatches → Option Encoding
 encoding_given options = option_and_then encoding_named (first_value (found_of options) (codes "encoding"))
 
--- what a name of `--sync` stands for
+-- what a name of `--sync` means
 abbrev pub sync_named : List ℕ → Sync
 sync_named name = if bytes_eq name (codes "full") then Full else Incremental
 
