@@ -34,9 +34,10 @@ fn content(bytes: &GapBytes, starts: &GapStarts, line: usize) -> (usize, usize)
     ensures stop { result.1 ≡ place_of (chars (without_gap bytes.now)) (line_stop (chars (without_gap bytes.now)) line) }
 {
     let end = bytes.len();
+    let count = starts.count();
     let start = starts.at(end, line);
     let next = line + 1;
-    if next == starts.count() {
+    if next == count {
         (start, end)
     } else {
         (start, stop_before(bytes, starts.at(end, next)))

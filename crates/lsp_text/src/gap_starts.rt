@@ -42,6 +42,49 @@ fn turn(starts: &mut [u32], end: u32)
     }
 }
 
+/// Turns the starts from index `from` to index `to`.
+fn turn_part(buffer: &mut Vec<u32>, from: usize, to: usize, end: u32)
+    requires order { from ≤ to }
+    requires within { to ≤ vec_len buffer.old }
+    requires starts { AreWithin end (take (to - from) (drop from buffer.old.items)) }
+    ensures { buffer.new.items ≡ take from buffer.old.items
+        ++ (map (λ start. end - start) (take (to - from) (drop from buffer.old.items)) ++ drop to buffer.old.items) }
+{
+    turn(&mut buffer[from..to], end);
+}
+
+/// Moves a gap from `low` to `high` towards the front, so that it begins at an index. The index where it ends then.
+fn turn_back(buffer: &mut Vec<u32>, low: usize, high: usize, index: usize, end: u32) -> usize
+    requires order { low ≤ high }
+    requires within { high ≤ vec_len buffer.old }
+    requires before { index ≤ low }
+    requires starts { AreWithin end (take low buffer.old.items) }
+    ensures same { starts_of_both end (take index buffer.new.items) (drop result buffer.new.items)
+        ≡ starts_of_both end (take low buffer.old.items) (drop high buffer.old.items) }
+    ensures order { index ≤ result }
+    ensures within { result ≤ vec_len buffer.new }
+{
+    let next = move_back(buffer, low, high, index);
+    turn_part(buffer, next, high, end);
+    next
+}
+
+/// Moves a gap from `low` to `high` towards the end, so that it begins at an index. The index where it ends then.
+fn turn_on(buffer: &mut Vec<u32>, low: usize, high: usize, index: usize, end: u32) -> usize
+    requires order { low ≤ high }
+    requires within { high + (index - low) ≤ vec_len buffer.old }
+    requires after { low ≤ index }
+    requires distances { AreWithin end (drop high buffer.old.items) }
+    ensures same { starts_of_both end (take index buffer.new.items) (drop result buffer.new.items)
+        ≡ starts_of_both end (take low buffer.old.items) (drop high buffer.old.items) }
+    ensures order { index ≤ result }
+    ensures within { result ≤ vec_len buffer.new }
+{
+    let next = move_on(buffer, low, high, index);
+    turn_part(buffer, low, index, end);
+    next
+}
+
 /// The starts on both sides of a gap, of which each look is counted.
 #[derive(Drop)]
 struct GapLooks<'a> {
@@ -101,39 +144,35 @@ impl GapStarts {
         }
     }
 
-    /// How many starts are at most an offset. Costs a binary search.
-    fn count_to(&self, end: usize, offset: usize) -> usize
+    /// The last line that starts at an offset or before it. Costs a binary search.
+    fn line_of(&self, end: usize, offset: usize) -> usize
         requires { AreStarts (starts_of_both end self.now.front self.now.back) }
-        ensures some { 0 < result }
-        ensures last { IsLineOf (starts_of_both end self.now.front self.now.back) offset (result - 1) }
+        ensures { IsLineOf (starts_of_both end self.now.front self.now.back) offset result }
     {
         let mut looks = GapLooks {
             starts: self,
             end,
             made: 0,
         };
-        line_of(&mut looks, offset) + 1
+        line_of(&mut looks, offset)
     }
 
-    /// Moves the gap before the start of an index. Costs the starts between.
-    fn move_to(&mut self, end: usize, index: usize)
-        requires index { index ≤ length self.old.front + length self.old.back }
+    /// Moves the gap after the start of a line. Costs the starts between.
+    fn move_after(&mut self, end: usize, line: usize)
+        requires line { line < length self.old.front + length self.old.back }
         requires front { AreWithin end self.old.front }
         requires back { AreWithin end self.old.back }
         requires size { end ≤ 2147483648 }
         ensures same { starts_of_both end self.new.front self.new.back ≡ starts_of_both end self.old.front self.old.back }
-        ensures front { length self.new.front ≡ index }
+        ensures front { length self.new.front ≡ line + 1 }
     {
-        if index < self.low {
-            let next = move_back(&mut self.buffer, self.low, self.high, index);
-            turn(&mut self.buffer[next..self.high], end as u32);
-            self.high = next;
+        let end = end as u32;
+        self.high = if line < self.low {
+            turn_back(&mut self.buffer, self.low, self.high, line + 1, end)
         } else {
-            let next = move_on(&mut self.buffer, self.low, self.high, index);
-            turn(&mut self.buffer[self.low..index], end as u32);
-            self.high = next;
-        }
-        self.low = index;
+            turn_on(&mut self.buffer, self.low, self.high, line + 1, end)
+        };
+        self.low = line + 1;
     }
 
     /// Moves the gap, so that the starts up to an offset lie before it. Costs a binary search, and the starts between.
@@ -146,8 +185,8 @@ impl GapStarts {
         ensures some { 0 < length self.new.front }
         ensures last { IsLineOf (starts_of_both end self.old.front self.old.back) offset (length self.new.front - 1) }
     {
-        let count = self.count_to(end, offset);
-        self.move_to(end, count);
+        let line = self.line_of(end, offset);
+        self.move_after(end, line);
     }
 
     /// Puts starts at the end of those before the gap. Where memory is refused nothing changes.
@@ -164,12 +203,7 @@ impl GapStarts {
 
     /// Finds the starts anew of the lines that begin after `from`, up to `end`, among the bytes of the text before a gap. Those of the
     /// text before it was changed are at hand.
-    pub fn find_again(
-        &mut self,
-        bytes: &[u8],
-        from: usize,
-        end: usize,
-    ) -> Result<(), AllocError>
+    pub fn find_again(&mut self, bytes: &[u8], from: usize, end: usize) -> Result<(), AllocError>
         requires are { AreStarts self.old.front }
         requires order { from ≤ end }
         requires within { end ≤ length bytes.now }
@@ -187,6 +221,7 @@ impl GapStarts {
 
     /// All starts of a text of `end` bytes, handed over. Costs the starts after the gap.
     pub fn into_vec(self, end: usize) -> Vec<u32>
+        requires some { 0 < length self.front }
         requires front { AreWithin end self.front }
         requires back { AreWithin end self.back }
         requires size { end ≤ 2147483648 }
@@ -194,7 +229,7 @@ impl GapStarts {
     {
         let count = self.count();
         let mut starts = self;
-        starts.move_to(end, count);
+        starts.move_after(end, count - 1);
         let mut buffer = starts.buffer;
         buffer.truncate(count);
         buffer
