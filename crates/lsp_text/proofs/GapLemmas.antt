@@ -1,5 +1,5 @@
 -- A gap in a row, moved.
-use Rattle.std.proofs.Common.{ℕ, suc, [], ◌∷◌, ◌≡◌, ◌+◌, ◌-◌, ◌≤◌, List, ◌++◌, length, take, drop, refl, sym, ap, ap₂, ◌∙◌, arith}
+use Rattle.std.proofs.Common.{ℕ, suc, [], ◌∷◌, ◌≡◌, ◌+◌, ◌-◌, ◌≤◌, List, ◌++◌, length, take, drop, sym, ap, ap₂, ◌∙◌, arith}
 use Rattle.std.proofs.lemmas.List.{length-take-le, length-drop, append_assoc, take-append-drop, take-append-le, drop-append-le, take-take, drop-take, drop-drop, drop_at}
 use Rattle.std.proofs.lemmas.List.Edits.{take-paste, drop-paste}
 use Rattle.std.specs.List.{copy_within}

@@ -1,15 +1,15 @@
 -- A text with a gap, changed: its line starts are those of the new text.
 use Rattle.std.proofs.Common.{ℕ, zero, suc, ◌≡◌, ◌+◌, ◌-◌, ◌<◌, ◌≤◌, Bool, true, false, not, ◌&&◌, ◌||◌, ◌==◌, List, [], ◌∷◌, ◌++◌, length, map, take, drop, get_or, slice_index, refl, sym, ap, ap₂, ◌∙◌, subst, arith, ⊎_elim}
-use Rattle.std.proofs.lemmas.List.{length-append, length-drop, length-take-le, length-map, map-id, get_or_append_left, get_or-append_right, get_or_default, append_assoc, append-nil, take-append-le, take_at, drop_at}
-use Rattle.std.proofs.lemmas.Bool.{cases_lt, cases_Bool}
+use Rattle.std.proofs.lemmas.List.{length-append, length-drop, length-take-le, length-map, map-id, get_or_append_left, append_assoc, append-nil, take-append-le, take_at, drop_at}
+use Rattle.std.proofs.lemmas.Bool.{cases_lt}
 use Rattle.std.proofs.lemmas.Str.{IsUtf8-append, IsUtf8-take, IsUtf8-drop, IsUtf8-from_is_utf8, is_utf8-from_IsUtf8}
 use Rattle.std.specs.List.{replace_range}
-use Rattle.std.specs.Str.{IsCharBoundary, IsUtf8, is_utf8, chars}
+use Rattle.std.specs.Str.{IsCharBoundary, IsUtf8}
 use Rattle.lsp_text.specs.Gapped.{AreWithin, IsGapText, starts_of_both}
 use Rattle.lsp_text.specs.LineStarts.{Indexes, ends_between, line_starts}
 use Rattle.lsp_text.specs.Splice.{IsReplaced}
 use Rattle.lsp_text.specs.Starts.{AreStarts, IsLineOf}
-use Rattle.lsp_text.specs.TextLines.{ends_line, splits_crlf, numbers_from}
+use Rattle.lsp_text.specs.TextLines.{ends_line, splits_crlf}
 use Rattle.lsp_text.proofs.GapStartsLemmas.{at_front, at_back, both_count}
 use Rattle.lsp_text.proofs.SpliceLemmas.{IsCut, starts_cut, starts_spliced, filter_moved, filter_below, ends_behind}
 use Rattle.lsp_text.proofs.StartLemmas.{starts_of_text}

@@ -1,4 +1,4 @@
-use Rattle.std.proofs.Common.{◌≡◌, ◌+◌, ◌-◌, ◌≤◌, ◌∙◌, ℕ, List, length, take, drop, sym, ap, ap₂, arith, subst, Some}
+use Rattle.std.proofs.Common.{◌≡◌, ◌+◌, ◌-◌, ◌≤◌, ◌∙◌, ℕ, List, length, take, drop, sym, ap, arith, subst, Some}
 use Rattle.std.specs.Str.{IsUtf8, chars}
 use Rattle.lsp_text.specs.Gapped.{without_gap, starts_of_both}
 use Rattle.lsp_text.specs.Leads.{line_place}

@@ -1,4 +1,4 @@
-use Rattle.std.proofs.Common.{◌≡◌, ◌++◌, ◌∙◌, ℕ, List, [], ap, sym, subst, append-nil}
+use Rattle.std.proofs.Common.{◌≡◌, ◌∙◌, ℕ, List, ap, sym, subst, append-nil}
 use Rattle.lsp_text.specs.Gapped.{Gapped, IsGapText, without_gap}
 use Rattle.lsp_text.proofs.GapTextLemmas.{gap_begun}
 use Rattle.lsp_text.proofs.gap_text.GapText.new.Goals as goal

@@ -1,4 +1,4 @@
-use Rattle.std.proofs.Common.{◌≡◌, ◌+◌, ◌-◌, ◌<◌, ◌≤◌, ◌∙◌, ℕ, List, false, length, refl, sym, ap, arith, subst}
+use Rattle.std.proofs.Common.{◌≡◌, ◌+◌, ◌-◌, ◌≤◌, ◌∙◌, ℕ, List, false, length, refl, sym, ap, arith, subst}
 use Rattle.std.specs.List.{replace_range}
 use Rattle.std.specs.Str.{IsCharBoundary}
 use Rattle.lsp_text.specs.Gapped.{AreWithin, IsGapText, without_gap, starts_of_both}
