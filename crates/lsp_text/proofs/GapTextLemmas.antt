@@ -1,19 +1,19 @@
 -- A text with a gap, changed: its line starts are those of the new text.
-use Rattle.std.proofs.Common.{ℕ, zero, suc, ◌≡◌, ◌+◌, ◌-◌, ◌<◌, ◌≤◌, Bool, true, false, not, ◌&&◌, ◌||◌, ◌==◌, List, [], ◌∷◌, ◌++◌, length, map, take, drop, reverse, get_or, slice_index, refl, sym, ap, ap₂, ◌∙◌, subst, arith, ⊎_elim}
-use Rattle.std.proofs.lemmas.List.{length-append, length-drop, length-take-le, length-map, length-reverse, map-append, map-id, get_or_append_left, get_or-append_right, get_or_default, append_assoc, append-nil, take-append-le, take_at, drop_at, reverse-append}
-use Rattle.std.proofs.lemmas.Bool.{cases_lt, cases_Bool}
+use Rattle.std.proofs.Common.{ℕ, zero, suc, ◌≡◌, ◌+◌, ◌-◌, ◌<◌, ◌≤◌, Bool, true, false, not, ◌&&◌, ◌||◌, ◌==◌, List, [], ◌∷◌, ◌++◌, length, map, take, drop, get_or, slice_index, refl, sym, ap, ap₂, ◌∙◌, subst, arith, ⊎_elim}
+use Rattle.std.proofs.lemmas.List.{length-append, length-drop, length-take-le, length-map, map-id, get_or_append_left, append_assoc, append-nil, take-append-le, take_at, drop_at}
+use Rattle.std.proofs.lemmas.Bool.{cases_lt}
 use Rattle.std.proofs.lemmas.Str.{IsUtf8-append, IsUtf8-take, IsUtf8-drop, IsUtf8-from_is_utf8, is_utf8-from_IsUtf8}
 use Rattle.std.specs.List.{replace_range}
-use Rattle.std.specs.Str.{IsCharBoundary, IsUtf8, is_utf8, chars}
-use Rattle.lsp_text.specs.Gapped.{IsGapText, starts_of_both}
+use Rattle.std.specs.Str.{IsCharBoundary, IsUtf8}
+use Rattle.lsp_text.specs.Gapped.{AreWithin, IsGapText, starts_of_both}
 use Rattle.lsp_text.specs.LineStarts.{Indexes, ends_between, line_starts}
 use Rattle.lsp_text.specs.Splice.{IsReplaced}
 use Rattle.lsp_text.specs.Starts.{AreStarts, IsLineOf}
-use Rattle.lsp_text.specs.TextLines.{ends_line, splits_crlf, numbers_from}
-use Rattle.lsp_text.proofs.GapStartsLemmas.{at_front, both_count}
+use Rattle.lsp_text.specs.TextLines.{ends_line, splits_crlf}
+use Rattle.lsp_text.proofs.GapStartsLemmas.{at_front, at_back, both_count}
 use Rattle.lsp_text.proofs.SpliceLemmas.{IsCut, starts_cut, starts_spliced, filter_moved, filter_below, ends_behind}
 use Rattle.lsp_text.proofs.StartLemmas.{starts_of_text}
-use Rattle.lsp_text.proofs.StartRowLemmas.{line_starts_are}
+use Rattle.lsp_text.proofs.StartRowLemmas.{ascends_at, starts_ascend, line_starts_are}
 use Rattle.lsp_text.proofs.IndexesLemmas.{indexes_from}
 
 assoc : (a b c : List ℕ) → a ++ b ++ c ≡ a ++ (b ++ c)
@@ -29,7 +29,7 @@ module _ (bytes before after : List ℕ) (is : IsGapText bytes before after) whe
   pub gap_are : AreStarts (starts_of_both (length bytes) before after)
   gap_are = subst AreStarts (sym is.starts) (line_starts_are bytes)
 
-  pub gap_within : (k : ℕ) → k < length before → slice_index before k ≤ length bytes
+  pub gap_within : AreWithin (length bytes) before
   gap_within k h =
       omega (
         arith,
@@ -37,6 +37,16 @@ module _ (bytes before after : List ℕ) (is : IsGapText bytes before after) whe
         ap (λ (xs : List ℕ). slice_index xs k) is.starts,
         start_within bytes k (omega (arith, both_count (length bytes) before after, ap length is.starts, h)),
       )
+
+  -- A start after the first is not 0, so its distance is at most all bytes.
+  pub gap_back_within : AreWithin (length bytes) after
+  gap_back_within k h =
+      let there : length before + k < length (starts_of_both (length bytes) before after) = omega (arith, both_count (length bytes) before after, h) in
+      let later : length before + k < length (line_starts bytes) = omega (arith, ap length is.starts, there) in
+      let past : length before + k - length before ≡ k = omega arith in
+      let start : slice_index (line_starts bytes) (length before + k) ≡ length bytes - slice_index after k
+      = ap (λ (xs : List ℕ). slice_index xs (length before + k)) (sym is.starts) ∙ (at_back (length bytes) before after (length before + k) (omega arith) (omega (arith, h)) ∙ ap (λ (n : ℕ). length bytes - slice_index after n) past) in
+      omega (arith, start, ascends_at 0 (line_starts bytes) (starts_ascend bytes) 0 (length before + k) (omega (arith, is.some)) later)
 
   pub gap_utf8 : IsUtf8 bytes
   gap_utf8 = IsUtf8-from_is_utf8 bytes is.utf8
@@ -113,13 +123,6 @@ module _ (front back : List ℕ) (low high : ℕ) (order : low ≤ high) (within
 
 -- ---- starts after a gap, whose distance to the end stays
 
-map_reversed : (f : ℕ → ℕ) (xs : List ℕ) → reverse (map f xs) ≡ map f (reverse xs)
-map_reversed f [] = refl
-map_reversed f (x ∷ xs) =
-    reverse-append (f x ∷ []) (map f xs)
-    ∙ (ap (λ (ys : List ℕ). ys ++ f x ∷ []) (map_reversed f xs)
-    ∙ (sym (map-append f (reverse xs) (x ∷ [])) ∙ ap (map f) (sym (reverse-append (x ∷ []) xs))))
-
 moved_all : (end next to moved : ℕ) (distances : List ℕ) → next ≡ moved + (end - to) → ((k : ℕ) → k < length distances → to < get_or (map (λ (d : ℕ). end - d) distances) k 0)
     → map (λ (d : ℕ). next - d) distances ≡ map (λ (start : ℕ). start - to + moved) (map (λ (d : ℕ). end - d) distances)
 moved_all end next to moved [] is above = refl
@@ -157,7 +160,7 @@ module _ (old before after bytes front back new : List ℕ) (start stop : ℕ) (
   }
 
   abbrev behind : List ℕ
-  behind = reverse (map (λ (d : ℕ). length old - d) rest)
+  behind = map (λ (d : ℕ). length old - d) rest
 
   starts_are : first ++ behind ≡ line_starts old
   starts_are = same ∙ is.starts
@@ -196,14 +199,12 @@ module _ (old before after bytes front back new : List ℕ) (start stop : ℕ) (
       ends_of_front front back (start - 1) (start + length new) (omega arith) there (λ e. ap (λ (b : List ℕ). splits_crlf b (start + length new)) (sym whole) ∙ seam e)
       ∙ ap (λ (b : List ℕ). ends_between b (start - 1) (start + length new)) (sym whole)
 
-  moved_is : reverse (map (λ (d : ℕ). length bytes - d) rest) ≡ map (λ (s : ℕ). s - stop + (start + length new)) (ends_between old stop (length old))
+  moved_is : map (λ (d : ℕ). length bytes - d) rest ≡ map (λ (s : ℕ). s - stop + (start + length new)) (ends_between old stop (length old))
   moved_is =
-      let turned : map (λ (d : ℕ). length old - d) (reverse rest) ≡ ends_between old stop (length old) = sym (map_reversed (λ (d : ℕ). length old - d) rest) ∙ behind_is in
-      let size : length (ends_between old stop (length old)) ≡ length (reverse rest) = ap length (sym turned) ∙ length-map (reverse rest) (λ (d : ℕ). length old - d) in
-      map_reversed (λ (d : ℕ). length bytes - d) rest
-      ∙ (moved_all (length old) (length bytes) stop (start + length new) (reverse rest) bytes_len
-      (λ k h. omega (arith, ap (λ (xs : List ℕ). get_or xs k 0) turned, ends_behind old stop (length old) k (omega (arith, size, h))))
-      ∙ ap (map (λ (s : ℕ). s - stop + (start + length new))) turned)
+      let size : length (ends_between old stop (length old)) ≡ length rest = ap length (sym behind_is) ∙ length-map rest (λ (d : ℕ). length old - d) in
+      moved_all (length old) (length bytes) stop (start + length new) rest bytes_len
+      (λ k h. omega (arith, ap (λ (xs : List ℕ). get_or xs k 0) behind_is, ends_behind old stop (length old) k (omega (arith, size, h))))
+      ∙ ap (map (λ (s : ℕ). s - stop + (start + length new))) behind_is
 
   pub gap_replaced : IsGapText bytes last rest
   gap_replaced = record {
@@ -214,8 +215,8 @@ module _ (old before after bytes front back new : List ℕ) (start stop : ℕ) (
     size = room;
     some = omega (arith, ap length last_is, length-append (take keep first) (ends_between front (start - 1) (start + length new)), ap length kept_is);
     starts =
-        ap (λ (xs : List ℕ). xs ++ reverse (map (λ (d : ℕ). length bytes - d) rest)) last_is
-        ∙ (assoc (take keep first) (ends_between front (start - 1) (start + length new)) (reverse (map (λ (d : ℕ). length bytes - d) rest))
+        ap (λ (xs : List ℕ). xs ++ map (λ (d : ℕ). length bytes - d) rest) last_is
+        ∙ (assoc (take keep first) (ends_between front (start - 1) (start + length new)) (map (λ (d : ℕ). length bytes - d) rest)
         ∙ (ap₂ (λ (x y : List ℕ). x ++ y) kept_is (ap₂ (λ (x y : List ℕ). x ++ y) found_is moved_is)
         ∙ sym (starts_spliced old bytes start stop (length new) replaced)));
   }

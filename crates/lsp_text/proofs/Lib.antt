@@ -17,6 +17,7 @@ pub mod ExactLemmas
 pub mod BoundaryLemmas
 pub mod ShiftLemmas
 pub mod SpliceLemmas
+pub mod GapLemmas
 pub mod GapBytesLemmas
 pub mod GapStartsLemmas
 pub mod GapTextLemmas

@@ -4,6 +4,7 @@ ghost use Rattle.std.specs.List.{replace_range};
 ghost use Rattle.lsp_text.specs.TextLines.{splits_crlf};
 ghost use Rattle.lsp_text.specs.Gapped.{without_gap};
 
+use crate::gap::{move_back, move_on, widen, write};
 use std::alloc::{AllocError, Global};
 use std::marker::Model;
 
@@ -24,68 +25,6 @@ impl Model for GapBytes {
     ghost view = { λ bytes. record { front = take bytes.low bytes.buffer.items; back = drop bytes.high bytes.buffer.items } };
 
     ghost invariant = { λ bytes. (bytes.low ≤ bytes.high) × (bytes.high ≤ length bytes.buffer.items) };
-}
-
-/// Makes a gap of `count` bytes at least from `low` on, where there is one up to `high`. The offset where it ends then.
-fn widen(buffer: &mut Vec<u8>, low: usize, high: usize, count: usize) -> Result<usize, AllocError>
-    requires order { low ≤ high }
-    requires within { high ≤ vec_len buffer.old }
-    ensures front { OnOk result (take low buffer.new.items ≡ take low buffer.old.items) }
-    ensures back { IfOk result (λ next. drop next buffer.new.items ≡ drop high buffer.old.items) }
-    ensures wide { IfOk result (λ next. low + count ≤ next) }
-    ensures within { IfOk result (λ next. next ≤ vec_len buffer.new) }
-    ensures error { OnErr result (buffer.new.items ≡ buffer.old.items) }
-{
-    if count <= high - low {
-        return Ok(high);
-    }
-    let len = buffer.len();
-    let added = count.max(len);
-    let Some(wide) = len.checked_add(added) else {
-        return Err(AllocError);
-    };
-    buffer.resize(wide, 0)?;
-    let next = high + added;
-    buffer.copy_within(high..len, next);
-    Ok(next)
-}
-
-/// Writes bytes over those from an offset on.
-fn write(buffer: &mut Vec<u8>, low: usize, bytes: &[u8])
-    requires { low + length bytes.now ≤ vec_len buffer.old }
-    ensures { buffer.new.items ≡ take low buffer.old.items ++ (bytes.now ++ drop (low + length bytes.now) buffer.old.items) }
-{
-    buffer[low..low + bytes.len()].copy_from_slice(bytes);
-}
-
-/// Moves a gap from `low` to `high` towards the front, so that it begins at an offset. The offset where it ends then.
-fn move_back(buffer: &mut Vec<u8>, low: usize, high: usize, offset: usize) -> usize
-    requires order { low ≤ high }
-    requires within { high ≤ vec_len buffer.old }
-    requires before { offset ≤ low }
-    ensures front { take offset buffer.new.items ≡ take offset (take low buffer.old.items ++ drop high buffer.old.items) }
-    ensures back { drop result buffer.new.items ≡ drop offset (take low buffer.old.items ++ drop high buffer.old.items) }
-    ensures order { offset ≤ result }
-    ensures within { result ≤ vec_len buffer.new }
-{
-    let next = high - (low - offset);
-    buffer.copy_within(offset..low, next);
-    next
-}
-
-/// Moves a gap from `low` to `high` towards the end, so that it begins at an offset. The offset where it ends then.
-fn move_on(buffer: &mut Vec<u8>, low: usize, high: usize, offset: usize) -> usize
-    requires order { low ≤ high }
-    requires within { high + (offset - low) ≤ vec_len buffer.old }
-    requires after { low ≤ offset }
-    ensures front { take offset buffer.new.items ≡ take offset (take low buffer.old.items ++ drop high buffer.old.items) }
-    ensures back { drop result buffer.new.items ≡ drop offset (take low buffer.old.items ++ drop high buffer.old.items) }
-    ensures order { offset ≤ result }
-    ensures within { result ≤ vec_len buffer.new }
-{
-    let next = high + (offset - low);
-    buffer.copy_within(high..next, low);
-    next
 }
 
 impl GapBytes {
@@ -152,7 +91,7 @@ impl GapBytes {
         ensures back { OnOk result (self.new.back ≡ self.old.back) }
         ensures error { OnErr result (self.new ≡ self.old) }
     {
-        self.high = widen(&mut self.buffer, self.low, self.high, bytes.len())?;
+        self.high = widen(&mut self.buffer, self.low, self.high, bytes.len(), 0)?;
         write(&mut self.buffer, self.low, bytes);
         self.low += bytes.len();
         Ok(())

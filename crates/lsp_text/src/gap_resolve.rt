@@ -8,7 +8,7 @@ ghost use Rattle.lsp_text.specs.Gapped.{IsGapText, without_gap};
 ghost use Rattle.lsp_text.specs.Positions.{denoted};
 
 use crate::gap_bytes::GapBytes;
-use crate::gap_starts::start_at;
+use crate::gap_starts::GapStarts;
 use crate::in_line::InLine;
 use crate::position::Position;
 use crate::resolve::InsideCharacter;
@@ -27,41 +27,38 @@ fn stop_before(bytes: &GapBytes, next: usize) -> usize
 }
 
 /// The offsets where the content of a line begins and ends.
-fn content(bytes: &GapBytes, before: &[u32], after: &[u32], line: usize) -> (usize, usize)
-    requires is { IsGapText (without_gap bytes.now) before.now after.now }
-    requires line { line < length before.now + length after.now }
+fn content(bytes: &GapBytes, starts: &GapStarts, line: usize) -> (usize, usize)
+    requires is { IsGapText (without_gap bytes.now) starts.now.front starts.now.back }
+    requires line { line < length starts.now.front + length starts.now.back }
     ensures start { result.0 ≡ place_of (chars (without_gap bytes.now)) (line_start (chars (without_gap bytes.now)) line) }
     ensures stop { result.1 ≡ place_of (chars (without_gap bytes.now)) (line_stop (chars (without_gap bytes.now)) line) }
 {
     let end = bytes.len();
-    let start = start_at(before, after, end, line);
+    let count = starts.count();
+    let start = starts.at(end, line);
     let next = line + 1;
-    if next == before.len() + after.len() {
+    if next == count {
         (start, end)
     } else {
-        (
-            start,
-            stop_before(bytes, start_at(before, after, end, next)),
-        )
+        (start, stop_before(bytes, starts.at(end, next)))
     }
 }
 
 /// The offset that a position denotes. Costs the line's text up to the character; and the line's text once more, if the gap lies in it.
 pub fn resolve_gapped<U: InLine>(
     bytes: &mut GapBytes,
-    before: &[u32],
-    after: &[u32],
+    starts: &GapStarts,
     position: Position,
 ) -> Result<usize, InsideCharacter>
-    requires { IsGapText (without_gap bytes.old) before.now after.now }
+    requires { IsGapText (without_gap bytes.old) starts.now.front starts.now.back }
     ensures same { without_gap bytes.new ≡ without_gap bytes.old }
     ensures value { result_ok result ≡ option_map (place_of (chars (without_gap bytes.old))) (denoted U.units_of (chars (without_gap bytes.old)) position) }
 {
     let line = position.line as usize;
-    if line >= before.len() + after.len() {
+    if line >= starts.count() {
         return Ok(bytes.len());
     }
-    let (start, stop) = content(bytes, before, after, line);
+    let (start, stop) = content(bytes, starts, line);
     bytes.gather(start, stop);
     match U::place_in(bytes.part(start, stop), position.character) {
         Some(place) => Ok(start + place),

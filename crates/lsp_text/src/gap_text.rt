@@ -10,14 +10,12 @@ ghost use Rattle.lsp_text.specs.Units.{units_in};
 ghost use Rattle.lsp_text.specs.Positions.{denoted};
 
 use crate::encoding::Encoding;
-use crate::ends::push_ends;
 use crate::gap_bytes::GapBytes;
 use crate::gap_resolve::resolve_gapped;
-use crate::gap_starts::{closed, seek};
+use crate::gap_starts::GapStarts;
 use crate::lines::Lines;
 use crate::position::Position;
 use crate::resolve::InsideCharacter;
-use crate::splice::starts_to;
 use crate::units::{Utf8, Utf16, Utf32};
 use std::alloc::{AllocError, Global};
 use std::marker::Model;
@@ -27,8 +25,7 @@ use std::marker::Model;
 #[derive(Drop)]
 pub struct GapText {
     bytes: GapBytes,
-    before: Vec<u32>,
-    after: Vec<u32>,
+    starts: GapStarts,
 }
 
 impl Model for GapText {
@@ -39,29 +36,7 @@ impl Model for GapText {
 
     ghost view = { λ text. without_gap text.bytes };
 
-    ghost invariant = { λ text. IsGapText (without_gap text.bytes) text.before.items text.after.items };
-}
-
-/// Finds the starts anew of the lines that begin after `from`, up to `end`, among the bytes of the text before a gap. Those of the text
-/// before it was changed are at hand.
-fn find_again(
-    starts: &mut Vec<u32>,
-    front: &[u8],
-    from: usize,
-    end: usize,
-) -> Result<(), AllocError>
-    requires are { AreStarts starts.old.items }
-    requires order { from ≤ end }
-    requires within { end ≤ length front.now }
-    requires size { length front.now ≤ 2147483648 }
-    ensures { OnOk result ((keep : ℕ) × (0 < keep) × IsLineOf starts.old.items (from - 1) (keep - 1)
-        × (starts.new.items ≡ take keep starts.old.items ++ ends_between front.now (from - 1) end)) }
-{
-    let low = from.saturating_sub(1);
-    let keep = starts_to(starts, low);
-    starts.truncate(keep);
-    push_ends(starts, front, low, end)?;
-    Ok(())
+    ghost invariant = { λ text. IsGapText (without_gap text.bytes) text.starts.front text.starts.back };
 }
 
 impl GapText {
@@ -72,11 +47,8 @@ impl GapText {
         ensures { IfOk result (λ gapped. gapped ≡ text.now) }
     {
         let bytes = GapBytes::new(alloc, text.as_bytes(), room)?;
-        Ok(GapText {
-            bytes,
-            before: lines.into_starts(),
-            after: Vec::new(alloc),
-        })
+        let starts = GapStarts::new(lines.into_starts());
+        Ok(GapText { bytes, starts })
     }
 
     /// How many bytes the text has.
@@ -100,24 +72,9 @@ impl GapText {
         ensures value { result_ok result ≡ option_map (place_of (chars self.old)) (denoted (units_in encoding) (chars self.old) position) }
     {
         match encoding {
-            Encoding::Utf8 => resolve_gapped::<Utf8>(
-                &mut self.bytes,
-                &self.before,
-                &self.after,
-                position,
-            ),
-            Encoding::Utf16 => resolve_gapped::<Utf16>(
-                &mut self.bytes,
-                &self.before,
-                &self.after,
-                position,
-            ),
-            Encoding::Utf32 => resolve_gapped::<Utf32>(
-                &mut self.bytes,
-                &self.before,
-                &self.after,
-                position,
-            ),
+            Encoding::Utf8 => resolve_gapped::<Utf8>(&mut self.bytes, &self.starts, position),
+            Encoding::Utf16 => resolve_gapped::<Utf16>(&mut self.bytes, &self.starts, position),
+            Encoding::Utf32 => resolve_gapped::<Utf32>(&mut self.bytes, &self.starts, position),
         }
     }
 
@@ -132,29 +89,20 @@ impl GapText {
     {
         let GapText {
             mut bytes,
-            mut before,
-            mut after,
+            mut starts,
         } = self;
-        seek(&mut before, &mut after, bytes.len(), stop)?;
+        starts.seek(bytes.len(), stop);
         bytes.replace(start, stop, new.as_bytes())?;
-        find_again(&mut before, bytes.front(), start, start + new.len())?;
-        Ok(GapText {
-            bytes,
-            before,
-            after,
-        })
+        starts.find_again(bytes.front(), start, start + new.len())?;
+        Ok(GapText { bytes, starts })
     }
 
     /// The text without the gap, and its lines, handed over. Costs the bytes and the lines after the gap.
     pub fn into_text(self) -> Result<(String, Lines), AllocError>
         ensures { IfOk result (λ handed. (string_bytes handed.0 ≡ self) × Indexes handed.1 (string_bytes handed.0)) }
     {
-        let GapText {
-            bytes,
-            before,
-            after,
-        } = self;
-        let starts = closed(before, after, bytes.len())?;
+        let GapText { bytes, starts } = self;
+        let starts = starts.into_vec(bytes.len());
         let text = unsafe { String::from_utf8_unchecked(bytes.into_vec()) };
         Ok((text, Lines::of_starts(starts)))
     }

@@ -4,7 +4,7 @@
 //! - `lines`: the line starts that are kept for a text, and the calls on them. Their work is in `ends` (the search for line ends),
 //!   `resolve` (from a position to its place), `exact` (and back), `in_line` (units in the bytes of one line) and `splice` (after an edit).
 //! - `gap_text`: a text under changes with a gap where it was changed last, so that a change costs the distance to the one before. Its
-//!   bytes are in `gap_bytes`, its line starts in `gap_starts`, its positions in `gap_resolve`.
+//!   bytes are in `gap_bytes`, its line starts in `gap_starts`, the moves of both in `gap`, its positions in `gap_resolve`.
 //! - `starts`: the line of a place, by a binary search over any row of starts whose looks are counted.
 //! - `plain`: the definitions as a plain and slow program over the characters of a text, which `Lines` is compared with.
 //! - `laws`: what holds of the definitions alone. These stand in `specs/`: `Text`, `TextLines`, `Units`, `Positions`, in this order.
@@ -13,6 +13,7 @@
 mod encoding;
 mod ends;
 mod exact;
+mod gap;
 mod gap_bytes;
 mod gap_resolve;
 mod gap_starts;

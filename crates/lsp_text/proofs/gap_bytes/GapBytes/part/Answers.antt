@@ -1,6 +1,6 @@
-use Rattle.std.proofs.Common.{◌≡◌, ◌∙◌, ◌-◌, ℕ, List, length, take, drop, ap, sym, arith}
+use Rattle.std.proofs.Common.{◌≡◌, ◌∙◌, ◌-◌, ℕ, List, length, take, drop, ap, arith}
 use Rattle.std.proofs.lemmas.List.{length-take-le}
-use Rattle.lsp_text.specs.Gapped.{Gapped, without_gap}
+use Rattle.lsp_text.specs.Gapped.{Gapped}
 use Rattle.lsp_text.proofs.GapBytesLemmas.{part_front, part_back}
 use Rattle.lsp_text.proofs.gap_bytes.GapBytes.part.Goals as goal
 

@@ -1,39 +1,43 @@
-use Rattle.std.proofs.Common.{◌≡◌, ◌+◌, ◌-◌, ◌<◌, ◌≤◌, ◌∙◌, ℕ, List, false, length, refl, sym, ap, arith, subst}
+use Rattle.std.proofs.Common.{◌≡◌, ◌+◌, ◌-◌, ◌≤◌, ◌∙◌, ℕ, List, false, length, refl, sym, ap, arith, subst}
 use Rattle.std.specs.List.{replace_range}
 use Rattle.std.specs.Str.{IsCharBoundary}
-use Rattle.lsp_text.specs.Gapped.{without_gap, starts_of_both}
+use Rattle.lsp_text.specs.Gapped.{AreWithin, IsGapText, without_gap, starts_of_both}
 use Rattle.lsp_text.specs.Starts.{AreStarts, IsLineOf}
 use Rattle.lsp_text.specs.TextLines.{splits_crlf}
-use Rattle.lsp_text.proofs.GapTextLemmas.{gap_are, gap_within, gap_replaced, front_are}
+use Rattle.lsp_text.proofs.GapTextLemmas.{gap_are, gap_within, gap_back_within, gap_replaced, front_are}
 use Rattle.lsp_text.proofs.gap_text.GapText.replaced.Goals as goal
 
 pub seek-requires-clause-are : goal.seek-requires-clause-are
 seek-requires-clause-are c =
-    subst (λ (n : ℕ). AreStarts (starts_of_both n c.self.inside.before.items c.self.inside.after.items)) (sym c.len.ensures) (gap_are (without_gap c.self.inside.bytes) c.self.inside.before.items c.self.inside.after.items c.self.invariant)
+    subst (λ (n : ℕ). AreStarts (starts_of_both n c.self.inside.starts.front c.self.inside.starts.back)) (sym c.len.ensures) (gap_are (without_gap c.self.inside.bytes) c.self.inside.starts.front c.self.inside.starts.back c.self.invariant)
 
-pub seek-requires-clause-within : goal.seek-requires-clause-within
-seek-requires-clause-within c = λ k h. omega (arith, gap_within (without_gap c.self.inside.bytes) c.self.inside.before.items c.self.inside.after.items c.self.invariant k h, c.len.ensures)
+pub seek-requires-clause-front : goal.seek-requires-clause-front
+seek-requires-clause-front c = subst (λ (n : ℕ). AreWithin n c.self.inside.starts.front) (sym c.len.ensures) (gap_within (without_gap c.self.inside.bytes) c.self.inside.starts.front c.self.inside.starts.back c.self.invariant)
+
+pub seek-requires-clause-back : goal.seek-requires-clause-back
+seek-requires-clause-back c = subst (λ (n : ℕ). AreWithin n c.self.inside.starts.back) (sym c.len.ensures) (gap_back_within (without_gap c.self.inside.bytes) c.self.inside.starts.front c.self.inside.starts.back c.self.invariant)
 
 pub find_again-requires-clause-are : goal.find_again-requires-clause-are
 find_again-requires-clause-are c =
-    front_are c.len.result _ c.seek.new.before.items c.seek.new.after.items c.in_ok-seek.ensures.same
-    (subst (λ (n : ℕ). AreStarts (starts_of_both n c.self.inside.before.items c.self.inside.after.items)) (sym c.len.ensures) (gap_are (without_gap c.self.inside.bytes) c.self.inside.before.items c.self.inside.after.items c.self.invariant))
-    (omega (arith, c.in_ok-seek.ensures.some, c.seek.new.before.ok.0))
+    front_are c.len.result _ c.seek.new.self.front c.seek.new.self.back c.seek.ensures.same
+    (subst (λ (n : ℕ). AreStarts (starts_of_both n c.self.inside.starts.front c.self.inside.starts.back)) (sym c.len.ensures) (gap_are (without_gap c.self.inside.bytes) c.self.inside.starts.front c.self.inside.starts.back c.self.invariant))
+    c.seek.ensures.some
 
 pub invariant_of-result : goal.invariant_of-result
 invariant_of-result c =
     let bytes_is : without_gap c.replace.new.self ≡ replace_range (without_gap c.self.inside.bytes) c.args.start c.args.stop c.args.new.now
     = c.in_ok-replace.ensures.bytes ∙ ap (replace_range (without_gap c.self.inside.bytes) c.args.start c.args.stop) c.as_bytes.ensures.value in
-    let same : starts_of_both (length (without_gap c.self.inside.bytes)) c.seek.new.before.items c.seek.new.after.items ≡ starts_of_both (length (without_gap c.self.inside.bytes)) c.self.inside.before.items c.self.inside.after.items
-    = subst (λ (n : ℕ). starts_of_both n c.seek.new.before.items c.seek.new.after.items ≡ starts_of_both n c.self.inside.before.items c.self.inside.after.items) c.len.ensures c.in_ok-seek.ensures.same in
-    let last : IsLineOf (starts_of_both (length (without_gap c.self.inside.bytes)) c.self.inside.before.items c.self.inside.after.items) c.args.stop (length c.seek.new.before.items - 1)
-    = subst (λ (n : ℕ). IsLineOf (starts_of_both n c.self.inside.before.items c.self.inside.after.items) c.args.stop (length c.seek.new.before.items - 1)) c.len.ensures
-    (subst (λ (n : ℕ). IsLineOf (starts_of_both c.len.result c.self.inside.before.items c.self.inside.after.items) c.args.stop (n - 1)) c.seek.new.before.ok.0 c.in_ok-seek.ensures.last) in
+    let same : starts_of_both (length (without_gap c.self.inside.bytes)) c.seek.new.self.front c.seek.new.self.back ≡ starts_of_both (length (without_gap c.self.inside.bytes)) c.self.inside.starts.front c.self.inside.starts.back
+    = subst (λ (n : ℕ). starts_of_both n c.seek.new.self.front c.seek.new.self.back ≡ starts_of_both n c.self.inside.starts.front c.self.inside.starts.back) c.len.ensures c.seek.ensures.same in
+    let last : IsLineOf (starts_of_both (length (without_gap c.self.inside.bytes)) c.self.inside.starts.front c.self.inside.starts.back) c.args.stop (length c.seek.new.self.front - 1)
+    = subst (λ (n : ℕ). IsLineOf (starts_of_both n c.self.inside.starts.front c.self.inside.starts.back) c.args.stop (length c.seek.new.self.front - 1)) c.len.ensures
+    c.seek.ensures.last in
     let front : c.args.start + length c.args.new.now ≤ length c.replace.new.self.front = omega (arith, c.in_ok-replace.ensures.front, ap length c.as_bytes.ensures.value) in
     let seam : length c.replace.new.self.front ≡ c.args.start + length c.args.new.now → splits_crlf (without_gap c.replace.new.self) (c.args.start + length c.args.new.now) ≡ false
     = subst (λ (bs : List ℕ). length c.replace.new.self.front ≡ c.args.start + length bs → splits_crlf (without_gap c.replace.new.self) (c.args.start + length bs) ≡ false) c.as_bytes.ensures.value c.in_ok-replace.ensures.seam in
-    let found = rw c.front.ensures at c.in_ok-find_again.ensures in
-    gap_replaced (without_gap c.self.inside.bytes) c.self.inside.before.items c.self.inside.after.items (without_gap c.replace.new.self) c.replace.new.self.front c.replace.new.self.back c.args.new.now c.args.start c.args.stop
+    let found = rw c.front.ensures at c.in_ok-find_again.ensures.front in
+    subst (λ (after : List ℕ). IsGapText (without_gap c.replace.new.self) c.find_again.new.self.front after) (sym c.in_ok-find_again.ensures.back)
+    (gap_replaced (without_gap c.self.inside.bytes) c.self.inside.starts.front c.self.inside.starts.back (without_gap c.replace.new.self) c.replace.new.self.front c.replace.new.self.back c.args.new.now c.args.start c.args.stop
     c.self.invariant c.utf8.new c.requires.order (subst (λ (bs : List ℕ). IsCharBoundary bs c.args.start) (sym c.self.view_is) c.requires.at_start) (subst (λ (bs : List ℕ). IsCharBoundary bs c.args.stop) (sym c.self.view_is) c.requires.at_stop)
     bytes_is (omega (arith, ap length bytes_is, ap (λ (bs : List ℕ). length (replace_range bs c.args.start c.args.stop c.args.new.now)) c.self.view_is, c.requires.room)) refl front seam
-    c.seek.new.before.items c.seek.new.after.items c.find_again.new.starts.items found.0 same (omega (arith, c.in_ok-seek.ensures.some, c.seek.new.before.ok.0)) last found.1 found.2 found.3
+    c.seek.new.self.front c.seek.new.self.back c.find_again.new.self.front found.0 same c.seek.ensures.some last found.1 found.2 found.3)

@@ -1,7 +1,0 @@
-use Rattle.std.proofs.Common.{arith, drop, ap, ◌∙◌, ◌-◌, ◌+◌}
-use Rattle.lsp_text.proofs.GapBytesLemmas.{on_back}
-use Rattle.lsp_text.proofs.gap_bytes.move_on.Goals as goal
-
-pub returns-clause-back : goal.returns-clause-back
-returns-clause-back c =
-    ap (drop (c.args.high + (c.args.offset - c.args.low))) c.copy_within.ensures.items ∙ on_back c.args.buffer.now.items c.args.low c.args.high c.args.offset c.requires.order (omega (arith, c.requires.within, c.args.buffer.now.ok.0)) c.requires.after (omega (arith, c.requires.within, c.args.buffer.now.ok.0))
