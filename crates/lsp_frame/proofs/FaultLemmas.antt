@@ -11,7 +11,7 @@ use Rattle.lsp_frame.specs.Stream.{Framing, IsFrame, IsPart, HoldsOne, IsStreamF
 use Rattle.lsp_frame.specs.declared.fault.FrameFault.{FrameFault}
 use Rattle.lsp_frame.specs.declared.fault.FrameFault.TheVariants.{Failed}
 use Rattle.lsp_frame.specs.Faults.{IsBadHeaderAt, IsHeaderTooLongAt, IsJudgedAt, IsDecidedAt, fault_at, place_behind}
-use Rattle.lsp_frame.specs.Progress.{IsInBody, IsAtStage, IsHeaderStop, has_failed}
+use Rattle.lsp_frame.specs.Progress.{IsInBody, IsAtStage, IsHeaderStop, has_failed, stage_after, stopped_at}
 use Rattle.lsp_frame.specs.declared.header.Stop.{Stop}
 use Rattle.lsp_frame.specs.declared.header.Stop.TheVariants as stop
 use Rattle.lsp_frame.specs.declared.fault.HeaderFault.{HeaderFault}
@@ -206,6 +206,15 @@ feed_fault_at now place max_body held other piece was limits why kind k told fau
     let after : new ≡ record old { failed = true } = same_framing place other held true true limits same refl in
     let at : IsStreamFault old new piece fault = stream_fault old piece new kind k told fault sound decided_here told_is fault_is after in
     subst (λ (f : Framing). IsFeedFault f new piece fault) is (feed_fault old piece new kind told fault fault_is at)
+
+-- Why a piece was not taken, as the stream tells it.
+pub feed_stop : (now : Framing) (place max_body : ℕ) (held other piece : List ℕ) (was next : Stage) (limits : Bounds) (why : Stop) (told : FrameFault) → (let f : Framing = record { place = place; held = held; failed = has_failed was; limits = limits } in f) ≡ now → has_failed was ≡ false → max_body ≡ limits.max_body → IsHeaderStop max_body (held ++ piece) why → told ≡ stopped_at place why → other ≡ held → next ≡ stage_after was why → IsFeedFault now (record { place = place; held = other; failed = has_failed next; limits = limits }) piece told × (told ≡ Failed → ⊥)
+feed_stop now place max_body held other piece was next limits (stop.Fault kind k) told is sound limit stops told_is same after =
+    let at = feed_fault_at now place max_body held other piece (has_failed was) limits (stop.Fault kind k) kind k (place_behind place k) told is sound limit stops refl refl told_is same in
+    (rw after at, λ e. never_failed kind (place_behind place k) (sym told_is ∙ e))
+feed_stop now place max_body held other piece was next limits stop.NoMemory told is sound limit stops told_is same after =
+    let still : now.failed ≡ false = sym (ap (λ (f : Framing). f.failed) is) ∙ sound in
+    (rw (told_is, same, after) (still, is), λ e. cc)
 
 -- A framer that hasn't failed holds a part of a frame, or one.
 pub framing_part : (now : Framing) (place : ℕ) (held : List ℕ) (s : Stage) (limits : Bounds) → (let f : Framing = record { place = place; held = held; failed = has_failed s; limits = limits } in f) ≡ now → IsAtStage limits.max_body held s → now.failed ≡ false → IsPart now.limits.max_body now.held

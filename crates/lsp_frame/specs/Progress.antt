@@ -203,3 +203,8 @@ abbrev pub has_failed : Stage → Bool
 has_failed (stage.Header header) = false
 has_failed (stage.Body start stop_at) = false
 has_failed stage.Failed = true
+
+-- the stage when a piece was not taken
+abbrev pub stage_after : Stage → Stop → Stage
+stage_after before (stop.Fault fault at) = stage.Failed
+stage_after before stop.NoMemory = before

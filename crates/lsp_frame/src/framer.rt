@@ -6,7 +6,7 @@ ghost use Rattle.lsp_frame.specs.Faults.{IsDecided, place_behind};
 ghost use Rattle.lsp_frame.specs.Stream.{IsFrame, IsPart, HoldsOne, IsFeedFault, given_up};
 
 use crate::fault::FrameFault;
-use crate::header::{Header, Stop};
+use crate::header::Header;
 use crate::limits::Limits;
 use crate::stage::{Stage, take_piece};
 use std::alloc::Global;
@@ -77,19 +77,11 @@ impl Framer {
             return Err(FrameFault::Failed);
         }
         let max_body = self.limits.max_body();
-        match take_piece(&mut self.held, &mut self.stage, piece, max_body) {
-            Ok(taken) => Ok(taken),
-            Err(stop) => {
-                let fault = stop.in_stream(self.place);
-                match stop {
-                    Stop::Fault(..) => {
-                        self.stage = Stage::Failed;
-                        Err(fault)
-                    }
-                    Stop::NoMemory => Err(fault),
-                }
-            }
-        }
+        let taken = match take_piece(&mut self.held, &mut self.stage, piece, max_body) {
+            Ok(taken) => taken,
+            Err(stop) => return Err(stop.in_stream(self.place)),
+        };
+        Ok(taken)
     }
 
     /// The body of the frame that is held, once it is whole.

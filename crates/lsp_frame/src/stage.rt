@@ -2,7 +2,7 @@
 
 ghost use Rattle.std.specs.Prelude.{◌≡◌, ◌+◌, ◌<◌, ◌≤◌, ◌^◌, ℕ, [], ◌++◌, length, take, IfOk, IfErr, OnOk, OnErr, IsOkAnd, Ok, false};
 ghost use Rattle.lsp_frame.specs.Stream.{IsFrame};
-ghost use Rattle.lsp_frame.specs.Progress.{IsWhole, IsInHeader, IsInBody, IsAtStage, IsHeaderStop, BeginsWritten, has_failed};
+ghost use Rattle.lsp_frame.specs.Progress.{IsWhole, IsInHeader, IsInBody, IsAtStage, IsHeaderStop, BeginsWritten, has_failed, stage_after};
 ghost use Rattle.lsp_frame.specs.declared.header.Stop.TheVariants as stop;
 
 use crate::header::{Header, Stop, first, take_header};
@@ -20,8 +20,20 @@ pub(crate) enum Stage {
     Failed,
 }
 
+impl Stage {
+    /// The stage when a piece was not taken: a fault ends the stream, and where memory ran out nothing changes.
+    fn after(self, stop: Stop) -> Stage
+        ensures { result ≡ stage_after self stop }
+    {
+        match stop {
+            Stop::Fault(..) => Stage::Failed,
+            Stop::NoMemory => self,
+        }
+    }
+}
+
 /// Takes the bytes of a piece that belong to the frame that is coming in. After an `Err` what is held is what
-/// was held before, and the stage is that of before.
+/// was held before. The stage has failed then, unless memory ran out: then it is that of before.
 pub(crate) fn take_piece(
     held: &mut Vec<u8>,
     stage: &mut Stage,
@@ -39,7 +51,7 @@ pub(crate) fn take_piece(
     ensures whole { IsFrame max_body held.old.items → IsOkAnd result (λ k. k ≡ 0) }
     ensures empty { length piece.now ≡ 0 → IsOkAnd result (λ k. k ≡ 0) }
     ensures err { OnErr result (held.new.items ≡ held.old.items) }
-    ensures kept { OnErr result (stage.new ≡ stage.old) }
+    ensures after { IfErr result (λ why. stage.new ≡ stage_after stage.old why) }
     ensures fault { IfErr result (IsHeaderStop max_body (held.old.items ++ piece.now)) }
 {
     match *stage {
@@ -48,7 +60,10 @@ pub(crate) fn take_piece(
                 *stage = next;
                 Ok(taken)
             }
-            Err(stop) => Err(stop),
+            Err(stop) => {
+                *stage = stage.after(stop);
+                Err(stop)
+            }
         },
         Stage::Body { start, end } => take_body(held, start, end, piece, max_body),
         Stage::Failed => unreachable!(),

@@ -73,6 +73,8 @@ fn take_frames(
         MatchOption fault
         (IsBehind max_body (stream ++ piece.now) (map (λ body. body.items) bodies.new.items) framer.new)
         (IsFaulty max_body (stream ++ piece.now) (map (λ body. body.items) bodies.new.items))) }
+    // Out of memory only where no fault was found.
+    ensures memory { OnErr result (framer.new.failed ≡ false) }
 {
     let mut at = 0;
     while at < piece.len() {
@@ -96,6 +98,7 @@ fn take_frame(
     ensures taken { IfOk result (λ _. (max_body : ℕ) (stream : List ℕ) →
         IsHolding max_body stream (map (λ body. body.items) bodies.old.items) framer.old →
         IsBehind max_body stream (map (λ body. body.items) bodies.new.items) framer.new) }
+    ensures memory { OnErr result (framer.new ≡ framer.old) }
 {
     if let Some(body) = framer.body() {
         bodies.push(Vec::from_slice(alloc, body)?)?;

@@ -1,7 +1,10 @@
 -- A body against the value that its bytes are.
-use Rattle.std.proofs.Common.{◌≡◌, ℕ, ◌<◌, Bool, true, false, List, length, Some, None, Result, Ok, Err, IfOk, IfErr, IsErrAnd, MatchResult, IsUtf8, refl, ◌∙◌}
+use Rattle.std.proofs.Common.{◌≡◌, ◌≢◌, ℕ, [], ◌∷◌, slice_index, ◌<◌, Bool, true, false, List, length, Some, None, Result, Ok, Err, IfOk, IfErr, IsErrAnd, MatchResult, IsUtf8, refl, sym, subst, ◌∙◌, arith}
 use Rattle.std.specs.Str.{is_utf8}
 use Rattle.std.proofs.lemmas.Str.{IsUtf8-from_is_utf8, is_utf8-from_IsUtf8}
+use Rattle.json.specs.Json.{value}
+use Rattle.json.specs.Lex.{punctuate, lex}
+use Rattle.json.specs.Word.{word, after_number}
 use Rattle.serde_json.specs.Data.{Data}
 use Rattle.serde_json.specs.Read.{read}
 use Rattle.serde_json.specs.View.{view}
@@ -37,18 +40,30 @@ err_by_reading (Err (NotAMessage id)) body found is h = is ∙ h
 err_by_reading (Err NoMemory) body found is h = absurd h
 
 -- the fault that an error of `serde_json` makes
-pub fault_by_error : (body : List ℕ) (error : Error) (fault : ReadFault) → IsFaultOf error fault → (¬ IsMemory error → IsUtf8 body → read body ≡ None) → (IsMemory error → 0 < length body) → IsReadFault body fault
-fault_by_error body error NotJson is refused memory = reading_of_none body (refused is)
-fault_by_error body error (NotAMessage id) is refused memory = absurd is
-fault_by_error body error NoMemory is refused memory = memory is
+pub fault_by_error : (body : List ℕ) (error : Error) (fault : ReadFault) → IsFaultOf error fault → (¬ IsMemory error → IsUtf8 body → read body ≡ None) → (IsMemory error → 0 < length body) → slice_index body 0 ≢ 239 → IsReadFault body fault
+fault_by_error body error NotJson is refused memory unmarked = reading_of_none body (refused is)
+fault_by_error body error (NotAMessage id) is refused memory unmarked = absurd is
+fault_by_error body error NoMemory is refused memory unmarked = (memory is, unmarked)
 
 -- What is answered to a body by what `serde_json` makes of it.
 pub read_by : (body : List ℕ) (parsed : Result Value Error) (answer : Result Message ReadFault) →
     IfOk parsed (λ value. IsUtf8 body × (read body ≡ Some (view value))) →
     IfErr parsed (λ error. ¬ IsMemory error → IsUtf8 body → read body ≡ None) → IfErr parsed (λ error. IsMemory error → 0 < length body) →
-    MatchResult parsed (λ value. Answers answer (message_of (view value))) (λ error. IsErrAnd answer (IsFaultOf error)) →
+    slice_index body 0 ≢ 239 → MatchResult parsed (λ value. Answers answer (message_of (view value))) (λ error. IsErrAnd answer (IsFaultOf error)) →
     IfOk answer (λ m. reading body ≡ message (message_view m)) × IfErr answer (IsReadFault body)
-read_by body (Ok value) answer ok refused memory h =
+read_by body (Ok value) answer ok refused memory unmarked h =
     let is = reading_of_value body (view value) ok.0 ok.1 in (ok_by_reading answer body _ is h, err_by_reading answer body _ is h)
-read_by body (Err error) (Ok m) ok refused memory h = absurd h
-read_by body (Err error) (Err fault) ok refused memory h = (tt, fault_by_error body error fault h refused memory)
+read_by body (Err error) (Ok m) ok refused memory unmarked h = absurd h
+read_by body (Err error) (Err fault) ok refused memory unmarked h = (tt, fault_by_error body error fault h refused memory unmarked)
+
+marked : (rest : List ℕ) → read (239 ∷ rest) ≡ None
+unfolding value punctuate lex word after_number
+marked rest = refl
+
+marked_none : (body : List ℕ) → slice_index body 0 ≡ 239 → read body ≡ None
+marked_none [] mark = absurd (let e : 0 ≡ 239 = mark in omega (arith, e))
+marked_none (x ∷ rest) mark = subst (λ (n : ℕ). read (n ∷ rest) ≡ None) (sym mark) (marked rest)
+
+-- A body that begins as a byte order mark does is no JSON.
+pub marked_no_json : (body : List ℕ) → slice_index body 0 ≡ 239 → reading body ≡ not_json
+marked_no_json body mark = reading_of_none body (λ utf8. marked_none body mark)

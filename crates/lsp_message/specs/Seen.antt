@@ -1,5 +1,5 @@
 -- What the types of `src/` are in the definitions.
-use Rattle.std.specs.Prelude.{◌≡◌, ◌<◌, ℕ, List, length, map, option_map, string_bytes, Result, Ok, Err}
+use Rattle.std.specs.Prelude.{◌≡◌, ◌≢◌, ◌<◌, ℕ, List, length, slice_index, map, option_map, string_bytes, Result, Ok, Err}
 use Rattle.serde_json.specs.Errors.{IsMemory}
 use Rattle.serde_json.specs.View.{view}
 use Rattle.serde_json.specs.declared.error.Error.{Error}
@@ -58,11 +58,11 @@ outgoing_view (InitializeResult id encoding kind) = out.initialize_result (id_vi
 outgoing_view (ShutdownResult id) = out.shutdown_result (id_view id)
 outgoing_view (ErrorReply id error) = out.error_reply (option_map id_view id) error
 
--- when each fault of reading comes
+-- When each fault of reading comes. A body whose first byte is that of a byte order mark takes no memory.
 abbrev pub IsReadFault : List ℕ → ReadFault → Type 0
 IsReadFault body NotJson = spec.reading body ≡ spec.not_json
 IsReadFault body (NotAMessage id) = spec.reading body ≡ spec.not_a_message (option_map id_view id)
-IsReadFault body NoMemory = 0 < length body
+IsReadFault body NoMemory = (0 < length body) × (slice_index body 0 ≢ 239)
 
 -- what the private parts of reading answer: exactly the reading that the definition gives
 abbrev pub Answers : Result Message ReadFault → spec.Reading → Type 0

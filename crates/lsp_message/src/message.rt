@@ -1,6 +1,6 @@
 //! Which message a body is (LSP 3.17, Base Protocol).
 
-ghost use Rattle.std.specs.Prelude.{◌≡◌, Some, IfOk, IfErr, IsErrAnd, MatchResult, codes, option_map, string_bytes};
+ghost use Rattle.std.specs.Prelude.{◌≡◌, ◌↔◌, Some, IfOk, IfErr, IsErrAnd, IsTrue, MatchResult, codes, option_map, slice_index, string_bytes};
 ghost use Rattle.serde_json.specs.Find.{get_member};
 ghost use Rattle.serde_json.specs.View.{view, members_view};
 ghost use Rattle.lsp_message.specs.Message.{reading, message, id_in, id_found, call_of, answer_of, outcome_of, message_by, message_of, is_version_two};
@@ -80,12 +80,22 @@ impl From<serde_json::Error> for ReadFault {
 
 /// Reads a body: the message that it is, or why it is none (LSP 3.17, Base Protocol, Content Part).
 ///
-/// One parse, linear in the body; texts are moved out of what was parsed.
+/// One parse, linear in the body; texts are moved out of what was parsed. A byte order mark is refused before any memory is taken.
 pub fn read(alloc: Global, body: &[u8]) -> Result<Message, ReadFault>
     ensures ok { IfOk result (λ m. reading body.now ≡ message (message_view m)) }
     ensures err { IfErr result (IsReadFault body.now) }
 {
+    if begins_with_mark(body) {
+        return Err(ReadFault::NotJson);
+    }
     message_from(Value::from_slice(alloc, body))
+}
+
+/// Whether a body begins as a byte order mark does. No JSON does.
+fn begins_with_mark(body: &[u8]) -> bool
+    ensures { IsTrue result ↔ (slice_index body.now 0 ≡ 239) }
+{
+    body.first() == Some(&0xEF)
 }
 
 /// The message that a value is, or why a body that was parsed so is none. Out of memory only where parsing was.
