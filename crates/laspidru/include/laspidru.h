@@ -16,6 +16,7 @@ typedef _Bool laspidru_bool;
 
 typedef __SIZE_TYPE__ laspidru_size;
 typedef __UINT32_TYPE__ laspidru_u32;
+typedef __INT32_TYPE__ laspidru_i32;
 
 /* Codes. */
 enum {
@@ -30,13 +31,33 @@ enum {
     LASPIDRU_BAD_ENCODING = 8,     /* not one of the encodings */
     LASPIDRU_BAD_LENGTH = 9,       /* the lengths of the edits exceed their texts */
     LASPIDRU_OTHER_KIND = 10,      /* the handle holds an object of another kind */
-    LASPIDRU_OUT_OF_RANGE = 11     /* no such line, offset or edit */
+    LASPIDRU_OUT_OF_RANGE = 11,    /* no such line, offset or edit */
+    LASPIDRU_BAD_LIMIT = 12,       /* a limit of a server is out of its range */
+    LASPIDRU_ENDED = 13,           /* the session has ended */
+    LASPIDRU_NOT_OPEN = 14,        /* no document of this URI is open */
+
+    /* Only as the reason of a refused notification, as are 5, 6, 7 and 14. */
+    LASPIDRU_ALREADY_OPEN = 15,       /* a document of this URI is open already */
+    LASPIDRU_TOO_MANY_DOCUMENTS = 16, /* as many documents are open as may be */
+    LASPIDRU_STALE_VERSION = 17,      /* the version is not greater than the current one */
+    LASPIDRU_TOO_MANY_CHANGES = 18,   /* too many changes, or too long ones */
+    LASPIDRU_INVALID_PARAMS = 19      /* the params are not those of the notification */
+};
+
+/* Kinds of a server's answer. */
+enum {
+    LASPIDRU_REPLIED = 0, /* there is a reply to send */
+    LASPIDRU_CHANGED = 1, /* the open documents changed */
+    LASPIDRU_DROPPED = 2, /* a notification before initialize or after shutdown */
+    LASPIDRU_IGNORED = 3, /* a response, or a notification that is yours to handle */
+    LASPIDRU_REFUSED = 4, /* a document notification that changed nothing */
+    LASPIDRU_EXITED = 5   /* the session ends, and the process is to end with a status */
 };
 
 /* Encodings: what a position's character counts. */
 enum { LASPIDRU_UTF8 = 8, LASPIDRU_UTF16 = 16, LASPIDRU_UTF32 = 32 };
 
-/* A handle: room for a document or a batch. */
+/* A handle: room for a document, a batch or a server. */
 typedef struct laspidru_handle {
     void *pointer;
     laspidru_bool is_full;
@@ -73,6 +94,33 @@ typedef struct laspidru_length {
     laspidru_size bytes;
     laspidru_size lines;
 } laspidru_length;
+
+/* How a server is set up. `encoding` is the one that it prefers, and takes where the client offers it, else UTF-16; where
+   `is_fixed`, the one that it takes whatever is offered. Where `is_full` it asks for whole texts, else for ranges. */
+typedef struct laspidru_settings {
+    laspidru_size max_body;    /* 4,096 to 1,073,741,824 bytes; for who frames, since a server takes any body */
+    laspidru_size max_text;    /* up to 1,073,741,824 bytes */
+    laspidru_size max_docs;    /* 1 to 65,536 */
+    laspidru_size max_changes; /* 1 to 1,048,576 in a message */
+    laspidru_u32 encoding;
+    laspidru_bool is_fixed;
+    laspidru_bool is_full;
+} laspidru_settings;
+
+/* What a server answers to a message. A member that isn't of its kind is 0. */
+typedef struct laspidru_answer {
+    laspidru_u32 kind;       /* LASPIDRU_REPLIED .. LASPIDRU_EXITED */
+    laspidru_u32 reason;     /* REFUSED: the code that says why */
+    laspidru_u32 status;     /* EXITED: 0 after shutdown, else 1 */
+    laspidru_i32 error;      /* REPLIED: the number of an error reply (LSP 3.17, ErrorCodes), 0 of a result */
+    laspidru_size reply_len; /* REPLIED: how many bytes laspidru_server_reply copies */
+} laspidru_answer;
+
+/* The version of an open document, and how many bytes its text has. */
+typedef struct laspidru_opened {
+    laspidru_i32 version;
+    laspidru_size bytes;
+} laspidru_opened;
 
 /* Opens a document in an empty handle, by a copy of the text. */
 laspidru_u32 laspidru_document_open(laspidru_handle *document, const unsigned char *text, laspidru_size text_len);
@@ -117,6 +165,30 @@ laspidru_u32 laspidru_batch_len(laspidru_handle *batch, laspidru_size *len);
 /* A change of a batch, counted from 0, with the length of its text; and as much of the text as `out` holds. */
 laspidru_u32 laspidru_batch_edit(laspidru_handle *batch, laspidru_size index, laspidru_edit *edit,
     unsigned char *out, laspidru_size out_len, laspidru_size *copied);
+
+/* Makes a server in an empty handle, at the start of a session. */
+laspidru_u32 laspidru_server_new(laspidru_handle *server, const laspidru_settings *settings);
+
+/* Hands the body of a message to a server: the bytes after its header. The reply, if there is one, stays with the
+   server until the next message that it answers. After LASPIDRU_OUT_OF_MEMORY the same body can be handed in again. */
+laspidru_u32 laspidru_server_handle(laspidru_handle *server, const unsigned char *body, laspidru_size body_len,
+    laspidru_answer *answer);
+
+/* Copies the bytes of the last reply from `start` on, as many as `out` holds, and says how many. A reply is whole, with
+   its header, to be sent as it is. Where the last message had none it has no bytes. */
+laspidru_u32 laspidru_server_reply(laspidru_handle *server, laspidru_size start,
+    unsigned char *out, laspidru_size out_len, laspidru_size *copied);
+
+/* How many documents are open. */
+laspidru_u32 laspidru_server_documents(laspidru_handle *server, laspidru_size *len);
+
+/* The version and the length of the open document of a URI, which is compared byte for byte. */
+laspidru_u32 laspidru_server_document(laspidru_handle *server, const unsigned char *uri, laspidru_size uri_len,
+    laspidru_opened *document);
+
+/* Copies the bytes of an open document's text from `start` on, as many as `out` holds, and says how many. */
+laspidru_u32 laspidru_server_text(laspidru_handle *server, const unsigned char *uri, laspidru_size uri_len,
+    laspidru_size start, unsigned char *out, laspidru_size out_len, laspidru_size *copied);
 
 #ifdef __cplusplus
 }

@@ -1,5 +1,5 @@
 -- Where a line starts, and what its last position denotes.
-use Rattle.std.proofs.Common.{◌≡◌, ◌≤◌, ◌+◌, ◌-◌, ℕ, List, [], ◌∷◌, ◌++◌, length, take, drop, refl, ap, ◌∙◌, arith, Option, Some, None, Result, Ok, Err, IsUtf8, slice_index, length-append}
+use Rattle.std.proofs.Common.{◌≡◌, ◌≤◌, ◌-◌, ℕ, List, [], ◌∷◌, length, drop, refl, ap, ◌∙◌, arith, Some, Result, Ok, Err, IsUtf8, slice_index, length-append}
 use Rattle.std.proofs.lemmas.List.Sums.{sum_by-cons, sum_by-take-drop}
 use Rattle.std.proofs.lemmas.Str.{encodes-chars, length-encode}
 use Rattle.std.specs.Prelude.{encode_utf8, encode_utf8_all, sum_by}

@@ -1,5 +1,5 @@
 -- The batch that C passes: its texts follow each other in one row of bytes.
-use Rattle.std.specs.Prelude.{ℕ, ◌≡◌, ◌⊎◌, ◌&&◌, if◌then◌else◌, nat_le, nat_lt, length, slice_get, string_bytes, string_len, sum_by, Bool, true, false, List, [], ◌∷◌, take, drop, map, Option, Some, None, Result, Ok, Err}
+use Rattle.std.specs.Prelude.{ℕ, ◌≡◌, ◌&&◌, if◌then◌else◌, nat_le, nat_lt, length, slice_get, string_bytes, string_len, sum_by, Bool, true, false, List, [], ◌∷◌, take, drop, map, Option, Some, None, Result, Ok, Err}
 use Rattle.std.specs.Option.{ok_or}
 use Rattle.std.specs.Str.{chars, is_utf8}
 use Rattle.lsp_text.specs.declared.position.Range.{Range}
@@ -19,7 +19,7 @@ use Rattle.lsp_edit.specs.Edited.{edit_of}
 use Rattle.lsp_edit.specs.Indexed.{IsCanonicalBatch, text_within}
 use Rattle.laspidru.specs.declared.codes.TheConstants.{BAD_LENGTH, INSIDE_CHARACTER, NOT_UTF8, OK, OUT_OF_MEMORY, OUT_OF_RANGE, REVERSED_RANGE, TOO_LONG}
 use Rattle.laspidru.specs.declared.object.Object.{Object}
-use Rattle.laspidru.specs.declared.object.Object.TheVariants.{Document, Batch}
+use Rattle.laspidru.specs.declared.object.Object.TheVariants.{Document, Batch, Server}
 use Rattle.laspidru.specs.declared.place.Place.{Place}
 use Rattle.laspidru.specs.declared.place.Edit.{Edit}
 use Rattle.laspidru.specs.declared.place.Fault.{Fault}
@@ -103,6 +103,7 @@ IsBatchOf asked (Batch changes) =
     let made = map edit_of changes.items in
     IsCanonicalBatch (units_in asked.encoding) MAX_OLD_TEXT asked.text asked.edits made
 IsBatchOf asked (Document other) = ⊥
+IsBatchOf asked (Server session) = ⊥
 
 -- the same of what a handle holds
 abbrev pub HoldsBatchOf : Asked → Option Object → Type 0

@@ -1,4 +1,6 @@
+pub mod Sessions
 pub mod Held
 pub mod Codes
 pub mod Objects
 pub mod Batches
+pub mod Servers

@@ -24,3 +24,32 @@ pub const BAD_LENGTH: u32 = 9;
 pub const OTHER_KIND: u32 = 10;
 /// There is no line, edit or offset of this number.
 pub const OUT_OF_RANGE: u32 = 11;
+/// A limit of a server is out of its range.
+pub const BAD_LIMIT: u32 = 12;
+/// The session has ended.
+pub const ENDED: u32 = 13;
+/// No document of this URI is open.
+pub const NOT_OPEN: u32 = 14;
+/// A document of this URI is open already.
+pub const ALREADY_OPEN: u32 = 15;
+/// As many documents are open as may be.
+pub const TOO_MANY_DOCUMENTS: u32 = 16;
+/// The version is not greater than the current one.
+pub const STALE_VERSION: u32 = 17;
+/// There are too many changes, or their texts are too long.
+pub const TOO_MANY_CHANGES: u32 = 18;
+/// The params are not those of the notification.
+pub const INVALID_PARAMS: u32 = 19;
+
+/// The server replies.
+pub const REPLIED: u32 = 0;
+/// The message changed the open documents.
+pub const CHANGED: u32 = 1;
+/// The notification came before `initialize` or after `shutdown`.
+pub const DROPPED: u32 = 2;
+/// The message is none of the server's.
+pub const IGNORED: u32 = 3;
+/// The notification changed nothing.
+pub const REFUSED: u32 = 4;
+/// The session ends.
+pub const EXITED: u32 = 5;

@@ -8,8 +8,10 @@
 //! - `bytes`: bytes that are copied to C.
 //! - `changes`: a batch as C passes it, and which fault of it is reported.
 //! - `document`: the functions on documents; `batch`: those on canonical batches.
+//! - `session`: a server with its last reply; `answers`: what C passes to a server and gets from it; `server`: the functions on servers.
 #![tactic(auto)]
 
+mod answers;
 mod batch;
 mod bytes;
 mod changes;
@@ -18,11 +20,17 @@ mod document;
 mod handle;
 mod object;
 mod place;
+mod server;
+mod session;
 
+pub use answers::{Answer, Opened, Settings};
 pub use codes::{
-    BAD_ENCODING, BAD_LENGTH, EMPTY, IN_USE, INSIDE_CHARACTER, NOT_UTF8, OK, OTHER_KIND,
-    OUT_OF_MEMORY, OUT_OF_RANGE, REVERSED_RANGE, TOO_LONG,
+    ALREADY_OPEN, BAD_ENCODING, BAD_LENGTH, BAD_LIMIT, CHANGED, DROPPED, EMPTY, ENDED, EXITED,
+    IGNORED, IN_USE, INSIDE_CHARACTER, INVALID_PARAMS, NOT_OPEN, NOT_UTF8, OK, OTHER_KIND,
+    OUT_OF_MEMORY, OUT_OF_RANGE, REFUSED, REPLIED, REVERSED_RANGE, STALE_VERSION, TOO_LONG,
+    TOO_MANY_CHANGES, TOO_MANY_DOCUMENTS,
 };
 pub use handle::Handle;
 pub use object::Object;
 pub use place::{Edit, Fault, Line, Place, Size};
+pub use session::Session;

@@ -1,5 +1,6 @@
 //! What a handle holds.
 
+use crate::session::Session;
 use lsp_edit::{Change, IndexedText};
 
 /// What a handle holds.
@@ -9,4 +10,6 @@ pub enum Object {
     Document(IndexedText),
     /// The changes of a canonical batch.
     Batch(Vec<Change>),
+    /// A server, with its last reply.
+    Server(Session),
 }

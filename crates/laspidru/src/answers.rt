@@ -1,0 +1,161 @@
+//! What C passes to a server, and what it gets from it.
+
+ghost use Rattle.std.specs.Prelude.{◌≡◌, Err, IfErr, IfOk, Ok};
+ghost use Rattle.lsp_server.specs.Seen.{answer_view};
+ghost use Rattle.laspidru.specs.Servers.{answer_out, config_asked, error_number, plain_out, refusal_code, store_code};
+
+use crate::changes::encoding_of;
+use crate::codes::{
+    ALREADY_OPEN, BAD_ENCODING, BAD_LIMIT, CHANGED, DROPPED, EXITED, IGNORED, INSIDE_CHARACTER,
+    INVALID_PARAMS, NOT_OPEN, OUT_OF_MEMORY, REFUSED, REPLIED, REVERSED_RANGE, STALE_VERSION,
+    TOO_LONG, TOO_MANY_CHANGES, TOO_MANY_DOCUMENTS,
+};
+use lsp_edit::EditFault;
+use lsp_frame::Limits;
+use lsp_message::ErrorCode;
+use lsp_server::{Config, EncodingChoice, Refusal, Sync};
+use lsp_store::StoreFault;
+
+/// How a server is set up: its limits, the number of an encoding that it prefers or insists on, and whether it asks for whole texts.
+#[repr(C)]
+#[derive(Clone, Copy, Debug, PartialEq, Eq)]
+pub struct Settings {
+    pub max_body: usize,
+    pub max_text: usize,
+    pub max_docs: usize,
+    pub max_changes: usize,
+    pub encoding: u32,
+    pub is_fixed: bool,
+    pub is_full: bool,
+}
+
+/// What a server answers to a message. A member that isn't of the kind is 0.
+#[repr(C)]
+#[derive(Clone, Copy, Debug, PartialEq, Eq)]
+pub struct Answer {
+    /// REPLIED, CHANGED, DROPPED, IGNORED, REFUSED or EXITED.
+    pub kind: u32,
+    /// Why it is refused.
+    pub reason: u32,
+    /// With which status the process is to end.
+    pub status: u32,
+    /// The number of an error reply (LSP 3.17, ErrorCodes); 0 of a result.
+    pub error: i32,
+    /// How many bytes the reply has.
+    pub reply_len: usize,
+}
+
+/// The version of an open document, and how many bytes its text has.
+#[repr(C)]
+#[derive(Clone, Copy, Debug, PartialEq, Eq)]
+pub struct Opened {
+    pub version: i32,
+    pub bytes: usize,
+}
+
+/// How a server is to be set up, or why it can't be.
+pub(crate) fn config_of(settings: &Settings) -> Result<Config, u32>
+    ensures ok { IfOk result (λ config. config_asked settings.now ≡ Ok config) }
+    ensures error { IfErr result (λ code. config_asked settings.now ≡ Err code) }
+{
+    let Some(encoding) = encoding_of(settings.encoding) else {
+        return Err(BAD_ENCODING);
+    };
+    let Ok(limits) = Limits::new(
+        settings.max_body,
+        settings.max_text,
+        settings.max_docs,
+        settings.max_changes,
+    ) else {
+        return Err(BAD_LIMIT);
+    };
+    let choice = if settings.is_fixed {
+        EncodingChoice::Fixed(encoding)
+    } else {
+        EncodingChoice::Negotiated { prefer: encoding }
+    };
+    let sync = if settings.is_full {
+        Sync::Full
+    } else {
+        Sync::Incremental
+    };
+    Ok(Config {
+        limits,
+        choice,
+        sync,
+    })
+}
+
+/// The number of an error reply.
+fn error_of(code: Option<ErrorCode>) -> i32
+    ensures { result ≡ error_number code }
+{
+    match code {
+        Some(code) => code.code(),
+        None => 0,
+    }
+}
+
+/// Why the store refuses a command.
+fn store_code_of(fault: StoreFault) -> u32
+    ensures { result ≡ store_code fault }
+{
+    match fault {
+        StoreFault::AlreadyOpen => ALREADY_OPEN,
+        StoreFault::TooManyDocuments => TOO_MANY_DOCUMENTS,
+        StoreFault::TextTooLong | StoreFault::BodyTooLong { .. } => TOO_LONG,
+        StoreFault::NotOpen => NOT_OPEN,
+        StoreFault::StaleVersion { .. } => STALE_VERSION,
+        StoreFault::TooManyChanges => TOO_MANY_CHANGES,
+        StoreFault::Edit(EditFault::InsideCharacter { .. }) => INSIDE_CHARACTER,
+        StoreFault::Edit(EditFault::ReversedRange { .. }) => REVERSED_RANGE,
+        StoreFault::Edit(EditFault::NoMemory) | StoreFault::NoMemory => OUT_OF_MEMORY,
+    }
+}
+
+/// Why a notification is refused.
+fn reason_of(refusal: Refusal) -> u32
+    ensures { result ≡ refusal_code refusal }
+{
+    match refusal {
+        Refusal::InvalidParams => INVALID_PARAMS,
+        Refusal::Store(fault) => store_code_of(fault),
+    }
+}
+
+/// An answer of this kind alone.
+fn plain(kind: u32) -> Answer
+    ensures { result ≡ plain_out kind }
+{
+    Answer {
+        kind,
+        reason: 0,
+        status: 0,
+        error: 0,
+        reply_len: 0,
+    }
+}
+
+/// An answer for C.
+pub(crate) fn answer_of(answer: &lsp_server::Answer) -> Answer
+    ensures { result ≡ answer_out (answer_view answer.now) }
+{
+    match answer {
+        lsp_server::Answer::Reply { frame, code } => Answer {
+            error: error_of(*code),
+            reply_len: frame.len(),
+            ..plain(REPLIED)
+        },
+        lsp_server::Answer::Changed => plain(CHANGED),
+        lsp_server::Answer::Dropped => plain(DROPPED),
+        lsp_server::Answer::Ignored => plain(IGNORED),
+        lsp_server::Answer::Refused(refusal) => Answer {
+            reason: reason_of(*refusal),
+            ..plain(REFUSED)
+        },
+        lsp_server::Answer::Exit(status) => Answer {
+            status: u32::from(*status),
+            ..plain(EXITED)
+        },
+    }
+}

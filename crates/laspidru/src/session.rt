@@ -1,0 +1,19 @@
+//! A server behind a handle.
+
+use lsp_server::Server;
+use std::marker::Model;
+
+/// A server, and its reply to the last message: a frame, or no bytes where it had none.
+#[derive(Drop)]
+pub struct Session {
+    pub(crate) server: Server,
+    pub(crate) reply: Vec<u8>,
+}
+
+impl Model for Session {
+    ghost use Rattle.laspidru.specs.Sessions.{SessionData};
+
+    ghost Value = { SessionData };
+
+    ghost view = { λ it. record { server = it.server; reply = it.reply.items } };
+}
