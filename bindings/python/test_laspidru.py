@@ -1,4 +1,5 @@
 """The test of the binding for Python."""
+import os
 import random
 import re
 import unittest
@@ -95,7 +96,7 @@ class Tests(unittest.TestCase):
         self.assertEqual((document.source, document.offset_at_position(at(0, 2))), ("\U0001F600x", 1))
 
     def test_random(self):
-        """Random batches against the plain program, in three encodings."""
+        """Random batches against the plain program, in three encodings; as many as LASPIDRU_BATCHES says."""
         chance = random.Random(1)
         letters = ["a", "\r", "\n", "\r\n", "\u00e9", "\u2028", "\U0001F600"]
 
@@ -105,7 +106,7 @@ class Tests(unittest.TestCase):
         def place():
             return at(chance.randrange(4), chance.randrange(6))
 
-        for _ in range(2000):
+        for _ in range(int(os.environ.get("LASPIDRU_BATCHES", "2000"))):
             encoding = chance.choice(["utf-8", "utf-16", "utf-32"])
             old = text(10)
             changes = [{"text": text(4)} if chance.random() < 0.1 else change(place(), place(), text(4))

@@ -7,6 +7,7 @@ pub const OUT_OF_MEMORY: u32 = 2;
 pub const TOO_LONG: u32 = 5;
 pub const INSIDE_CHARACTER: u32 = 6;
 pub const REVERSED_RANGE: u32 = 7;
+pub const OUT_OF_RANGE: u32 = 11;
 
 #[repr(C)]
 pub struct Handle {
@@ -41,6 +42,13 @@ pub struct Length {
     pub lines: usize,
 }
 
+#[repr(C)]
+#[derive(Default)]
+pub struct Line {
+    pub start: usize,
+    pub end: usize,
+}
+
 extern "C" {
     pub fn laspidru_document_open(document: *mut Handle, text: *const u8, len: usize) -> u32;
     pub fn laspidru_close(handle: *mut Handle);
@@ -54,6 +62,7 @@ extern "C" {
         fault: *mut Fault,
     ) -> u32;
     pub fn laspidru_document_size(document: *mut Handle, length: *mut Length) -> u32;
+    pub fn laspidru_document_line(document: *mut Handle, line: u32, range: *mut Line) -> u32;
     pub fn laspidru_document_copy(
         document: *mut Handle,
         start: usize,

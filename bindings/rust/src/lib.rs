@@ -10,6 +10,7 @@
 //! # Ok::<(), laspidru::Error>(())
 //! ```
 
+use std::cell::{OnceCell, RefCell};
 use std::fmt;
 
 mod ffi;
@@ -77,8 +78,9 @@ impl std::error::Error for Error {}
 
 /// A text with its lines.
 pub struct Document {
-    handle: Box<ffi::Handle>,
-    text: String,
+    handle: RefCell<ffi::Handle>,
+    // The text, once it was asked for after the last change.
+    text: OnceCell<String>,
     encoding: Encoding,
 }
 
@@ -88,20 +90,32 @@ unsafe impl Send for Document {}
 impl Document {
     /// A document of a text. Positions count units of `encoding`.
     pub fn new(text: &str, encoding: Encoding) -> Result<Self, Error> {
-        let mut handle = Box::new(ffi::Handle::EMPTY);
-        let code = unsafe { ffi::laspidru_document_open(&mut *handle, text.as_ptr(), text.len()) };
+        let mut handle = ffi::Handle::EMPTY;
+        let code = unsafe { ffi::laspidru_document_open(&mut handle, text.as_ptr(), text.len()) };
         demand(code, &ffi::Fault::default())?;
-        Ok(Document { handle, text: text.to_owned(), encoding })
+        Ok(Document { handle: RefCell::new(handle), text: OnceCell::new(), encoding })
     }
 
-    /// The text.
+    /// The text. The first call after a change copies it out of the library.
     pub fn text(&self) -> &str {
-        &self.text
+        self.text.get_or_init(|| self.copied(0, self.length().bytes))
     }
 
     /// How many lines the text has.
-    pub fn line_count(&mut self) -> usize {
+    pub fn line_count(&self) -> usize {
         self.length().lines
+    }
+
+    /// A line, counted from 0, without its line end; none where the text has no such line.
+    /// The rest of the text is not read.
+    pub fn line(&self, number: u32) -> Option<String> {
+        let mut line = ffi::Line::default();
+        let code = unsafe { ffi::laspidru_document_line(&mut *self.handle.borrow_mut(), number, &mut line) };
+        match code {
+            ffi::OK => Some(self.copied(line.start, line.end - line.start)),
+            ffi::OUT_OF_RANGE => None,
+            code => unreachable!("code {code} of a full handle"),
+        }
     }
 
     /// Makes the changes of a `didChange`, in order, or none of them.
@@ -110,7 +124,7 @@ impl Document {
         let mut fault = ffi::Fault::default();
         let code = unsafe {
             ffi::laspidru_document_change(
-                &mut *self.handle,
+                &mut *self.handle.borrow_mut(),
                 self.encoding as u32,
                 edits.as_ptr(),
                 edits.len(),
@@ -120,18 +134,18 @@ impl Document {
             )
         };
         demand(code, &fault)?;
-        self.refresh();
+        self.text.take();
         Ok(())
     }
 
     /// The one canonical batch that means the same on the text, which stays as it is.
-    pub fn canonical(&mut self, changes: &[Change]) -> Result<Vec<Change>, Error> {
+    pub fn canonical(&self, changes: &[Change]) -> Result<Vec<Change>, Error> {
         let (edits, texts) = batch(changes);
         let mut fault = ffi::Fault::default();
         let mut made = Batch(ffi::Handle::EMPTY);
         let code = unsafe {
             ffi::laspidru_document_canonical(
-                &mut *self.handle,
+                &mut *self.handle.borrow_mut(),
                 self.encoding as u32,
                 edits.as_ptr(),
                 edits.len(),
@@ -146,51 +160,51 @@ impl Document {
     }
 
     /// The byte offset of a position. One after the line's end is the line's end.
-    pub fn offset(&mut self, position: Position) -> Result<usize, Error> {
+    pub fn offset(&self, position: Position) -> Result<usize, Error> {
         let mut offset = 0;
         let code = unsafe {
-            ffi::laspidru_document_offset(&mut *self.handle, self.encoding as u32, position, &mut offset)
+            ffi::laspidru_document_offset(&mut *self.handle.borrow_mut(), self.encoding as u32, position, &mut offset)
         };
         if code == ffi::OK { Ok(offset) } else { Err(Error::NoPlace) }
     }
 
     /// The exact position of a byte offset.
-    pub fn position(&mut self, offset: usize) -> Result<Position, Error> {
+    pub fn position(&self, offset: usize) -> Result<Position, Error> {
         let mut position = Position::default();
         let code = unsafe {
-            ffi::laspidru_document_position(&mut *self.handle, self.encoding as u32, offset, &mut position)
+            ffi::laspidru_document_position(&mut *self.handle.borrow_mut(), self.encoding as u32, offset, &mut position)
         };
         if code == ffi::OK { Ok(position) } else { Err(Error::NoPlace) }
     }
 
-    fn length(&mut self) -> ffi::Length {
+    fn length(&self) -> ffi::Length {
         let mut length = ffi::Length::default();
-        let code = unsafe { ffi::laspidru_document_size(&mut *self.handle, &mut length) };
+        let code = unsafe { ffi::laspidru_document_size(&mut *self.handle.borrow_mut(), &mut length) };
         assert_eq!(code, ffi::OK, "the handle of a document is full");
         length
     }
 
-    /// Copies the text out of the library.
-    fn refresh(&mut self) {
-        let mut bytes = vec![0; self.length().bytes];
-        let mut copied = 0;
-        let code = unsafe {
-            ffi::laspidru_document_copy(&mut *self.handle, 0, bytes.as_mut_ptr(), bytes.len(), &mut copied)
-        };
-        assert_eq!((code, copied), (ffi::OK, bytes.len()), "the whole text is copied");
-        self.text = String::from_utf8(bytes).expect("the library keeps UTF-8");
+    /// Copies a part of the text, which begins and ends between characters.
+    fn copied(&self, start: usize, len: usize) -> String {
+        let (mut bytes, mut copied) = (Vec::with_capacity(len), 0);
+        let handle = &mut *self.handle.borrow_mut();
+        let code = unsafe { ffi::laspidru_document_copy(handle, start, bytes.as_mut_ptr(), len, &mut copied) };
+        assert_eq!((code, copied), (ffi::OK, len), "the part is in the text");
+        // SAFETY: the library has written these bytes.
+        unsafe { bytes.set_len(copied) };
+        String::from_utf8(bytes).expect("the library keeps UTF-8")
     }
 }
 
 impl Drop for Document {
     fn drop(&mut self) {
-        unsafe { ffi::laspidru_close(&mut *self.handle) }
+        unsafe { ffi::laspidru_close(self.handle.get_mut()) }
     }
 }
 
 impl fmt::Debug for Document {
     fn fmt(&self, f: &mut fmt::Formatter<'_>) -> fmt::Result {
-        f.debug_struct("Document").field("text", &self.text).field("encoding", &self.encoding).finish()
+        f.debug_struct("Document").field("text", &self.text()).field("encoding", &self.encoding).finish()
     }
 }
 
@@ -239,7 +253,10 @@ fn batch(changes: &[Change]) -> (Vec<ffi::Edit>, Vec<u8>) {
         let range = change.range.unwrap_or_default();
         ffi::Edit { start: range.start, end: range.end, len: change.text.len(), is_whole: change.range.is_none() }
     };
-    let texts = changes.iter().flat_map(|change| change.text.bytes()).collect();
+    let mut texts = Vec::with_capacity(changes.iter().map(|change| change.text.len()).sum());
+    for change in changes {
+        texts.extend_from_slice(change.text.as_bytes());
+    }
     (changes.iter().map(edit).collect(), texts)
 }
 

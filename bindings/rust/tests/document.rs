@@ -33,7 +33,7 @@ fn refused_changes_leave_the_text() -> Result<(), Error> {
 #[test]
 fn positions_both_ways() -> Result<(), Error> {
     for (encoding, character) in [(Encoding::Utf8, 5), (Encoding::Utf16, 3), (Encoding::Utf32, 2)] {
-        let mut document = Document::new("a\r\nb\u{1F600}", encoding)?;
+        let document = Document::new("a\r\nb\u{1F600}", encoding)?;
         assert_eq!(document.offset(at(1, character)), Ok(8));
         assert_eq!(document.position(8), Ok(at(1, character)));
         assert_eq!(document.position(2), Err(Error::NoPlace));
@@ -43,8 +43,20 @@ fn positions_both_ways() -> Result<(), Error> {
 }
 
 #[test]
+fn lines() -> Result<(), Error> {
+    let mut document = Document::new("a\r\nb\u{1F600}\r\rc\u{2028}d\n", Encoding::Utf16)?;
+    let found: Vec<_> = (0..).map_while(|number| document.line(number)).collect();
+    assert_eq!(found, ["a", "b\u{1F600}", "", "c\u{2028}d", ""]);
+    assert_eq!((document.line_count(), document.line(u32::MAX)), (5, None));
+    document.change(&[change(at(1, 0), at(3, 0), "X\n")])?;
+    assert_eq!(document.line(1).as_deref(), Some("X"));
+    assert_eq!(document.text(), "a\r\nX\nc\u{2028}d\n");
+    Ok(())
+}
+
+#[test]
 fn canonical_batch() -> Result<(), Error> {
-    let mut document = Document::new("abc", Encoding::Utf8)?;
+    let document = Document::new("abc", Encoding::Utf8)?;
     let changes = [change(at(0, 1), at(0, 1), "X"), change(at(0, 2), at(0, 2), "Y")];
     assert_eq!(document.canonical(&changes)?, [change(at(0, 1), at(0, 1), "XY")]);
     assert_eq!(document.text(), "abc");
