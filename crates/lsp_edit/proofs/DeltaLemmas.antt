@@ -251,7 +251,7 @@ part_utf8 : (old : List ℕ) → IsUtf8 old → (part : Part) → IsPart old par
 part_utf8 old utf8 (NewPart bytes) is = IsUtf8-from_is_utf8 bytes is.1
 part_utf8 old utf8 (OldPart from to) is = IsUtf8-between old from to utf8 (omega (arith, is.0)) is.1 is.2
 
-parts_utf8 : (old : List ℕ) → IsUtf8 old → (parts : List Part) → AreParts old parts → IsUtf8 (bytes_of old parts)
+pub parts_utf8 : (old : List ℕ) → IsUtf8 old → (parts : List Part) → AreParts old parts → IsUtf8 (bytes_of old parts)
 parts_utf8 old utf8 [] are = IsUtf8-nil
 parts_utf8 old utf8 (part ∷ parts) are = IsUtf8-append (bytes_in old part) (bytes_of old parts) (part_utf8 old utf8 part are.0) (parts_utf8 old utf8 parts are.1)
 

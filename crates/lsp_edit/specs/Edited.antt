@@ -5,7 +5,6 @@ use Rattle.lsp_text.specs.LineStarts.{Indexes}
 use Rattle.lsp_edit.specs.declared.change.Change.{Change}
 use Rattle.lsp_edit.specs.declared.kept_lines.KeptLines.{KeptLines}
 use Rattle.lsp_edit.specs.declared.kept_lines.KeptLines.TheVariants.{Own, Lent}
-use Rattle.lsp_edit.specs.declared.current.Current.{Current}
 use Rattle.lsp_edit.specs.Items.{Item, plain, text_of}
 use Rattle.lsp_edit.specs.Batch.{Edit, Fault, after_change}
 use Rattle.lsp_edit.specs.Keeps.{Keeps}
@@ -69,8 +68,8 @@ pub record ArePieces (before lines : List ℕ) (parts : List Part) (len changes 
   pub fresh : changes ≡ 0 → items_of (chars before) parts ≡ plain (chars before)
 
 -- The text that changes meet was made, if it was, from the parts.
-abbrev pub IsCurrent : List ℕ → Option Current → Type 0
-IsCurrent bytes current = MatchOption current (Unit {0}) (λ made. string_bytes made.text ≡ bytes)
+abbrev pub IsCurrent : List ℕ → Option (List ℕ) → Type 0
+IsCurrent bytes current = MatchOption current (Unit {0}) (λ made. made ≡ bytes)
 
 -- What a batch leaves of a text: its meaning, after so many changes.
 pub record Means (before : List ℕ) (meant : Result (List Item) (ℕ × Fault)) (changes : ℕ) (edited : Edited) : Type 0 where

@@ -44,7 +44,7 @@ fn texts_len(changes: &[Change]) -> usize
 }
 
 /// The offsets of a range's two ends in a text with a gap. `change` is the number of the change that a fault names.
-fn ends_in(
+pub fn ends_in(
     text: &mut GapText,
     encoding: Encoding,
     range: Range,

@@ -5,7 +5,7 @@
 //! - `spans`, `row`, `replace`, `through`: what became of the old text, in runs of it and of the changes' texts.
 //! - `joined`: many batches, one after another, joined; `delta`: what some of them made of a text, in spans that own their texts.
 //! - `draft`: a text under the changes of a batch, where nobody asks for spans.
-//! - `current`: the text that changes meet, made late and changed in place.
+//! - `current`: the text that changes meet, made late.
 //! - `laws`: what holds of every batch and of its canonical batch.
 //! - `plain`: the definitions as a plain program, one item for each character, with the same clauses, save on memory.
 #![tactic(auto)]

@@ -16,7 +16,8 @@ ghost use Rattle.lsp_edit.specs.Laws.{IsCanonical, KeepsPairs, RangesStay};
 
 use crate::canonical::canonical_of;
 use crate::change::Change;
-use crate::current::{Current, text_of_spans};
+use crate::current::{current_or_new, text_of_spans, text_with_lines};
+use crate::draft::ends_in;
 use crate::ends::ends;
 use crate::fault::EditFault;
 use crate::kept_lines::KeptLines;
@@ -24,7 +25,7 @@ use crate::row::Row;
 use crate::span::Span;
 use crate::spans::Spans;
 use crate::through::spans_through;
-use lsp_text::{Encoding, Lines, Range};
+use lsp_text::{Encoding, GapText, Lines, Range};
 use std::alloc::{AllocError, Global};
 use std::marker::Model;
 
@@ -41,7 +42,7 @@ pub struct Pieces<'a> {
     spans: Spans<'a>,
     len: usize,
     changes: usize,
-    current: Option<Current>,
+    current: Option<GapText>,
 }
 
 impl<'a> Model for Pieces<'a> {
@@ -170,14 +171,14 @@ impl<'a> Pieces<'a> {
         if self.changes == 0 {
             return ends(self.lines.get(), self.before, encoding, range, 0);
         }
-        let current = Current::or_new(
+        let mut current = current_or_new(
             self.current.take(),
             self.alloc,
             self.before,
             self.spans.as_slice(),
             self.len,
         )?;
-        let places = ends(&current.lines, &current.text, encoding, range, self.changes);
+        let places = ends_in(&mut current, encoding, range, self.changes);
         self.current = Some(current);
         places
     }
@@ -225,8 +226,9 @@ impl<'a> Pieces<'a> {
     }
 
     /// Applies a change to the text as it is now (LSP 3.17, TextDocumentContentChangeEvent). A fault leaves everything as it was, and
-    /// says how many changes were applied before. Costs a walk over the spans from the last change to this one and one move of those after
-    /// it; from the second change with a range on also one move of the text and of the line starts after it (at the second, one copy of the text).
+    /// says how many changes were applied before. Costs a walk over the spans from the last change to this one and one move of those
+    /// after it; from the second change with a range on also a move of the text and of the line starts between the last change and this
+    /// one (at the second, two copies of the text).
     pub fn apply(&mut self, encoding: Encoding, change: &'a Change) -> Result<(), EditFault>
         requires { length (edited_bytes self.old.edited) + string_len change.now.text ≤ MAX_TEXT }
         ensures applied { OnOk result (Applied (units_in encoding) self.old.edited
@@ -295,7 +297,8 @@ impl<'a> Pieces<'a> {
         text_of_spans(self.alloc, self.before, self.spans.as_slice(), self.len)
     }
 
-    /// The text as it is now and its lines, handed over. After one change they are made, in one copy; after more they are there already.
+    /// The text as it is now and its lines, handed over. After one change they are made, in one copy. After more they are there already,
+    /// and what lies after the last change is moved.
     pub fn into_text(self) -> Result<(String, Lines), AllocError>
         ensures { IfOk result (λ made. (string_bytes made.0 ≡ edited_bytes self.entry.edited)
             × Indexes made.1 (string_bytes made.0)) }
@@ -308,13 +311,9 @@ impl<'a> Pieces<'a> {
             current,
             ..
         } = self;
-        let Current { text, lines } = Current::or_new(
-            current,
-            alloc,
-            before,
-            spans.as_slice(),
-            len,
-        )?;
-        Ok((text, lines))
+        match current {
+            Some(current) => current.into_text(),
+            None => text_with_lines(alloc, before, spans.as_slice(), len),
+        }
     }
 }

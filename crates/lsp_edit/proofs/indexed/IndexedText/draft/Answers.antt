@@ -1,6 +1,5 @@
-use Rattle.std.proofs.Common.{arith, inr, map, sym, ◌∙◌}
+use Rattle.std.proofs.Common.{arith, inr, map}
 use Rattle.std.proofs.lemmas.Result.{err_from_is_err_and}
-use Rattle.std.specs.Str.{chars}
 use Rattle.lsp_text.specs.Units.{units_in}
 use Rattle.lsp_edit.specs.Edited.{edit_of}
 use Rattle.lsp_edit.proofs.TextBatchLemmas.{left_fault, left_too_long, left_within}

@@ -1,4 +1,4 @@
-use Rattle.std.proofs.Common.{◌-◌, ◌∙◌, arith}
+use Rattle.std.proofs.Common.{◌∙◌, arith}
 use Rattle.std.specs.Str.{chars}
 use Rattle.lsp_edit.specs.Items.{plain}
 use Rattle.lsp_edit.proofs.DeltaLemmas.{last_through, last_order, last_all, last_same, two_last}

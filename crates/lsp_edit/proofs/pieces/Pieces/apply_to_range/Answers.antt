@@ -1,14 +1,13 @@
-use Rattle.std.proofs.Common.{◌≡◌, ◌<◌, ℕ, List, length, arith, string_bytes, sym, ap, ◌∙◌}
+use Rattle.std.proofs.Common.{◌≡◌, ◌<◌, ℕ, List, length, arith, sym, ap, ◌∙◌}
 use Rattle.std.specs.Str.{chars}
 use Rattle.std.specs.List.{replace_range}
 use Rattle.std.proofs.lemmas.List.{length-map}
-use Rattle.std.proofs.lemmas.Str.{IsUtf8-string_bytes}
 use Rattle.std.proofs.lemmas.Result.{err_from_is_err_and}
 use Rattle.lsp_text.specs.Units.{units_in}
 use Rattle.lsp_edit.specs.Parts.{Part, part_of, parts_of, bytes_of, replaced_parts}
 use Rattle.lsp_edit.specs.Spans.{spans_in}
 use Rattle.lsp_edit.specs.Edited.{IsCurrent, lines_of}
-use Rattle.lsp_edit.proofs.CurrentLemmas.{current_is}
+use Rattle.lsp_edit.proofs.CurrentLemmas.{current_is, current_utf8}
 use Rattle.lsp_edit.proofs.AppliedLemmas.{fault_told, IsRanged, ranged, next_told, next_holds}
 use Rattle.lsp_edit.proofs.SpannedLemmas.{same_edited}
 use Rattle.lsp_edit.proofs.pieces.Pieces.apply_to_range.Goals as goal
@@ -38,20 +37,20 @@ overflow_sub-self-2 c =
 pub replaced-requires-clause-order : goal.replaced-requires-clause-order
 replaced-requires-clause-order c = (ranged (units_in c.args.encoding) c.args.range _ _ _ _ _ c.self.invariant.0 c.args.self.now.edited (same_edited (c.self.view_is ∙ c.in_ok-start.ensures.same)) c.args.text.now c.utf8.text c.requires _ _ c.in_ok-start.ensures.places).order
 
-pub replaced-requires-clause-start : goal.replaced-requires-clause-start
-replaced-requires-clause-start c =
+pub replaced-requires-clause-at_start : goal.replaced-requires-clause-at_start
+replaced-requires-clause-at_start c =
     (ranged (units_in c.args.encoding) c.args.range _ _ _ _ _ c.self.invariant.0 c.args.self.now.edited (same_edited (c.self.view_is ∙ c.in_ok-start.ensures.same)) c.args.text.now c.utf8.text c.requires _ _ c.in_ok-start.ensures.places).start_at
-    (string_bytes c.in-Some.current.text) (IsUtf8-string_bytes c.in-Some.current.text) (current_is _ _ _ c.self.invariant.1 (sym c.take.ensures.value ∙ c.in-Some.is))
+    c.in-Some.current (current_utf8 _ _ _ _ _ c.self.invariant.0 c.in-Some.current (current_is _ _ _ c.self.invariant.1 (sym c.take.ensures.value ∙ c.in-Some.is))) (current_is _ _ _ c.self.invariant.1 (sym c.take.ensures.value ∙ c.in-Some.is))
 
-pub replaced-requires-clause-stop : goal.replaced-requires-clause-stop
-replaced-requires-clause-stop c =
+pub replaced-requires-clause-at_stop : goal.replaced-requires-clause-at_stop
+replaced-requires-clause-at_stop c =
     (ranged (units_in c.args.encoding) c.args.range _ _ _ _ _ c.self.invariant.0 c.args.self.now.edited (same_edited (c.self.view_is ∙ c.in_ok-start.ensures.same)) c.args.text.now c.utf8.text c.requires _ _ c.in_ok-start.ensures.places).stop_at
-    (string_bytes c.in-Some.current.text) (IsUtf8-string_bytes c.in-Some.current.text) (current_is _ _ _ c.self.invariant.1 (sym c.take.ensures.value ∙ c.in-Some.is))
+    c.in-Some.current (current_utf8 _ _ _ _ _ c.self.invariant.0 c.in-Some.current (current_is _ _ _ c.self.invariant.1 (sym c.take.ensures.value ∙ c.in-Some.is))) (current_is _ _ _ c.self.invariant.1 (sym c.take.ensures.value ∙ c.in-Some.is))
 
 pub replaced-requires-clause-room : goal.replaced-requires-clause-room
 replaced-requires-clause-room c =
     (ranged (units_in c.args.encoding) c.args.range _ _ _ _ _ c.self.invariant.0 c.args.self.now.edited (same_edited (c.self.view_is ∙ c.in_ok-start.ensures.same)) c.args.text.now c.utf8.text c.requires _ _ c.in_ok-start.ensures.places).short
-    (string_bytes c.in-Some.current.text) (current_is _ _ _ c.self.invariant.1 (sym c.take.ensures.value ∙ c.in-Some.is))
+    c.in-Some.current (current_is _ _ _ c.self.invariant.1 (sym c.take.ensures.value ∙ c.in-Some.is))
 
 pub replace-requires-clause-order : goal.replace-requires-clause-order
 replace-requires-clause-order c = (ranged (units_in c.args.encoding) c.args.range _ _ _ _ _ c.self.invariant.0 c.args.self.now.edited (same_edited (c.self.view_is ∙ c.in_ok-start.ensures.same)) c.args.text.now c.utf8.text c.requires _ _ c.in_ok-start.ensures.places).order

@@ -1,15 +1,22 @@
-use Rattle.std.proofs.Common.{List, sym, ap, ◌∙◌}
+use Rattle.std.proofs.Common.{◌≡◌, ℕ, List, IfOk, string_bytes, sym, ap, subst, ◌∙◌}
+use Rattle.lsp_text.specs.LineStarts.{Indexes}
 use Rattle.lsp_edit.specs.Parts.{bytes_of, parts_of}
 use Rattle.lsp_edit.specs.declared.span.Span.{Span}
 use Rattle.lsp_edit.specs.Edited.{edited_bytes}
+use Rattle.lsp_edit.proofs.CurrentLemmas.{current_is}
 use Rattle.lsp_edit.proofs.EditedLemmas.{now_bytes}
 use Rattle.lsp_edit.proofs.SpannedLemmas.{same_edited}
 use Rattle.lsp_edit.proofs.pieces.Pieces.into_text.Goals as goal
 
+pub returns-in-Some : goal.returns-in-Some
+returns-in-Some c =
+    subst (λ (bytes : List ℕ). IfOk c.into_text.result (λ made. (string_bytes made.0 ≡ bytes) × Indexes made.1 (string_bytes made.0)))
+    (current_is _ _ _ c.self.invariant.1 c.in-Some.is ∙ (sym (now_bytes _ _ _ _ _ c.self.invariant.0) ∙ ap edited_bytes (same_edited c.self.view_is)))
+    c.into_text.ensures
+
 pub returns : goal.returns
-returns c = (
-  c.in_ok-text.ensures
-      ∙ (ap (λ (spans : List Span). bytes_of c.self.inside.before.now (parts_of spans)) c.as_slice.ensures
-      ∙ (sym (now_bytes _ _ _ _ _ c.self.invariant.0) ∙ ap edited_bytes (same_edited c.self.view_is))),
-  c.in_ok-text.field-0.indexed,
-)
+returns c =
+    subst (λ (bytes : List ℕ). IfOk c.text_with_lines.result (λ made. (string_bytes made.0 ≡ bytes) × Indexes made.1 (string_bytes made.0)))
+    (ap (λ (spans : List Span). bytes_of c.self.inside.before.now (parts_of spans)) c.as_slice.ensures
+    ∙ (sym (now_bytes _ _ _ _ _ c.self.invariant.0) ∙ ap edited_bytes (same_edited c.self.view_is)))
+    c.text_with_lines.ensures

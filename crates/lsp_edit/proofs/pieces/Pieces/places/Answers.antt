@@ -15,7 +15,7 @@ returns-then-self-eq0-clause-places c =
 
 pub returns-clause-places : goal.returns-clause-places
 returns-clause-places c =
-    places_told (units_in c.args.encoding) c.args.range _ c.args.self.now.edited (chars c.deref.result.now) c.self.inside.changes
+    places_told (units_in c.args.encoding) c.args.range _ c.args.self.now.edited (chars c.in_ok-current.current) c.self.inside.changes
     (sym (ap (λ (e : Edited). e.changes) (same_edited c.self.view_is)))
-    (sym (ap edited_text (same_edited c.self.view_is)) ∙ sym (now_chars _ _ _ _ _ c.deref.result.now c.self.invariant.0 c.deref.utf8 (c.deref.ensures ∙ (c.in_ok-current.ensures ∙ rw c.as_slice.ensures refl))))
-    c.ends-places.ensures
+    (sym (ap edited_text (same_edited c.self.view_is)) ∙ sym (now_chars _ _ _ _ _ c.in_ok-current.current c.self.invariant.0 c.ends_in-places.ensures.utf8 (c.in_ok-current.ensures ∙ rw c.as_slice.ensures refl)))
+    c.ends_in-places.ensures.value
