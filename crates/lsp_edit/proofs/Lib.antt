@@ -31,3 +31,4 @@ pub mod IndexedLemmas
 pub mod InPlaceLemmas
 pub mod TextBatchLemmas
 pub mod DeltaLemmas
+pub mod RunLemmas

@@ -1,9 +1,10 @@
 -- Batches of changes on a text, one after another, joined: what they make of the text together.
-use Rattle.std.specs.Prelude.{ℕ, ◌≡◌, List, Ok}
+use Rattle.std.specs.Prelude.{ℕ, ◌≡◌, ◌≤◌, List, length, Ok}
 use Rattle.std.specs.Str.{IsUtf8, chars}
 use Rattle.lsp_edit.specs.Items.{Item, text_of}
 use Rattle.lsp_edit.specs.Batch.{Edit, meaning}
 use Rattle.lsp_edit.specs.Compose.{then_items}
+use Rattle.lsp_edit.specs.Indexed.{bytes_left}
 
 -- The text before all batches, as bytes, and what became of its characters.
 pub record JoinedData : Type 0 where
@@ -26,3 +27,10 @@ pub record IsJoined (units : ℕ → ℕ) (old : JoinedData) (batch : List Edit)
   pub means : meaning units (joined_text old) batch ≡ Ok others
   -- the new items are what the old ones and these mean together
   pub is : new ≡ record old { items = then_items old.items others }
+
+-- One batch on a text is all that is joined.
+pub record IsWhole (units : ℕ → ℕ) (max_len : ℕ) (before : List ℕ) (batch : List Edit) (joined : JoinedData) : Type 0 where
+  pub utf8 : IsUtf8 before
+  pub same : joined.before ≡ before
+  pub means : meaning units (chars before) batch ≡ Ok joined.items
+  pub within : length (bytes_left before joined.items) ≤ max_len

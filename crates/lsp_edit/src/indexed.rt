@@ -18,6 +18,7 @@ use crate::draft::Draft;
 use crate::ends::ends;
 use crate::fault::EditFault;
 use crate::in_place::put_in_place;
+use crate::joined::{Joined, RUN};
 use crate::pieces::{MAX_TEXT, Pieces};
 use lsp_text::{Encoding, Lines, Range};
 use std::alloc::{AllocError, Global};
@@ -97,6 +98,16 @@ impl IndexedText {
         ensures { Indexes result.now self.now }
     {
         &self.lines
+    }
+
+    /// A copy, with its lines. Costs the copies.
+    pub(crate) fn copied(&self, alloc: Global) -> Result<Self, AllocError>
+        ensures same { IfOk result (λ copy. copy ≡ self.now) }
+        ensures utf8 { OnOk result (IsUtf8 self.now) }
+    {
+        let text = String::from_str(alloc, &self.text)?;
+        let lines = self.lines.copied(alloc)?;
+        Ok(IndexedText { text, lines })
     }
 
     /// What a batch makes of the text, if it leaves at most `max_len` bytes.
@@ -211,7 +222,8 @@ impl IndexedText {
 
     /// The canonical batch of what a batch means on the text: one change for each gap between kept characters that is changed, from
     /// the last gap to the first. Refuses as [`IndexedText::change`] does, and changes nothing. Costs what each change costs to apply,
-    /// and one exact position for each end of a changed gap.
+    /// and one exact position for each end of a changed gap. A batch of some thousand changes is composed in runs, which cost some copies
+    /// of the text each; where it is refused it is composed once more to say why.
     pub fn canonical(
         &self,
         encoding: Encoding,
@@ -224,6 +236,12 @@ impl IndexedText {
         ensures told { IfErr result (λ fault. (fault ≡ NoMemory)
             ⊎ (text_within max_len self.now (meaning (units_in encoding) (chars self.now) (map edit_of changes.now)) ≡ Err fault)) }
     {
+        if changes.len() >= 2 * RUN {
+            let alloc = *self.text.allocator();
+            if let Ok(joined) = Joined::of_batch(alloc, encoding, self, changes, max_len) {
+                return Ok(joined.canonical(encoding)?);
+            }
+        }
         let pieces = self.composed(encoding, changes, max_len)?;
         Ok(pieces.canonical(encoding)?)
     }

@@ -9,7 +9,7 @@ ghost use Rattle.lsp_edit.specs.Canonical.{canonical};
 ghost use Rattle.lsp_edit.specs.Edited.{edit_of};
 ghost use Rattle.lsp_edit.specs.Indexed.{text_within};
 ghost use Rattle.lsp_edit.specs.Items.{plain};
-ghost use Rattle.lsp_edit.specs.Joined.{IsJoined, IsReached};
+ghost use Rattle.lsp_edit.specs.Joined.{IsJoined, IsReached, IsWhole};
 
 use crate::canonical::canonical_of;
 use crate::change::{Change, MAX_NEW_TEXT};
@@ -22,6 +22,9 @@ use crate::through::spans_through;
 use lsp_text::Encoding;
 use std::alloc::{AllocError, Global};
 use std::marker::Model;
+
+/// How many changes of a long batch are composed at once.
+pub(crate) const RUN: usize = 1024;
 
 /// Batches of changes on a text, one after another, and what they make of it together. It keeps the text as it was before them, and what
 /// became of it in deltas, each over the text that the one before it leaves. Two neighbours are joined when each was joined equally
@@ -59,10 +62,42 @@ impl Joined {
         ensures reached { IfOk result (λ joined. IsReached joined (string_bytes text)) }
     {
         let before = IndexedText::new(alloc, text)?;
-        Ok(Joined {
+        Ok(Self::begin(alloc, before))
+    }
+
+    /// A text before any batch, with its lines.
+    fn begin(alloc: Global, before: IndexedText) -> Self
+        ensures { result ≡ record { before = before; items = plain (chars before) } }
+    {
+        Joined {
             before,
             deltas: Vec::new(alloc),
-        })
+        }
+    }
+
+    /// A batch on a text, composed run by run: a change moves the spans of its run, and not those of the whole batch. It is refused where
+    /// a change has no result or a text grows too long, and not told why. Costs what the changes cost to apply, and for each run some copies
+    /// of the text and of its line starts.
+    pub(crate) fn of_batch(
+        alloc: Global,
+        encoding: Encoding,
+        before: &IndexedText,
+        changes: &[Change],
+        max_len: usize,
+    ) -> Result<Self, TextFault>
+        requires size { length before.now ≤ MAX_OLD_TEXT }
+        requires fits { sum_by (λ change. string_len change.text) changes.now ≤ MAX_NEW_TEXT }
+        ensures { IfOk result (IsWhole (units_in encoding) max_len before.now (map edit_of changes.now)) }
+    {
+        let mut reached = before.copied(alloc)?;
+        let mut joined = Self::begin(alloc, before.copied(alloc)?);
+        for run in changes.chunks(RUN) {
+            joined.change(encoding, &mut reached, run, MAX_OLD_TEXT)?;
+        }
+        if reached.text().len() > max_len {
+            return Err(TextFault::TooLong);
+        }
+        Ok(joined)
     }
 
     /// Joins the last two deltas, if both were joined equally often. Says whether they were.
