@@ -7,6 +7,7 @@ mod made_again;
 mod pieces;
 mod plain;
 mod refused;
+mod runs;
 mod spans;
 
 use lsp_edit::{Change, EditFault, Side};

@@ -1,0 +1,111 @@
+//! Batches of some thousand changes, which are composed in runs: the same canonical batch, and the same fault.
+
+use lsp_edit::{Change, EditFault, IndexedText, MAX_OLD_TEXT, TextFault, compose_over, fits};
+use lsp_text::{Encoding, Position, Range};
+use std::alloc::{AllocError, Global};
+use std::test::Fail;
+
+static LINES: &str = "one\ntwo \u{1F600} three\n\nfour, five, six, seven\nlast";
+
+/// One character replaced or put in, here and there in the first lines.
+fn change(alloc: Global, number: u32) -> Result<Change, AllocError> {
+    let spread = number.wrapping_mul(40_503) % 977;
+    let start = Position {
+        line: spread % 5,
+        character: spread % 4,
+    };
+    let stop = Position {
+        line: start.line,
+        character: start.character + number % 2,
+    };
+    let text = if number % 3 == 0 { "" } else { "xy" };
+    Ok(Change {
+        range: Some(Range { start, stop }),
+        text: String::from_str(alloc, text)?,
+    })
+}
+
+fn changes(alloc: Global, count: u32) -> Result<Vec<Change>, AllocError> {
+    let mut changes = Vec::new(alloc);
+    for number in 0..count {
+        changes.push(change(alloc, number)?)?;
+    }
+    Ok(changes)
+}
+
+fn kept(alloc: Global) -> Result<IndexedText, AllocError> {
+    IndexedText::new(alloc, String::from_str(alloc, LINES)?)
+}
+
+fn in_runs(
+    text: &IndexedText,
+    changes: &[Change],
+    max_len: usize,
+) -> Result<Vec<Change>, TextFault> {
+    if text.text().len() > MAX_OLD_TEXT || !fits(changes) {
+        return Err(TextFault::TooLong);
+    }
+    text.canonical(Encoding::Utf16, changes, max_len)
+}
+
+fn at_once(
+    alloc: Global,
+    text: &IndexedText,
+    changes: &[Change],
+) -> Result<Vec<Change>, TextFault> {
+    if text.text().len() > MAX_OLD_TEXT || !fits(changes) {
+        return Err(TextFault::TooLong);
+    }
+    let pieces = compose_over(alloc, text.text(), text.lines(), Encoding::Utf16, changes)?;
+    Ok(pieces.canonical(Encoding::Utf16)?)
+}
+
+fn is_the_same(alloc: Global, count: u32) -> Result<bool, AllocError> {
+    let text = kept(alloc)?;
+    let changes = changes(alloc, count)?;
+    let answer = in_runs(&text, &changes, MAX_OLD_TEXT);
+    Ok(answer.is_ok() && answer == at_once(alloc, &text, &changes))
+}
+
+#[test]
+fn a_long_batch_has_the_canonical_batch_of_its_changes(rt: HostRuntime) -> Result<(), Fail> {
+    for count in [2_047, 2_048, 2_049, 3_072, 5_000] {
+        assert!(rt; is_the_same(rt.alloc(), count)?, "{count}");
+    }
+    Ok(())
+}
+
+/// A reversed range in the last run.
+fn reversed(alloc: Global) -> Result<Change, AllocError> {
+    let start = Position {
+        line: 1,
+        character: 1,
+    };
+    let stop = Position {
+        line: 0,
+        character: 0,
+    };
+    Ok(Change {
+        range: Some(Range { start, stop }),
+        text: String::new(alloc),
+    })
+}
+
+#[test]
+fn a_fault_of_a_long_batch_has_its_number(rt: HostRuntime) -> Result<(), Fail> {
+    let text = kept(rt.alloc())?;
+    let mut changes = changes(rt.alloc(), 2_500)?;
+    changes.push(reversed(rt.alloc())?)?;
+    let answer = in_runs(&text, &changes, MAX_OLD_TEXT);
+    let fault = TextFault::Edit(EditFault::ReversedRange { change: 2_500 });
+    assert!(rt; answer == Err(fault));
+    Ok(())
+}
+
+#[test]
+fn a_long_batch_may_leave_too_much(rt: HostRuntime) -> Result<(), Fail> {
+    let text = kept(rt.alloc())?;
+    let changes = changes(rt.alloc(), 2_500)?;
+    assert!(rt; in_runs(&text, &changes, 100) == Err(TextFault::TooLong));
+    Ok(())
+}
