@@ -6,7 +6,7 @@ ghost use Rattle.lsp_text.specs.LineStarts.{ends_between};
 use memchr::memchr2_iter;
 use std::alloc::AllocError;
 
-/// Whether a line ends behind the byte at `at`.
+/// Whether a line ends after the byte at `at`.
 fn ends_line_behind(bytes: &[u8], at: usize) -> bool
     requires { at < length bytes.now }
     ensures { result ≡ ends_line bytes.now (suc at) }
@@ -18,7 +18,7 @@ fn ends_line_behind(bytes: &[u8], at: usize) -> bool
     }
 }
 
-/// Whether the place lies between the bytes of a CRLF.
+/// Whether the byte offset is between the bytes of a CRLF.
 pub fn is_inside_crlf(bytes: &[u8], place: usize) -> bool
     requires { place ≤ length bytes.now }
     ensures { result ≡ splits_crlf bytes.now place }
@@ -26,7 +26,7 @@ pub fn is_inside_crlf(bytes: &[u8], place: usize) -> bool
     place > 0 && place < bytes.len() && bytes[place - 1] == b'\r' && bytes[place] == b'\n'
 }
 
-/// Puts the places behind `low`, up to `high`, that end a line at the end of `starts`. It is linear in `high - low`.
+/// Appends to `starts` the byte offsets after `low`, up to `high`, at which a line ends. It is linear in `high - low`.
 pub fn push_ends(
     starts: &mut Vec<u32>,
     bytes: &[u8],

@@ -1,4 +1,4 @@
-//! From a place to its exact position.
+//! From a byte offset to its exact position.
 ghost use Rattle.std.specs.Prelude.{◌≡◌, ◌≤◌, ℕ, Some, length, option_map};
 ghost use Rattle.std.specs.Str.{IsUtf8, chars};
 ghost use Rattle.lsp_text.specs.Text.{place_of};
@@ -9,7 +9,7 @@ use crate::in_line::InLine;
 use crate::position::Position;
 use crate::starts::{Looks, line_of};
 
-/// The exact position of a place. It costs a binary search over the lines, and the line's text up to the place.
+/// The exact position of a byte offset. It costs a binary search over the lines, and the line's text up to the offset.
 pub fn position_in<U: InLine>(starts: &[u32], bytes: &[u8], place: usize) -> Position
     requires utf8 { IsUtf8 bytes.now }
     requires indexed { Indexes starts.now bytes.now }

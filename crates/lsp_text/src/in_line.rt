@@ -1,4 +1,4 @@
-//! Units and places inside one line, by its bytes.
+//! Units and byte offsets inside one line, by its bytes.
 ghost use Rattle.std.specs.Prelude.{◌≡◌, ◌+◌, ◌*◌, ◌≤◌, ◌<◌, ℕ, IfSome, length, take, drop, sum_by, option_map};
 ghost use Rattle.std.specs.Str.{IsUtf8, chars};
 ghost use Rattle.lsp_text.specs.Leads.{lead_units_utf16, lead_units_utf32, line_place, byte_place};
@@ -14,13 +14,13 @@ pub trait InLine: Units {
         requires size { length line.now ≤ 2147483648 }
         ensures { result ≡ sum_by Self.units_of (chars line.now) };
 
-    /// The place in the content with so many units before it; its end where it has no more, `None` inside a character.
+    /// The byte offset in the content with so many units before it; its end where it has no more, `None` inside a character.
     fn place_in(line: &[u8], character: u32) -> Option<usize>
         requires { IsUtf8 line.now }
         ensures { result ≡ line_place Self.units_of (chars line.now) character };
 }
 
-/// Units that the first byte of a character tells.
+/// The units of a character, by its first byte.
 trait LeadUnits {
     ghost lead_units: { ℕ → ℕ };
 
@@ -65,7 +65,7 @@ impl LeadUnits for Utf32 {
     ghost few = { utf32_few };
 }
 
-/// The units of `N` bytes from a place on. It is short, and of a fixed length, so that it takes no branch.
+/// The units of `N` bytes from an offset on. It is short, and of a fixed length, so that it takes no branch.
 #[inline]
 fn units_of_block<L: LeadUnits, const N: usize>(bytes: &[u8], place: usize) -> u8
     requires small { N ≤ 32 }
@@ -105,7 +105,7 @@ fn units_of_bytes<L: LeadUnits>(bytes: &[u8]) -> usize
     units + units_one_by_one::<L>(&bytes[32 * blocks..])
 }
 
-/// Passes over blocks of `N` bytes while they have no more units than are left: the place behind them, and the units left there.
+/// Passes over blocks of `N` bytes while they have no more units than are left: the offset after them, and the units left there.
 #[inline]
 fn pass_blocks<L: LeadUnits, const N: usize>(bytes: &[u8], character: u32) -> (usize, u32)
     requires some { 0 < N }
@@ -127,7 +127,7 @@ fn pass_blocks<L: LeadUnits, const N: usize>(bytes: &[u8], character: u32) -> (u
     (place, left)
 }
 
-/// The place with so many units before it, byte by byte; the end where there are no more, `None` inside a character.
+/// The offset with so many units before it, byte by byte; the end where there are no more, `None` inside a character.
 fn place_one_by_one<L: LeadUnits>(bytes: &[u8], character: u32) -> Option<usize>
     ensures place { result ≡ byte_place L.lead_units bytes.now character }
     ensures within { IfSome result (λ place. place ≤ length bytes.now) }

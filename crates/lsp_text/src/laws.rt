@@ -25,8 +25,8 @@ pub fn position_laws()
     ensures examples { HoldsOnExamples }
 {}
 
-/// What holds of the lines of every text: together they are the text, a CRLF is one line end, the kept starts are the places of the
-/// lines' first indexes, and the line that `line_of` finds among them is the line of the index at that place. Which indexes split a
+/// What holds of the lines of every text: together they are the text, a CRLF is one line end, the kept starts are the byte offsets of the
+/// lines' first indexes, and the line that `line_of` finds among them is the line of the index at that offset. Which indexes split a
 /// CRLF is decided by the characters around them, and none from the end of the text on does. It does nothing.
 pub fn line_laws()
     ensures parts { (text : List ℕ) → LinesPart text }
@@ -36,8 +36,8 @@ pub fn line_laws()
     ensures past_end { PastEndLaw }
 {}
 
-/// What holds of the places of every text's indexes among its bytes: they rise strictly, from 0 to the number of bytes, and are the
-/// boundaries of characters, each the place of exactly one index. The bytes before, between and after such places are those of the
+/// What holds of the byte offsets of every text's indexes: they rise strictly, from 0 to the number of bytes, and are the
+/// boundaries of characters, each the offset of exactly one index. The bytes before, between and after such offsets are those of the
 /// characters before, between and after the indexes. It does nothing.
 pub fn place_laws()
     ensures rising { RisingLaw }

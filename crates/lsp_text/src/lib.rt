@@ -1,13 +1,13 @@
 //! Lines and positions of a text: what "line 3, character 7" means, in the three encodings of LSP 3.17.
 //!
-//! - `position`, `encoding`, `units`: a place as the protocol writes it, and what a character of a line counts.
+//! - `position`, `encoding`, `units`: a position as the protocol writes it, and what a character of a line counts.
 //! - `lines`: the line starts that are kept for a text, and the calls on them. Their work is in `ends` (the search for line ends),
-//!   `resolve` (from a position to its place), `exact` (and back), `in_line` (units in the bytes of one line) and `splice` (after an edit).
+//!   `resolve` (from a position to its byte offset), `exact` (and back), `in_line` (units in the bytes of one line) and `splice` (after an edit).
 //! - `gap_text`: a text under changes with a gap where it was changed last, so that a change costs the distance to the one before. Its
 //!   bytes are in `gap_bytes`, its line starts in `gap_starts`, the moves of both in `gap`, its positions in `gap_resolve`.
-//! - `starts`: the line of a place, by a binary search over any row of starts whose looks are counted.
+//! - `starts`: the line of a byte offset, by a binary search over any row of starts whose looks are counted.
 //! - `plain`: the definitions as a plain and slow program over the characters of a text, which `Lines` is compared with.
-//! - `laws`: what holds of the definitions alone. These stand in `specs/`: `Text`, `TextLines`, `Units`, `Positions`, in this order.
+//! - `laws`: what holds of the definitions alone. These are in `specs/`: `Text`, `TextLines`, `Units`, `Positions`, in this order.
 #![tactic(auto)]
 
 mod encoding;

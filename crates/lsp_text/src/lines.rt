@@ -1,4 +1,4 @@
-//! The lines of a text, kept as the places where they start.
+//! The lines of a text, kept as the byte offsets where they start.
 ghost use Rattle.std.specs.Prelude.{◌≡◌, ◌+◌, ◌≤◌, ◌↔◌, ℕ, List, Some, length, option_map, IsTrue, IfOk, OnOk, OnErr};
 ghost use Rattle.std.specs.Result.{result_ok};
 ghost use Rattle.std.specs.Str.{IsCharBoundary, chars};
@@ -21,7 +21,7 @@ use crate::units::{Utf8, Utf16, Utf32};
 use std::alloc::{AllocError, Global};
 use std::marker::Model;
 
-/// The lines of a text, by the places where they start (LSP 3.17, Position: `\n`, `\r\n` and `\r` end a line). It holds four bytes
+/// The lines of a text, by the byte offsets where they start (LSP 3.17, Position: `\n`, `\r\n` and `\r` end a line). It holds four bytes
 /// a line, and not the text.
 #[derive(Debug, Drop)]
 pub struct Lines {
@@ -92,8 +92,8 @@ impl Lines {
         Looks::new(&self.starts)
     }
 
-    /// Whether a position can stand at this place of the text: it is a boundary of characters that splits no CRLF.
-    /// A place is counted in bytes of UTF-8. In constant time.
+    /// Whether a position can denote this byte offset: it is a boundary of characters that splits no CRLF.
+    /// In constant time.
     pub fn is_place(&self, text: &str, place: usize) -> bool
         ensures place { IsTrue result ↔ IsPlace (chars text.now) place }
         ensures boundary { IsTrue result → IsCharBoundary text.now place }
@@ -101,7 +101,7 @@ impl Lines {
         text.is_char_boundary(place) && !is_inside_crlf(text.as_bytes(), place)
     }
 
-    /// The place that a position denotes in the text that the lines index (LSP 3.17, Position): the end of the text, if it has no such
+    /// The byte offset that a position denotes in the text that the lines index (LSP 3.17, Position): the end of the text, if it has no such
     /// line; the end of the line's content, if that has no more units than the position's character. It is refused where the character
     /// lies inside a character of the text. It costs the line's text up to the character, in UTF-8 nothing.
     pub fn resolve(
@@ -123,8 +123,8 @@ impl Lines {
         }
     }
 
-    /// The exact position of a place in the text that the lines index. It costs a binary search over the lines, and the line's text up
-    /// to the place, in UTF-8 the search alone.
+    /// The exact position of a byte offset in the text that the lines index. It costs a binary search over the lines, and the line's text up
+    /// to the offset, in UTF-8 the search alone.
     pub fn position(&self, text: &str, encoding: Encoding, place: usize) -> Position
         requires indexed { Indexes self.now text.now }
         requires place { IsPlace (chars text.now) place }

@@ -1,5 +1,5 @@
 //! The definitions as a plain program: a slow scan over the characters of a text, a function for each definition of `TextLines`,
-//! `Units` and `Positions` in `specs/`. It stands to be read, and `Lines` is compared with it. An index is counted in characters, and
+//! `Units` and `Positions` in `specs/`. It is there to be read, and `Lines` is compared with it. An index is counted in characters, and
 //! goes from 0 to their number. Nothing is kept or allocated. A position costs up to the square of the text's length, either way.
 
 ghost use Rattle.std.specs.Prelude.{◌≡◌, ◌≤◌, length, encode_utf8_all, option_map};
@@ -12,7 +12,7 @@ use crate::encoding::Encoding;
 use crate::position::Position;
 use crate::units::{Units, Utf8, Utf16, Utf32};
 
-/// Whether an index ends a line: a line feed stands before it, or a carriage return with no line feed behind it.
+/// Whether an index ends a line: a line feed is before it, or a carriage return with no line feed after it.
 pub fn ends_line(text: &[char], index: usize) -> bool
     requires { index ≤ length text.now }
     ensures { result ≡ spec_ends_line text.now index }
@@ -116,7 +116,7 @@ pub fn units_between(text: &[char], encoding: Encoding, from: usize, to: usize) 
     count
 }
 
-/// The place of an index: how many bytes of UTF-8 stand before it. The text has at most 2,147,483,648 of them.
+/// The byte offset of an index: how many bytes of UTF-8 are before it. The text has at most 2,147,483,648 of them.
 pub fn place_of(text: &[char], index: usize) -> usize
     requires within { index ≤ length text.now }
     requires size { length (encode_utf8_all text.now) ≤ 2147483648 }
@@ -163,7 +163,7 @@ pub fn denoted(text: &[char], encoding: Encoding, position: Position) -> Option<
     None
 }
 
-/// The place that a position denotes in a text of at most 2,147,483,648 bytes of UTF-8, in bytes; `None` inside a character.
+/// The byte offset that a position denotes in a text of at most 2,147,483,648 bytes of UTF-8; `None` inside a character.
 pub fn resolved(text: &[char], encoding: Encoding, position: Position) -> Option<usize>
     requires { length (encode_utf8_all text.now) ≤ 2147483648 }
     ensures { result ≡ option_map (spec_place_of text.now) (spec_denoted (units_in encoding) text.now position) }

@@ -1,6 +1,6 @@
 //! Positions and ranges, as the protocol writes them.
 
-/// A position of a text (LSP 3.17, Position): a line, counted from 0, and how many units of the agreed encoding stand before it in
+/// A position of a text (LSP 3.17, Position): a line, counted from 0, and how many units of the agreed encoding are before it in
 /// that line.
 #[derive(Clone, Copy, Debug, PartialEq, Eq, Hash)]
 pub struct Position {

@@ -1,4 +1,4 @@
-//! From a position to its place.
+//! From a position to its byte offset.
 ghost use Rattle.std.specs.Prelude.{◌≡◌, ◌-◌, ◌≤◌, ◌<◌, if◌then◌else◌, length, option_map, IfOk};
 ghost use Rattle.std.specs.Result.{result_ok};
 ghost use Rattle.std.specs.Str.{IsCharBoundary, IsUtf8, chars};
@@ -12,7 +12,7 @@ use crate::in_line::InLine;
 use crate::position::Position;
 use thiserror::Error;
 
-/// A position's character lies inside a character of the text: no place has exactly so many units before it in its line, and the
+/// A position's character lies inside a character of the text: no byte offset has exactly so many units before it in its line, and the
 /// line has more.
 #[derive(Clone, Copy, Debug, PartialEq, Eq, Error)]
 #[error("the position lies inside a character")]
@@ -31,7 +31,7 @@ fn stop_before(bytes: &[u8], next: usize) -> usize
     }
 }
 
-/// The places where the content of a line begins and ends.
+/// The byte offsets where the content of a line begins and ends.
 pub fn content(starts: &[u32], bytes: &[u8], line: usize) -> (usize, usize)
     requires utf8 { IsUtf8 bytes.now }
     requires indexed { Indexes starts.now bytes.now }
@@ -48,7 +48,7 @@ pub fn content(starts: &[u32], bytes: &[u8], line: usize) -> (usize, usize)
     }
 }
 
-/// The place that a position denotes. It costs the line's text up to the character.
+/// The byte offset that a position denotes. It costs the line's text up to the character.
 pub fn resolve_in<U: InLine>(
     starts: &[u32],
     bytes: &[u8],

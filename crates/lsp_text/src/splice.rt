@@ -8,7 +8,7 @@ use crate::ends::push_ends;
 use crate::starts::{Looks, line_of};
 use std::alloc::AllocError;
 
-/// How many starts are at most a place.
+/// How many starts are at most a byte offset.
 pub fn starts_to(starts: &[u32], place: usize) -> usize
     requires { AreStarts starts.now }
     ensures some { 0 < result }
@@ -17,7 +17,7 @@ pub fn starts_to(starts: &[u32], place: usize) -> usize
     line_of(&mut Looks::new(starts), place) + 1
 }
 
-/// Moves the starts from index `first` on, which lie at or behind `to`, by as much as `to` moves to `end`.
+/// Moves the starts from index `first` on, which are at `to` or after it, by as much as `to` moves to `end`.
 fn shift(starts: &mut [u32], first: usize, to: usize, end: usize)
     requires first { first ≤ length starts.old }
     requires behind { (k : ℕ) → first ≤ k → k < length starts.old → to ≤ slice_index starts.old k }

@@ -1,4 +1,4 @@
-//! The search for the line of a place.
+//! The search for the line of a byte offset.
 ghost use Rattle.std.specs.Prelude.{◌≡◌, ◌+◌, ◌≤◌, ◌<◌, ◌^◌, ℕ, List, min, length, slice_index};
 ghost use Rattle.lsp_text.specs.Starts.{AreStarts, IsLineOf};
 
@@ -25,7 +25,7 @@ pub trait Starts {
     ghost are_starts: { (s : Self) → AreStarts (starts s) };
 }
 
-/// The line of a place: the greatest index whose start is at most the place. It is a binary search, so it takes no more looks than
+/// The line of a byte offset: the greatest index whose start is at most the offset. It is a binary search, so it takes no more looks than
 /// the number of starts has binary digits.
 pub fn line_of<S: Starts>(starts: &mut S, place: usize) -> usize
     ensures line { IsLineOf (S.starts starts.old) place result }
