@@ -21,7 +21,8 @@ pub fn current_or_new<'a>(
 ) -> Result<GapText, AllocError>
     requires parts { AreParts before.now (parts_of spans.now) }
     requires room { length (bytes_of before.now (parts_of spans.now)) ≤ 2147483648 }
-    requires made { MatchOption made (Unit {0}) (λ current. current ≡ bytes_of before.now (parts_of spans.now)) }
+    requires made { MatchOption made (Unit {0})
+        (λ current. current ≡ bytes_of before.now (parts_of spans.now)) }
     ensures { IfOk result (λ current. current ≡ bytes_of before.now (parts_of spans.now)) }
 {
     if let Some(current) = made {
@@ -40,7 +41,9 @@ pub fn text_with_lines<'a>(
 ) -> Result<(String, Lines), AllocError>
     requires parts { AreParts before.now (parts_of spans.now) }
     requires room { length (bytes_of before.now (parts_of spans.now)) ≤ 2147483648 }
-    ensures { IfOk result (λ made. (string_bytes made.0 ≡ bytes_of before.now (parts_of spans.now)) × Indexes made.1 (string_bytes made.0)) }
+    ensures { IfOk result (λ made.
+        (string_bytes made.0 ≡ bytes_of before.now (parts_of spans.now))
+        × Indexes made.1 (string_bytes made.0)) }
 {
     let text = text_of_spans(alloc, before, spans, len)?;
     let lines = Lines::new(alloc, &text)?;

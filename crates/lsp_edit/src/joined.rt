@@ -87,7 +87,8 @@ impl Joined {
     ) -> Result<Self, TextFault>
         requires size { length before.now ≤ MAX_OLD_TEXT }
         requires fits { sum_by (λ change. string_len change.text) changes.now ≤ MAX_NEW_TEXT }
-        ensures { IfOk result (IsWhole (units_in encoding) max_len before.now (map edit_of changes.now)) }
+        ensures { IfOk result (IsWhole (units_in encoding) max_len before.now
+            (map edit_of changes.now)) }
     {
         let mut reached = before.copied(alloc)?;
         let mut joined = Self::begin(alloc, before.copied(alloc)?);
