@@ -1,6 +1,6 @@
 -- The frames of a whole stream, and that a stream has one reading.
 use Rattle.std.proofs.Common.{◌≡◌, ℕ, ◌+◌, ◌-◌, ◌<◌, ◌≤◌, true, false, List, [], ◌∷◌, ◌++◌, length, take, drop, refl, sym, ◌∙◌, ap, subst, append_assoc, append-nil, take-append-drop, arith, inl, inr}
-use Rattle.std.specs.Prelude.{Ok, Err, ◌⊎◌, Option, Some, None, MatchOption, replicate}
+use Rattle.std.specs.Prelude.{Result, Ok, Err, OnErr, ◌⊎◌, Option, Some, None, MatchOption, replicate}
 use Rattle.std.proofs.lemmas.List.{length-append, length-take, length-drop, take-take, take-append-le, length-replicate}
 use Rattle.lsp_frame.specs.Header.{Line, AreLines, lines_bytes, header_of, BeginsHeader, IsHeader}
 use Rattle.lsp_frame.specs.Verdict.{judge}
@@ -15,6 +15,7 @@ use Rattle.lsp_frame.proofs.ProgressLemmas.{all_of}
 use Rattle.lsp_frame.specs.Limits.{Bounds}
 use Rattle.std.specs.List.{flat_map}
 use Rattle.std.proofs.lemmas.List.Concat.{flat_map-append}
+use Rattle.std.proofs.lemmas.List.Folds.{length-flat_map-take}
 use Rattle.std.proofs.lemmas.List.{take_more}
 use Rattle.std.proofs.Common.{Vec, Global, get_or}
 use Rattle.lsp_frame.proofs.HeaderLemmas.{same_header}
@@ -387,3 +388,14 @@ pub piece_behind : (max_body : ℕ) (f : Vec ℕ Global → List ℕ) (pieces : 
 piece_behind max_body f pieces i piece now bodies g within is e behind =
     let joined : flat_map f (take i pieces) ++ now ≡ flat_map f (take (i + 1) pieces) = ap (λ z. flat_map f (take i pieces) ++ z) e ∙ joined_more f pieces i piece within is in
     subst (λ (z : List ℕ). IsBehind max_body z bodies g) joined behind
+
+-- A stream has the bytes of each of its pieces.
+pub piece_some : (f : Vec ℕ Global → List ℕ) (pieces : List (Vec ℕ Global)) (i : ℕ) (piece : Vec ℕ Global) (now : List ℕ) → i < length pieces → piece ≡ get_or pieces i piece → now ≡ f piece → 0 < length now → 0 < length (flat_map f pieces)
+piece_some f pieces i piece now within is e some =
+    let long = length-flat_map-take f pieces i piece within in
+    let here : length now ≡ length (f (get_or pieces i piece)) = ap length e ∙ ap (λ (p : Vec ℕ Global). length (f p)) is in
+    omega (arith, long, here, some)
+
+pub on_err : {X Y Z : Type 0} (r : Result X Y) → Z → OnErr r Z
+on_err (Ok x) z = tt
+on_err (Err y) z = z

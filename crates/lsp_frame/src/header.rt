@@ -1,6 +1,6 @@
 //! A header that is coming in, line by line.
 
-ghost use Rattle.std.specs.Prelude.{◌≡◌, ◌≢◌, ◌+◌, ◌-◌, ◌<◌, ◌≤◌, ◌^◌, ℕ, false, [], ◌++◌, length, take, slice_index, IfOk, IfErr, OnOk, OnErr};
+ghost use Rattle.std.specs.Prelude.{◌≡◌, ◌≢◌, ◌+◌, ◌-◌, ◌<◌, ◌≤◌, ◌^◌, ℕ, false, [], ◌++◌, length, take, slice_index, IfOk, IfErr, OnOk, OnErr, vec_len, vec_capacity};
 ghost use Rattle.lsp_frame.specs.Header.{Line, IsLine, line_bytes};
 ghost use Rattle.lsp_frame.specs.Progress.{IsSoFar, IsLineStop, IsHeaderStop, is_over, stopped_at};
 ghost use Rattle.lsp_frame.specs.declared.shape.Shape.TheVariants as shape;
@@ -111,6 +111,10 @@ fn take_line(
     ensures line_start { OnOk result (header.new.shape ≢ shape.Whole) }
     ensures err { OnErr result (held.new.items ≡ held.old.items) }
     ensures fault { IfErr result (IsLineStop held.old.items window.now) }
+    // Out of memory only where room was missing.
+    ensures full { IfErr result (λ why. why ≡ Stop.NoMemory →
+        vec_capacity held.old < vec_len held.old + length window.now) }
+    ensures capacity { vec_capacity held.old ≤ vec_capacity held.new }
 {
     let end = line_len(window);
     let piece = &window[..end];
@@ -147,6 +151,10 @@ pub(crate) fn take_header(
         (k ≡ length piece.now) × (is_over header.new.shape ≡ false) × (length held.new.items < 8192)) }
     ensures err { OnErr result ((n : ℕ) × (held.new.items ≡ held.old.items ++ take n piece.now)) }
     ensures fault { IfErr result (IsHeaderStop max_body (held.old.items ++ piece.now)) }
+    // Out of memory only where room was missing.
+    ensures full { IfErr result (λ why. why ≡ Stop.NoMemory →
+        vec_capacity held.old < vec_len held.old + length piece.now) }
+    ensures capacity { vec_capacity held.old ≤ vec_capacity held.new }
 {
     let mut at = 0;
     while at < piece.len() && !header.shape.is_end() {

@@ -25,4 +25,4 @@ pub use framer::Framer;
 pub use laws::frame_laws;
 pub use limits::{BadLimits, Limits};
 pub use stream::{Frames, read_frames};
-pub use written::{EncodeFault, encode, frame};
+pub use written::{EncodeFault, MOST_HEADER, encode, frame, put_header};

@@ -1,6 +1,6 @@
 //! The stages of a frame that is coming in.
 
-ghost use Rattle.std.specs.Prelude.{◌≡◌, ◌+◌, ◌<◌, ◌≤◌, ◌^◌, ℕ, [], ◌++◌, length, take, IfOk, IfErr, OnOk, OnErr, IsOkAnd, Ok, false};
+ghost use Rattle.std.specs.Prelude.{◌≡◌, ◌+◌, ◌<◌, ◌≤◌, ◌^◌, ℕ, [], ◌++◌, length, take, IfOk, IfErr, OnOk, OnErr, IsOkAnd, Ok, false, vec_len, vec_capacity};
 ghost use Rattle.lsp_frame.specs.Stream.{IsFrame};
 ghost use Rattle.lsp_frame.specs.Progress.{IsWhole, IsInHeader, IsInBody, IsAtStage, IsHeaderStop, BeginsWritten, has_failed, stage_after};
 ghost use Rattle.lsp_frame.specs.declared.header.Stop.TheVariants as stop;
@@ -53,6 +53,9 @@ pub(crate) fn take_piece(
     ensures err { OnErr result (held.new.items ≡ held.old.items) }
     ensures after { IfErr result (λ why. stage.new ≡ stage_after stage.old why) }
     ensures fault { IfErr result (IsHeaderStop max_body (held.old.items ++ piece.now)) }
+    // Out of memory only where room was missing.
+    ensures full { IfErr result (λ why. why ≡ stop.NoMemory →
+        vec_capacity held.old < vec_len held.old + length piece.now) }
 {
     match *stage {
         Stage::Header(header) => match take_from_header(held, header, piece, max_body) {
@@ -88,6 +91,9 @@ fn take_from_header(
     ensures empty { length piece.now ≡ 0 → IsOkAnd result (λ got. got.0 ≡ 0) }
     ensures err { OnErr result (held.new.items ≡ held.old.items) }
     ensures fault { IfErr result (IsHeaderStop max_body (held.old.items ++ piece.now)) }
+    // Out of memory only where room was missing.
+    ensures full { IfErr result (λ why. why ≡ stop.NoMemory →
+        vec_capacity held.old < vec_len held.old + length piece.now) }
 {
     if piece.is_empty() {
         return Ok((0, Stage::Header(header)));
@@ -134,6 +140,7 @@ fn take_written(
     ensures sound { IfOk result (λ got. has_failed got.1 ≡ false) }
     ensures stops { IfOk result (λ got. got.0 < length piece.now → IsFrame max_body held.new.items) }
     ensures err { IfErr result (λ why. (held.new.items ≡ held.old.items) × (why ≡ stop.NoMemory)) }
+    ensures full { OnErr result (vec_capacity held.old < vec_len held.old + length piece.now) }
 {
     let start = header.len;
     let end = start + header.body;
@@ -160,6 +167,9 @@ fn begin_body(
     ensures stops { IfOk result (λ got. got.0 < length rest.now → IsFrame max_body held.new.items) }
     ensures err { OnErr result (held.new.items ≡ held.old.items) }
     ensures fault { IfErr result (IsHeaderStop max_body (held.old.items ++ rest.now)) }
+    // Out of memory only where room was missing.
+    ensures full { IfErr result (λ why. why ≡ stop.NoMemory →
+        vec_capacity held.old < vec_len held.old + length rest.now) }
 {
     let start = held.len();
     let wanted = match notes.verdict() {
@@ -190,6 +200,7 @@ fn take_body(
     ensures quiet { length held.old.items ≡ end → result ≡ Ok 0 }
     ensures empty { length piece.now ≡ 0 → result ≡ Ok 0 }
     ensures err { IfErr result (λ why. (held.new.items ≡ held.old.items) × (why ≡ stop.NoMemory)) }
+    ensures full { OnErr result (vec_capacity held.old < vec_len held.old + length piece.now) }
 {
     let body = first(piece, end - held.len());
     if body.is_empty() {

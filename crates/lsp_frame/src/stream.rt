@@ -1,6 +1,6 @@
 //! The frames of a whole stream.
 
-ghost use Rattle.std.specs.Prelude.{◌≡◌, ◌≢◌, ◌++◌, ℕ, List, Option, false, map, drop, IfOk, OnOk, OnErr, MatchOption};
+ghost use Rattle.std.specs.Prelude.{◌≡◌, ◌≢◌, ◌<◌, ◌++◌, ℕ, List, [], Option, false, length, map, IfOk, OnOk, OnErr, MatchOption};
 ghost use Rattle.std.specs.List.{flat_map};
 ghost use Rattle.lsp_frame.specs.Stream.{IsRead, IsHolding, IsBehind, IsFaulty, IsFrame};
 ghost use Rattle.lsp_frame.specs.declared.fault.FrameFault.{FrameFault};
@@ -29,21 +29,37 @@ pub fn read_frames(alloc: Global, limits: Limits, pieces: &[Vec<u8>]) -> Result<
     ensures only { IfOk result (λ frames. (bodies : List (List ℕ)) (fault : Option FrameFault) →
         IsRead limits.max_body (flat_map (λ piece. piece.items) pieces.now) bodies fault →
         (map (λ body. body.items) frames.bodies.items ≡ bodies) × (frames.fault ≡ fault)) }
+    // Memory runs out only where there is a byte to take.
+    ensures memory { OnErr result (0 < length (flat_map (λ piece. piece.items) pieces.now)) }
 {
     let mut framer = Framer::new(alloc, limits);
     let mut bodies = Vec::new(alloc);
+    let fault = take_pieces(alloc, &mut framer, pieces, &mut bodies)?;
+    Ok(Frames { bodies, fault })
+}
+
+/// Takes the frames of these pieces, up to a fault.
+fn take_pieces(
+    alloc: Global,
+    framer: &mut Framer,
+    pieces: &[Vec<u8>],
+    bodies: &mut Vec<Vec<u8>>,
+) -> Result<Option<FrameFault>, AllocError>
+    requires none { IsFrame framer.old.limits.max_body framer.old.held → ⊥ }
+    requires sound { framer.old.failed ≡ false }
+    ensures read { IfOk result (λ fault. (max_body : ℕ) →
+        IsBehind max_body [] (map (λ body. body.items) bodies.old.items) framer.old →
+        IsRead max_body (flat_map (λ piece. piece.items) pieces.now) (map (λ body. body.items) bodies.new.items) fault) }
+    // Out of memory only where no fault was found, and there was a byte.
+    ensures memory { OnErr result (framer.new.failed ≡ false) }
+    ensures some { OnErr result (0 < length (flat_map (λ piece. piece.items) pieces.now)) }
+{
     for piece in pieces {
-        if let Some(fault) = take_frames(alloc, &mut framer, piece, &mut bodies)? {
-            return Ok(Frames {
-                bodies,
-                fault: Some(fault),
-            });
+        if let Some(fault) = take_frames(alloc, framer, piece, bodies)? {
+            return Ok(Some(fault));
         }
     }
-    Ok(Frames {
-        bodies,
-        fault: None,
-    })
+    Ok(None)
 }
 
 /// A fault of a stream; out of memory is none.
@@ -75,6 +91,7 @@ fn take_frames(
         (IsFaulty max_body (stream ++ piece.now) (map (λ body. body.items) bodies.new.items))) }
     // Out of memory only where no fault was found.
     ensures memory { OnErr result (framer.new.failed ≡ false) }
+    ensures some { OnErr result (0 < length piece.now) }
 {
     let mut at = 0;
     while at < piece.len() {

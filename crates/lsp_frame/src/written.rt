@@ -1,6 +1,6 @@
 //! The one spelling in which frames are written, and most are read.
 
-ghost use Rattle.std.specs.Prelude.{◌≡◌, ◌<◌, ◌≤◌, ◌^◌, ℕ, true, false, length, take, slice_index, IfOk, IfErr, OnOk, IfSome, IfNone, Err};
+ghost use Rattle.std.specs.Prelude.{◌≡◌, ◌<◌, ◌≤◌, ◌^◌, ◌+◌, ◌-◌, ◌++◌, ℕ, true, false, length, take, drop, slice_index, IfOk, IfErr, OnOk, IfSome, IfNone, Err};
 ghost use Rattle.std.specs.List.{list_all};
 ghost use Rattle.lsp_frame.specs.Frame.{frame, Spells};
 ghost use Rattle.lsp_frame.specs.Verdict.{is_digit};
@@ -44,6 +44,43 @@ fn written_bytes(alloc: Global, body: &[u8]) -> Result<Vec<u8>, AllocError>
 const NAME: &[u8] = b"Content-Length: ";
 
 const END: &[u8] = b"\r\n\r\n";
+
+/// The most bytes that a written header has: a length has at most 20 digits.
+pub const MOST_HEADER: usize = 40;
+
+/// Makes a frame of the body that a buffer has from an index on: its header is written right before it, over what is there. Returns the
+/// index where the frame begins.
+///
+/// Takes no memory, and the body isn't moved.
+#[tactic(auto, unfolding(crate::specs::Frame::frame))]
+pub fn put_header(bytes: &mut [u8], body: usize) -> usize
+    requires room { MOST_HEADER ≤ body }
+    requires within { body ≤ length bytes.old }
+    ensures framed { drop result bytes.new ≡ frame (drop body bytes.old) }
+    ensures before { take result bytes.new ≡ take result bytes.old }
+    ensures len { length bytes.new ≡ length bytes.old }
+    ensures begins { (result ≤ body) × (body ≤ result + MOST_HEADER) }
+{
+    let mut buffer = Buffer::new();
+    let length = buffer.format(bytes.len() - body).as_bytes();
+    let end = put_before(bytes, body, END);
+    let digits = put_before(bytes, end, length);
+    put_before(bytes, digits, NAME)
+}
+
+/// Writes some bytes right before an index, over what is there. Returns the index where they begin.
+fn put_before(bytes: &mut [u8], index: usize, new: &[u8]) -> usize
+    requires room { length new.now ≤ index }
+    requires within { index ≤ length bytes.old }
+    ensures put { drop result bytes.new ≡ new.now ++ drop index bytes.old }
+    ensures before { take result bytes.new ≡ take result bytes.old }
+    ensures len { length bytes.new ≡ length bytes.old }
+    ensures begins { result ≡ index - length new.now }
+{
+    let start = index - new.len();
+    bytes[start..index].copy_from_slice(new);
+    start
+}
 
 /// The most digits of a length that are read at once. No limit on a body has more.
 const MOST_DIGITS: usize = 10;

@@ -1,12 +1,54 @@
--- When memory is taken for the changes of a message.
-use Rattle.std.proofs.Common.{◌<◌, List, [], ◌∷◌, length, vec_len, Vec, Global, arith}
-use Rattle.serde_json.specs.View.{items_view}
+-- Which values are changes, by a look at them, and that some are there where memory is taken for them.
+use Rattle.std.proofs.Common.{◌≡◌, ◌<◌, ℕ, true, ◌&&◌, List, [], ◌∷◌, length, codes, Option, None, Some, option_and_then, ap, sym, ◌∙◌, refl, arith}
+use Rattle.std.specs.Prelude.{ℤ, is_some, IsSomeAnd}
+use Rattle.std.specs.List.{list_all}
+use Rattle.lsp_text.specs.declared.position.Range.{Range}
+use Rattle.serde_json.specs.Data.{Data, null, boolean, number, string, array, object}
+use Rattle.serde_json.specs.Find.{get, get_member}
+use Rattle.serde_json.specs.View.{view, items_view}
 use Rattle.serde_json.specs.declared.value.Value.{Value}
-use Rattle.lsp_message.specs.Params.{HasChange}
+use Rattle.lsp_message.specs.Values.{text_in}
+use Rattle.lsp_message.specs.Params.{EditData, ChangeData, HasChanges, edit_in, edits_in, range_of}
 
-has_change_of : (values : List Value) → 0 < length values → HasChange (items_view values)
-has_change_of [] some = absurd (omega arith)
-has_change_of (value ∷ values) some = tt
+both_there : (text : Option (List ℕ)) (range : Option (Option Range)) →
+    is_some (option_and_then (λ t. option_and_then (λ (r : Option Range). Some (let e : EditData = record { range = r; text = t } in e)) range) text) ≡ (is_some text && is_some range)
+both_there None range = refl
+both_there (Some t) None = refl
+both_there (Some t) (Some r) = refl
 
-pub has_change : (values : Vec Value Global) → 0 < vec_len values → HasChange (items_view values.items)
-has_change values some = has_change_of values.items (omega (arith, values.ok, some))
+pub edit_there : (d : Data) → is_some (edit_in d) ≡ (is_some (text_in (get (codes "text") d)) && is_some (range_of (get (codes "range") d)))
+edit_there null = refl
+edit_there (boolean b) = refl
+edit_there (number n) = refl
+edit_there (string s) = refl
+edit_there (array ds) = refl
+edit_there (object ms) = both_there (text_in (get_member (codes "text") ms)) (range_of (get_member (codes "range") ms))
+
+one_more : (edit : Option EditData) (edits : Option (List EditData)) →
+    is_some (option_and_then (λ e. option_and_then (λ es. Some (e ∷ es)) edits) edit) ≡ (is_some edit && is_some edits)
+one_more None edits = refl
+one_more (Some e) None = refl
+one_more (Some e) (Some es) = refl
+
+pub edits_there : (values : List Value) → list_all (λ v. is_some (edit_in (view v))) values ≡ is_some (edits_in (items_view values))
+edits_there [] = refl
+edits_there (value ∷ values) =
+    ap (λ b. is_some (edit_in (view value)) && b) (edits_there values) ∙ sym (one_more (edit_in (view value)) (edits_in (items_view values)))
+
+some_more : (edit : Option EditData) (edits : Option (List EditData)) →
+    is_some (option_and_then (λ e. option_and_then (λ es. Some (e ∷ es)) edits) edit) ≡ true →
+    IsSomeAnd (option_and_then (λ e. option_and_then (λ es. Some (e ∷ es)) edits) edit) (λ es. 0 < length es)
+some_more None edits there = cc
+some_more (Some e) None there = cc
+some_more (Some e) (Some es) there = omega arith
+
+pub has_edits : (values : List Value) → 0 < length values → is_some (edits_in (items_view values)) ≡ true → IsSomeAnd (edits_in (items_view values)) (λ es. 0 < length es)
+has_edits [] some there = absurd (omega arith)
+has_edits (value ∷ values) some there = some_more (edit_in (view value)) (edits_in (items_view values)) there
+
+pub has_changes : (uri : Option (List ℕ)) (version : Option ℤ) (edits : Option (List EditData)) → is_some uri ≡ true → is_some version ≡ true → IsSomeAnd edits (λ es. 0 < length es) →
+    IsSomeAnd (option_and_then (λ u. option_and_then (λ v. option_and_then (λ es. Some (let c : ChangeData = record { uri = u; version = v; changes = es } in c)) edits) version) uri) HasChanges
+has_changes None version edits there known some = cc
+has_changes (Some u) None edits there known some = cc
+has_changes (Some u) (Some v) None there known some = some
+has_changes (Some u) (Some v) (Some es) there known some = some

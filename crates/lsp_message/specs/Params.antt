@@ -1,6 +1,6 @@
 -- The typed parameters of the three document messages (LSP 3.17, DidOpen, DidChange, DidClose Text Document Notification). A member
 -- that isn't named here is ignored; a wrong type, a missing member or a number out of range gives none.
-use Rattle.std.specs.Prelude.{ℕ, ◌^◌, ℤ, pos, negsuc, int_lt, List, [], ◌∷◌, Option, Some, None, option_map, option_and_then, codes, nat_lt, ◌||◌, if◌then◌else◌, ⊤, IsSome, IsSomeAnd}
+use Rattle.std.specs.Prelude.{ℕ, ◌^◌, ℤ, pos, negsuc, int_lt, List, [], ◌∷◌, Option, Some, None, option_map, option_and_then, codes, nat_lt, ◌||◌, if◌then◌else◌, ◌<◌, length, IsSomeAnd}
 use Rattle.serde_json.specs.Data.{Data, Items, no_items, item, Members}
 use Rattle.serde_json.specs.Find.{get_member, as_object}
 use Rattle.lsp_text.specs.declared.position.Position.{Position}
@@ -105,17 +105,15 @@ document_and_changes params = do
 abbrev pub change_of : Option Data → Option ChangeData
 change_of params = option_and_then (λ p. change_by p.0 p.1) (document_and_changes params)
 
-abbrev pub HasChange : Items → Type 0
-HasChange no_items = ⊥
-HasChange (item d ds) = ⊤
+-- Memory is taken for the changes alone, and only where the params are good and there are some.
+abbrev pub HasChanges : ChangeData → Type 0
+HasChanges change = 0 < length change.changes
 
--- Memory is taken for the changes alone, and only where there are some and the document has a URI and a version.
 abbrev pub TakesMemoryBy : Members → Items → Type 0
-TakesMemoryBy document changes =
-    IsSome (text_in (get_member (codes "uri") document)) × IsSome (version_in (get_member (codes "version") document)) × HasChange changes
+TakesMemoryBy document changes = IsSomeAnd (change_by document changes) HasChanges
 
 abbrev pub TakesMemory : Option Data → Type 0
-TakesMemory params = IsSomeAnd (document_and_changes params) (λ p. TakesMemoryBy p.0 p.1)
+TakesMemory params = IsSomeAnd (change_of params) HasChanges
 
 abbrev pub close_by : Members → Option CloseData
 close_by document = option_map (λ uri. record { uri = uri }) (text_in (get_member (codes "uri") document))

@@ -1,5 +1,5 @@
 -- What the types of `src/` are in the definitions.
-use Rattle.std.specs.Prelude.{◌≡◌, ◌≢◌, ◌<◌, ℕ, List, length, slice_index, map, option_map, string_bytes, Result, Ok, Err}
+use Rattle.std.specs.Prelude.{◌≡◌, ◌≢◌, ◌<◌, ℕ, ℤ, List, length, slice_index, map, option_map, string_bytes, Result, Ok, Err}
 use Rattle.serde_json.specs.Errors.{IsMemory}
 use Rattle.serde_json.specs.View.{view}
 use Rattle.serde_json.specs.declared.error.Error.{Error}
@@ -42,6 +42,13 @@ edit_view c = record { range = c.range; text = string_bytes c.text }
 
 abbrev pub change_view : ChangeParams → ChangeData
 change_view p = record { uri = string_bytes p.uri; version = p.version; changes = map edit_view p.changes.items }
+
+-- The parameters of a change of a document, and its message.
+abbrev pub change_data : List ℕ → ℤ → List Change → ChangeData
+change_data uri version changes = record { uri = uri; version = version; changes = map edit_view changes }
+
+abbrev pub change_message : List ℕ → ℤ → List Change → out.OutgoingData
+change_message uri version changes = out.did_change (change_data uri version changes)
 
 abbrev pub close_view : CloseParams → CloseData
 close_view p = record { uri = string_bytes p.uri }

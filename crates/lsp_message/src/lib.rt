@@ -26,4 +26,4 @@ pub use outgoing::{ErrorCode, Outgoing};
 pub use params::{
     ChangeParams, CloseParams, OpenParams, ParamsFault, params_change, params_close, params_open,
 };
-pub use writer::write;
+pub use writer::{push_change, write};

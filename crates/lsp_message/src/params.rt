@@ -1,9 +1,12 @@
 //! The typed parameters of the three document messages (LSP 3.17, DidOpen, DidChange, DidClose Text Document Notification).
 
-ghost use Rattle.std.specs.Prelude.{◌≡◌, ◌<◌, ◌≤◌, [], None, Some, IfOk, IfErr, map, option_map, Err, vec_len, vec_capacity};
+ghost use Rattle.std.specs.Prelude.{◌≡◌, ◌<◌, ◌≤◌, [], None, Some, IfOk, IfErr, IsSome, map, option_map, is_some, codes, Err, vec_len, vec_capacity};
+ghost use Rattle.std.specs.List.{list_all};
 ghost use Rattle.serde_json.specs.View.{view, items_view, members_view};
+ghost use Rattle.serde_json.specs.Find.{get};
 ghost use Rattle.lsp_message.specs.declared.params.ParamsFault.TheVariants.{InvalidParams, NoMemory};
 ghost use Rattle.lsp_message.specs.Params.{open_of, change_of, close_of, open_by, edit_in, edits_in, document_in, document_and_changes, change_by, version_in, coordinate_in, position_in, range_in, range_of, TakesMemoryBy, TakesMemory};
+ghost use Rattle.lsp_message.specs.Values.{text_in};
 ghost use Rattle.lsp_message.specs.Seen.{open_view, change_view, close_view, edit_view};
 
 use crate::members::{array, member, object, take, text};
@@ -82,7 +85,7 @@ pub fn params_open(_alloc: Global, params: Option<Value>) -> Result<OpenParams, 
 
 /// Reads the params of a `textDocument/didChange`. The texts are moved out of them; nothing is copied.
 ///
-/// Refused as at `params_open`. Memory is taken for the list of changes alone, once the document's URI and version are read. Linear in
+/// Refused as at `params_open`. Memory is taken for the list of changes alone, once all of them are found good. Linear in
 /// the number of changes.
 pub fn params_change(alloc: Global, params: Option<Value>) -> Result<ChangeParams, ParamsFault>
     ensures ok { IfOk result (λ p. change_of (option_map view params) ≡ Some (change_view p)) }
@@ -167,8 +170,8 @@ fn range_in(value: &Value) -> Option<Range>
 }
 
 /// The range of a change: `Some(None)` where it has none and stands for the whole text.
-fn range_of(value: Option<Value>) -> Option<Option<Range>>
-    ensures { result ≡ range_of (option_map view value) }
+fn range_of(value: Option<&Value>) -> Option<Option<Range>>
+    ensures { result ≡ range_of (option_map (λ v. view v.now) value.entry) }
 {
     let Some(value) = value else {
         return Some(None);
@@ -176,7 +179,7 @@ fn range_of(value: Option<Value>) -> Option<Option<Range>>
     if value.is_null() {
         return Some(None);
     }
-    range_in(&value).map(Some)
+    range_in(value).map(Some)
 }
 
 fn edit_in(value: Value) -> Option<Change>
@@ -184,8 +187,30 @@ fn edit_in(value: Value) -> Option<Change>
 {
     let mut members = object(Some(value))?;
     let text = text(take(&mut members, "text"))?;
-    let range = range_of(take(&mut members, "range"))?;
+    let range = range_of(take(&mut members, "range").as_ref())?;
     Some(Change { range, text })
+}
+
+/// Is a value a change? It is only looked at.
+fn is_edit(value: &Value) -> bool
+    ensures { result ≡ is_some (edit_in (view value.now)) }
+{
+    has_text(value) && range_of(value.get("range")).is_some()
+}
+
+fn has_text(value: &Value) -> bool
+    ensures { result ≡ is_some (text_in (get (codes "text") (view value.now))) }
+{
+    match value.get("text") {
+        Some(text) => text.is_string(),
+        None => false,
+    }
+}
+
+fn are_edits(values: &[Value]) -> bool
+    ensures { result ≡ list_all (λ v. is_some (edit_in (view v))) values.now }
+{
+    values.iter().all(|value| is_edit(value))
 }
 
 fn change_by(
@@ -220,11 +245,17 @@ fn document_and_changes(params: Option<Value>) -> Option<(Map<String, Value>, Ve
     Some((document, changes))
 }
 
+/// The changes that values are. They are looked at before memory is taken.
+#[tactic(auto, using(crate::proofs::Memory::edits_there))]
 fn edits_in(alloc: Global, values: Vec<Value>) -> Result<Vec<Change>, ParamsFault>
     ensures ok { IfOk result (λ changes. edits_in (items_view values.items) ≡ Some (map edit_view changes.items)) }
     ensures invalid { result ≡ Err ParamsFault.InvalidParams → edits_in (items_view values.items) ≡ None }
     ensures memory { result ≡ Err ParamsFault.NoMemory → 0 < vec_len values }
+    ensures good { result ≡ Err ParamsFault.NoMemory → IsSome (edits_in (items_view values.items)) }
 {
+    if !are_edits(&values) {
+        return Err(ParamsFault::InvalidParams);
+    }
     let changes = Vec::with_capacity(alloc, values.len())?;
     edits_into(changes, values).ok_or(ParamsFault::InvalidParams)
 }

@@ -1,23 +1,24 @@
 //! The one text of each message, written a token at a time.
 
-ghost use Rattle.std.specs.Prelude.{◌≡◌, ◌∷◌, ◌++◌, [], IfOk, OnOk, map, option_map, string_bytes, codes, decimal};
+ghost use Rattle.std.specs.Prelude.{◌≡◌, ◌∷◌, ◌++◌, [], IfOk, OnErr, OnOk, map, option_map, string_bytes, codes, decimal};
 ghost use Rattle.std.specs.Fmt.{signed_decimal};
 ghost use Rattle.json.specs.Token as token;
 ghost use Rattle.serde_json.specs.Data.{array};
 ghost use Rattle.serde_json.specs.View.{items_of};
 ghost use Rattle.lsp_message.specs.Outgoing as spec;
 ghost use Rattle.lsp_message.specs.Sent.{IsProper, IsReadAsSent, IsReadBack};
-ghost use Rattle.lsp_message.specs.Seen.{id_view, open_view, edit_view, change_view, close_view, outgoing_view};
+ghost use Rattle.lsp_message.specs.Seen.{id_view, open_view, edit_view, change_data, change_message, close_view, outgoing_view};
 ghost use Rattle.lsp_message.specs.Tokens.{Appends, tokens_of, version_tokens, offer_tokens, range_tokens};
 
 use crate::agreement::{Offers, SyncKind};
 use crate::message::Id;
 use crate::outgoing::{ErrorCode, Outgoing};
-use crate::params::{ChangeParams, CloseParams, OpenParams};
+use crate::params::{CloseParams, OpenParams};
 use json::Writer;
 use lsp_edit::Change;
 use lsp_text::{Encoding, Position, Range};
 use std::alloc::{AllocError, Global};
+use std::mem;
 
 /// Most messages fit into this many bytes.
 const USUAL_LENGTH: usize = 256;
@@ -40,6 +41,35 @@ pub fn write(alloc: Global, message: &Outgoing) -> Result<Vec<u8>, AllocError>
     Ok(writer.into_inner())
 }
 
+/// Appends the body of a `textDocument/didChange`, as [`write`] makes it, whose URI and changes are borrowed.
+///
+/// Fails only where memory runs out, and then the bytes stay as they were. Linear in the body; no text is copied but into it. What holds
+/// of a body that [`write`] makes holds of this one.
+pub fn push_change(
+    bytes: &mut Vec<u8>,
+    uri: &str,
+    version: i32,
+    changes: &[Change],
+) -> Result<(), AllocError>
+    ensures ok { OnOk result (bytes.new.items
+        ≡ bytes.old.items ++ spec.body_of (change_message uri.now version changes.now)) }
+    ensures unchanged { OnErr result (bytes.new.items ≡ bytes.old.items) }
+    ensures read_as { (m : spec.OutgoingData) → IsProper m → IsReadAsSent m }
+    ensures read_back { (m : spec.OutgoingData) → IsProper m → IsReadBack m }
+    ensures unique { (m n : spec.OutgoingData) → IsProper m → IsProper n
+        → spec.body_of m ≡ spec.body_of n → m ≡ n }
+{
+    let alloc = *bytes.allocator();
+    let len = bytes.len();
+    let mut writer = Writer::new(mem::replace(bytes, Vec::new(alloc)));
+    let written = write_change(&mut writer, uri, version, changes);
+    *bytes = writer.into_inner();
+    if written.is_err() {
+        bytes.truncate(len);
+    }
+    written
+}
+
 fn write_message(writer: &mut Writer, message: &Outgoing) -> Result<(), AllocError>
     ensures { OnOk result (Appends writer.old writer.new (tokens_of (spec.value_of (outgoing_view message.now)))) }
 {
@@ -47,7 +77,9 @@ fn write_message(writer: &mut Writer, message: &Outgoing) -> Result<(), AllocErr
         Outgoing::Initialize(offers) => write_initialize(writer, *offers),
         Outgoing::Initialized => write_initialized(writer),
         Outgoing::DidOpen(params) => write_open(writer, params),
-        Outgoing::DidChange(params) => write_change(writer, params),
+        Outgoing::DidChange(params) => {
+            write_change(writer, params.uri.as_str(), params.version, &params.changes)
+        }
         Outgoing::DidClose(params) => write_close(writer, params),
         Outgoing::Shutdown => write_shutdown(writer),
         Outgoing::Exit => write_exit(writer),
@@ -91,13 +123,20 @@ fn write_open(writer: &mut Writer, params: &OpenParams) -> Result<(), AllocError
     writer.end_object()
 }
 
-fn write_change(writer: &mut Writer, params: &ChangeParams) -> Result<(), AllocError>
-    ensures { OnOk result (Appends writer.old writer.new (tokens_of (spec.value_of (spec.did_change (change_view params.now))))) }
+fn write_change(
+    writer: &mut Writer,
+    uri: &str,
+    version: i32,
+    changes: &[Change],
+) -> Result<(), AllocError>
+    ensures tokens { OnOk result (Appends writer.old writer.new
+        (tokens_of (spec.value_of (change_message uri.now version changes.now)))) }
+    ensures before { writer.new.before ≡ writer.old.before }
 {
     writer.begin_object()?;
     call_members(writer, "textDocument/didChange")?;
     writer.key("params")?;
-    change_params(writer, params)?;
+    change_params(writer, uri, version, changes)?;
     writer.end_object()
 }
 
@@ -205,30 +244,34 @@ fn write_id_or_null(writer: &mut Writer, id: &Option<Id>) -> Result<(), AllocErr
 
 /// The members that begin each call but for its id.
 fn call_members(writer: &mut Writer, method: &str) -> Result<(), AllocError>
-    ensures { OnOk result (Appends writer.old writer.new
+    ensures tokens { OnOk result (Appends writer.old writer.new
         (version_tokens ++ token.key (codes "method") ∷ token.string method.now ∷ [])) }
+    ensures before { writer.new.before ≡ writer.old.before }
 {
     text_member(writer, "jsonrpc", "2.0")?;
     text_member(writer, "method", method)
 }
 
 fn text_member(writer: &mut Writer, name: &str, text: &str) -> Result<(), AllocError>
-    ensures { OnOk result (Appends writer.old writer.new (token.key name.now ∷ token.string text.now ∷ [])) }
+    ensures tokens { OnOk result (Appends writer.old writer.new (token.key name.now ∷ token.string text.now ∷ [])) }
+    ensures before { writer.new.before ≡ writer.old.before }
 {
     writer.key(name)?;
     writer.string(text)
 }
 
 fn number_member(writer: &mut Writer, name: &str, number: u32) -> Result<(), AllocError>
-    ensures { OnOk result (Appends writer.old writer.new (token.key name.now ∷ token.number (decimal number) ∷ [])) }
+    ensures tokens { OnOk result (Appends writer.old writer.new (token.key name.now ∷ token.number (decimal number) ∷ [])) }
+    ensures before { writer.new.before ≡ writer.old.before }
 {
     writer.key(name)?;
     writer.u64(u64::from(number))
 }
 
 fn integer_member(writer: &mut Writer, name: &str, number: i32) -> Result<(), AllocError>
-    ensures { OnOk result (Appends writer.old writer.new
+    ensures tokens { OnOk result (Appends writer.old writer.new
         (token.key name.now ∷ token.number (signed_decimal number) ∷ [])) }
+    ensures before { writer.new.before ≡ writer.old.before }
 {
     writer.key(name)?;
     writer.i64(i64::from(number))
@@ -304,19 +347,27 @@ fn opened_document(writer: &mut Writer, params: &OpenParams) -> Result<(), Alloc
     writer.end_object()
 }
 
-fn change_params(writer: &mut Writer, params: &ChangeParams) -> Result<(), AllocError>
-    ensures { OnOk result (Appends writer.old writer.new (tokens_of (spec.change_params (change_view params.now)))) }
+fn change_params(
+    writer: &mut Writer,
+    uri: &str,
+    version: i32,
+    changes: &[Change],
+) -> Result<(), AllocError>
+    ensures tokens { OnOk result (Appends writer.old writer.new
+        (tokens_of (spec.change_params (change_data uri.now version changes.now)))) }
+    ensures before { writer.new.before ≡ writer.old.before }
 {
     writer.begin_object()?;
     writer.key("contentChanges")?;
-    edits_value(writer, &params.changes)?;
+    edits_value(writer, changes)?;
     writer.key("textDocument")?;
-    versioned_document(writer, params.uri.as_str(), params.version)?;
+    versioned_document(writer, uri, version)?;
     writer.end_object()
 }
 
 fn versioned_document(writer: &mut Writer, uri: &str, version: i32) -> Result<(), AllocError>
-    ensures { OnOk result (Appends writer.old writer.new (tokens_of (spec.versioned_document uri.now version))) }
+    ensures tokens { OnOk result (Appends writer.old writer.new (tokens_of (spec.versioned_document uri.now version))) }
+    ensures before { writer.new.before ≡ writer.old.before }
 {
     writer.begin_object()?;
     text_member(writer, "uri", uri)?;
@@ -342,8 +393,9 @@ fn closed_document(writer: &mut Writer, uri: &str) -> Result<(), AllocError>
 }
 
 fn edits_value(writer: &mut Writer, changes: &[Change]) -> Result<(), AllocError>
-    ensures { OnOk result (Appends writer.old writer.new
+    ensures tokens { OnOk result (Appends writer.old writer.new
         (tokens_of (array (items_of (map spec.edit_value (map edit_view changes.now)))))) }
+    ensures before { writer.new.before ≡ writer.old.before }
 {
     writer.begin_array()?;
     for change in changes {
@@ -353,7 +405,8 @@ fn edits_value(writer: &mut Writer, changes: &[Change]) -> Result<(), AllocError
 }
 
 fn edit_value(writer: &mut Writer, change: &Change) -> Result<(), AllocError>
-    ensures { OnOk result (Appends writer.old writer.new (tokens_of (spec.edit_value (edit_view change.now)))) }
+    ensures tokens { OnOk result (Appends writer.old writer.new (tokens_of (spec.edit_value (edit_view change.now)))) }
+    ensures before { writer.new.before ≡ writer.old.before }
 {
     writer.begin_object()?;
     range_member(writer, change.range)?;
@@ -362,7 +415,8 @@ fn edit_value(writer: &mut Writer, change: &Change) -> Result<(), AllocError>
 }
 
 fn range_member(writer: &mut Writer, range: Option<Range>) -> Result<(), AllocError>
-    ensures { OnOk result (Appends writer.old writer.new (range_tokens range)) }
+    ensures tokens { OnOk result (Appends writer.old writer.new (range_tokens range)) }
+    ensures before { writer.new.before ≡ writer.old.before }
 {
     let Some(range) = range else {
         return Ok(());
@@ -372,7 +426,8 @@ fn range_member(writer: &mut Writer, range: Option<Range>) -> Result<(), AllocEr
 }
 
 fn range_value(writer: &mut Writer, range: Range) -> Result<(), AllocError>
-    ensures { OnOk result (Appends writer.old writer.new (tokens_of (spec.range_value range))) }
+    ensures tokens { OnOk result (Appends writer.old writer.new (tokens_of (spec.range_value range))) }
+    ensures before { writer.new.before ≡ writer.old.before }
 {
     writer.begin_object()?;
     writer.key("end")?;
@@ -383,7 +438,8 @@ fn range_value(writer: &mut Writer, range: Range) -> Result<(), AllocError>
 }
 
 fn position_value(writer: &mut Writer, position: Position) -> Result<(), AllocError>
-    ensures { OnOk result (Appends writer.old writer.new (tokens_of (spec.position_value position))) }
+    ensures tokens { OnOk result (Appends writer.old writer.new (tokens_of (spec.position_value position))) }
+    ensures before { writer.new.before ≡ writer.old.before }
 {
     writer.begin_object()?;
     number_member(writer, "character", position.character)?;

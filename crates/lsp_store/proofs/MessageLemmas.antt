@@ -1,5 +1,5 @@
 -- The canonical message of a batch that is accepted on an open document.
-use Rattle.std.proofs.Common.{ℕ, ℤ, ◌≡◌, ◌<◌, ◌≤◌, ◌^◌, ◌↔◌, true, false, ◌||◌, nat_lt, int_le, List, [], ◌∷◌, length, map, sum_by, FitsSigned, IsUtf8, bytes_eq, string_bytes, encode_utf8_all, Option, Some, None, Result, Ok, Err, refl, sym, ap, ◌∙◌, subst, arith, ⊎_elim, inl, inr}
+use Rattle.std.proofs.Common.{ℕ, ℤ, ◌≡◌, ◌<◌, ◌≤◌, ◌^◌, ◌↔◌, true, false, ◌||◌, nat_lt, int_le, List, [], ◌∷◌, ◌++◌, length, map, sum_by, FitsSigned, IsUtf8, bytes_eq, string_bytes, encode_utf8_all, Option, Some, None, Result, Ok, Err, refl, sym, ap, ◌∙◌, subst, arith, ⊎_elim, inl, inr}
 use Rattle.std.proofs.lemmas.Bool.{cases_Bool, lt-ltb, le-ltb, ltb-false, or_parts, or_from}
 use Rattle.std.proofs.lemmas.List.Sums.{sum_by-le-sum_by}
 use Rattle.std.proofs.lemmas.Str.{IsUtf8-string_bytes, encodes-chars, encodes_same, scalars-chars}
@@ -24,6 +24,7 @@ use Rattle.lsp_edit.specs.Laws.{IsCanonical}
 use Rattle.lsp_message.specs.Outgoing.{OutgoingData, initialize, initialized, did_open, did_change, did_close, shutdown, exit, initialize_result, shutdown_result, error_reply, body_of}
 use Rattle.lsp_message.specs.Params.{EditData}
 use Rattle.lsp_message.specs.Seen.{edit_view}
+use Rattle.lsp_message.specs.Seen as seen
 use Rattle.lsp_message.specs.Sent.{IsProper, IsReadAsSent, IsReadBack}
 use Rattle.lsp_store.specs.declared.fault.StoreFault.{StoreFault}
 use Rattle.lsp_store.specs.declared.fault.StoreFault.TheVariants.{NoMemory}
@@ -45,6 +46,16 @@ pub body_written : (uri given : List ℕ) (version told : ℤ) (changes : List C
     → body_of (did_change (record { uri = uri; version = told; changes = map edit_view changes })) ≡ change_body given version (map edit_of changes)
 unfolding change_body
 body_written uri given version told changes same is = rw (same, is, written_same changes) refl
+
+-- what is appended, and what is written into an empty buffer
+pub body_pushed : (old new uri : List ℕ) (version told : ℤ) (changes : List Change) → new ≡ old ++ body_of (seen.change_message uri told changes) → told ≡ version
+    → new ≡ old ++ change_body uri version (map edit_of changes)
+body_pushed old new uri version told changes is same = is ∙ ap (λ body. old ++ body) (body_written uri uri version told changes refl same)
+
+pub body_begun : (old new uri : List ℕ) (version told : ℤ) (changes : List Change) → old ≡ [] → new ≡ old ++ body_of (seen.change_message uri told changes) → told ≡ version
+    → new ≡ change_body uri version (map edit_of changes)
+body_begun old new uri version told changes none is same =
+    body_pushed old new uri version told changes is same ∙ ap (λ front. front ++ change_body uri version (map edit_of changes)) none
 
 pub encode_refused : (limits : Bounds) (body : List ℕ) (fault : EncodeFault) → IsEncodeFault limits.max_body (length body) fault → IsRefusal (body_refusal limits body) (encode_told_as fault)
 encode_refused limits body (encode.BodyTooLong told) is = inr (rw (lt-ltb limits.max_body (length body) is.0, is.1) refl)

@@ -1,6 +1,6 @@
 //! The one message in which an accepted batch of changes is written.
 
-ghost use Rattle.std.specs.Prelude.{◌≡◌, ◌<◌, ◌≤◌, ◌↔◌, List, None, Err, IfErr, IfOk, OnOk, length, map};
+ghost use Rattle.std.specs.Prelude.{◌≡◌, ◌<◌, ◌≤◌, ◌↔◌, ◌++◌, List, None, Err, IfErr, IfOk, OnErr, OnOk, length, map};
 ghost use Rattle.lsp_frame.specs.Frame.{frame};
 ghost use Rattle.lsp_text.specs.Units.{units_in};
 ghost use Rattle.lsp_edit.specs.Batch.{Edit};
@@ -12,13 +12,13 @@ ghost use Rattle.lsp_store.specs.Faults.{IsRefusal};
 ghost use Rattle.lsp_store.specs.Opened.{MayTakeMemory};
 ghost use Rattle.lsp_store.specs.Table.{change_refusal};
 ghost use Rattle.lsp_store.specs.Message.{AreTexts, DoAlike, IsCanonicalOn, IsReadAs, IsSettled};
-ghost use Rattle.lsp_store.specs.Message.{body_refusal, canonical_batch, canonical_frame, change_body, message_refusal};
+ghost use Rattle.lsp_store.specs.Message.{body_refusal, canonical_batch, canonical_body, canonical_frame, change_body, message_refusal};
 
 use crate::fault::StoreFault;
 use crate::store::Store;
 use lsp_edit::Change;
 use lsp_frame::{Limits, encode};
-use lsp_message::{ChangeParams, Outgoing, write};
+use lsp_message::push_change;
 use lsp_text::Encoding;
 use std::alloc::Global;
 
@@ -33,6 +33,9 @@ pub fn may_be_written(limits: &Limits, changes: &[Change]) -> Result<(), StoreFa
     }
     Ok(())
 }
+
+/// Most messages fit into this many bytes.
+const USUAL_LENGTH: usize = 256;
 
 /// The frame of the `textDocument/didChange` of a batch.
 pub fn framed_change(
@@ -49,14 +52,35 @@ pub fn framed_change(
     ensures read_back { OnOk result ((m : OutgoingData) → IsProper m → IsReadBack m) }
     ensures unique { OnOk result ((m n : OutgoingData) → IsProper m → IsProper n → body_of m ≡ body_of n → m ≡ n) }
 {
-    let uri = String::from_str(alloc, uri)?;
-    let message = Outgoing::DidChange(ChangeParams {
-        uri,
-        version,
-        changes,
-    });
-    let body = write(alloc, &message)?;
+    let mut body = Vec::with_capacity(alloc, USUAL_LENGTH)?;
+    push_change(&mut body, uri, version, &changes)?;
     framed(alloc, limits, &body)
+}
+
+/// Appends the body of the `textDocument/didChange` of a batch, unless it is too long.
+fn push_body(
+    bytes: &mut Vec<u8>,
+    limits: &Limits,
+    uri: &str,
+    version: i32,
+    changes: Vec<Change>,
+) -> Result<(), StoreFault>
+    ensures body { OnOk result (bytes.new.items
+        ≡ bytes.old.items ++ change_body uri.now version (map edit_of changes.items)) }
+    ensures within { OnOk result
+        (body_refusal limits.now (change_body uri.now version (map edit_of changes.items)) ≡ None) }
+    ensures told { IfErr result
+        (IsRefusal (body_refusal limits.now (change_body uri.now version (map edit_of changes.items)))) }
+    ensures unchanged { OnErr result (bytes.new.items ≡ bytes.old.items) }
+{
+    let start = bytes.len();
+    push_change(bytes, uri, version, &changes)?;
+    let len = bytes.len() - start;
+    if len > limits.max_body() {
+        bytes.truncate(start);
+        return Err(StoreFault::BodyTooLong { len });
+    }
+    Ok(())
 }
 
 /// The frame of a body that was written. Out of memory only where the body isn't too long.
@@ -109,5 +133,32 @@ impl Store {
         let alloc = *self.documents.allocator();
         let bytes = framed_change(alloc, &self.limits, uri, version, changes)?;
         Ok(bytes)
+    }
+    /// Appends the body of that message, so that a caller can write its frame in place ([`lsp_frame::put_header`]). Refuses as
+    /// [`Store::canonical_message`] does, and then the bytes stay as they were. Costs the same, with no copy of the message.
+    pub fn push_canonical_body(
+        &self,
+        bytes: &mut Vec<u8>,
+        uri: &str,
+        version: i32,
+        encoding: Encoding,
+        changes: &[Change],
+    ) -> Result<(), StoreFault>
+        ensures body { OnOk result (bytes.new.items ≡ bytes.old.items
+            ++ canonical_body (units_in encoding) self.now.table uri.now version (map edit_of changes.now)) }
+        ensures accepted { OnOk result (message_refusal self.now.limits (units_in encoding) self.now.table
+            uri.now version (map edit_of changes.now) ≡ None) }
+        ensures told { IfErr result (IsRefusal (message_refusal self.now.limits (units_in encoding)
+            self.now.table uri.now version (map edit_of changes.now))) }
+        ensures unchanged { OnErr result (bytes.new.items ≡ bytes.old.items) }
+        ensures memory { result ≡ Err NoMemory
+            → MayTakeMemory self.now uri.now version (map edit_of changes.now) }
+    {
+        let Some(held) = self.documents.get(uri) else {
+            return Err(StoreFault::NotOpen);
+        };
+        let batch = held.canonical(&self.limits, version, encoding, changes)?;
+        push_body(bytes, &self.limits, uri, version, batch)?;
+        Ok(())
     }
 }

@@ -37,6 +37,7 @@ loop-at-preserved c =
       so_far = c.in-Ok.ensures.so_far;
       line_start = c.in-Ok.ensures.line_start;
       short = short;
+      capacity = omega (arith, c.loop-at.invariant.capacity, c.take_line.ensures.capacity);
       room = elim c.else-len-eq-LONGEST_HEADER.branch [
         | else-len-eq-LONGEST_HEADER-via-then-len-eq-LONGEST_HEADER+else-not-is_end-2 w ↦ λ ne. absurd (ne (w.if-not-is_end-2.ensures.0 refl))
         | else-len-eq-LONGEST_HEADER-via-else-len-eq-LONGEST_HEADER w ↦ λ ne. omega (arith, short, c.len-in-loop-at.ensures, w.if-len-eq-LONGEST_HEADER.false)

@@ -1,4 +1,4 @@
-use Rattle.std.proofs.Common.{◌≡◌, ◌≢◌, ◌-◌, ◌<◌, ◌≤◌, ◌++◌, length, take}
+use Rattle.std.proofs.Common.{◌≡◌, ◌≢◌, ◌-◌, ◌<◌, ◌≤◌, ◌++◌, length, take, vec_capacity}
 use Rattle.lsp_frame.specs.Progress.{IsSoFar}
 use Rattle.lsp_frame.specs.declared.shape.Shape.TheVariants as shape
 use Rattle.lsp_frame.proofs.header.take_header.Given as goal
@@ -10,6 +10,7 @@ invariant-loop-at l = record {
   so_far : IsSoFar l.max_body l.held.items l.header;
   line_start : l.header.shape ≢ shape.Whole;
   short : length l.held.items ≤ 8192;
+  capacity : vec_capacity l.fn.held ≤ vec_capacity l.held;
   room : l.header.shape ≢ shape.End → length l.held.items < 8192;
 }
 

@@ -8,8 +8,8 @@ use Rattle.lsp_message.specs.Tokens.{Appends, tokens_of}
 use Rattle.lsp_message.proofs.Tokens.{add, ending, items_in_turn}
 use Rattle.lsp_message.proofs.writer.edits_value.Goals as goal
 
-pub returns : goal.returns
-returns c =
+pub returns-clause-tokens : goal.returns-clause-tokens
+returns-clause-tokens c =
     let all : take c.loop-change.change-index c.args.changes.now ≡ c.args.changes.now = take_all _ _ (omega (arith, c.loop-change-test.false)) in
     let changes : Appends c.args.writer.now c.loop-change.writer (token.begin_array ∷ flat_map (λ change. tokens_of (spec.edit_value (edit_view change))) c.args.changes.now) =
     rw (sym all) c.loop-change.invariant in
