@@ -17,7 +17,7 @@ pub enum HeaderFault {
     BadCharset,
 }
 
-/// Why no more of a stream can be taken. F1 to F7 tell the place of the byte on which the fault was decided,
+/// Why no more of a stream can be taken. F1 to F7 name the offset of the byte on which the fault was decided,
 /// counted from the start of the stream; it stays at the greatest value of a `u64`.
 #[derive(Clone, Copy, Debug, PartialEq, Eq, Error)]
 pub enum FrameFault {

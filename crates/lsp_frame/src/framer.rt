@@ -14,8 +14,8 @@ use std::marker::Model;
 
 /// Takes a stream apart into its frames, in whatever pieces it comes (LSP 3.17, Base Protocol, Header Part).
 ///
-/// It holds at most one frame, so no more than 8,192 bytes and those of `max_body`; the memory that it takes for them may be twice
-/// that. Clauses see the number of bytes that were given up or skipped, the bytes held, whether the stream was found faulty, and the limits.
+/// It buffers at most one frame, so no more than 8,192 bytes and those of `max_body`; the memory that it takes for them may be twice
+/// that. Clauses see the number of bytes that were released or skipped, the bytes buffered, whether the stream was found faulty, and the limits.
 #[derive(Drop)]
 pub struct Framer {
     limits: Limits,
@@ -51,15 +51,15 @@ impl Framer {
     }
 
     /// Takes bytes of the next piece of the stream: all of them, or those up to the end of one frame. Answers
-    /// how many. While a whole frame is held it takes none.
+    /// how many. While a whole frame is buffered it takes none.
     ///
     /// After a fault of F1 to F7 every feed is refused. Linear in the bytes taken, however the stream is cut.
     pub fn feed(&mut self, piece: &[u8]) -> Result<usize, FrameFault>
-        // The bytes held are those held before and the first of the piece.
+        // The bytes buffered are those buffered before and the first of the piece.
         ensures taken { IfOk result (λ k. k ≤ length piece.now) }
         ensures held { IfOk result (λ k. self.new ≡ record self.old { held = self.old.held ++ take k piece.now }) }
 
-        // Some are left only behind a whole frame. No more than one frame is held.
+        // Some are left only after a whole frame. No more than one frame is buffered.
         ensures stops { IfOk result (λ k. k < length piece.now → IsFrame self.new.limits.max_body self.new.held) }
         ensures part { OnOk result (IsPart self.new.limits.max_body self.new.held) }
         ensures one { OnOk result (HoldsOne self.new.limits.max_body self.new.held) }
@@ -84,7 +84,7 @@ impl Framer {
         Ok(taken)
     }
 
-    /// The body of the frame that is held, once it is whole.
+    /// The body of the buffered frame, once it is whole.
     pub fn body(&self) -> Option<&[u8]>
         ensures { MatchOption result
             (self.now.failed ≡ false → (body : List ℕ) → Spells self.now.limits.max_body self.now.held body → ⊥)
@@ -96,7 +96,7 @@ impl Framer {
         }
     }
 
-    /// All bytes of the frame that is held, once it is whole.
+    /// All bytes of the buffered frame, once it is whole.
     pub fn spelling(&self) -> Option<&[u8]>
         ensures { MatchOption result
             (self.now.failed ≡ false → IsFrame self.now.limits.max_body self.now.held → ⊥)
@@ -108,7 +108,7 @@ impl Framer {
         }
     }
 
-    /// Gives the frame up that is held. Does nothing where none is whole.
+    /// Releases the buffered frame. Does nothing where none is whole.
     pub fn next(&mut self)
         ensures given { self.old.failed ≡ false → IsFrame self.old.limits.max_body self.old.held → self.new ≡ given_up self.old }
         ensures none { (self.old.failed ≡ false → IsFrame self.old.limits.max_body self.old.held → ⊥) → self.new ≡ self.old }
@@ -126,7 +126,7 @@ impl Framer {
         self.spelling().is_some()
     }
 
-    /// Is no byte of a frame held, and was no fault found?
+    /// Whether no byte of a frame is buffered, and no fault was found.
     ///
     /// Its clauses also say what holds of every framer: it never has more bytes than a frame may have, and never a frame and more.
     pub fn at_rest(&self) -> bool
@@ -138,7 +138,7 @@ impl Framer {
         self.held.is_empty() && !matches!(self.stage, Stage::Failed)
     }
 
-    /// Goes past bytes of the stream that are no frame's: from then on places count them too.
+    /// Goes past bytes of the stream that are no frame's: from then on offsets count them too.
     pub fn skip(&mut self, n: u64)
         requires nothing_held { self.old.held ≡ [] }
         requires sound { self.old.failed ≡ false }

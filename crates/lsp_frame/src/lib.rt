@@ -1,7 +1,7 @@
 //! The frames of the base protocol of LSP 3.17: a header that gives a length, and a body of so many bytes.
 //!
 //! - `limits`: how long a body, a text and a list may be, in all layers above.
-//! - `written`: the one spelling in which frames are written; a header in it is read at once.
+//! - `written`: the one form in which frames are written; a header in it is read at once.
 //! - `framer`: the frames of a stream that comes in pieces, over `stage`, `written`, `header`, `shape`, `notes` and `words`.
 //! - `fault`: what can be wrong with them.
 //! - `stream`: the frames of a whole stream, and that they don't depend on how it was cut.

@@ -20,7 +20,7 @@ pub(crate) enum Shape {
     Whole,
     /// The carriage return that ends the header.
     LastReturn,
-    /// That one and the line feed behind it.
+    /// That one and the line feed after it.
     End,
 }
 

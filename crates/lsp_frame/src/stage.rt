@@ -9,12 +9,12 @@ use crate::header::{Header, Stop, first, take_header};
 use crate::notes::Notes;
 use crate::written::{WrittenHeader, written_header};
 
-/// What of a frame is held.
+/// What of a frame is buffered.
 #[derive(Clone, Copy)]
 pub(crate) enum Stage {
     /// The beginning of a header, or nothing.
     Header(Header),
-    /// A header, and what has come of the body, which starts and ends at these places of the frame.
+    /// A header, and what has come of the body, which starts and ends at these offsets of the frame.
     Body { start: usize, end: usize },
     /// A fault was found.
     Failed,
@@ -32,8 +32,8 @@ impl Stage {
     }
 }
 
-/// Takes the bytes of a piece that belong to the frame that is coming in. After an `Err` what is held is what
-/// was held before. The stage has failed then, unless memory ran out: then it is that of before.
+/// Takes the bytes of a piece that belong to the frame that is coming in. After an `Err` what is buffered is what
+/// was buffered before. The stage has failed then, unless memory ran out: then it is that of before.
 pub(crate) fn take_piece(
     held: &mut Vec<u8>,
     stage: &mut Stage,
@@ -74,7 +74,7 @@ pub(crate) fn take_piece(
 }
 
 /// Takes the bytes of a piece that belong to the frame whose header is coming in. After an `Err` what is
-/// held is what was held before.
+/// buffered is what was buffered before.
 fn take_from_header(
     held: &mut Vec<u8>,
     header: Header,
@@ -124,7 +124,7 @@ fn take_from_header(
     }
 }
 
-/// Takes the bytes of a frame whose header a piece begins with, in the written spelling.
+/// Takes the bytes of a frame whose header a piece begins with, as it is written here.
 fn take_written(
     held: &mut Vec<u8>,
     header: WrittenHeader,
@@ -151,7 +151,7 @@ fn take_written(
     Ok((frame.len(), Stage::Body { start, end }))
 }
 
-/// Takes the bytes of the body behind a header that is whole.
+/// Takes the bytes of the body after a header that is whole.
 fn begin_body(
     held: &mut Vec<u8>,
     notes: Notes,
@@ -184,7 +184,7 @@ fn begin_body(
     Ok((body.len(), Stage::Body { start, end }))
 }
 
-/// Takes the bytes of a piece that belong to the body, which ends at the place `end` of the frame.
+/// Takes the bytes of a piece that belong to the body, which ends at the offset `end` of the frame.
 fn take_body(
     held: &mut Vec<u8>,
     start: usize,

@@ -10,12 +10,12 @@ use crate::framer::Framer;
 use crate::limits::Limits;
 use std::alloc::{AllocError, Global};
 
-/// The bodies of the frames of a stream, and the fault that was found behind them.
+/// The bodies of the frames of a stream, and the fault that was found after them.
 #[derive(Debug, Drop)]
 pub struct Frames {
     /// The bodies, in the order of the stream.
     pub bodies: Vec<Vec<u8>>,
-    /// The fault behind them. A part of a frame at the stream's end is none.
+    /// The fault after them. A part of a frame at the stream's end is none.
     pub fault: Option<FrameFault>,
 }
 

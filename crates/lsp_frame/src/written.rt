@@ -1,4 +1,4 @@
-//! The one spelling in which frames are written, and most are read.
+//! The one form in which frames are written, and most are read.
 
 ghost use Rattle.std.specs.Prelude.{◌≡◌, ◌<◌, ◌≤◌, ◌^◌, ◌+◌, ◌-◌, ◌++◌, ℕ, true, false, length, take, drop, slice_index, IfOk, IfErr, OnOk, IfSome, IfNone, Err};
 ghost use Rattle.std.specs.List.{list_all};
@@ -85,7 +85,7 @@ fn put_before(bytes: &mut [u8], index: usize, new: &[u8]) -> usize
 /// The most digits of a length that are read at once. No limit on a body has more.
 const MOST_DIGITS: usize = 10;
 
-/// A header in the written spelling: its length and that of the body behind it.
+/// A header as it is written here: its length and that of the body after it.
 #[derive(Clone, Copy)]
 pub(crate) struct WrittenHeader {
     pub(crate) len: usize,

@@ -42,7 +42,7 @@ impl Offers {
     }
 }
 
-/// How a server wants to be told of changes (LSP 3.17, TextDocumentSyncKind).
+/// How a server wants to be notified of changes (LSP 3.17, TextDocumentSyncKind).
 #[derive(Clone, Copy, Debug, PartialEq, Eq, Hash)]
 pub enum SyncKind {
     /// Not at all; the protocol's `None`.
@@ -69,7 +69,7 @@ impl SyncKind {
 /// What a server's result of `initialize` announces (LSP 3.17, ServerCapabilities: `positionEncoding`, `textDocumentSync`).
 #[derive(Clone, Copy, Debug, PartialEq, Eq, Hash)]
 pub struct Announced {
-    /// The server wants to be told of documents that open and close.
+    /// The server wants to be notified of documents that open and close.
     pub open_close: bool,
     pub kind: SyncKind,
     /// UTF-16 where none is named, and `None` where the name is unknown.

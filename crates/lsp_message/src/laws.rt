@@ -5,7 +5,7 @@ ghost use Rattle.lsp_message.specs.MessageLaws.{RefusedRows, MessageRows, IdLaw,
 
 /// What holds of every body (LSP 3.17, Base Protocol, Abstract Message). It does nothing: its contract says, one by one, which objects
 /// are no message and which are a notification, a request or a response, whatever else they hold; which values are an id; that a
-/// notification has none, and that a refused object has no other than its own; that members which aren't named are not looked at; and
+/// notification has none, and that a refused object has no other than its own; that members which aren't named are ignored; and
 /// what the definitions give on a table of bodies.
 pub fn message_laws()
     ensures refused { RefusedRows }

@@ -25,7 +25,7 @@ pub enum Outgoing {
     Shutdown,
     /// The notification `exit`.
     Exit,
-    /// The answer to `initialize`: the encoding that was chosen, and how changes are to be told.
+    /// The answer to `initialize`: the encoding that was chosen, and how changes are to be sent.
     InitializeResult {
         id: Id,
         encoding: Encoding,

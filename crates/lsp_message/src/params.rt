@@ -33,7 +33,7 @@ pub struct OpenParams {
 pub struct ChangeParams {
     /// The document's URI, as it was sent.
     pub uri: String,
-    /// The version of the document behind the changes.
+    /// The version of the document after the changes.
     pub version: i32,
     pub changes: Vec<Change>,
 }
@@ -75,7 +75,7 @@ impl<T: Drop> From<AllocFailed<T>> for ParamsFault {
 /// Reads the params of a `textDocument/didOpen`. The texts are moved out of them; nothing is copied. Takes no memory: the allocator is
 /// there so that all five calls look alike.
 ///
-/// Refused is a member that is missing, has the wrong type or is out of range; one that isn't named is not looked at.
+/// Refused is a member that is missing, has the wrong type or is out of range; one that isn't named is ignored.
 pub fn params_open(_alloc: Global, params: Option<Value>) -> Result<OpenParams, ParamsFault>
     ensures ok { IfOk result (λ p. open_of (option_map view params) ≡ Some (open_view p)) }
     ensures err { IfErr result (λ e. (e ≡ InvalidParams) × (open_of (option_map view params) ≡ None)) }
@@ -169,7 +169,7 @@ fn range_in(value: &Value) -> Option<Range>
     Some(Range { start, stop })
 }
 
-/// The range of a change: `Some(None)` where it has none and stands for the whole text.
+/// The range of a change: `Some(None)` where it has none and means the whole text.
 fn range_of(value: Option<&Value>) -> Option<Option<Range>>
     ensures { result ≡ range_of (option_map (λ v. view v.now) value.entry) }
 {
@@ -191,7 +191,7 @@ fn edit_in(value: Value) -> Option<Change>
     Some(Change { range, text })
 }
 
-/// Is a value a change? It is only looked at.
+/// Whether a value is a change. It is only read.
 fn is_edit(value: &Value) -> bool
     ensures { result ≡ is_some (edit_in (view value.now)) }
 {
@@ -245,7 +245,7 @@ fn document_and_changes(params: Option<Value>) -> Option<(Map<String, Value>, Ve
     Some((document, changes))
 }
 
-/// The changes that values are. They are looked at before memory is taken.
+/// The changes that values are. They are read before memory is taken.
 #[tactic(auto, using(crate::proofs::Memory::edits_there))]
 fn edits_in(alloc: Global, values: Vec<Value>) -> Result<Vec<Change>, ParamsFault>
     ensures ok { IfOk result (λ changes. edits_in (items_view values.items) ≡ Some (map edit_view changes.items)) }
