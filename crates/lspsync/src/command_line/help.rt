@@ -112,7 +112,9 @@ Exit status: 0 all is well, 1 something in the session was refused, 2 the comman
 3 reading or writing failed, 4 out of memory, 5 the log is faulty. From 3 on a line on standard
 error says what, and for 5 where: `lspsync: truncated at 505` is byte 505 of the input.
 
-`lspsync COMMAND --help` has the options of a command and an example to paste.";
+`lspsync COMMAND --help` has the options of a command and an example to paste.
+
+lspsync 0.1.0, proved with rattle-kit-13b";
 
 static SERVE: &str =
     "Be a language server that keeps the editor's documents and offers no other feature";
@@ -164,11 +166,11 @@ static CONVERT: &str =
     "Write a log in the format of version 2, which holds the server's replies too";
 
 static CONVERT_EXAMPLE: &str =
-    "The output begins with the line `lsp-session-log 2`. Then come the messages, each behind a mark:
+    "The output begins with the line `lsp-session-log 2`. Then come the messages, each after a mark:
 `>` for the editor's, byte for byte, and `<` for the reply that a server gives to it. All log
 commands read both versions. The status is 1 where something was refused.
 
-Example, and what stands in its output:
+Example, and what its output says:
   ./lspsync convert < examples/whole-text.log
   ./lspsync convert < examples/whole-text.log | ./lspsync check";
 
