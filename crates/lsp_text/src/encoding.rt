@@ -1,14 +1,20 @@
 //! The encodings in which a position's character is counted.
 
 ghost use Rattle.std.specs.Prelude.{◌≡◌, Some};
+ghost use Rattle.std.specs.Result.{result_ok};
 ghost use Rattle.lsp_text.specs.Units.{name_of, encoding_named};
 
-/// What a position's character counts (LSP 3.17, PositionEncodingKind).
-#[derive(Clone, Copy, Debug, PartialEq, Eq, Hash)]
+use std::fmt;
+use std::str::FromStr;
+use thiserror::Error;
+
+/// What a position's character counts (LSP 3.17, PositionEncodingKind). It is shown by the name that the protocol has for it.
+#[derive(Clone, Copy, Debug, Default, PartialEq, Eq, Hash)]
 pub enum Encoding {
     /// Bytes of UTF-8.
     Utf8,
     /// 16-bit code units of UTF-16, the protocol's default.
+    #[default]
     Utf16,
     /// Scalar values.
     Utf32,
@@ -36,5 +42,28 @@ impl Encoding {
             "utf-32" => Some(Encoding::Utf32),
             _ => None,
         }
+    }
+}
+
+/// No encoding has such a name.
+#[derive(Clone, Copy, Debug, PartialEq, Eq, Error)]
+#[error("no encoding has this name")]
+pub struct UnknownEncoding;
+
+impl fmt::Display for Encoding {
+    ghost output = { λ encoding. Some (name_of encoding) };
+
+    fn fmt<W: fmt::Write>(&self, f: &mut fmt::Formatter<W>) -> fmt::Result {
+        f.write_str(self.name())
+    }
+}
+
+impl FromStr for Encoding {
+    type Err = UnknownEncoding;
+
+    ghost from_str_gives = { λ name result. result_ok result ≡ encoding_named name };
+
+    fn from_str(name: &str) -> Result<Self, UnknownEncoding> {
+        Self::of_name(name).ok_or(UnknownEncoding)
     }
 }

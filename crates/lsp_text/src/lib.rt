@@ -28,7 +28,7 @@ mod splice;
 mod starts;
 mod units;
 
-pub use encoding::Encoding;
+pub use encoding::{Encoding, UnknownEncoding};
 pub use gap_text::GapText;
 pub use laws::{encoding_laws, line_laws, place_laws, position_laws};
 pub use lines::Lines;

@@ -8,7 +8,9 @@ mod pictures;
 mod plain;
 mod refused;
 
-use lsp_text::{Encoding, Lines, Position, Starts, Units, Utf8, Utf16, Utf32, line_of};
+use lsp_text::{
+    Encoding, Lines, Position, Starts, Units, UnknownEncoding, Utf8, Utf16, Utf32, line_of,
+};
 use std::alloc::{AllocError, Global};
 use std::test::Fail;
 
@@ -179,13 +181,30 @@ static NAMES: [(&str, Option<Encoding>); 6] = [
 ];
 
 fn is_name_of(name: &str, encoding: Option<Encoding>) -> bool {
-    if Encoding::of_name(name) != encoding {
+    if Encoding::of_name(name) != encoding || name.parse() != encoding.ok_or(UnknownEncoding) {
         return false;
     }
     match encoding {
         Some(encoding) => encoding.name() == name,
         None => true,
     }
+}
+
+#[test]
+fn positions_are_in_the_order_of_the_text(rt: HostRuntime) {
+    let places = [(0, 7), (1, 0), (1, 3), (2, 0)].map(|(line, character)| Position {
+        line,
+        character,
+    });
+    assert!(rt; places.is_sorted() && Position::default() < places[0]);
+    assert_eq!(rt; Encoding::default(), UTF16);
+}
+
+#[test]
+fn an_encoding_is_shown_by_its_name(rt: HostRuntime) -> Result<(), Fail> {
+    let text = format!(in rt.alloc(); "{} {UTF32}", Encoding::Utf8)?;
+    assert_eq!(rt; text.as_str(), "utf-8 utf-32");
+    Ok(())
 }
 
 #[test]
