@@ -3,9 +3,9 @@ use Rattle.std.proofs.Common.{◌≡◌, ℕ, ◌+◌, ◌<◌, [], ◌++◌, le
 use Rattle.std.proofs.lemmas.List.{length-append}
 use Rattle.lsp_frame.specs.Header.{header_of}
 use Rattle.lsp_frame.specs.Frame.{frame, Spells}
-use Rattle.lsp_frame.specs.Laws.{SpellingLaw, BoundLaw, FramesLaw, FaultLaw, InjectiveLaw}
+use Rattle.lsp_frame.specs.Laws.{SpellingLaw, BoundLaw, FramesLaw, FaultLaw, InjectiveLaw, SameFrame}
 use Rattle.lsp_frame.proofs.FrameLemmas.{judge_within}
-use Rattle.lsp_frame.proofs.StreamLemmas.{Way, SameFrame, same_frame, same_frames, way_of, not_before, same_kind}
+use Rattle.lsp_frame.proofs.StreamLemmas.{Way, same_frame, same_frames, way_of, not_before, same_kind}
 use Rattle.lsp_frame.proofs.WrittenLemmas.{written_spells}
 
 pub spelling_law : SpellingLaw

@@ -7,6 +7,7 @@ use Rattle.lsp_frame.specs.Verdict.{judge}
 use Rattle.lsp_frame.specs.Frame.{Spells, HasNoFrame}
 use Rattle.lsp_frame.specs.Faults.{IsBadHeaderAt, IsHeaderTooLongAt, IsJudgedAt, IsDecidedAt, IsDecided, fault_at, place_behind}
 use Rattle.lsp_frame.specs.Stream.{Framing, IsFrame, IsPart, IsSpelled, IsSound, IsRead, IsHolding, IsBehind, IsFaulty, IsStreamFault, IsFeedFault, given_up}
+use Rattle.lsp_frame.specs.Laws.{SameFrame}
 use Rattle.lsp_frame.specs.declared.fault.HeaderFault.{HeaderFault}
 use Rattle.lsp_frame.specs.declared.fault.HeaderFault.TheVariants as header
 use Rattle.lsp_frame.specs.declared.fault.FrameFault.{FrameFault}
@@ -35,11 +36,6 @@ same_length_front (c ∷ a) (d ∷ b) x y l e =
     (r, s.1)
 
 -- Two frames at the front of the same bytes are one: no spelling is a proper beginning of another.
-pub record SameFrame (spelling other body other_body x y : List ℕ) : Type 0 where
-  pub spelling_is : spelling ≡ other
-  pub body_is : body ≡ other_body
-  pub rest_is : x ≡ y
-
 pub same_frame : (max_body : ℕ) (spelling other body other_body x y : List ℕ) → Spells max_body spelling body → Spells max_body other other_body → spelling ++ x ≡ other ++ y → SameFrame spelling other body other_body x y
 same_frame max_body spelling other body other_body x y s t e =
     let left : spelling ++ x ≡ header_of s.lines ++ (body ++ x) = ap (λ z. z ++ x) s.is ∙ append_assoc (header_of s.lines) body x in

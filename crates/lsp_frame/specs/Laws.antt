@@ -12,6 +12,18 @@ SpellingLaw =
     (max_body : ℕ) (spelling more body other : List ℕ) →
     Spells max_body spelling body → Spells max_body (spelling ++ more) other → (more ≡ []) × (body ≡ other)
 
+-- The two frames have one spelling and one body, and the same bytes stand behind them.
+pub record SameFrame (spelling other body other_body x y : List ℕ) : Type 0 where
+  pub spelling_is : spelling ≡ other
+  pub body_is : body ≡ other_body
+  pub rest_is : x ≡ y
+
+-- Two frames at the front of the same bytes are one.
+abbrev pub FrontLaw : Type 0
+FrontLaw =
+    (max_body : ℕ) (spelling other body other_body x y : List ℕ) →
+    Spells max_body spelling body → Spells max_body other other_body → spelling ++ x ≡ other ++ y → SameFrame spelling other body other_body x y
+
 -- A frame has at most 8,192 bytes more than the limit.
 abbrev pub BoundLaw : Type 0
 BoundLaw = (max_body : ℕ) (spelling body : List ℕ) → Spells max_body spelling body → length spelling ≤ 8192 + max_body

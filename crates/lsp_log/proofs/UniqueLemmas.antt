@@ -3,7 +3,7 @@ use Rattle.std.proofs.Common.{◌≡◌, ◌≢◌, ℕ, ◌+◌, Bool, false, L
 use Rattle.std.proofs.lemmas.List.{append_cancel_left}
 use Rattle.lsp_frame.specs.Faults.{place_behind}
 use Rattle.lsp_frame.specs.Frame.{Spells}
-use Rattle.lsp_frame.proofs.StreamLemmas.{SameFrame, same_frame}
+use Rattle.lsp_frame.specs.Laws.{FrontLaw, SameFrame}
 use Rattle.lsp_log.specs.declared.record.Version.{Version}
 use Rattle.lsp_log.specs.declared.record.Version.TheVariants.{One, Two}
 use Rattle.lsp_log.specs.declared.record.Side.{Side}
@@ -38,13 +38,13 @@ record IsSame (r q : Record) (rest other : List ℕ) : Type 0 where
   record_is : r ≡ q
   rest_is : rest ≡ other
 
-same_record : (max_body : ℕ) (version : Version) (place : ℕ) (due : Bool) (r q : Record) (rest other : List ℕ) → IsRecord max_body version place due r → IsRecord max_body version place due q
+same_record : FrontLaw → (max_body : ℕ) (version : Version) (place : ℕ) (due : Bool) (r q : Record) (rest other : List ℕ) → IsRecord max_body version place due r → IsRecord max_body version place due q
     → record_bytes version r ++ rest ≡ record_bytes version q ++ other → IsSame r q rest other
-same_record max_body version place due r q rest other is also e =
+same_record front max_body version place due r q rest other is also e =
     let apart : mark_of version r.head.side ++ (r.spelling ++ rest) ≡ mark_of version q.head.side ++ (q.spelling ++ other) =
     sym (append_assoc (mark_of version r.head.side) r.spelling rest) ∙ e ∙ append_assoc (mark_of version q.head.side) q.spelling other in
     let marks = same_mark version r.head.side q.head.side (r.spelling ++ rest) (q.spelling ++ other) is.side also.side apart in
-    let frames : SameFrame r.spelling q.spelling r.body q.body rest other = same_frame max_body r.spelling q.spelling r.body q.body rest other is.spells also.spells marks.1 in
+    let frames : SameFrame r.spelling q.spelling r.body q.body rest other = front max_body r.spelling q.spelling r.body q.body rest other is.spells also.spells marks.1 in
     let heads : r.head ≡ q.head = same_head place due r.head q.head marks.0 is.placed also.placed is.due also.due in
     record { record_is = λ i. record { head = heads i; spelling = frames.spelling_is i; body = frames.body_is i }; rest_is = frames.rest_is }
 
@@ -58,16 +58,16 @@ pub record AreFirst (version : Version) (rs all : List Record) (rest end : List 
   pub all_are : all ≡ rs ++ more
   pub rest_is : rest ≡ together version more end
 
-pub first_records : (max_body : ℕ) (version : Version) (place : ℕ) (due : Bool) (rs all : List Record) (rest end : List ℕ) → AreRecords max_body version place due rs → AreRecords max_body version place due all
+pub first_records : FrontLaw → (max_body : ℕ) (version : Version) (place : ℕ) (due : Bool) (rs all : List Record) (rest end : List ℕ) → AreRecords max_body version place due rs → AreRecords max_body version place due all
     → together version rs rest ≡ together version all end → IsEnd max_body version end → AreFirst version rs all rest end
-first_records max_body version place due [] all rest end each also e ends = record { more = all; all_are = refl; rest_is = e }
-first_records max_body version place due (r ∷ rs) [] rest end each also e ends =
+first_records front max_body version place due [] all rest end each also e ends = record { more = all; all_are = refl; rest_is = e }
+first_records front max_body version place due (r ∷ rs) [] rest end each also e ends =
     absurd (ends r.head.side r.spelling r.body (together version rs rest) each.0.spells (sym e ∙ append_assoc (mark_of version r.head.side) r.spelling (together version rs rest)))
-first_records max_body version place due (r ∷ rs) (q ∷ all) rest end each also e ends =
-    let same = same_record max_body version place due r q (together version rs rest) (together version all end) each.0 also.0 e in
+first_records front max_body version place due (r ∷ rs) (q ∷ all) rest end each also e ends =
+    let same = same_record front max_body version place due r q (together version rs rest) (together version all end) each.0 also.0 e in
     let later : AreRecords max_body version (place + length (record_bytes version r)) false all =
     subst (λ (x : Record). AreRecords max_body version (place + length (record_bytes version x)) false all) (sym same.record_is) also.1 in
-    let more = first_records max_body version (place + length (record_bytes version r)) false rs all rest end each.1 later same.rest_is ends in
+    let more = first_records front max_body version (place + length (record_bytes version r)) false rs all rest end each.1 later same.rest_is ends in
     record { more = more.more; all_are = ap (λ x. x ∷ all) (sym same.record_is) ∙ ap (λ l. r ∷ l) more.all_are; rest_is = more.rest_is }
 
 -- With no record behind them they are all.
@@ -80,8 +80,8 @@ none_behind : (max_body : ℕ) (version : Version) (place : ℕ) (due : Bool) (r
 none_behind max_body version place due [] more rest end each is ends = none_more max_body version place due more rest end each is ends
 none_behind max_body version place due (r ∷ rs) more rest end each is ends = none_behind max_body version (place + length (record_bytes version r)) false rs more rest end each.1 is ends
 
-pub first_of : FirstLaw
-first_of reading input log all reads also ends = record { more = f.more; all_are = f.all_are; same = same }
+pub first_of : FrontLaw → FirstLaw
+first_of front reading input log all reads also ends = record { more = f.more; all_are = f.all_are; same = same }
   where
     version : log.version ≡ all.version
     version = same_version reading.versions log.version all.version input reads.version also.version
@@ -97,7 +97,7 @@ first_of reading input log all reads also ends = record { more = f.more; all_are
 
     f : AreFirst log.version log.records all.records log.rest all.rest
     f =
-        first_records reading.max_body log.version (length (line_of log.version)) (is_line_due log.version []) log.records all.records log.rest all.rest reads.each each
+        first_records front reading.max_body log.version (length (line_of log.version)) (is_line_due log.version []) log.records all.records log.rest all.rest reads.each each
         (append_cancel_left (line_of log.version) (together log.version log.records log.rest) (together log.version all.records all.rest) (sym reads.is ∙ is)) end
 
     same : HasNoRecord reading.max_body log → log ≡ all
@@ -109,5 +109,5 @@ first_of reading input log all reads also ends = record { more = f.more; all_are
         let rest : log.rest ≡ all.rest = f.rest_is ∙ ap (λ (l : List Record). together log.version l all.rest) nothing in
         λ i. record { version = version i; records = records i; rest = rest i }
 
-pub unique_law : UniqueLaw
-unique_law reading input log other reads ends also other_ends = (first_of reading input log other reads also other_ends).same ends
+pub unique_law : FrontLaw → UniqueLaw
+unique_law front reading input log other reads ends also other_ends = (first_of front reading input log other reads also other_ends).same ends

@@ -1,5 +1,5 @@
 use Rattle.lsp_frame.proofs.FaultLemmas.{decided_hopeless}
-use Rattle.lsp_frame.proofs.StreamLemmas.{same_read, decided_more}
+use Rattle.lsp_frame.proofs.StreamLemmas.{same_frame, same_read, decided_more}
 use Rattle.lsp_frame.proofs.WrittenLemmas.{written_spells}
 use Rattle.lsp_frame.proofs.DecisionLemmas.{decision_law, all_frames_law}
 use Rattle.lsp_frame.proofs.LawLemmas.{spelling_law, bound_law, frames_law, fault_law, injective_law}
@@ -8,6 +8,7 @@ use Rattle.lsp_frame.proofs.laws.frame_laws.Goals as goal
 pub returns : goal.returns
 returns c = record {
   spelling = spelling_law;
+  front = same_frame;
   bound = bound_law;
   decision = decision_law;
   all_frames = all_frames_law;
