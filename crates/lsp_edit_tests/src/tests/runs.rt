@@ -109,3 +109,79 @@ fn a_long_batch_may_leave_too_much(rt: HostRuntime) -> Result<(), Fail> {
     assert!(rt; in_runs(&text, &changes, 100) == Err(TextFault::TooLong));
     Ok(())
 }
+
+/// The first character of the first line deleted, again and again, also where it has none.
+fn deletions(alloc: Global) -> Result<Vec<Change>, AllocError> {
+    let start = Position::default();
+    let stop = Position {
+        line: 0,
+        character: 1,
+    };
+    let mut changes = Vec::with_capacity(alloc, 2_048)?;
+    for _ in 0..2_048 {
+        changes.push(Change {
+            range: Some(Range { start, stop }),
+            text: String::new(alloc),
+        })?;
+    }
+    Ok(changes)
+}
+
+fn deletions_again(alloc: Global, refused: &mut usize) -> Result<Vec<Change>, AllocError> {
+    let made = deletions(alloc);
+    if made.is_err() {
+        *refused = refused.saturating_add(1);
+        return deletions(alloc);
+    }
+    made
+}
+
+fn kept_again(alloc: Global, refused: &mut usize) -> Result<IndexedText, AllocError> {
+    let made = kept(alloc);
+    if made.is_err() {
+        *refused = refused.saturating_add(1);
+        return kept(alloc);
+    }
+    made
+}
+
+fn in_runs_again(
+    text: &IndexedText,
+    changes: &[Change],
+    refused: &mut usize,
+) -> Result<Vec<Change>, TextFault> {
+    let answer = in_runs(text, changes, MAX_OLD_TEXT);
+    if answer == Err(TextFault::NoMemory) {
+        *refused = refused.saturating_add(1);
+        return in_runs(text, changes, MAX_OLD_TEXT);
+    }
+    answer
+}
+
+/// Whether the batch deletes the first line's three characters, and the text is as it was.
+fn deletes_the_first_line(text: &IndexedText, answer: &[Change]) -> bool {
+    let start = Position::default();
+    let stop = Position {
+        line: 0,
+        character: 3,
+    };
+    match answer {
+        [change] => {
+            text.text() == LINES
+                && change.text.is_empty()
+                && change.range == Some(Range { start, stop })
+        }
+        _ => false,
+    }
+}
+
+#[test]
+fn refused_canonical_in_runs(rt: HostRuntime) -> Result<(), Fail> {
+    let mut refused: usize = 0;
+    let text = kept_again(rt.alloc(), &mut refused)?;
+    let changes = deletions_again(rt.alloc(), &mut refused)?;
+    let answer = in_runs_again(&text, &changes, &mut refused)?;
+    assert!(rt; deletes_the_first_line(&text, &answer));
+    println!(rt; "refused {refused}")?;
+    Ok(())
+}
