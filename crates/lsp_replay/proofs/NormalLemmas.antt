@@ -1,5 +1,6 @@
 -- What the canonical message of a record is told by.
-use Rattle.std.proofs.Common.{◌≡◌, ◌≢◌, ◌≤◌, ◌<◌, ◌⊎◌, inl, inr, ℕ, Bool, true, false, List, [], ◌∷◌, map, length, string_bytes, refl, ap, if◌then◌else◌, nat_lt, ltb-true, ltb-false, le-ltb, lt-ltb, ◌++◌, Vec, Global, IfOk}
+use Rattle.std.proofs.Common.{◌≡◌, ◌≢◌, ◌≤◌, ◌<◌, ◌⊎◌, inl, inr, ℕ, Bool, true, false, List, [], ◌∷◌, map, length, string_bytes, refl, ap, if◌then◌else◌, nat_lt, ltb-true, ltb-false, le-ltb, lt-ltb, ◌++◌, ◌∙◌, drop, sym, append_assoc, IfOk}
+use Rattle.std.proofs.lemmas.List.{drop_at}
 use Rattle.std.specs.declared.alloc.AllocError.{AllocError}
 use Rattle.std.specs.Prelude.{Option, Some, None, option_map, Result, Ok, Err}
 use Rattle.serde_json.specs.Data.{Data}
@@ -25,11 +26,11 @@ use Rattle.lsp_server.specs.Answer.{AnswerData, Sent, changed, as_sent}
 use Rattle.lsp_server.specs.Incoming.{did_change}
 use Rattle.lsp_server.specs.Step.{State, edit_of, encoding_of, obeyed, change_command, step_in}
 use Rattle.lsp_replay.specs.Session.{Session, Verdict, answered, recorded, bad, Judged, judged, judge_incoming, hear_for, heard, settle_by, settle_in, result_for, versioned}
-use Rattle.lsp_replay.specs.Engines.{normal_if, normal_body, written, gives, ends}
+use Rattle.lsp_replay.specs.Engines.{normal_if, written, gives, ends}
 use Rattle.lsp_log.specs.Log.{Record}
-use Rattle.lsp_replay.specs.Verdicts.{IsTold}
-use Rattle.lsp_replay.specs.declared.session.Canonical.{Canonical}
-use Rattle.lsp_replay.specs.declared.session.Canonical.TheVariants.{Frame, TooLong}
+use Rattle.lsp_replay.specs.Verdicts.{IsAppended}
+use Rattle.lsp_replay.specs.declared.session.Appended.TheVariants.{Body, TooLong}
+use Rattle.lsp_frame.specs.Frame.{frame}
 use Rattle.lsp_stream.specs.declared.fault.EngineFault.TheVariants as fault
 
 -- a record that isn't answered has no canonical message
@@ -103,30 +104,32 @@ pub accepted_as_given : (s : Session) (p : ChangeParams) → (judge_incoming s (
 accepted_as_given s p e = rw (← edits_of p.changes.items) (accepted s (change_view p) e)
 
 -- So what is told of a batch that was not refused is told of a change that was accepted.
-pub told_if : (s : Session) (p : ChangeParams) (result : Result (Option Canonical) AllocError)
-    → IfOk result (λ told. change_refusal s.server.config.limits (units_in (encoding_of s.server)) s.server.table (string_bytes p.uri) p.version (map given.edit_of p.changes.items) ≡ None
-    → IsTold s.server.config.limits.max_body (Some (normal_body s.server (change_view p))) told)
-    → IfOk result (λ told. (judge_incoming s (did_change (Some (change_view p)))).verdict ≡ answered changed
-    → IsTold s.server.config.limits.max_body (Some (normal_body s.server (change_view p))) told)
-told_if s p (Ok told) tells = λ e. tells (accepted_as_given s p e)
-told_if s p (Err fault) tells = tt
+pub told_if : {T : Type 0} (s : Session) (p : ChangeParams) (result : Result T AllocError) (P : T → Type 0)
+    → IfOk result (λ told. change_refusal s.server.config.limits (units_in (encoding_of s.server)) s.server.table (string_bytes p.uri) p.version (map given.edit_of p.changes.items) ≡ None → P told)
+    → IfOk result (λ told. (judge_incoming s (did_change (Some (change_view p)))).verdict ≡ answered changed → P told)
+told_if s p (Ok told) P tells = λ e. tells (accepted_as_given s p e)
+told_if s p (Err fault) P tells = tt
 
 -- ---- what is written, where a message is told
 
-pub written_as_is : (max_body : ℕ) (r : Record) (front : List ℕ) (normal : Option (List ℕ)) → IsTold max_body normal None
+pub appended_none : (max_body : ℕ) (r : Record) (front : List ℕ) (normal : Option (List ℕ)) (old new : List ℕ) → IsAppended max_body normal None old new
     → written max_body r front normal ≡ gives (front ++ r.spelling)
-written_as_is max_body r front None told = refl
-written_as_is max_body r front (Some body) told = absurd told
+appended_none max_body r front None old new told = refl
+appended_none max_body r front (Some body) old new told = absurd told
 
-pub written_framed : (max_body : ℕ) (r : Record) (front : List ℕ) (normal : Option (List ℕ)) (bytes : Vec ℕ Global) → IsTold max_body normal (Some (Frame bytes))
-    → written max_body r front normal ≡ gives (front ++ bytes.items)
-written_framed max_body r front None bytes told = cc
-written_framed max_body r front (Some body) bytes told = rw (le-ltb max_body (length body) told.1, told.0) refl
+pub appended_framed : (max_body : ℕ) (r : Record) (line mark : List ℕ) (normal : Option (List ℕ)) (old new bytes : List ℕ) (room : ℕ)
+    → length old ≡ room → IsAppended max_body normal (Some Body) old new → bytes ≡ line ++ (mark ++ frame (drop room new))
+    → written max_body r (line ++ mark) normal ≡ gives bytes
+appended_framed max_body r line mark None old new bytes room len told is = cc
+appended_framed max_body r line mark (Some body) old new bytes room len told is =
+    let behind : drop room new ≡ body = ap (drop room) told.0 ∙ drop_at old body room len in
+    let whole : bytes ≡ (line ++ mark) ++ frame body = is ∙ ap (λ rest. line ++ (mark ++ frame rest)) behind ∙ sym (append_assoc line mark (frame body)) in
+    rw (le-ltb max_body (length body) told.1, whole) refl
 
-pub written_too_long : (max_body : ℕ) (r : Record) (front : List ℕ) (normal : Option (List ℕ)) → IsTold max_body normal (Some TooLong)
+pub appended_too_long : (max_body : ℕ) (r : Record) (front : List ℕ) (normal : Option (List ℕ)) (old new : List ℕ) → IsAppended max_body normal (Some TooLong) old new
     → written max_body r front normal ≡ ends [] (Err (fault.BodyTooLong r.head.place))
-written_too_long max_body r front None told = cc
-written_too_long max_body r front (Some body) told = rw (lt-ltb max_body (length body) told) refl
+appended_too_long max_body r front None old new told = cc
+appended_too_long max_body r front (Some body) old new told = rw (lt-ltb max_body (length body) told) refl
 
 -- ---- what the store answers, where the change is not refused
 

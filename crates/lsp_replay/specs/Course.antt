@@ -1,5 +1,5 @@
 -- What an engine gives for the records of a log, and for its end.
-use Rattle.std.specs.Prelude.{ℕ, Bool, List, [], ◌++◌, Option, Some, None, Result, Ok}
+use Rattle.std.specs.Prelude.{ℕ, Bool, List, [], ◌++◌, drop, Option, Some, None, Result, Ok}
 use Rattle.lsp_replay.specs.declared.outcome.Outcome.{Outcome}
 use Rattle.lsp_stream.specs.declared.fault.EngineFault.{EngineFault}
 use Rattle.lsp_stream.specs.declared.fault.EngineFault.TheVariants.{Read, Write, Frame, Truncated, BodyTooLong, NoMemory, TooManyTurns, BadLog}
@@ -30,10 +30,11 @@ abbrev pub after : List ℕ → Option Outcome → Course → Course
 after bytes None c = written_first bytes c
 after bytes (Some outcome) c = stopped bytes (Ok outcome)
 
--- a record's output: its frame, or what was made for it
+-- a record's output: its frame, or what was made for it, all of it or from an index on
 abbrev pub output_of : Output → List ℕ → List ℕ → List ℕ
 output_of output.Frame spelling made = spelling
 output_of output.Made spelling made = made
+output_of (output.MadeFrom start) spelling made = drop start made
 
 -- the faults that a record can end a run with
 abbrev pub IsRecordFault : EngineFault → Type 0

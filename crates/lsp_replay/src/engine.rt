@@ -1,6 +1,6 @@
 //! From a reader to a writer, record by record.
 
-ghost use Rattle.std.specs.Prelude.{◌≡◌, ◌≢◌, ◌++◌, ◌∷◌, ◌&&◌, [], ℕ, List, Option, Err, not, true, OnOk, OnErr, IfOk, IfErr, MatchOption};
+ghost use Rattle.std.specs.Prelude.{◌≡◌, ◌≢◌, ◌++◌, ◌∷◌, ◌&&◌, [], ℕ, List, drop, Option, Err, not, true, OnOk, OnErr, IfOk, IfErr, MatchOption};
 ghost use Rattle.std.specs.Io.KnownBytes.{Appends};
 ghost use Rattle.lsp_frame.specs.Frame.{Spells};
 ghost use Rattle.lsp_stream.specs.Ports.{Rose};
@@ -43,6 +43,17 @@ fn accept(version: Version, only_one: bool) -> Result<(), EngineFault>
     }
 }
 
+/// What some bytes have from an index on.
+fn rest(bytes: &[u8], start: usize) -> &[u8]
+    ensures { result.now ≡ drop start bytes.now }
+{
+    if start < bytes.len() {
+        &bytes[start..]
+    } else {
+        b""
+    }
+}
+
 /// Hands a record to the handler, and writes what it gives.
 fn handle_record<W: Sink, H: Handler>(
     handler: &mut H,
@@ -75,6 +86,7 @@ fn handle_record<W: Sink, H: Handler>(
     let output = match given.output {
         Output::Frame => spelling,
         Output::Made => made.as_slice(),
+        Output::MadeFrom(start) => rest(made, start),
     };
     write_given(writer, output, H::FLUSHES, turns)?;
     Ok(given.end)

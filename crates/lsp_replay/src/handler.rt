@@ -16,6 +16,8 @@ pub enum Output {
     Frame,
     /// Those that were made for it.
     Made,
+    /// Those that were made for it from an index on.
+    MadeFrom(usize),
 }
 
 /// What a record gives.

@@ -1,15 +1,17 @@
 //! `normalise`: a log in which each accepted change is its one canonical message.
 
-ghost use Rattle.std.specs.Prelude.{ℕ, ◌≡◌, ◌⊎◌, ◌++◌, List, [], Option, false, refl, IfOk, IfErr, OnOk, None, Err};
+ghost use Rattle.std.specs.Prelude.{ℕ, ◌≡◌, ◌≤◌, ◌-◌, ◌⊎◌, ◌++◌, List, [], length, drop, vec_len, Option, false, refl, IfOk, IfErr, OnOk, Err};
+ghost use Rattle.lsp_frame.specs.Frame.{frame};
 ghost use Rattle.lsp_log.specs.Log.{mark_of};
 ghost use Rattle.lsp_replay.specs.Course.{output_of};
 ghost use Rattle.lsp_replay.specs.Session.{opened};
 ghost use Rattle.lsp_replay.specs.Engines.{normalising, course_in, line_if, written, gives, ends};
-ghost use Rattle.lsp_replay.specs.Verdicts.{IsTold};
+ghost use Rattle.lsp_replay.specs.Verdicts.{IsAppended};
 
 use crate::handler::{Given, Handler, Output};
 use crate::outcome::Outcome;
-use crate::session::{Canonical, Session, Verdict};
+use crate::session::{Appended, Session, Verdict};
+use lsp_frame::put_header;
 use lsp_log::{Head, Side, VERSION_LINE, Version};
 use lsp_server::Config;
 use lsp_stream::EngineFault;
@@ -51,12 +53,13 @@ impl Handler for Normalise {
         body: &[u8],
         made: &mut Vec<u8>,
     ) -> Result<Given, EngineFault> {
-        let (verdict, canonical) = self.session.judge_and_write(head, body)?;
+        made.resize(FRONT_ROOM, 0)?;
+        let (verdict, appended) = self.session.judge_and_write(head, body, made)?;
         if verdict == Verdict::Bad {
             return Err(EngineFault::BadLog { place: head.place });
         }
         let version = self.session.version();
-        let output = push_record(made, head, version, spelling, canonical)?;
+        let output = push_record(made, head, version, spelling, appended)?;
         Ok(Given::more(output))
     }
 
@@ -70,39 +73,103 @@ impl Handler for Normalise {
     }
 }
 
-/// Writes a record of a log, with its mark: as it is, or as its canonical message.
-#[tactic(auto, using(crate::proofs::NormalLemmas::written_as_is, crate::proofs::NormalLemmas::written_framed, crate::proofs::NormalLemmas::written_too_long))]
+/// Room in front of a body for what is written before it: the line of version 2, a mark and a header.
+const FRONT_ROOM: usize = 64;
+
+/// Writes a record of a log, with its mark: as it is, or as its canonical message, whose body comes after the room.
+#[tactic(auto, using(crate::proofs::NormalLemmas::appended_none, crate::proofs::NormalLemmas::appended_framed, crate::proofs::NormalLemmas::appended_too_long))]
 fn push_record(
     made: &mut Vec<u8>,
     head: Head,
     version: Version,
     spelling: &[u8],
-    canonical: Option<Canonical>,
+    appended: Option<Appended>,
 ) -> Result<Output, EngineFault>
-    requires { made.old.items ≡ [] }
-    ensures ok { IfOk result (λ output. (max_body : ℕ) → (normal : Option (List ℕ)) → (body : List ℕ) → IsTold max_body normal canonical →
+    requires { FRONT_ROOM ≤ vec_len made.old }
+    ensures ok { IfOk result (λ output. (max_body : ℕ) (normal : Option (List ℕ)) (body room : List ℕ) →
+        length room ≡ FRONT_ROOM → IsAppended max_body normal appended room made.old.items →
         written max_body (record { head = head; spelling = spelling.now; body = body }) (line_if head.line_due ++ mark_of version head.side) normal
         ≡ gives (output_of output spelling.now made.new.items)) }
     ensures err { IfErr result (λ fault. (fault ≡ EngineFault.NoMemory) ⊎ ((fault ≡ EngineFault.BodyTooLong head.place)
-        × ((max_body : ℕ) → (normal : Option (List ℕ)) → (body : List ℕ) → IsTold max_body normal canonical →
+        × ((max_body : ℕ) (normal : Option (List ℕ)) (body room : List ℕ) →
+        length room ≡ FRONT_ROOM → IsAppended max_body normal appended room made.old.items →
         written max_body (record { head = head; spelling = spelling.now; body = body }) (line_if head.line_due ++ mark_of version head.side) normal
         ≡ ends [] (Err (EngineFault.BodyTooLong head.place))))) }
 {
+    let Some(appended) = appended else {
+        return Ok(push_as_it_is(made, head, version, spelling)?);
+    };
+    match appended {
+        Appended::TooLong => Err(EngineFault::BodyTooLong { place: head.place }),
+        Appended::Body => {
+            let start = put_front(made, head, version);
+            Ok(Output::MadeFrom(start))
+        }
+    }
+}
+
+/// Writes a record of a log, with its mark, as it is.
+fn push_as_it_is(
+    made: &mut Vec<u8>,
+    head: Head,
+    version: Version,
+    spelling: &[u8],
+) -> Result<Output, AllocError>
+    ensures { IfOk result (λ output. output_of output spelling.now made.new.items
+        ≡ (line_if head.line_due ++ mark_of version head.side) ++ spelling.now) }
+{
+    made.clear();
     push_line(made, head.line_due)?;
     push_mark(made, version, head.side)?;
-    let Some(told) = canonical else {
-        if made.is_empty() {
-            return Ok(Output::Frame);
-        }
-        made.extend_from_slice(spelling)?;
-        return Ok(Output::Made);
-    };
-    match told {
-        Canonical::TooLong => Err(EngineFault::BodyTooLong { place: head.place }),
-        Canonical::Frame(frame) => {
-            made.extend_from_slice(&frame)?;
-            Ok(Output::Made)
-        }
+    if made.is_empty() {
+        return Ok(Output::Frame);
+    }
+    made.extend_from_slice(spelling)?;
+    Ok(Output::Made)
+}
+
+/// Writes the line of version 2, where it is due, the mark and the header of a body right before it, over the room. Returns the index
+/// where they begin.
+fn put_front(made: &mut [u8], head: Head, version: Version) -> usize
+    requires { FRONT_ROOM ≤ length made.old }
+    ensures { drop result made.new ≡ line_if head.line_due
+        ++ (mark_of version head.side ++ frame (drop FRONT_ROOM made.old)) }
+{
+    let header = put_header(made, FRONT_ROOM);
+    let mark = put_before(made, header, mark_bytes(version, head.side));
+    put_before(made, mark, line_bytes(head.line_due))
+}
+
+/// Writes some bytes right before an index, over what is there. Returns the index where they begin.
+fn put_before(made: &mut [u8], index: usize, bytes: &[u8]) -> usize
+    requires room { length bytes.now ≤ index }
+    requires within { index ≤ length made.old }
+    ensures put { drop result made.new ≡ bytes.now ++ drop index made.old }
+    ensures len { length made.new ≡ length made.old }
+    ensures begins { result ≡ index - length bytes.now }
+{
+    let start = index - bytes.len();
+    made[start..index].copy_from_slice(bytes);
+    start
+}
+
+/// The line of version 2, where it is due.
+fn line_bytes(line_due: bool) -> &'static [u8]
+    ensures is { result.now ≡ line_if line_due }
+    ensures short { length result.now ≤ 18 }
+{
+    if line_due { VERSION_LINE } else { b"" }
+}
+
+/// The mark of a record.
+fn mark_bytes(version: Version, side: Side) -> &'static [u8]
+    ensures is { result.now ≡ mark_of version side }
+    ensures short { length result.now ≤ 1 }
+{
+    match (version, side) {
+        (Version::One, _) => b"",
+        (Version::Two, Side::Client) => b">",
+        (Version::Two, Side::Server) => b"<",
     }
 }
 
@@ -110,20 +177,12 @@ fn push_record(
 pub fn push_line(made: &mut Vec<u8>, line_due: bool) -> Result<(), AllocError>
     ensures { OnOk result (made.new.items ≡ made.old.items ++ line_if line_due) }
 {
-    if line_due {
-        made.extend_from_slice(VERSION_LINE)?;
-    }
-    Ok(())
+    made.extend_from_slice(line_bytes(line_due))
 }
 
 /// Writes the mark of a record.
 pub fn push_mark(made: &mut Vec<u8>, version: Version, side: Side) -> Result<(), AllocError>
     ensures { OnOk result (made.new.items ≡ made.old.items ++ mark_of version side) }
 {
-    match (version, side) {
-        (Version::One, _) => {}
-        (Version::Two, Side::Client) => made.extend_from_slice(b">")?,
-        (Version::Two, Side::Server) => made.extend_from_slice(b"<")?,
-    }
-    Ok(())
+    made.extend_from_slice(mark_bytes(version, side))
 }

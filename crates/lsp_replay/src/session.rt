@@ -1,6 +1,6 @@
 //! A server over the records of a log.
 
-ghost use Rattle.std.specs.Prelude.{◌≡◌, ◌≢◌, ◌⊎◌, IfErr, IfOk, OnOk, MatchOption, option_map, map, string_bytes, Some, None};
+ghost use Rattle.std.specs.Prelude.{◌≡◌, ◌≢◌, ◌≤◌, ◌⊎◌, vec_len, IfErr, IfOk, OnOk, MatchOption, option_map, map, string_bytes, Some, None};
 ghost use Rattle.serde_json.specs.View.{view};
 ghost use Rattle.lsp_message.specs.Message.{reading};
 ghost use Rattle.lsp_message.specs.Agreement.{announced_of};
@@ -13,7 +13,7 @@ ghost use Rattle.lsp_server.specs.Seen.{incoming_view, answer_view};
 ghost use Rattle.lsp_stream.specs.Ports.{one_more};
 ghost use Rattle.lsp_replay.specs.Session.{answered, bad, opened, judge_at, judge_from, judge_incoming, is_early, is_change, is_refused, is_refusing, expected_after, hear_for, settle_by, result_for, result_in, same_id, versioned, outcome_of};
 ghost use Rattle.lsp_replay.specs.Engines.{change_in, normal_body, normal_if, normal_of};
-ghost use Rattle.lsp_replay.specs.Verdicts.{IsTold, verdict_view};
+ghost use Rattle.lsp_replay.specs.Verdicts.{IsAppended, IsTold, verdict_view};
 ghost use Rattle.lsp_replay.specs.Joining.{MayBeOpenIn, IsOpenIn, IsOpenAfter, IsWriting, IsChangeWriting, IsBegun, refusal_of, server_after};
 ghost use Rattle.lsp_server.specs.Incoming.{incoming_of};
 ghost use Rattle.lsp_server.specs.Answer.{changed};
@@ -48,6 +48,15 @@ pub enum Canonical {
     /// Its frame.
     Frame(Vec<u8>),
     /// Its body is over the limit.
+    TooLong,
+}
+
+/// What was appended for an accepted change.
+#[derive(Clone, Copy, Debug, PartialEq, Eq)]
+pub enum Appended {
+    /// The body of its canonical message.
+    Body,
+    /// Nothing: that body is over the limit.
     TooLong,
 }
 
@@ -189,69 +198,85 @@ impl Session {
         Ok(verdict)
     }
 
-    /// The same as [`Session::judge`], and for an accepted change the one message in which it is written.
+    /// The same as [`Session::judge`], and appends the body of the canonical message of an accepted change. After another record what was
+    /// appended is of no use.
     #[tactic(auto, using(crate::proofs::NormalLemmas::same_server))]
     pub fn judge_and_write(
         &mut self,
         head: Head,
         body: &[u8],
-    ) -> Result<(Verdict, Option<Canonical>), AllocError>
+        output: &mut Vec<u8>,
+    ) -> Result<(Verdict, Option<Appended>), AllocError>
         ensures verdict { IfOk result (λ told. verdict_view told.0 ≡ (judge_at self.old head body.now).verdict) }
         ensures session { OnOk result (self.new ≡ (judge_at self.old head body.now).session) }
-        ensures written { IfOk result (λ told. IsTold self.old.server.config.limits.max_body
-            (normal_of self.old body.now (judge_at self.old head body.now).verdict) told.1) }
+        ensures written { IfOk result (λ told. IsAppended self.old.server.config.limits.max_body
+            (normal_of self.old body.now (judge_at self.old head body.now).verdict)
+            told.1 output.old.items output.new.items) }
+        ensures kept { vec_len output.old ≤ vec_len output.new }
     {
         self.see_version(head.line_due);
-        let told = self.write_from(head.side, body)?;
+        let told = self.write_from(head.side, body, output)?;
         self.records = one_more(self.records);
         Ok(told)
     }
 
-    /// Judges a record of one side, and returns the canonical message of an accepted change.
+    /// Judges a record of one side, and appends the body of the canonical message of an accepted change.
     #[tactic(auto, using(crate::proofs::NormalLemmas::heard_has_none))]
     fn write_from(
         &mut self,
         side: Side,
         body: &[u8],
-    ) -> Result<(Verdict, Option<Canonical>), AllocError>
+        output: &mut Vec<u8>,
+    ) -> Result<(Verdict, Option<Appended>), AllocError>
         ensures verdict { IfOk result (λ told. verdict_view told.0 ≡ (judge_from self.old side body.now).verdict) }
         ensures session { OnOk result (self.new ≡ (judge_from self.old side body.now).session) }
-        ensures written { IfOk result (λ told. IsTold self.old.server.config.limits.max_body
-            (normal_of self.old body.now (judge_from self.old side body.now).verdict) told.1) }
+        ensures written { IfOk result (λ told. IsAppended self.old.server.config.limits.max_body
+            (normal_of self.old body.now (judge_from self.old side body.now).verdict)
+            told.1 output.old.items output.new.items) }
+        ensures kept { vec_len output.old ≤ vec_len output.new }
     {
         match side {
             Side::Client => {
                 let incoming = self.server.read(body)?;
-                self.take_and_write(incoming)
+                self.take_and_write(incoming, output)
             }
             Side::Server => Ok((self.hear(body)?, None)),
         }
     }
 
-    /// Judges a client's record, and returns the canonical message of an accepted change.
+    /// Judges a client's record, and appends the body of the canonical message of an accepted change.
     fn take_and_write(
         &mut self,
         incoming: Incoming,
-    ) -> Result<(Verdict, Option<Canonical>), AllocError>
+        output: &mut Vec<u8>,
+    ) -> Result<(Verdict, Option<Appended>), AllocError>
         ensures verdict { IfOk result (λ told. verdict_view told.0 ≡ (judge_incoming self.old (incoming_view incoming)).verdict) }
         ensures session { OnOk result (self.new ≡ (judge_incoming self.old (incoming_view incoming)).session) }
-        ensures written { IfOk result (λ told. IsTold self.old.server.config.limits.max_body
-            (normal_if self.old.server (change_in (incoming_view incoming)) (judge_incoming self.old (incoming_view incoming)).verdict) told.1) }
+        ensures written { IfOk result (λ told. IsAppended self.old.server.config.limits.max_body
+            (normal_if self.old.server (change_in (incoming_view incoming)) (judge_incoming self.old (incoming_view incoming)).verdict)
+            told.1 output.old.items output.new.items) }
+        ensures kept { vec_len output.old ≤ vec_len output.new }
     {
-        let canonical = self.canonical(&incoming)?;
+        let appended = self.append_canonical(&incoming, output)?;
         match self.take(incoming)? {
             Verdict::Answered(Answer::Changed) => {
-                Ok((Verdict::Answered(Answer::Changed), canonical))
+                Ok((Verdict::Answered(Answer::Changed), appended))
             }
             verdict => Ok((verdict, None)),
         }
     }
 
-    /// The one message of a change, if it is one that is accepted.
-    fn canonical(&self, incoming: &Incoming) -> Result<Option<Canonical>, AllocError>
+    /// Appends the body of the canonical message of a change, if it is one that is accepted.
+    fn append_canonical(
+        &self,
+        incoming: &Incoming,
+        output: &mut Vec<u8>,
+    ) -> Result<Option<Appended>, AllocError>
         ensures written { IfOk result (λ told. (judge_incoming self.now (incoming_view incoming.now)).verdict ≡ answered changed
-            → IsTold self.now.server.config.limits.max_body
-            (option_map (normal_body self.now.server) (change_in (incoming_view incoming.now))) told) }
+            → IsAppended self.now.server.config.limits.max_body
+            (option_map (normal_body self.now.server) (change_in (incoming_view incoming.now)))
+            told output.old.items output.new.items) }
+        ensures kept { vec_len output.old ≤ vec_len output.new }
     {
         let Incoming::DidChange(params) = incoming else {
             return Ok(None);
@@ -262,7 +287,37 @@ impl Session {
         if self.server.phase() != Phase::Running {
             return Ok(None);
         }
-        self.canonical_change(params)
+        self.append_change(params, output)
+    }
+
+    /// Appends the body of the canonical message of a change that is not refused.
+    fn append_change(
+        &self,
+        params: &ChangeParams,
+        output: &mut Vec<u8>,
+    ) -> Result<Option<Appended>, AllocError>
+        ensures told { IfOk result (λ told. change_refusal self.now.server.config.limits (units_in (encoding_of self.now.server)) self.now.server.table
+            (string_bytes params.now.uri) params.now.version (map edit_of params.now.changes.items) ≡ None
+            → IsAppended self.now.server.config.limits.max_body (Some (normal_body self.now.server (change_view params.now)))
+            told output.old.items output.new.items) }
+        ensures kept { vec_len output.old ≤ vec_len output.new }
+    {
+        let encoding = self.server.encoding().unwrap_or(Encoding::Utf16);
+        let written = self.server.store().push_canonical_body(
+            output,
+            &params.uri,
+            params.version,
+            encoding,
+            &params.changes,
+        );
+        match written {
+            Ok(()) => Ok(Some(Appended::Body)),
+            Err(fault) => match fault {
+                StoreFault::BodyTooLong { .. } => Ok(Some(Appended::TooLong)),
+                StoreFault::NoMemory => Err(AllocError),
+                _ => Ok(None),
+            },
+        }
     }
 
     /// The one message of a change that is not refused.
