@@ -3,21 +3,26 @@
     document = Document("abc\\n")
     document.change([{"range": {"start": {"line": 0, "character": 1}, "end": {"line": 0, "character": 2}}, "text": "X"}])
     document.text          # "aXc\\n"
+    check(log).output      # what a server answers to each record of a log, as bytes
 
 The shared library is the one that LASPIDRU_LIBRARY names, or liblaspidru.so.0 where the loader finds it."""
+import collections
 import ctypes
 import os
 import re
 import threading
-from ctypes import POINTER, byref, c_bool, c_char_p, c_size_t, c_uint32, c_void_p
+from ctypes import POINTER, byref, c_bool, c_char_p, c_size_t, c_uint32, c_uint64, c_void_p
 
 UTF8, UTF16, UTF32 = 8, 16, 32
 ENCODINGS = {"utf-8": UTF8, "utf-16": UTF16, "utf-32": UTF32}
 INSIDE_CHARACTER, REVERSED_RANGE, OUT_OF_MEMORY, OUT_OF_RANGE = 6, 7, 2, 11
+CUT, BAD_FRAME, BODY_TOO_LONG, BAD_LOG = 20, 21, 22, 23
 WHY = {1: "the text is not UTF-8", 2: "out of memory", 3: "the handle is in use", 4: "the document is closed",
        5: "the text is too long", 6: "a position lies inside a character", 7: "a range is reversed",
        8: "unknown encoding", 9: "the lengths of the edits exceed their texts", 10: "an object of another kind",
-       11: "out of range"}
+       11: "out of range", 12: "a limit is out of its range", 20: "the log ends inside a record",
+       21: "the header of a frame is faulty", 22: "a canonical message is too long", 23: "what is there belongs in no log",
+       24: "too many reads and writes"}
 
 
 class _Handle(ctypes.Structure):
@@ -44,10 +49,21 @@ class _Length(ctypes.Structure):
     _fields_ = [("bytes", c_size_t), ("lines", c_size_t)]
 
 
+class _LogSettings(ctypes.Structure):
+    _fields_ = [("max_body", c_size_t), ("max_text", c_size_t), ("max_docs", c_size_t), ("max_changes", c_size_t),
+                ("encoding", c_uint32), ("squash", c_bool)]
+
+
+class _Ending(ctypes.Structure):
+    _fields_ = [("status", c_uint32), ("frame", c_uint32), ("messages", c_uint64), ("refused", c_uint64),
+                ("place", c_uint64), ("output_len", c_size_t)]
+
+
 def _library():
     library = ctypes.CDLL(os.environ.get("LASPIDRU_LIBRARY", "liblaspidru.so.0"))
     handle, size = POINTER(_Handle), POINTER(c_size_t)
     batch = [handle, c_uint32, POINTER(_Edit), c_size_t, c_char_p, c_size_t]
+    log = [handle, POINTER(_LogSettings), c_char_p, c_size_t, POINTER(_Ending)]
     arguments = {
         "document_open": [handle, c_char_p, c_size_t],
         "document_change": batch + [POINTER(_Fault)],
@@ -59,6 +75,11 @@ def _library():
         "document_canonical": batch + [handle, POINTER(_Fault)],
         "batch_len": [handle, size],
         "batch_edit": [handle, c_size_t, POINTER(_Edit), c_void_p, c_size_t, size],
+        "log_check": log,
+        "log_replay": log,
+        "log_normalise": log,
+        "log_convert": log,
+        "log_output": [handle, c_size_t, c_void_p, c_size_t, size],
     }
     for name, types in arguments.items():
         function = getattr(library, "laspidru_" + name)
@@ -77,6 +98,17 @@ class LaspidruError(ValueError):
         where = "" if change is None else f"change {change}: "
         super().__init__(where + WHY.get(code, f"code {code}"))
         self.code, self.change, self.at_end = code, change, at_end
+
+
+class LogFault(LaspidruError):
+    """A fault of a log: its code, its byte offset, which of F1 to F7 a faulty frame has, else 0, and the output up to it."""
+
+    def __init__(self, code, place, frame, output):
+        super().__init__(code)
+        self.place, self.frame, self.output = place, frame, output
+
+    def __str__(self):
+        return f"{super().__str__()} at {self.place}"
 
 
 def _demand(code):
@@ -261,3 +293,45 @@ class TextDocument(Document):
             if word.start() <= at <= word.end() and word.group():
                 return word.group()
         return ""
+
+
+# What a command on a log wrote, as bytes; its status, which is 1 where something was refused; how many messages there were, and how
+# many of them were refused.
+LogOutput = collections.namedtuple("LogOutput", "output status messages refused")
+
+
+def _run(name, log, encoding="utf-16", max_body=16777216, max_text=16777216, max_docs=1024, max_changes=65536, squash=False):
+    settings = _LogSettings(max_body, max_text, max_docs, max_changes, ENCODINGS[encoding], squash)
+    handle, ending, copied = _Handle(), _Ending(), c_size_t()
+    code = getattr(_LIBRARY, "laspidru_log_" + name)(byref(handle), byref(settings), log, len(log), byref(ending))
+    try:
+        if code not in (0, CUT, BAD_FRAME, BODY_TOO_LONG, BAD_LOG):
+            _demand(code)
+        out = ctypes.create_string_buffer(max(ending.output_len, 1))
+        _demand(_LIBRARY.laspidru_log_output(byref(handle), 0, out, ending.output_len, byref(copied)))
+    finally:
+        _LIBRARY.laspidru_close(byref(handle))
+    output = out.raw[:copied.value]
+    if code:
+        raise LogFault(code, ending.place, ending.frame, output)
+    return LogOutput(output, ending.status, ending.messages, ending.refused)
+
+
+def check(log, **limits):
+    """What a server answers to each record of a log, a line for each. `limits` are lspsync's options: encoding, max_body, .."""
+    return _run("check", log, **limits)
+
+
+def replay(log, **limits):
+    """The documents that are open at the end of a log, a line of JSON for each."""
+    return _run("replay", log, **limits)
+
+
+def normalise(log, squash=False, **limits):
+    """The log with each accepted change as its canonical message; with `squash` each run of changes of one document as one."""
+    return _run("normalise", log, squash=squash, **limits)
+
+
+def convert(log, **limits):
+    """A log of version 1 in version 2, with the replies that a server gives."""
+    return _run("convert", log, **limits)

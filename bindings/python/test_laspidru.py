@@ -4,7 +4,15 @@ import random
 import re
 import unittest
 
-from laspidru import Document, LaspidruError, TextDocument
+import laspidru
+from laspidru import Document, LaspidruError, LogFault, TextDocument, check, convert, normalise, replay
+
+EXAMPLES = os.path.join(os.path.dirname(os.path.abspath(__file__)), "..", "..", "examples")
+
+
+def example(name):
+    with open(os.path.join(EXAMPLES, name + ".log"), "rb") as file:
+        return file.read()
 
 
 def at(line, character):
@@ -123,6 +131,38 @@ class Tests(unittest.TestCase):
                 with self.assertRaises(LaspidruError) as raised:
                     document.change(changes)
                 self.assertEqual((raised.exception.change, document.text), (wanted, old))
+
+    def test_logs(self):
+        stale = check(example("stale-version"))
+        self.assertEqual(stale.output, b"1 reply\n2 changed\n3 refused S5\n4 refused S4\n5 changed\n")
+        self.assertEqual((stale.status, stale.messages, stale.refused), (1, 5, 2))
+        report = replay(example("stale-version"))
+        self.assertEqual(report.output, b'{"languageId":"plaintext","text":"aXc","uri":"file:///a","version":2}\n')
+        self.assertEqual(convert(example("typing")).output, example("typing-with-replies"))
+        saves = example("two-saves")
+        once, squashed = normalise(saves).output, normalise(saves, squash=True).output
+        self.assertEqual(normalise(once).output, once)
+        self.assertEqual(normalise(squashed, squash=True).output, squashed)
+        self.assertLess(check(squashed).messages, check(once).messages)
+        self.assertEqual({replay(log).output for log in (once, squashed)}, {replay(saves).output})
+
+    def test_log_faults(self):
+        cut = example("cut-short")
+        with self.assertRaises(LogFault) as raised:
+            check(cut)
+        fault = raised.exception
+        self.assertEqual((fault.code, fault.place, fault.frame, fault.output), (laspidru.CUT, 505, 0, b"1 reply\n2 changed\n"))
+        self.assertEqual(str(fault), "the log ends inside a record at 505")
+        with self.assertRaises(LogFault) as raised:
+            normalise(b"Content-Length 2")
+        self.assertEqual((raised.exception.code, raised.exception.frame, raised.exception.place), (laspidru.BAD_FRAME, 1, 14))
+        with self.assertRaises(LogFault) as raised:
+            convert(b"lsp-session-log 2\n")
+        self.assertEqual((raised.exception.code, raised.exception.place, raised.exception.output), (laspidru.BAD_LOG, 0, b""))
+        with self.assertRaises(LaspidruError) as raised:
+            check(b"", max_body=1)
+        self.assertEqual(raised.exception.code, 12)
+        self.assertEqual(replay(b"").output, b"")
 
 
 if __name__ == "__main__":

@@ -8,6 +8,11 @@ pub const TOO_LONG: u32 = 5;
 pub const INSIDE_CHARACTER: u32 = 6;
 pub const REVERSED_RANGE: u32 = 7;
 pub const OUT_OF_RANGE: u32 = 11;
+pub const BAD_LIMIT: u32 = 12;
+pub const CUT: u32 = 20;
+pub const BAD_FRAME: u32 = 21;
+pub const BODY_TOO_LONG: u32 = 22;
+pub const BAD_LOG: u32 = 23;
 
 #[repr(C)]
 pub struct Handle {
@@ -48,6 +53,30 @@ pub struct Line {
     pub start: usize,
     pub end: usize,
 }
+
+#[repr(C)]
+pub struct LogSettings {
+    pub max_body: usize,
+    pub max_text: usize,
+    pub max_docs: usize,
+    pub max_changes: usize,
+    pub encoding: u32,
+    pub squash: bool,
+}
+
+#[repr(C)]
+#[derive(Default)]
+pub struct Ending {
+    pub status: u32,
+    pub frame: u32,
+    pub messages: u64,
+    pub refused: u64,
+    pub place: u64,
+    pub output_len: usize,
+}
+
+/// One of the four commands on logs.
+pub type LogCommand = unsafe extern "C" fn(*mut Handle, *const LogSettings, *const u8, usize, *mut Ending) -> u32;
 
 extern "C" {
     pub fn laspidru_document_open(document: *mut Handle, text: *const u8, len: usize) -> u32;
@@ -97,6 +126,41 @@ extern "C" {
         batch: *mut Handle,
         index: usize,
         edit: *mut Edit,
+        out: *mut u8,
+        out_len: usize,
+        copied: *mut usize,
+    ) -> u32;
+    pub fn laspidru_log_check(
+        output: *mut Handle,
+        settings: *const LogSettings,
+        log: *const u8,
+        log_len: usize,
+        ending: *mut Ending,
+    ) -> u32;
+    pub fn laspidru_log_replay(
+        output: *mut Handle,
+        settings: *const LogSettings,
+        log: *const u8,
+        log_len: usize,
+        ending: *mut Ending,
+    ) -> u32;
+    pub fn laspidru_log_normalise(
+        output: *mut Handle,
+        settings: *const LogSettings,
+        log: *const u8,
+        log_len: usize,
+        ending: *mut Ending,
+    ) -> u32;
+    pub fn laspidru_log_convert(
+        output: *mut Handle,
+        settings: *const LogSettings,
+        log: *const u8,
+        log_len: usize,
+        ending: *mut Ending,
+    ) -> u32;
+    pub fn laspidru_log_output(
+        output: *mut Handle,
+        start: usize,
         out: *mut u8,
         out_len: usize,
         copied: *mut usize,

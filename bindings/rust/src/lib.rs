@@ -14,6 +14,9 @@ use std::cell::{OnceCell, RefCell};
 use std::fmt;
 
 mod ffi;
+pub mod log;
+#[cfg(feature = "lsp-types")]
+mod lsp;
 
 /// What a position's character counts.
 #[derive(Clone, Copy, Debug, PartialEq, Eq, Hash)]

@@ -1,7 +1,8 @@
 /* Laspidru: texts that are kept as LSP 3.17 says, by a library that is proved. docs/EMBEDDING.md has examples.
 
-   Each function tests what it is passed and returns a code. Where the code isn't LASPIDRU_OK nothing has changed. Memory
-   is taken last: LASPIDRU_OUT_OF_MEMORY is returned only where the arguments are not refused.
+   Each function tests what it is passed and returns a code. Where the code isn't LASPIDRU_OK nothing has changed; only after
+   the four faults of a log, 20 to 23, the output up to the fault is kept. Memory is taken last: LASPIDRU_OUT_OF_MEMORY is
+   returned only where the arguments are not refused.
    A handle of zeroes is empty. It is given to one call at a time, and never copied while it is full; it may be used
    by any thread. What a handle holds is freed by laspidru_close. Pointers are never null, also where a length is 0. */
 #ifndef LASPIDRU_H
@@ -17,6 +18,7 @@ typedef _Bool laspidru_bool;
 typedef __SIZE_TYPE__ laspidru_size;
 typedef __UINT32_TYPE__ laspidru_u32;
 typedef __INT32_TYPE__ laspidru_i32;
+typedef __UINT64_TYPE__ laspidru_u64;
 
 /* Codes. */
 enum {
@@ -32,7 +34,7 @@ enum {
     LASPIDRU_BAD_LENGTH = 9,       /* the lengths of the edits exceed their texts */
     LASPIDRU_OTHER_KIND = 10,      /* the handle holds an object of another kind */
     LASPIDRU_OUT_OF_RANGE = 11,    /* no such line, offset or edit */
-    LASPIDRU_BAD_LIMIT = 12,       /* a limit of a server is out of its range */
+    LASPIDRU_BAD_LIMIT = 12,       /* a limit is out of its range */
     LASPIDRU_ENDED = 13,           /* the session has ended */
     LASPIDRU_NOT_OPEN = 14,        /* no document of this URI is open */
 
@@ -41,7 +43,15 @@ enum {
     LASPIDRU_TOO_MANY_DOCUMENTS = 16, /* as many documents are open as may be */
     LASPIDRU_STALE_VERSION = 17,      /* the version is not greater than the current one */
     LASPIDRU_TOO_MANY_CHANGES = 18,   /* too many changes, or too long ones */
-    LASPIDRU_INVALID_PARAMS = 19      /* the params are not those of the notification */
+    LASPIDRU_INVALID_PARAMS = 19,     /* the params are not those of the notification */
+
+    /* Faults of a log, with their place. The handle holds the output up to the fault. */
+    LASPIDRU_CUT = 20,           /* the log ends inside a record */
+    LASPIDRU_BAD_FRAME = 21,     /* the header of a frame is faulty */
+    LASPIDRU_BODY_TOO_LONG = 22, /* the canonical message of a change has a longer body than max_body */
+    LASPIDRU_BAD_LOG = 23,       /* what is there belongs in no log, or for laspidru_log_convert in none of version 1 */
+
+    LASPIDRU_TOO_MANY_TURNS = 24 /* more than 2^64 - 1 reads and writes would be needed; nothing has changed */
 };
 
 /* Kinds of a server's answer. */
@@ -57,7 +67,7 @@ enum {
 /* Encodings: what a position's character counts. */
 enum { LASPIDRU_UTF8 = 8, LASPIDRU_UTF16 = 16, LASPIDRU_UTF32 = 32 };
 
-/* A handle: room for a document, a batch or a server. */
+/* A handle: room for a document, a batch, a server or the output of a command on a log. */
 typedef struct laspidru_handle {
     void *pointer;
     laspidru_bool is_full;
@@ -121,6 +131,26 @@ typedef struct laspidru_opened {
     laspidru_i32 version;
     laspidru_size bytes;
 } laspidru_opened;
+
+/* How a log is read (docs/FORMATS.md, Logs). */
+typedef struct laspidru_log_settings {
+    laspidru_size max_body;    /* 4,096 to 1,073,741,824 bytes of a message */
+    laspidru_size max_text;    /* up to 1,073,741,824 bytes */
+    laspidru_size max_docs;    /* 1 to 65,536 */
+    laspidru_size max_changes; /* 1 to 1,048,576 in a message */
+    laspidru_u32 encoding;     /* what positions count */
+    laspidru_bool squash;      /* laspidru_log_normalise: changes of one document that follow each other as one message */
+} laspidru_log_settings;
+
+/* How a command on a log ended. A member that isn't of the code is 0. */
+typedef struct laspidru_ending {
+    laspidru_u32 status;     /* OK: 1 where something was refused, else 0 */
+    laspidru_u32 frame;      /* BAD_FRAME: 1 to 7, for F1 to F7 of docs/FORMATS.md */
+    laspidru_u64 messages;   /* OK: how many messages were handled */
+    laspidru_u64 refused;    /* OK: how many of them were refused */
+    laspidru_u64 place;      /* CUT, BAD_FRAME, BODY_TOO_LONG, BAD_LOG: a byte offset in the log */
+    laspidru_size output_len; /* how many bytes laspidru_log_output copies */
+} laspidru_ending;
 
 /* Opens a document in an empty handle, by a copy of the text. */
 laspidru_u32 laspidru_document_open(laspidru_handle *document, const unsigned char *text, laspidru_size text_len);
@@ -189,6 +219,27 @@ laspidru_u32 laspidru_server_document(laspidru_handle *server, const unsigned ch
 /* Copies the bytes of an open document's text from `start` on, as many as `out` holds, and says how many. */
 laspidru_u32 laspidru_server_text(laspidru_handle *server, const unsigned char *uri, laspidru_size uri_len,
     laspidru_size start, unsigned char *out, laspidru_size out_len, laspidru_size *copied);
+
+/* Four commands on the bytes of a log, each as lspsync's of the same name. The output goes into the empty handle `output`:
+   what a server answers to each record, */
+laspidru_u32 laspidru_log_check(laspidru_handle *output, const laspidru_log_settings *settings,
+    const unsigned char *log, laspidru_size log_len, laspidru_ending *ending);
+
+/* the documents that are open at the end, a line of JSON for each, */
+laspidru_u32 laspidru_log_replay(laspidru_handle *output, const laspidru_log_settings *settings,
+    const unsigned char *log, laspidru_size log_len, laspidru_ending *ending);
+
+/* the log with each accepted change as its canonical message, */
+laspidru_u32 laspidru_log_normalise(laspidru_handle *output, const laspidru_log_settings *settings,
+    const unsigned char *log, laspidru_size log_len, laspidru_ending *ending);
+
+/* and a log of version 1 in version 2, with the replies that a server gives. */
+laspidru_u32 laspidru_log_convert(laspidru_handle *output, const laspidru_log_settings *settings,
+    const unsigned char *log, laspidru_size log_len, laspidru_ending *ending);
+
+/* Copies the bytes of the output from `start` on, as many as `out` holds, and says how many. */
+laspidru_u32 laspidru_log_output(laspidru_handle *output, laspidru_size start,
+    unsigned char *out, laspidru_size out_len, laspidru_size *copied);
 
 #ifdef __cplusplus
 }

@@ -4,3 +4,4 @@ pub mod Codes
 pub mod Objects
 pub mod Batches
 pub mod Servers
+pub mod Logs

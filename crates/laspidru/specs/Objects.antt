@@ -17,7 +17,7 @@ use Rattle.laspidru.specs.declared.place.Line.{Line}
 use Rattle.laspidru.specs.declared.place.Place.{Place}
 use Rattle.laspidru.specs.declared.place.Size.{Size}
 use Rattle.laspidru.specs.declared.object.Object.{Object}
-use Rattle.laspidru.specs.declared.object.Object.TheVariants.{Document, Batch, Server}
+use Rattle.laspidru.specs.declared.object.Object.TheVariants.{Document, Batch, Server, Output}
 use Rattle.laspidru.specs.Codes.{and_then}
 
 -- A handle that is to be filled is refused where it holds an object.
@@ -37,6 +37,7 @@ abbrev pub document_of : Object → Result (List ℕ) ℕ
 document_of (Document text) = Ok text
 document_of (Batch changes) = Err OTHER_KIND
 document_of (Server session) = Err OTHER_KIND
+document_of (Output bytes) = Err OTHER_KIND
 
 -- the text of the document behind a handle
 abbrev pub document_in : Option Object → Result (List ℕ) ℕ
@@ -48,6 +49,7 @@ abbrev pub batch_of : Object → Result (List Change) ℕ
 batch_of (Document text) = Err OTHER_KIND
 batch_of (Batch changes) = Ok changes.items
 batch_of (Server session) = Err OTHER_KIND
+batch_of (Output bytes) = Err OTHER_KIND
 
 -- the changes of the batch behind a handle
 abbrev pub batch_in : Option Object → Result (List Change) ℕ

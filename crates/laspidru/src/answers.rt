@@ -1,8 +1,9 @@
 //! What C passes to a server, and what it gets from it.
 
 ghost use Rattle.std.specs.Prelude.{◌≡◌, Err, IfErr, IfOk, Ok};
+ghost use Rattle.lsp_frame.specs.Limits.{Bounds};
 ghost use Rattle.lsp_server.specs.Seen.{answer_view};
-ghost use Rattle.laspidru.specs.Servers.{answer_out, config_asked, error_number, plain_out, refusal_code, store_code};
+ghost use Rattle.laspidru.specs.Servers.{answer_out, config_asked, error_number, limits_asked, plain_out, refusal_code, store_code};
 
 use crate::changes::encoding_of;
 use crate::codes::{
@@ -53,6 +54,26 @@ pub struct Opened {
     pub bytes: usize,
 }
 
+/// Limits, or BAD_LIMIT where one is out of its range.
+pub(crate) fn limits_of(
+    max_body: usize,
+    max_text: usize,
+    max_docs: usize,
+    max_changes: usize,
+) -> Result<Limits, u32>
+    ensures { let given : Bounds = record {
+      max_body = max_body;
+      max_text = max_text;
+      max_docs = max_docs;
+      max_changes = max_changes;
+    } in result ≡ limits_asked given }
+{
+    match Limits::new(max_body, max_text, max_docs, max_changes) {
+        Ok(limits) => Ok(limits),
+        Err(_) => Err(BAD_LIMIT),
+    }
+}
+
 /// How a server is to be set up, or why it can't be.
 pub(crate) fn config_of(settings: &Settings) -> Result<Config, u32>
     ensures ok { IfOk result (λ config. config_asked settings.now ≡ Ok config) }
@@ -61,14 +82,12 @@ pub(crate) fn config_of(settings: &Settings) -> Result<Config, u32>
     let Some(encoding) = encoding_of(settings.encoding) else {
         return Err(BAD_ENCODING);
     };
-    let Ok(limits) = Limits::new(
+    let limits = limits_of(
         settings.max_body,
         settings.max_text,
         settings.max_docs,
         settings.max_changes,
-    ) else {
-        return Err(BAD_LIMIT);
-    };
+    )?;
     let choice = if settings.is_fixed {
         EncodingChoice::Fixed(encoding)
     } else {

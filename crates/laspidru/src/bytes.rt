@@ -1,8 +1,11 @@
 //! Bytes that C passes, and bytes that are copied to it.
 
-ghost use Rattle.std.specs.Prelude.{◌≡◌, IfNone, IfSome, false, true};
+ghost use Rattle.std.specs.Prelude.{◌≡◌, ◌≢◌, IfNone, IfSome, Ok, false, true};
 ghost use Rattle.std.specs.Str.{is_utf8};
-ghost use Rattle.laspidru.specs.Objects.{IsCopy};
+ghost use Rattle.laspidru.specs.Codes.{IsAnswer};
+ghost use Rattle.laspidru.specs.Objects.{IsCopy, rest_asked};
+
+use crate::codes::{OK, OUT_OF_RANGE};
 
 /// The text of bytes that are UTF-8.
 pub(crate) fn utf8_text(bytes: &[u8]) -> Option<&str>
@@ -22,4 +25,17 @@ pub(crate) fn copy_bytes(bytes: &[u8], out: &mut [u8]) -> usize
     let count = out.len().min(bytes.len());
     out[..count].copy_from_slice(&bytes[..count]);
     count
+}
+
+/// Copies bytes from `start` on, as many as `out` holds.
+pub(crate) fn copy_from(bytes: &[u8], start: usize, out: &mut [u8], copied: &mut usize) -> u32
+    ensures answer { IsAnswer (rest_asked start (Ok bytes.now)) result
+        (IsCopy out.old out.new copied.new) }
+    ensures unchanged { result ≢ OK → (out.new ≡ out.old) × (copied.new ≡ copied.old) }
+{
+    let Some((_, rest)) = bytes.split_at_checked(start) else {
+        return OUT_OF_RANGE;
+    };
+    *copied = copy_bytes(rest, out);
+    OK
 }

@@ -40,6 +40,16 @@ pub const STALE_VERSION: u32 = 17;
 pub const TOO_MANY_CHANGES: u32 = 18;
 /// The params are not those of the notification.
 pub const INVALID_PARAMS: u32 = 19;
+/// The log ends inside a record.
+pub const CUT: u32 = 20;
+/// What follows in the log has a faulty header.
+pub const BAD_FRAME: u32 = 21;
+/// The canonical message of a change has a longer body than allowed.
+pub const BODY_TOO_LONG: u32 = 22;
+/// What follows in the log belongs in none.
+pub const BAD_LOG: u32 = 23;
+/// More reads and writes would be needed than a `u64` counts.
+pub const TOO_MANY_TURNS: u32 = 24;
 
 /// The server replies.
 pub const REPLIED: u32 = 0;

@@ -12,4 +12,6 @@ pub enum Object {
     Batch(Vec<Change>),
     /// A server, with its last reply.
     Server(Session),
+    /// What a command on a log wrote.
+    Output(Vec<u8>),
 }

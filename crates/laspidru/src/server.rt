@@ -8,10 +8,8 @@ ghost use Rattle.laspidru.specs.Objects.{IsCopy, in_use, rest_asked};
 ghost use Rattle.laspidru.specs.Servers.{IsHandled, IsOpened, config_asked, entry_asked, entry_in, live_asked, reply_asked, reply_out, server_in, server_of, session_of, step_at, text_of, uri_asked};
 
 use crate::answers::{Answer, Opened, Settings, answer_of, config_of};
-use crate::bytes::{copy_bytes, utf8_text};
-use crate::codes::{
-    EMPTY, ENDED, IN_USE, NOT_OPEN, NOT_UTF8, OK, OTHER_KIND, OUT_OF_MEMORY, OUT_OF_RANGE,
-};
+use crate::bytes::{copy_from, utf8_text};
+use crate::codes::{EMPTY, ENDED, IN_USE, NOT_OPEN, NOT_UTF8, OK, OTHER_KIND, OUT_OF_MEMORY};
 use crate::handle::Handle;
 use crate::object::Object;
 use crate::session::Session;
@@ -99,19 +97,6 @@ pub extern "C" fn laspidru_server_handle(
     let code = object_handle(alloc, &mut object, body, out);
     handle.put(object);
     code
-}
-
-/// Copies bytes from `start` on, as many as `out` holds.
-fn copy_from(bytes: &[u8], start: usize, out: &mut [u8], copied: &mut usize) -> u32
-    ensures answer { IsAnswer (rest_asked start (Ok bytes.now)) result
-        (IsCopy out.old out.new copied.new) }
-    ensures unchanged { result ≢ OK → (out.new ≡ out.old) × (copied.new ≡ copied.old) }
-{
-    let Some((_, rest)) = bytes.split_at_checked(start) else {
-        return OUT_OF_RANGE;
-    };
-    *copied = copy_bytes(rest, out);
-    OK
 }
 
 /// Copies the last reply of an object's server.

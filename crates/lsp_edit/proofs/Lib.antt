@@ -32,3 +32,4 @@ pub mod InPlaceLemmas
 pub mod TextBatchLemmas
 pub mod DeltaLemmas
 pub mod RunLemmas
+pub mod TextEditLemmas

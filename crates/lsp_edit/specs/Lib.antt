@@ -11,6 +11,7 @@ pub mod Faults
 pub mod Edited
 pub mod Gaps
 pub mod Indexed
+pub mod TextEdits
 pub mod Joined
 pub mod Deltas
 pub mod Examples

@@ -10,7 +10,9 @@ ghost use Rattle.lsp_edit.specs.Batch.{meaning};
 ghost use Rattle.lsp_edit.specs.Deltas.{IsDelta, delta_parts};
 ghost use Rattle.lsp_edit.specs.Edited.{Means, edit_of, edited_bytes};
 ghost use Rattle.lsp_edit.specs.Indexed.{IsCanonicalBatch, alone, told_as, text_within};
+ghost use Rattle.lsp_edit.specs.TextEdits.{IsBatchOfEdits, IsEditsFault};
 
+use crate::canonical::canonical_of;
 use crate::change::{Change, MAX_NEW_TEXT};
 use crate::composed::{MAX_OLD_TEXT, compose_over};
 use crate::delta::Delta;
@@ -20,6 +22,7 @@ use crate::fault::EditFault;
 use crate::in_place::put_in_place;
 use crate::joined::{Joined, RUN};
 use crate::pieces::{MAX_TEXT, Pieces};
+use crate::text_edits::{TextEdit, TextEditFault, spans_of_edits};
 use lsp_text::{Encoding, Lines, Range};
 use std::alloc::{AllocError, Global};
 use std::marker::Model;
@@ -244,6 +247,25 @@ impl IndexedText {
         }
         let pieces = self.composed(encoding, changes, max_len)?;
         Ok(pieces.canonical(encoding)?)
+    }
+
+    /// The batch that means what text edits mean (LSP 3.17, TextEdit[]): all their ranges count in the text as it is, and texts that are put
+    /// in at one place come in the order of the list. It is the canonical batch of that. Refuses edits of which one has a faulty range or
+    /// two overlap, and changes nothing. Costs each edit's two positions, a stable sort by their starts, and one exact position for each
+    /// end of a changed gap.
+    pub fn batch_of_edits(
+        &self,
+        encoding: Encoding,
+        edits: &[TextEdit],
+    ) -> Result<Vec<Change>, TextEditFault>
+        ensures batch { IfOk result (λ made.
+            IsBatchOfEdits (units_in encoding) self.now edits.now (map edit_of made.items)) }
+        ensures error { IfErr result (λ fault.
+            IsEditsFault (units_in encoding) (chars self.now) edits.now fault) }
+    {
+        let alloc = *self.text.allocator();
+        let spans = spans_of_edits(alloc, &self.lines, &self.text, encoding, edits)?;
+        Ok(canonical_of(alloc, &self.text, &self.lines, &spans, encoding)?)
     }
 
     /// What a batch makes of the text, in spans that own their texts. Refuses as [`IndexedText::change`] does, and changes nothing. Costs

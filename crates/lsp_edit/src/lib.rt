@@ -5,6 +5,7 @@
 //! - `spans`, `row`, `replace`, `through`: what became of the old text, in runs of it and of the changes' texts.
 //! - `joined`: many batches, one after another, joined; `delta`: what some of them made of a text, in spans that own their texts.
 //! - `draft`: a text under the changes of a batch, where nobody asks for spans.
+//! - `text_edits`: edits that all count in one old text, as formatters and `applyEdits` have them.
 //! - `current`: the text that changes meet, made late.
 //! - `laws`: what holds of every batch and of its canonical batch.
 //! - `plain`: the definitions as a plain program, one item for each character, with the same clauses, save on memory.
@@ -29,6 +30,7 @@ mod replace;
 mod row;
 mod span;
 mod spans;
+mod text_edits;
 mod through;
 
 pub use change::{Change, MAX_NEW_TEXT, fits};
@@ -39,3 +41,4 @@ pub use joined::Joined;
 pub use laws::batch_laws;
 pub use pieces::{MAX_TEXT, Pieces};
 pub use span::Span;
+pub use text_edits::{TextEdit, TextEditFault};

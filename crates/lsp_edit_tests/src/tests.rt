@@ -9,6 +9,7 @@ mod plain;
 mod refused;
 mod runs;
 mod spans;
+mod text_edits;
 
 use lsp_edit::{Change, EditFault, Side};
 use lsp_samples::edits::{ALL, Edit, batch, change};

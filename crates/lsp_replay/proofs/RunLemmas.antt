@@ -1,5 +1,5 @@
 -- A run between two reads, and its end.
-use Rattle.std.proofs.Common.{◌≡◌, ℕ, ◌+◌, ◌-◌, ◌<◌, ◌≤◌, ◌^◌, Bool, true, false, List, [], ◌∷◌, ◌++◌, length, take, drop, Option, Result, Ok, Err, refl, sym, ◌∙◌, ap, subst, arith, append_assoc, append-nil, inl, inr, ◌⊎◌, ◌||◌}
+use Rattle.std.proofs.Common.{◌≡◌, ℕ, ◌+◌, ◌-◌, ◌<◌, ◌≤◌, ◌^◌, Bool, true, false, List, [], ◌∷◌, ◌++◌, length, take, drop, Option, Result, Ok, Err, refl, sym, ◌∙◌, ap, subst, arith, append_assoc, append-nil, inl, inr, ◌⊎◌, ◌||◌, not}
 use Rattle.std.specs.Prelude.{◌≢◌, min, nat_eq, IfOk, IfErr, OnOk}
 use Rattle.std.proofs.lemmas.List.{length-append, length-take, drop-take, take-append-drop}
 use Rattle.std.specs.Io.KnownBytes.{Consumes, Appends, Keeps, IsAtEnd}
@@ -372,3 +372,9 @@ pub passed_result : {T : Type 0} (flushes old new : Bool) (r : Result T EngineFa
     → flushes ≡ true → r ≢ Err Write → r ≢ Err TooManyTurns → StaysFlushed old new
 passed_result flushes old new (Ok t) ok err holds not_write not_turns = ok holds
 passed_result flushes old new (Err fault) ok err holds not_write not_turns = passed_fault flushes old new fault err holds not_write not_turns
+
+-- A read after all was passed on notes nothing.
+pub in_time : (early flushed : Bool) → flushed ≡ true → (early || not flushed) ≡ early
+in_time true flushed is = refl
+in_time false true is = refl
+in_time false false is = sym is

@@ -16,7 +16,7 @@ use crate::handler::{Handler, Output};
 use crate::outcome::Outcome;
 use lsp_frame::Limits;
 use lsp_log::{Head, Splitter, Version, read_opening, reading_laws};
-use lsp_stream::{EngineFault, Sink, Source, Turns, read_piece, write_given};
+use lsp_stream::{Duplex, EngineFault, Sink, Source, Turns, read_piece, write_given};
 use std::alloc::Global;
 
 /// How many bytes one read may give.
@@ -256,6 +256,79 @@ fn finish_run<W: Sink, H: Handler>(
 
 /// Reads to the end of the input, hands each record to the handler as soon as it is whole, and writes what it gives
 /// before it reads on.
+pub fn run_on<R: Source, W: Sink, H: Handler>(
+    alloc: Global,
+    ends: &mut Duplex<'_, R, W>,
+    handler: &mut H,
+    rules: InputRules,
+    max_turns: u64,
+) -> Result<Outcome, EngineFault>
+    ensures ran { Ran (record { max_body = rules.limits.max_body; versions = rules.versions; only_one = rules.only_one }) (H.course handler.old)
+        (state_of (R.has_ended ends.old.reader.now) (R.has_ended ends.new.reader.now) (H.FLUSHES && not (W.has_flushed ends.new.writer.now)))
+        (R.left ends.old.reader.now) (R.left ends.new.reader.now) (W.held ends.old.writer.now) (W.held ends.new.writer.now) result }
+    ensures called { Called (R.count ends.old.reader.now) (R.count ends.new.reader.now) (W.count ends.old.writer.now) (W.count ends.new.writer.now) max_turns
+        (R.has_failed ends.new.reader.now) (W.has_failed ends.new.writer.now) (R.has_ended ends.new.reader.now) (R.left ends.new.reader.now) result }
+    ensures none_passed_over { NonePassedOver (R.has_failed ends.old.reader.now) (R.has_failed ends.new.reader.now) (W.has_failed ends.old.writer.now) (W.has_failed ends.new.writer.now) result }
+    // Where the end gives one part, what is written when memory runs out is the output of records, each whole.
+    ensures whole { ((h : H) → H.parts h ≡ 0) → result ≡ Err EngineFault.NoMemory →
+        WroteRecords (record {
+          max_body = rules.limits.max_body;
+          versions = rules.versions;
+          only_one = rules.only_one;
+        }) (H.course handler.old)
+        (R.left ends.old.reader.now) (R.left ends.new.reader.now) (W.held ends.old.writer.now) (W.held ends.new.writer.now) }
+    ensures passed_on { H.FLUSHES ≡ true → result ≢ Err EngineFault.Write → result ≢ Err EngineFault.TooManyTurns →
+        StaysFlushed (W.has_flushed ends.old.writer.now) (W.has_flushed ends.new.writer.now) }
+    // No read came before all that was written was passed on.
+    ensures in_time { H.FLUSHES ≡ true → W.has_flushed ends.old.writer.now ≡ true →
+        ends.new.read_early ≡ ends.old.read_early }
+    ensures same_reader { ends.new.reader.ghost_name ≡ ends.old.reader.ghost_name }
+    ensures same_writer { ends.new.writer.ghost_name ≡ ends.old.writer.ghost_name }
+    // What its callers take from `lsp_log`.
+    ensures version { VersionLaw }
+    ensures first { FirstLaw }
+{
+    reading_laws();
+    let mut turns = Turns::new(max_turns);
+    let mut buf = [0u8; PIECE];
+    let mut made = Vec::new(alloc);
+    let opening = read_opening(ends.reader(), &mut buf, rules.versions, &mut turns)?;
+    accept(opening.version, rules.only_one)?;
+    let mut splitter = Splitter::new(alloc, rules.limits, opening.version);
+    let mut from = opening.version.line().len();
+    let mut to = opening.len;
+    let mut ended = opening.ended;
+    let mut place = to as u64;
+    'pieces: loop {
+        let end = take_piece(
+            &mut splitter,
+            handler,
+            ends.writer(),
+            &mut made,
+            &buf[from..to],
+            &mut turns,
+        )?;
+        if let Some(outcome) = end {
+            return Ok(outcome);
+        }
+        if ended {
+            return finish_run(
+                &splitter,
+                handler,
+                ends.writer(),
+                &mut made,
+                place,
+                &mut turns,
+            );
+        }
+        from = 0;
+        to = read_piece(ends.reader(), &mut buf, &mut turns)?;
+        place = place.saturating_add(to as u64);
+        ended = to == 0;
+    }
+}
+
+/// [`run_on`] over a reader and a writer.
 pub fn run_engine<R: Source, W: Sink, H: Handler>(
     alloc: Global,
     reader: &mut R,
@@ -284,35 +357,6 @@ pub fn run_engine<R: Source, W: Sink, H: Handler>(
     ensures version { VersionLaw }
     ensures first { FirstLaw }
 {
-    reading_laws();
-    let mut turns = Turns::new(max_turns);
-    let mut buf = [0u8; PIECE];
-    let mut made = Vec::new(alloc);
-    let opening = read_opening(reader, &mut buf, rules.versions, &mut turns)?;
-    accept(opening.version, rules.only_one)?;
-    let mut splitter = Splitter::new(alloc, rules.limits, opening.version);
-    let mut from = opening.version.line().len();
-    let mut to = opening.len;
-    let mut ended = opening.ended;
-    let mut place = to as u64;
-    'pieces: loop {
-        let end = take_piece(
-            &mut splitter,
-            handler,
-            writer,
-            &mut made,
-            &buf[from..to],
-            &mut turns,
-        )?;
-        if let Some(outcome) = end {
-            return Ok(outcome);
-        }
-        if ended {
-            return finish_run(&splitter, handler, writer, &mut made, place, &mut turns);
-        }
-        from = 0;
-        to = read_piece(reader, &mut buf, &mut turns)?;
-        place = place.saturating_add(to as u64);
-        ended = to == 0;
-    }
+    let mut ends = Duplex::new(reader, writer);
+    run_on(alloc, &mut ends, handler, rules, max_turns)
 }

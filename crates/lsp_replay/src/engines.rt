@@ -12,7 +12,7 @@ ghost use Rattle.lsp_replay.specs.Told.{RanOver};
 
 use crate::checking::Check;
 use crate::converting::Convert;
-use crate::engine::{InputRules, run_engine};
+use crate::engine::{InputRules, run_engine, run_on};
 use crate::normalising::Normalise;
 use crate::outcome::Outcome;
 use crate::replaying::Replay;
@@ -20,7 +20,7 @@ use crate::serving::Serve;
 use crate::squashing::Squashing;
 use lsp_frame::Limits;
 use lsp_server::{Config, EncodingChoice, Sync};
-use lsp_stream::{EngineFault, Sink, Source};
+use lsp_stream::{Duplex, EngineFault, Sink, Source};
 use lsp_text::Encoding;
 use std::alloc::Global;
 
@@ -74,8 +74,9 @@ impl Settings {
     }
 }
 
-/// A server's end of a session: writes each reply to the client's frames as it comes, and flushes it before more is read. Ends at
-/// `exit`, with its status; nothing after it is read. Where the input ends without one the status is 1.
+/// A server's end of a session: writes each reply to the client's frames as it comes, and flushes it before more is read
+/// ([`serve_on`] has that as a clause). Ends at `exit`, with its status; nothing after it is read. Where the input ends without one the
+/// status is 1.
 ///
 /// At most `max_turns` reads, writes and flushes are made. Linear in the input, and what the messages cost; keeps the open documents,
 /// one message and one piece of 65,536 bytes.
@@ -103,13 +104,46 @@ pub fn serve<R: Source, W: Sink>(
         (R.has_failed reader.new) (W.has_failed writer.new) (R.has_ended reader.new) (R.left reader.new) result }
     ensures none_passed_over { NonePassedOver (R.has_failed reader.old) (R.has_failed reader.new) (W.has_failed writer.old) (W.has_failed writer.new) result }
 {
+    let mut ends = Duplex::new(reader, writer);
+    serve_on(alloc, &mut ends, config, max_turns)
+}
+
+/// [`serve`] over both ends of a connection. No read comes before all that was written is passed on
+/// ([`Duplex::read_early`] stays as it was), if the writer had passed on all that it took before.
+pub fn serve_on<R: Source, W: Sink>(
+    alloc: Global,
+    ends: &mut Duplex<'_, R, W>,
+    config: Config,
+    max_turns: u64,
+) -> Result<Outcome, EngineFault>
+    ensures ran { Ran (as_stream config) (replies config)
+        (state_of (R.has_ended ends.old.reader.now) (R.has_ended ends.new.reader.now) (not (W.has_flushed ends.new.writer.now)))
+        (R.left ends.old.reader.now) (R.left ends.new.reader.now) (W.held ends.old.writer.now) (W.held ends.new.writer.now) result }
+    ensures told { RanOver (as_stream config) (replies config)
+        (state_of (R.has_ended ends.old.reader.now) (R.has_ended ends.new.reader.now) (not (W.has_flushed ends.new.writer.now)))
+        (R.left ends.old.reader.now) (R.left ends.new.reader.now) (W.held ends.old.writer.now) (W.held ends.new.writer.now) result }
+    // After an outcome, and after each fault but those of writing and of too many turns, all that was written is passed on.
+    ensures passed_on { result ≢ Err EngineFault.Write → result ≢ Err EngineFault.TooManyTurns →
+        StaysFlushed (W.has_flushed ends.old.writer.now) (W.has_flushed ends.new.writer.now) }
+    // No read came before all that was written was passed on.
+    ensures in_time { W.has_flushed ends.old.writer.now ≡ true → ends.new.read_early ≡ ends.old.read_early }
+    ensures same_reader { ends.new.reader.ghost_name ≡ ends.old.reader.ghost_name }
+    ensures same_writer { ends.new.writer.ghost_name ≡ ends.old.writer.ghost_name }
+    // Where memory runs out, what was written is the output of records, each whole.
+    ensures whole { result ≡ Err EngineFault.NoMemory →
+        WroteRecords (as_stream config) (replies config)
+        (R.left ends.old.reader.now) (R.left ends.new.reader.now) (W.held ends.old.writer.now) (W.held ends.new.writer.now) }
+    ensures called { Called (R.count ends.old.reader.now) (R.count ends.new.reader.now) (W.count ends.old.writer.now) (W.count ends.new.writer.now) max_turns
+        (R.has_failed ends.new.reader.now) (W.has_failed ends.new.writer.now) (R.has_ended ends.new.reader.now) (R.left ends.new.reader.now) result }
+    ensures none_passed_over { NonePassedOver (R.has_failed ends.old.reader.now) (R.has_failed ends.new.reader.now) (W.has_failed ends.old.writer.now) (W.has_failed ends.new.writer.now) result }
+{
     let rules = InputRules {
         limits: config.limits,
         versions: false,
         only_one: false,
     };
     let mut serve = Serve::new(alloc, config);
-    run_engine(alloc, reader, writer, &mut serve, rules, max_turns)
+    run_on(alloc, ends, &mut serve, rules, max_turns)
 }
 
 /// What a server answers to each record of a log: writes a line for each, its number from 1 and a word, as soon as it is whole. The

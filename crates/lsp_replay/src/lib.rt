@@ -1,6 +1,6 @@
 //! Engines that run between a reader and a writer. Both ends together (`lsp_pair`) and the streams (`lsp_stream`) are re-exported.
 //!
-//! - `engines`: `serve`, `check`, `replay`, `normalise` and `convert`.
+//! - `engines`: `serve` and `serve_on`, `check`, `replay`, `normalise` and `convert`.
 //! - `engine`: the one loop from a reader to a writer, over what a `handler` makes of each record and of the end.
 //! - `serving`, `checking`, `replaying`, `normalising`, `squashing`, `converting`: the handlers.
 //! - `session`: a server over the records of a log.
@@ -20,8 +20,8 @@ mod serving;
 mod session;
 mod squashing;
 
-pub use engines::{Settings, check, convert, normalise, replay, serve};
+pub use engines::{Settings, check, convert, normalise, replay, serve, serve_on};
 pub use laws::log_laws;
 pub use lsp_pair::{Did, Event, Happened, Heard, Pair, PairFault, Ran, run_pair};
-pub use lsp_stream::{Call, EngineFault, Sink, Source, StopReader, StopWriter, Told};
+pub use lsp_stream::{Call, Duplex, EngineFault, Sink, Source, StopReader, StopWriter, Told};
 pub use outcome::Outcome;

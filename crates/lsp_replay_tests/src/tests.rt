@@ -2,6 +2,7 @@
 
 mod documents;
 mod failures;
+mod in_time;
 mod pieces;
 mod refused;
 mod sessions;

@@ -1,6 +1,6 @@
 //! Changes as rows of numbers and a text.
 
-use lsp_edit::Change;
+use lsp_edit::{Change, TextEdit};
 use lsp_text::{Position, Range};
 use std::alloc::{AllocError, Global};
 
@@ -50,4 +50,27 @@ pub fn batch_again(
             batch(alloc, edits)
         }
     }
+}
+
+/// The text edit of a row, which has a range.
+fn text_edit(alloc: Global, edit: Edit) -> Result<TextEdit, AllocError> {
+    let (line, character, stop_line, stop_character, text) = edit;
+    let start = Position { line, character };
+    let stop = Position {
+        line: stop_line,
+        character: stop_character,
+    };
+    Ok(TextEdit {
+        range: Range { start, stop },
+        new_text: String::from_str(alloc, text)?,
+    })
+}
+
+/// The text edits of some rows, of which each has a range.
+pub fn text_edits(alloc: Global, edits: &[Edit]) -> Result<Vec<TextEdit>, AllocError> {
+    let mut made = Vec::new(alloc);
+    for edit in edits {
+        made.push(text_edit(alloc, *edit)?)?;
+    }
+    Ok(made)
 }

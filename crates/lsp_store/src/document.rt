@@ -1,16 +1,18 @@
 //! An open document as a caller reads it.
 
-ghost use Rattle.std.specs.Prelude.{◌≡◌, ◌≤◌, ℕ, IfNone, IfOk, IfSome, Some, length, option_map};
+ghost use Rattle.std.specs.Prelude.{◌≡◌, ◌≤◌, ℕ, IfErr, IfNone, IfOk, IfSome, Some, length, map, option_map};
 ghost use Rattle.std.specs.Result.{result_ok};
 ghost use Rattle.std.specs.Str.{IsCharBoundary, IsUtf8, chars};
 ghost use Rattle.lsp_text.specs.LineStarts.{Indexes, IsPlace};
 ghost use Rattle.lsp_text.specs.Positions.{denoted, exact_position};
 ghost use Rattle.lsp_text.specs.Text.{place_of};
 ghost use Rattle.lsp_text.specs.Units.{units_in};
+ghost use Rattle.lsp_edit.specs.Edited.{edit_of};
+ghost use Rattle.lsp_edit.specs.TextEdits.{IsBatchOfEdits, IsEditsFault};
 ghost use Rattle.lsp_store.specs.Opened.{entry_under};
 
 use crate::held::Held;
-use lsp_edit::MAX_OLD_TEXT;
+use lsp_edit::{Change, MAX_OLD_TEXT, TextEdit, TextEditFault};
 use lsp_text::{Encoding, InsideCharacter, Lines, Position};
 use std::marker::Model;
 
@@ -104,6 +106,22 @@ impl<'a> Document<'a> {
         lines
             .is_place(text, offset)
             .then(|| lines.position(text, encoding, offset))
+    }
+
+    /// The batch that means what text edits mean on the text (LSP 3.17, TextEdit[]), for [`crate::Store::change`] or an editor: all
+    /// their ranges count in the text as it is. Refuses edits of which one has a faulty range or two overlap. Costs each edit's two
+    /// positions, a stable sort by their starts, and one exact position for each end of what is changed.
+    pub fn batch_of_edits(
+        &self,
+        encoding: Encoding,
+        edits: &[TextEdit],
+    ) -> Result<Vec<Change>, TextEditFault>
+        ensures batch { IfOk result (λ made.
+            IsBatchOfEdits (units_in encoding) self.now.text edits.now (map edit_of made.items)) }
+        ensures error { IfErr result (λ fault.
+            IsEditsFault (units_in encoding) (chars self.now.text) edits.now fault) }
+    {
+        self.held.text.batch_of_edits(encoding, edits)
     }
 
     /// Shows that the text is UTF-8; it does nothing else.

@@ -1,7 +1,7 @@
 //! The open documents of a session: which there are, in which version, with which text (LSP 3.17, Text Document Synchronization).
 //!
 //! - `store`: the documents in order of opening, and what opens, changes and closes them.
-//! - `document`: an open document as a caller reads it.
+//! - `document`: an open document as a caller reads it; `documents`: all of them, one after another.
 //! - `held`: what is kept of a document, and how a batch of changes is put into it.
 //! - `canonical`: the one message in which an accepted batch of changes is written.
 //! - `squash`: many batches on one document as one message; `reached`: the document that they lead to; `batches`: the same over a
@@ -13,6 +13,7 @@
 mod batches;
 mod canonical;
 mod document;
+mod documents;
 mod fault;
 mod held;
 mod laws;
@@ -22,6 +23,7 @@ mod store;
 
 pub use batches::Batches;
 pub use document::Document;
+pub use documents::Documents;
 pub use fault::StoreFault;
 pub use laws::store_laws;
 pub use squash::Squash;

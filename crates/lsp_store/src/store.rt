@@ -8,6 +8,7 @@ ghost use Rattle.lsp_store.specs.Opened.{IsRefused, MayTakeMemory, Takes};
 ghost use Rattle.lsp_store.specs.Faults.{fault_of};
 
 use crate::document::Document;
+use crate::documents::Documents;
 use crate::fault::StoreFault;
 use crate::held::Held;
 use indexmap::IndexMap;
@@ -81,6 +82,13 @@ impl Store {
     {
         let (uri, held) = self.documents.get_index(index)?;
         Some(Document::new(uri, held))
+    }
+
+    /// The open documents in order of opening. Each costs one step.
+    pub fn iter(&self) -> Documents<'_>
+        ensures { result ≡ self.now.table }
+    {
+        Documents::new(self.documents.iter())
     }
 
     /// Whether [`Store::open`] would take a document of this URI and text, whatever its language and version; refuses as it does, in the
@@ -176,5 +184,17 @@ impl Store {
             return Err(StoreFault::NotOpen);
         };
         Ok(())
+    }
+}
+
+impl<'a> IntoIterator for &'a Store {
+    type Item = Document<'a>;
+
+    type IntoIter = Documents<'a>;
+
+    ghost into_iter_gives = { λ store documents. documents ≡ store.now.table };
+
+    fn into_iter(self) -> Documents<'a> {
+        self.iter()
     }
 }

@@ -8,6 +8,7 @@ mod made_again;
 mod positions;
 mod refused;
 mod squash;
+mod text_edits;
 
 use lsp_frame::Limits;
 use lsp_store::{Store, StoreFault};

@@ -1,1 +1,2 @@
+mod duplex;
 mod told;

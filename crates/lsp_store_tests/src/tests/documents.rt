@@ -361,7 +361,21 @@ fn is_order(store: &Store, uris: &[&str]) -> bool {
             return false;
         }
     }
-    store.len() == uris.len() && store.at(uris.len()).is_none()
+    store.len() == uris.len() && store.at(uris.len()).is_none() && is_order_of_iter(store, uris)
+}
+
+/// Does a `for` meet the documents of these URIs, and an iterator the last of them first from its end?
+fn is_order_of_iter(store: &Store, uris: &[&str]) -> bool {
+    let mut wanted = uris.iter();
+    for document in store {
+        if wanted.next() != Some(&document.uri()) {
+            return false;
+        }
+    }
+    let last = store.iter().next_back();
+    wanted.next().is_none()
+        && store.iter().len() == uris.len()
+        && last.map(|document| document.uri()) == uris.last().copied()
 }
 
 static THREE_OPENED: [Row; 4] = [

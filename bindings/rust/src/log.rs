@@ -1,0 +1,141 @@
+//! The commands of `lspsync` on the bytes of a log.
+
+use crate::{Encoding, ffi};
+use std::fmt;
+
+/// How a log is read. The default is that of `lspsync`.
+#[derive(Clone, Copy, Debug, PartialEq, Eq)]
+pub struct LogSettings {
+    pub max_body: usize,
+    pub max_text: usize,
+    pub max_docs: usize,
+    pub max_changes: usize,
+    pub encoding: Encoding,
+    /// Does [`normalise`] write changes of one document that follow each other as one message?
+    pub squash: bool,
+}
+
+impl Default for LogSettings {
+    fn default() -> Self {
+        LogSettings {
+            max_body: 16_777_216,
+            max_text: 16_777_216,
+            max_docs: 1_024,
+            max_changes: 65_536,
+            encoding: Encoding::Utf16,
+            squash: false,
+        }
+    }
+}
+
+/// What a command wrote.
+#[derive(Clone, Debug, PartialEq, Eq)]
+pub struct Output {
+    pub bytes: Vec<u8>,
+    /// How many messages there were, and how many of them were refused.
+    pub messages: u64,
+    pub refused: u64,
+}
+
+/// Why a command came to no end.
+#[derive(Clone, Debug, PartialEq, Eq)]
+pub enum LogError {
+    OutOfMemory,
+    /// A limit is out of its range.
+    BadLimit,
+    /// The log has a fault at a byte offset; `output` is what was written up to it.
+    Fault { fault: LogFault, place: u64, output: Vec<u8> },
+}
+
+/// What is wrong with a log.
+#[derive(Clone, Copy, Debug, PartialEq, Eq)]
+pub enum LogFault {
+    /// The log ends inside a record.
+    Cut,
+    /// A frame is faulty: the number of F1 to F7.
+    BadFrame(u32),
+    /// A canonical message has a longer body than `max_body`.
+    BodyTooLong,
+    /// What is there belongs in no log.
+    BadLog,
+}
+
+impl fmt::Display for LogError {
+    fn fmt(&self, f: &mut fmt::Formatter<'_>) -> fmt::Result {
+        match self {
+            LogError::OutOfMemory => write!(f, "out of memory"),
+            LogError::BadLimit => write!(f, "a limit is out of its range"),
+            LogError::Fault { fault: LogFault::Cut, place, .. } => write!(f, "truncated at {place}"),
+            LogError::Fault { fault: LogFault::BadFrame(number), place, .. } => write!(f, "frame fault F{number} at {place}"),
+            LogError::Fault { fault: LogFault::BodyTooLong, place, .. } => write!(f, "body too long at {place}"),
+            LogError::Fault { fault: LogFault::BadLog, place, .. } => write!(f, "bad log at {place}"),
+        }
+    }
+}
+
+impl std::error::Error for LogError {}
+
+/// What a server answers to each record of a log, a line for each.
+pub fn check(log: &[u8], settings: &LogSettings) -> Result<Output, LogError> {
+    run(ffi::laspidru_log_check, log, settings)
+}
+
+/// The documents that are open at the end of a log, a line of JSON for each.
+pub fn replay(log: &[u8], settings: &LogSettings) -> Result<Output, LogError> {
+    run(ffi::laspidru_log_replay, log, settings)
+}
+
+/// The log with each accepted change as its canonical message.
+pub fn normalise(log: &[u8], settings: &LogSettings) -> Result<Output, LogError> {
+    run(ffi::laspidru_log_normalise, log, settings)
+}
+
+/// A log of version 1 in version 2, with the replies that a server gives.
+pub fn convert(log: &[u8], settings: &LogSettings) -> Result<Output, LogError> {
+    run(ffi::laspidru_log_convert, log, settings)
+}
+
+/// The output of a command behind a handle.
+struct Held(ffi::Handle);
+
+impl Held {
+    fn bytes(&mut self, len: usize) -> Vec<u8> {
+        let (mut bytes, mut copied) = (vec![0; len], 0);
+        let code = unsafe { ffi::laspidru_log_output(&mut self.0, 0, bytes.as_mut_ptr(), len, &mut copied) };
+        assert_eq!((code, copied), (ffi::OK, len), "the handle holds the output");
+        bytes
+    }
+}
+
+impl Drop for Held {
+    fn drop(&mut self) {
+        unsafe { ffi::laspidru_close(&mut self.0) }
+    }
+}
+
+fn run(command: ffi::LogCommand, log: &[u8], settings: &LogSettings) -> Result<Output, LogError> {
+    let settings = ffi::LogSettings {
+        max_body: settings.max_body,
+        max_text: settings.max_text,
+        max_docs: settings.max_docs,
+        max_changes: settings.max_changes,
+        encoding: settings.encoding as u32,
+        squash: settings.squash,
+    };
+    let (mut held, mut ending) = (Held(ffi::Handle::EMPTY), ffi::Ending::default());
+    let code = unsafe { command(&mut held.0, &settings, log.as_ptr(), log.len(), &mut ending) };
+    let fault = match code {
+        ffi::OK => {
+            let bytes = held.bytes(ending.output_len);
+            return Ok(Output { bytes, messages: ending.messages, refused: ending.refused });
+        }
+        ffi::OUT_OF_MEMORY => return Err(LogError::OutOfMemory),
+        ffi::BAD_LIMIT => return Err(LogError::BadLimit),
+        ffi::CUT => LogFault::Cut,
+        ffi::BAD_FRAME => LogFault::BadFrame(ending.frame),
+        ffi::BODY_TOO_LONG => LogFault::BodyTooLong,
+        ffi::BAD_LOG => LogFault::BadLog,
+        code => unreachable!("code {code} of an empty handle and valid arguments"),
+    };
+    Err(LogError::Fault { fault, place: ending.place, output: held.bytes(ending.output_len) })
+}

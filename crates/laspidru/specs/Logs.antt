@@ -1,0 +1,157 @@
+-- What C asks of a log, and what a command on it answers.
+use Rattle.std.specs.Prelude.{ℕ, ◌≡◌, ◌≢◌, Bool, true, false, List, [], length, Option, Some, None, Result, Ok, Err, IfOk}
+use Rattle.lsp_frame.specs.Limits.{Bounds}
+use Rattle.lsp_frame.specs.declared.fault.FrameFault.{FrameFault}
+use Rattle.lsp_frame.specs.declared.fault.FrameFault.TheVariants as frame
+use Rattle.lsp_stream.specs.declared.fault.EngineFault.{EngineFault}
+use Rattle.lsp_stream.specs.declared.fault.EngineFault.TheVariants.{Read, Write, Frame, Truncated, BodyTooLong, NoMemory, TooManyTurns, BadLog}
+use Rattle.lsp_log.specs.Log.{Reading, Record}
+use Rattle.lsp_replay.specs.declared.engines.Settings.{Settings}
+use Rattle.lsp_replay.specs.declared.outcome.Outcome.{Outcome}
+use Rattle.lsp_replay.specs.Course.{Course}
+use Rattle.lsp_replay.specs.Engine.{Ran, state_of}
+use Rattle.lsp_replay.specs.Engines.{as_converted, as_log, converted, report, verdicts}
+use Rattle.lsp_replay.specs.Laws.{IsConverted, IsNormal, IsSquashed, Wrote}
+use Rattle.lsp_replay.specs.Squashed.{normalised}
+use Rattle.lsp_replay.specs.Told.{RanOver}
+use Rattle.laspidru.specs.declared.codes.TheConstants.{BAD_FRAME, BAD_LOG, BODY_TOO_LONG, CUT, EMPTY, OK, OTHER_KIND, OUT_OF_MEMORY, TOO_MANY_TURNS}
+use Rattle.laspidru.specs.declared.command.Command.{Command}
+use Rattle.laspidru.specs.declared.command.Command.TheVariants.{Check, Replay, Normalise, Convert}
+use Rattle.laspidru.specs.declared.endings.Ending.{Ending}
+use Rattle.laspidru.specs.declared.endings.LogSettings.{LogSettings}
+use Rattle.laspidru.specs.declared.object.Object.{Object}
+use Rattle.laspidru.specs.declared.object.Object.TheVariants.{Document, Batch, Server, Output}
+use Rattle.laspidru.specs.Codes.{and_then}
+use Rattle.laspidru.specs.Objects.{encoding_at}
+use Rattle.laspidru.specs.Servers.{limits_asked}
+
+-- ---- how a log is read
+
+abbrev pub log_bounds : LogSettings → Bounds
+log_bounds settings = record {
+  max_body = settings.max_body;
+  max_text = settings.max_text;
+  max_docs = settings.max_docs;
+  max_changes = settings.max_changes;
+}
+
+-- the settings of a log, if the encoding is known and each limit is in its range
+abbrev pub log_asked : LogSettings → Result Settings ℕ
+log_asked settings = and_then (encoding_at settings.encoding) (λ encoding.
+    and_then (limits_asked (log_bounds settings)) (λ limits. Ok (record {
+      limits = limits;
+      encoding = encoding;
+      squash = settings.squash;
+    })))
+
+-- ---- what a command does
+
+-- How a command reads a log: `convert` takes version 1 alone.
+abbrev pub reading_of : Command → Settings → Reading
+reading_of Check settings = as_log settings
+reading_of Replay settings = as_log settings
+reading_of Normalise settings = as_log settings
+reading_of Convert settings = as_converted settings
+
+-- what it gives for the records of a log
+abbrev pub course_of : Command → Settings → List Record → Course
+course_of Check settings = verdicts settings
+course_of Replay settings = report settings
+course_of Normalise settings = normalised settings
+course_of Convert settings = converted settings
+
+-- What `normalise` and `convert` write of a log is a log again, of which `replay` reports the same.
+abbrev pub IsLawful : Command → Settings → (left_old left_new held_old held_new : Option (List ℕ)) → Result Outcome EngineFault → Type 0
+IsLawful Check settings left_old left_new held_old held_new answer = Unit {0}
+IsLawful Replay settings left_old left_new held_old held_new answer = Unit {0}
+IsLawful Normalise settings left_old left_new held_old held_new answer =
+    (settings.squash ≡ false → IfOk answer (Wrote settings (IsNormal settings) left_old left_new held_old held_new))
+    × (settings.squash ≡ true → IfOk answer (Wrote settings (IsSquashed settings) left_old left_new held_old held_new))
+IsLawful Convert settings left_old left_new held_old held_new answer =
+    IfOk answer (Wrote settings (IsConverted settings) left_old left_new held_old held_new)
+
+-- A command ran over the bytes of a log, wrote this output and came to this answer. It read the bytes in order, up to those that are left.
+pub record RanOn (command : Command) (settings : Settings) (log output : List ℕ) (answer : Result Outcome EngineFault) : Type 0 where
+  pub left : List ℕ
+  -- Did it come to the end of the log?
+  pub ended : Bool
+  pub all_read : answer ≢ Err TooManyTurns → ended ≡ true → left ≡ []
+  -- by some records of what it read, and by all of them
+  pub ran : Ran (reading_of command settings) (course_of command settings) (state_of false ended false) (Some log) (Some left) (Some []) (Some output) answer
+  pub told : RanOver (reading_of command settings) (course_of command settings) (state_of false ended false) (Some log) (Some left) (Some []) (Some output) answer
+  pub lawful : IsLawful command settings (Some log) (Some left) (Some []) (Some output) answer
+  -- No read fails.
+  pub no_read_fault : answer ≢ Err Read
+
+-- ---- what C gets of it
+
+-- how a command ended that came to an outcome, with so many bytes of output
+abbrev pub outcome_out : ℕ → Outcome → Ending
+outcome_out len outcome = record {
+  status = outcome.status;
+  frame = 0;
+  messages = outcome.messages;
+  refused = outcome.refused;
+  place = 0;
+  output_len = len;
+}
+
+-- how one ended at a fault, by its place
+abbrev pub fault_out : ℕ → ℕ → Ending
+fault_out len place =
+    record { status = 0; frame = 0; messages = 0; refused = 0; place = place; output_len = len }
+
+-- how one ended at a faulty frame: F1 to F7 have a place; F8 and F9 are faults of no log
+abbrev pub frame_out : ℕ → FrameFault → Ending
+frame_out len (frame.BadHeader place) = record (fault_out len place) { frame = 1 }
+frame_out len (frame.HeaderTooLong place) = record (fault_out len place) { frame = 2 }
+frame_out len (frame.MissingLength place) = record (fault_out len place) { frame = 3 }
+frame_out len (frame.RepeatedHeader place) = record (fault_out len place) { frame = 4 }
+frame_out len (frame.BadLength place) = record (fault_out len place) { frame = 5 }
+frame_out len (frame.BodyTooLong place) = record (fault_out len place) { frame = 6 }
+frame_out len (frame.BadCharset place) = record (fault_out len place) { frame = 7 }
+frame_out len frame.Failed = record (fault_out len 0) { frame = 8 }
+frame_out len frame.NoMemory = record (fault_out len 0) { frame = 9 }
+
+-- The code of an answer, and how the command ended. After a fault that isn't the log's there is a code alone.
+abbrev pub ending_out : ℕ → Result Outcome EngineFault → Result (ℕ × Ending) ℕ
+ending_out len (Ok outcome) = Ok (OK, outcome_out len outcome)
+ending_out len (Err (Frame fault)) = Ok (BAD_FRAME, frame_out len fault)
+ending_out len (Err (Truncated place)) = Ok (CUT, fault_out len place)
+ending_out len (Err (BodyTooLong place)) = Ok (BODY_TOO_LONG, fault_out len place)
+ending_out len (Err (BadLog place)) = Ok (BAD_LOG, fault_out len place)
+ending_out len (Err TooManyTurns) = Err TOO_MANY_TURNS
+ending_out len (Err NoMemory) = Err OUT_OF_MEMORY
+ending_out len (Err Read) = Err OUT_OF_MEMORY
+ending_out len (Err Write) = Err OUT_OF_MEMORY
+
+-- This holds, unless a command came to an outcome or to a fault of the log.
+abbrev pub IsUnlessEnded : ℕ → Type 0 → Type 0
+IsUnlessEnded code Fact = code ≢ OK → code ≢ CUT → code ≢ BAD_FRAME → code ≢ BODY_TOO_LONG → code ≢ BAD_LOG → Fact
+
+-- the output of a command
+abbrev pub output_of : Object → Result (List ℕ) ℕ
+output_of (Document text) = Err OTHER_KIND
+output_of (Batch changes) = Err OTHER_KIND
+output_of (Server session) = Err OTHER_KIND
+output_of (Output bytes) = Ok bytes.items
+
+-- the output behind a handle
+abbrev pub output_in : Option Object → Result (List ℕ) ℕ
+output_in (Some object) = output_of object
+output_in None = Err EMPTY
+
+-- The handle holds the output, and C gets the code and the ending; or the code alone.
+abbrev pub IsKept : Result (ℕ × Ending) ℕ → List ℕ → ℕ → Option Object → Ending → Type 0
+IsKept (Ok ended) output code held out = (code ≡ ended.0) × (output_in held ≡ Ok output) × (out ≡ ended.1)
+IsKept (Err fault) output code held out = code ≡ fault
+
+abbrev pub IsEnded : List ℕ → Result Outcome EngineFault → ℕ → Option Object → Ending → Type 0
+IsEnded output answer code held out = IsKept (ending_out (length output) answer) output code held out
+
+-- A command ran over a log: C gets its answer, and the handle holds its output.
+pub record IsRun (command : Command) (settings : Settings) (log : List ℕ) (code : ℕ) (held : Option Object) (out : Ending) : Type 0 where
+  pub output : List ℕ
+  pub answer : Result Outcome EngineFault
+  pub ran : RanOn command settings log output answer
+  pub ended : IsEnded output answer code held out

@@ -1,0 +1,75 @@
+//! The commands on logs, over bytes in memory.
+
+ghost use Rattle.std.specs.Prelude.{◌≡◌, ◌≢◌, Err, Some, [], false, true};
+ghost use Rattle.lsp_replay.specs.Engine.{Ran, state_of};
+ghost use Rattle.lsp_replay.specs.Told.{RanOver};
+ghost use Rattle.lsp_stream.specs.declared.fault.EngineFault.TheVariants.{Read, TooManyTurns};
+ghost use Rattle.laspidru.specs.Logs.{IsLawful, RanOn, course_of, reading_of};
+
+use crate::log_reader::LogReader;
+use lsp_replay::{EngineFault, Outcome, Settings, Told, check, convert, normalise, replay};
+use std::alloc::Global;
+
+/// A command on a log.
+#[derive(Clone, Copy, Debug, PartialEq, Eq)]
+pub enum Command {
+    /// What a server answers to each record.
+    Check,
+    /// The documents that are open at the end.
+    Replay,
+    /// Each accepted change as its canonical message.
+    Normalise,
+    /// The log with the server's replies.
+    Convert,
+}
+
+/// How a command ended, and what it wrote.
+#[derive(Drop)]
+pub struct Run {
+    pub(crate) answer: Result<Outcome, EngineFault>,
+    pub(crate) output: Vec<u8>,
+}
+
+/// Runs the engine of a command between a log and its output.
+fn run_between(
+    alloc: Global,
+    command: Command,
+    settings: Settings,
+    reader: &mut LogReader,
+    writer: &mut Told<Vec<u8>>,
+) -> Result<Outcome, EngineFault>
+    ensures ran { Ran (reading_of command settings) (course_of command settings)
+        (state_of reader.old.ended reader.new.ended false)
+        (Some reader.old.rest.now) (Some reader.new.rest.now)
+        (Some writer.old.inner.items) (Some writer.new.inner.items) result }
+    ensures told { RanOver (reading_of command settings) (course_of command settings)
+        (state_of reader.old.ended reader.new.ended false)
+        (Some reader.old.rest.now) (Some reader.new.rest.now)
+        (Some writer.old.inner.items) (Some writer.new.inner.items) result }
+    ensures lawful { IsLawful command settings
+        (Some reader.old.rest.now) (Some reader.new.rest.now)
+        (Some writer.old.inner.items) (Some writer.new.inner.items) result }
+    ensures all_read { result ≢ Err TooManyTurns → reader.new.ended ≡ true
+        → reader.new.rest.now ≡ [] }
+    ensures no_read_fault { result ≢ Err Read }
+{
+    match command {
+        Command::Check => check(alloc, reader, writer, settings, u64::MAX),
+        Command::Replay => replay(alloc, reader, writer, settings, u64::MAX),
+        Command::Normalise => normalise(alloc, reader, writer, settings, u64::MAX),
+        Command::Convert => convert(alloc, reader, writer, settings, u64::MAX),
+    }
+}
+
+/// Runs a command over the bytes of a log.
+pub(crate) fn run_command(alloc: Global, command: Command, settings: Settings, log: &[u8]) -> Run
+    ensures { RanOn command settings log.now result.output.items result.answer }
+{
+    let mut reader = LogReader::new(log);
+    let mut writer = Told::new(Vec::new(alloc));
+    let answer = run_between(alloc, command, settings, &mut reader, &mut writer);
+    Run {
+        answer,
+        output: writer.into_inner(),
+    }
+}

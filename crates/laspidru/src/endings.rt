@@ -1,0 +1,135 @@
+//! What C passes to a command on a log, and what it gets from it.
+
+ghost use Rattle.std.specs.Prelude.{◌≡◌, Err, IfErr, IfOk, Ok};
+ghost use Rattle.laspidru.specs.Logs.{IsUnlessEnded, ending_out, fault_out, frame_out, log_asked, outcome_out};
+
+use crate::answers::limits_of;
+use crate::changes::encoding_of;
+use crate::codes::{
+    BAD_ENCODING, BAD_FRAME, BAD_LOG, BODY_TOO_LONG, CUT, OK, OUT_OF_MEMORY, TOO_MANY_TURNS,
+};
+use lsp_frame::FrameFault;
+use lsp_replay::{EngineFault, Outcome, Settings};
+
+/// How a log is read: the limits, the number of the encoding of its positions, and whether changes of one document that follow each
+/// other are normalised to one message.
+#[repr(C)]
+#[derive(Clone, Copy, Debug, PartialEq, Eq)]
+pub struct LogSettings {
+    pub max_body: usize,
+    pub max_text: usize,
+    pub max_docs: usize,
+    pub max_changes: usize,
+    pub encoding: u32,
+    pub squash: bool,
+}
+
+/// How a command on a log ended. A member that isn't of the code is 0.
+#[repr(C)]
+#[derive(Clone, Copy, Debug, PartialEq, Eq)]
+pub struct Ending {
+    /// OK: 1 where something was refused, else 0.
+    pub status: u32,
+    /// BAD_FRAME: which fault of a header it is, 1 to 7.
+    pub frame: u32,
+    /// OK: how many messages were handled.
+    pub messages: u64,
+    /// OK: how many of them were refused.
+    pub refused: u64,
+    /// CUT, BAD_FRAME, BODY_TOO_LONG and BAD_LOG: where the fault is, in bytes from the log's start.
+    pub place: u64,
+    /// How many bytes the output has.
+    pub output_len: usize,
+}
+
+/// How a log is to be read, or why it can't be.
+pub(crate) fn log_settings_of(settings: &LogSettings) -> Result<Settings, u32>
+    ensures ok { IfOk result (λ taken. log_asked settings.now ≡ Ok taken) }
+    ensures error { IfErr result (λ code. log_asked settings.now ≡ Err code) }
+{
+    let Some(encoding) = encoding_of(settings.encoding) else {
+        return Err(BAD_ENCODING);
+    };
+    let limits = limits_of(
+        settings.max_body,
+        settings.max_text,
+        settings.max_docs,
+        settings.max_changes,
+    )?;
+    Ok(Settings {
+        limits,
+        encoding,
+        squash: settings.squash,
+    })
+}
+
+/// How a command ended that came to an outcome.
+fn outcome_ending(output_len: usize, outcome: Outcome) -> Ending
+    ensures { result ≡ outcome_out output_len outcome }
+{
+    Ending {
+        status: u32::from(outcome.status),
+        frame: 0,
+        messages: outcome.messages,
+        refused: outcome.refused,
+        place: 0,
+        output_len,
+    }
+}
+
+/// How a command ended at a fault.
+fn fault_ending(output_len: usize, place: u64) -> Ending
+    ensures { result ≡ fault_out output_len place }
+{
+    Ending {
+        status: 0,
+        frame: 0,
+        messages: 0,
+        refused: 0,
+        place,
+        output_len,
+    }
+}
+
+/// How a command ended at a faulty frame.
+fn frame_ending(output_len: usize, fault: FrameFault) -> Ending
+    ensures { result ≡ frame_out output_len fault }
+{
+    let (frame, place) = match fault {
+        FrameFault::BadHeader { place } => (1, place),
+        FrameFault::HeaderTooLong { place } => (2, place),
+        FrameFault::MissingLength { place } => (3, place),
+        FrameFault::RepeatedHeader { place } => (4, place),
+        FrameFault::BadLength { place } => (5, place),
+        FrameFault::BodyTooLong { place } => (6, place),
+        FrameFault::BadCharset { place } => (7, place),
+        FrameFault::Failed => (8, 0),
+        FrameFault::NoMemory => (9, 0),
+    };
+    Ending {
+        frame,
+        ..fault_ending(output_len, place)
+    }
+}
+
+/// The code of a command's answer, and how it ended. After a fault that isn't the log's the code alone: the output isn't kept.
+pub(crate) fn ending_of(
+    output_len: usize,
+    answer: Result<Outcome, EngineFault>,
+) -> Result<(u32, Ending), u32>
+    ensures ending { result ≡ ending_out output_len answer }
+    ensures kept { IfOk result (λ ended. IsUnlessEnded ended.0 ⊥) }
+{
+    match answer {
+        Ok(outcome) => Ok((OK, outcome_ending(output_len, outcome))),
+        Err(EngineFault::Frame(fault)) => Ok((BAD_FRAME, frame_ending(output_len, fault))),
+        Err(EngineFault::Truncated { place }) => Ok((CUT, fault_ending(output_len, place))),
+        Err(EngineFault::BodyTooLong { place }) => {
+            Ok((BODY_TOO_LONG, fault_ending(output_len, place)))
+        }
+        Err(EngineFault::BadLog { place }) => Ok((BAD_LOG, fault_ending(output_len, place))),
+        Err(EngineFault::TooManyTurns) => Err(TOO_MANY_TURNS),
+        // No read fails, and a write into memory only where that runs out.
+        Err(EngineFault::NoMemory | EngineFault::Read | EngineFault::Write) => Err(OUT_OF_MEMORY),
+    }
+}

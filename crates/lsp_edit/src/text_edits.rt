@@ -1,0 +1,186 @@
+//! Text edits (LSP 3.17, TextEdit[]): all of them count in one old text.
+
+ghost use Rattle.std.specs.Prelude.{◌≡◌, ◌⊎◌, ◌++◌, ◌∷◌, [], IfErr, IfOk, OnOk, length};
+ghost use Rattle.std.specs.Str.{chars};
+ghost use Rattle.lsp_text.specs.LineStarts.{Indexes};
+ghost use Rattle.lsp_text.specs.Units.{units_in};
+ghost use Rattle.lsp_edit.specs.declared.text_edits.TextEditFault.TheVariants.{NoMemory};
+ghost use Rattle.lsp_edit.specs.Parts.{new_parts, parts_of};
+ghost use Rattle.lsp_edit.specs.TextEdits.{AreApart, ArePlaced, DoOverlap, IsEditsFault, IsInOrder, LiesNowhere, AreLeftByEdits, fault_of, old_parts, parts_left};
+
+use crate::ends::ends;
+use crate::fault::{EditFault, Side};
+use crate::span::Span;
+use lsp_text::{Encoding, Lines, Range};
+use std::alloc::{AllocError, Global};
+use thiserror::Error;
+
+/// One edit of a text (LSP 3.17, TextEdit): a new text takes the place of a range. Where the range is empty, the new text is put in there.
+#[derive(Debug, PartialEq, Eq, Drop)]
+pub struct TextEdit {
+    pub range: Range,
+    pub new_text: String,
+}
+
+/// Why text edits mean nothing. Edits are counted from 0. The first edit with a faulty range decides: first its start, then its stop,
+/// then their order.
+#[derive(Clone, Copy, Debug, PartialEq, Eq, Error)]
+pub enum TextEditFault {
+    /// An end of the edit's range lies inside a character.
+    #[error("edit {edit}: {side:?} lies inside a character")]
+    InsideCharacter { edit: usize, side: Side },
+    /// The edit's range starts after its end.
+    #[error("edit {edit}: the range is reversed")]
+    ReversedRange { edit: usize },
+    /// The second edit starts before the first one stops. One that puts a text in at the start of another comes before it in the list.
+    #[error("edits {first} and {second} overlap")]
+    Overlap { first: usize, second: usize },
+    /// No memory was left.
+    #[error("out of memory")]
+    NoMemory,
+}
+
+impl From<EditFault> for TextEditFault {
+    ghost from_gives = { λ fault told. told ≡ fault_of fault };
+
+    fn from(fault: EditFault) -> TextEditFault {
+        match fault {
+            EditFault::InsideCharacter { change, side } => {
+                TextEditFault::InsideCharacter { edit: change, side }
+            }
+            EditFault::ReversedRange { change } => TextEditFault::ReversedRange { edit: change },
+            EditFault::NoMemory => TextEditFault::NoMemory,
+        }
+    }
+}
+
+impl From<AllocError> for TextEditFault {
+    ghost from_gives = { λ _ told. told ≡ NoMemory };
+
+    fn from(_: AllocError) -> TextEditFault {
+        TextEditFault::NoMemory
+    }
+}
+
+/// An edit, by its number in the list and the places of its range in the old text.
+#[derive(Clone, Copy, Debug)]
+pub struct Placed<'a> {
+    pub number: usize,
+    pub start: usize,
+    pub stop: usize,
+    pub text: &'a str,
+}
+
+/// The spans that edits leave of the text that `lines` index.
+pub fn spans_of_edits<'a>(
+    alloc: Global,
+    lines: &Lines,
+    text: &str,
+    encoding: Encoding,
+    edits: &'a [TextEdit],
+) -> Result<Vec<Span<'a>>, TextEditFault>
+    requires { Indexes lines.now text.now }
+    ensures are { IfOk result (λ spans. AreLeftByEdits (units_in encoding) text.now edits.now
+        (parts_of spans.items)) }
+    ensures error { IfErr result (λ fault.
+        IsEditsFault (units_in encoding) (chars text.now) edits.now fault) }
+{
+    let mut placed = place_all(alloc, lines, text, encoding, edits)?;
+    put_in_order(&mut placed)?;
+    spans_left(alloc, text.len(), &placed)
+}
+
+/// Where each edit lies in the text that `lines` index.
+fn place_all<'a>(
+    alloc: Global,
+    lines: &Lines,
+    text: &str,
+    encoding: Encoding,
+    edits: &'a [TextEdit],
+) -> Result<Vec<Placed<'a>>, TextEditFault>
+    requires { Indexes lines.now text.now }
+    ensures ok { IfOk result (λ placed.
+        ArePlaced (units_in encoding) (chars text.now) 0 edits.now placed.items) }
+    ensures error { IfErr result (λ fault. (fault ≡ NoMemory)
+        ⊎ LiesNowhere (units_in encoding) (chars text.now) edits.now fault) }
+{
+    let mut placed = Vec::new(alloc);
+    for edit in edits {
+        let number = placed.len();
+        let (start, stop) = ends(lines, text, encoding, edit.range, number)?;
+        let text = &edit.new_text;
+        let edit = Placed {
+            number,
+            start,
+            stop,
+            text,
+        };
+        push_placed(&mut placed, edit)?;
+    }
+    Ok(placed)
+}
+
+/// Puts an edit after others.
+fn push_placed<'a>(placed: &mut Vec<Placed<'a>>, edit: Placed<'a>) -> Result<(), AllocError>
+    ensures { OnOk result (placed.new.items ≡ placed.old.items ++ edit.entry ∷ []) }
+{
+    placed.push(edit)?;
+    Ok(())
+}
+
+/// Puts edits in the order of their starts. Those with one start keep the order of the list.
+fn put_in_order(placed: &mut Vec<Placed>) -> Result<(), AllocError>
+    ensures { OnOk result (IsInOrder placed.old.items placed.new.items) }
+{
+    placed.sort_by_key(|edit| edit.start)?;
+    Ok(())
+}
+
+/// The spans that edits in order leave of an old text of `len` bytes. The first two that overlap are reported.
+fn spans_left<'a>(
+    alloc: Global,
+    len: usize,
+    ordered: &[Placed<'a>],
+) -> Result<Vec<Span<'a>>, TextEditFault>
+    ensures ok { IfOk result (λ spans. (parts_of spans.items ≡ parts_left len 0 ordered.now)
+        × AreApart 0 ordered.now) }
+    ensures error { IfErr result (λ fault. (fault ≡ NoMemory) ⊎ DoOverlap ordered.now fault) }
+{
+    let mut spans = Vec::new(alloc);
+    let mut low = 0;
+    let mut last = 0;
+    for edit in ordered {
+        if edit.start < low {
+            return Err(TextEditFault::Overlap {
+                first: last,
+                second: edit.number,
+            });
+        }
+        push_old(&mut spans, low, edit.start)?;
+        push_new(&mut spans, edit.text)?;
+        low = edit.stop;
+        last = edit.number;
+    }
+    push_old(&mut spans, low, len)?;
+    Ok(spans)
+}
+
+/// Puts the old text from one place to another after spans, if that is any.
+fn push_old(spans: &mut Vec<Span>, from: usize, to: usize) -> Result<(), AllocError>
+    ensures { OnOk result (parts_of spans.new.items ≡ parts_of spans.old.items ++ old_parts from to) }
+{
+    if from < to {
+        spans.push(Span::Old { from, to })?;
+    }
+    Ok(())
+}
+
+/// Puts a new text after spans, if it isn't empty.
+fn push_new<'a>(spans: &mut Vec<Span<'a>>, text: &'a str) -> Result<(), AllocError>
+    ensures { OnOk result (parts_of spans.new.items ≡ parts_of spans.old.items ++ new_parts text.now) }
+{
+    if !text.is_empty() {
+        spans.push(Span::New(text))?;
+    }
+    Ok(())
+}

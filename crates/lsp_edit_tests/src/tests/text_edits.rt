@@ -1,0 +1,257 @@
+//! Text edits that all count in one old text: the text and the canonical batch that they leave, and their faults. In UTF-16.
+
+use lsp_edit::{Change, IndexedText, MAX_OLD_TEXT, Side, TextEdit, TextEditFault, TextFault, fits};
+use lsp_samples::edits::{Edit, batch, text_edits};
+use lsp_text::Encoding;
+use std::alloc::{AllocError, Global};
+use std::test::Fail;
+
+/// A text, edits of it, the text that they leave, and their canonical batch.
+type Edited = (&'static str, &'static [Edit], &'static str, &'static [Edit]);
+
+static EDITED: [Edited; 13] = [
+    ("abc", &[], "abc", &[]),
+    // texts at one place come in the order of the list
+    ("abc", &[(0, 1, 0, 1, "X"), (0, 1, 0, 1, "Y")], "aXYbc", &[(0, 1, 0, 1, "XY")]),
+    // an insertion at the start of a replacement, and one at its stop
+    ("abc", &[(0, 1, 0, 1, "X"), (0, 1, 0, 2, "Y")], "aXYc", &[(0, 1, 0, 2, "XY")]),
+    ("abc", &[(0, 2, 0, 2, "X"), (0, 1, 0, 2, "Y")], "aYXc", &[(0, 1, 0, 2, "YX")]),
+    // the order of the list is of no account else
+    (
+        "abc",
+        &[(0, 2, 0, 3, "C"), (0, 0, 0, 1, "A")],
+        "AbC",
+        &[(0, 2, 0, 3, "C"), (0, 0, 0, 1, "A")],
+    ),
+    (
+        "abc",
+        &[(0, 0, 0, 1, "A"), (0, 2, 0, 3, "C")],
+        "AbC",
+        &[(0, 2, 0, 3, "C"), (0, 0, 0, 1, "A")],
+    ),
+    // all ranges count in the old text
+    (
+        "abcdef",
+        &[(0, 0, 0, 2, ""), (0, 3, 0, 4, "XYZ")],
+        "cXYZef",
+        &[(0, 3, 0, 4, "XYZ"), (0, 0, 0, 2, "")],
+    ),
+    (
+        "one\ntwo\n",
+        &[(0, 0, 0, 0, "\n\n"), (1, 0, 1, 3, "2")],
+        "\n\none\n2\n",
+        &[(1, 0, 1, 3, "2"), (0, 0, 0, 0, "\n\n")],
+    ),
+    // also where a line end arises before them
+    ("a\rb", &[(1, 0, 1, 0, "x"), (1, 0, 1, 1, "\n")], "a\rx\n", &[(1, 0, 1, 1, "x\n")]),
+    ("a\rb", &[(0, 0, 0, 1, "z"), (1, 0, 1, 1, "\n")], "z\r\n", &[(1, 0, 1, 1, "\n"), (0, 0, 0, 1, "z")]),
+    // a range may end past its line, and past the text
+    ("a\r\nb", &[(0, 9, 0, 9, "!"), (7, 0, 7, 0, "?")], "a!\r\nb?", &[(1, 1, 1, 1, "?"), (0, 1, 0, 1, "!")]),
+    // the same text again takes the place of the old one
+    ("abc", &[(0, 0, 0, 1, "a")], "abc", &[(0, 0, 0, 1, "a")]),
+    ("\u{1F600}b", &[(0, 2, 0, 3, "c")], "\u{1F600}c", &[(0, 2, 0, 3, "c")]),
+];
+
+static FAULTS: [(&str, &[Edit], TextEditFault); 8] = [
+    (
+        "abcdef",
+        &[(0, 0, 0, 3, ""), (0, 2, 0, 4, "")],
+        TextEditFault::Overlap { first: 0, second: 1 },
+    ),
+    (
+        "abcdef",
+        &[(0, 2, 0, 4, ""), (0, 0, 0, 3, "")],
+        TextEditFault::Overlap { first: 1, second: 0 },
+    ),
+    (
+        "abcdef",
+        &[(0, 5, 0, 6, ""), (0, 1, 0, 4, "X"), (0, 2, 0, 2, "Y")],
+        TextEditFault::Overlap { first: 1, second: 2 },
+    ),
+    // in the list, an insertion stands before what is replaced from there
+    (
+        "abcdef",
+        &[(0, 1, 0, 2, "X"), (0, 1, 0, 1, "Y")],
+        TextEditFault::Overlap { first: 0, second: 1 },
+    ),
+    (
+        "\u{1F600}",
+        &[(0, 0, 0, 0, "a"), (0, 1, 0, 2, "")],
+        TextEditFault::InsideCharacter {
+            edit: 1,
+            side: Side::Start,
+        },
+    ),
+    (
+        "\u{1F600}",
+        &[(0, 0, 0, 1, "")],
+        TextEditFault::InsideCharacter {
+            edit: 0,
+            side: Side::Stop,
+        },
+    ),
+    ("abc", &[(0, 2, 0, 1, "")], TextEditFault::ReversedRange { edit: 0 }),
+    // a faulty range comes before an overlap
+    (
+        "abcdef",
+        &[(0, 0, 0, 3, ""), (0, 2, 0, 4, ""), (0, 3, 0, 1, "")],
+        TextEditFault::ReversedRange { edit: 2 },
+    ),
+];
+
+static TEXTS: [(TextEditFault, &str); 4] = [
+    (
+        TextEditFault::InsideCharacter {
+            edit: 3,
+            side: Side::Stop,
+        },
+        "edit 3: Stop lies inside a character",
+    ),
+    (TextEditFault::ReversedRange { edit: 1 }, "edit 1: the range is reversed"),
+    (TextEditFault::Overlap { first: 4, second: 2 }, "edits 4 and 2 overlap"),
+    (TextEditFault::NoMemory, "out of memory"),
+];
+
+/// What edits of a text are as a batch.
+fn as_batch(
+    alloc: Global,
+    text: &str,
+    edits: &[TextEdit],
+) -> Result<Vec<Change>, TextEditFault> {
+    if text.len() > MAX_OLD_TEXT {
+        return Err(TextEditFault::NoMemory);
+    }
+    let kept = IndexedText::new(alloc, String::from_str(alloc, text)?)?;
+    kept.batch_of_edits(Encoding::Utf16, edits)
+}
+
+/// The text that a batch leaves of another.
+fn left(alloc: Global, text: &str, changes: &[Change]) -> Result<String, TextFault> {
+    if text.len() > MAX_OLD_TEXT || !fits(changes) {
+        return Err(TextFault::TooLong);
+    }
+    let mut kept = IndexedText::new(alloc, String::from_str(alloc, text)?)?;
+    kept.change(Encoding::Utf16, changes, MAX_OLD_TEXT)?;
+    Ok(String::from_str(alloc, kept.text())?)
+}
+
+fn is_edited(alloc: Global, row: &Edited) -> Result<bool, AllocError> {
+    let edits = text_edits(alloc, row.1)?;
+    let Ok(changes) = as_batch(alloc, row.0, &edits) else {
+        return Ok(false);
+    };
+    if changes != batch(alloc, row.3)? {
+        return Ok(false);
+    }
+    let Ok(text) = left(alloc, row.0, &changes) else {
+        return Ok(false);
+    };
+    Ok(text.as_str() == row.2)
+}
+
+fn is_refused(
+    alloc: Global,
+    row: &(&str, &[Edit], TextEditFault),
+) -> Result<bool, AllocError> {
+    let edits = text_edits(alloc, row.1)?;
+    Ok(as_batch(alloc, row.0, &edits) == Err(row.2))
+}
+
+fn prints(alloc: Global, row: &(TextEditFault, &str)) -> Result<bool, AllocError> {
+    let fault = row.0;
+    let text = format!(in alloc; "{fault}")?;
+    Ok(text.as_str() == row.1)
+}
+
+#[test]
+fn edits_leave_their_text_and_are_one_batch(rt: HostRuntime) -> Result<(), Fail> {
+    for row in &EDITED {
+        assert!(rt; is_edited(rt.alloc(), row)?, "{:?}", row.2);
+    }
+    Ok(())
+}
+
+#[test]
+fn faulty_edits_are_refused(rt: HostRuntime) -> Result<(), Fail> {
+    for row in &FAULTS {
+        assert!(rt; is_refused(rt.alloc(), row)?, "{}", row.0);
+    }
+    Ok(())
+}
+
+#[test]
+fn each_fault_of_edits_has_its_text(rt: HostRuntime) -> Result<(), Fail> {
+    for row in &TEXTS {
+        assert!(rt; prints(rt.alloc(), row)?, "{}", row.1);
+    }
+    Ok(())
+}
+
+/// Each character of the first line replaced, from the last to the first.
+fn all_replaced(alloc: Global, count: u32) -> Result<Vec<TextEdit>, AllocError> {
+    let mut rows: Vec<Edit> = Vec::new(alloc);
+    for number in 0..count {
+        let place = count.saturating_sub(number);
+        rows.push((0, place.saturating_sub(1), 0, place, "X"))?;
+    }
+    text_edits(alloc, &rows)
+}
+
+fn replaces_all(alloc: Global, count: u32) -> Result<bool, AllocError> {
+    let mut text = String::new(alloc);
+    let mut new = String::new(alloc);
+    for _ in 0..count {
+        text.push('a')?;
+        new.push('X')?;
+    }
+    let edits = all_replaced(alloc, count)?;
+    let Ok(changes) = as_batch(alloc, &text, &edits) else {
+        return Ok(false);
+    };
+    let Ok(text) = left(alloc, &text, &changes) else {
+        return Ok(false);
+    };
+    Ok(changes.len() == 1 && text == new)
+}
+
+#[test]
+fn many_edits_are_put_in_order(rt: HostRuntime) -> Result<(), Fail> {
+    for count in [1, 20, 21, 3_000] {
+        assert!(rt; replaces_all(rt.alloc(), count)?, "{count}");
+    }
+    Ok(())
+}
+
+fn edits_again(alloc: Global, edits: &[Edit], refused: &mut usize) -> Result<Vec<TextEdit>, AllocError> {
+    let made = text_edits(alloc, edits);
+    if made.is_err() {
+        *refused = refused.saturating_add(1);
+        return text_edits(alloc, edits);
+    }
+    made
+}
+
+fn as_batch_again(
+    alloc: Global,
+    text: &str,
+    edits: &[TextEdit],
+    refused: &mut usize,
+) -> Result<Vec<Change>, TextEditFault> {
+    let answer = as_batch(alloc, text, edits);
+    if answer == Err(TextEditFault::NoMemory) {
+        *refused = refused.saturating_add(1);
+        return as_batch(alloc, text, edits);
+    }
+    answer
+}
+
+#[test]
+fn refused_batch_of_edits(rt: HostRuntime) -> Result<(), Fail> {
+    let mut refused: usize = 0;
+    let row = &EDITED[6];
+    let edits = edits_again(rt.alloc(), row.1, &mut refused)?;
+    let changes = as_batch_again(rt.alloc(), row.0, &edits, &mut refused);
+    assert!(rt; changes.is_ok_and(|changes| changes.len() == 2));
+    println!(rt; "refused {refused}")?;
+    Ok(())
+}

@@ -1,0 +1,54 @@
+//! Text edits of an open document, as the batch that changes it.
+
+use super::{URI, narrow, store_of};
+use lsp_edit::TextEditFault;
+use lsp_samples::edits::{Edit, text_edits};
+use lsp_store::{Store, StoreFault};
+use lsp_text::Encoding;
+use std::alloc::Global;
+
+static EDITS: [Edit; 3] = [(1, 2, 1, 2, "!"), (0, 0, 0, 1, ""), (1, 0, 1, 1, "X")];
+
+static OVERLAP: [Edit; 2] = [(0, 0, 0, 2, ""), (0, 1, 1, 0, "")];
+
+/// Changes the document as text edits say, if they mean something.
+fn edit(
+    store: &mut Store,
+    alloc: Global,
+    edits: &[Edit],
+) -> Result<Option<TextEditFault>, StoreFault> {
+    let edits = text_edits(alloc, edits)?;
+    let Some(document) = store.get(URI) else {
+        return Err(StoreFault::NotOpen);
+    };
+    match document.batch_of_edits(Encoding::Utf16, &edits) {
+        Ok(changes) => {
+            store.change(URI, 2, Encoding::Utf16, &changes)?;
+            Ok(None)
+        }
+        Err(fault) => Ok(Some(fault)),
+    }
+}
+
+/// Whether edits are refused so, or accepted, and leave that text.
+fn leave(
+    alloc: Global,
+    edits: &[Edit],
+    wanted: Option<TextEditFault>,
+    text: &str,
+) -> Result<bool, StoreFault> {
+    let mut store = store_of(alloc, narrow(1, 3)?, 1, "ab\ncd")?;
+    let answer = edit(&mut store, alloc, edits)?;
+    Ok(answer == wanted && store.get(URI).is_some_and(|document| document.text() == text))
+}
+
+#[test]
+fn text_edits_change_a_document(rt: HostRuntime) {
+    assert_eq!(rt; leave(rt.alloc(), &EDITS, None, "b\nXd!"), Ok(true));
+}
+
+#[test]
+fn text_edits_that_overlap_change_nothing(rt: HostRuntime) {
+    let fault = TextEditFault::Overlap { first: 0, second: 1 };
+    assert_eq!(rt; leave(rt.alloc(), &OVERLAP, Some(fault), "ab\ncd"), Ok(true));
+}
