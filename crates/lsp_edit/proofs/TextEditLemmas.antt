@@ -99,9 +99,9 @@ module _ (len : ℕ) (ordered front rest : List Placed) (made : List Part) (low 
       let apart : AreApart low (edit ∷ more) → AreApart 0 ordered = subst (λ (r : List Placed). AreApart low r → AreApart 0 ordered) is spanning.apart in
       record {
         parts =
-          ap (λ (p : List Part). p ++ parts_left len edit.stop more) (all_is ∙ ap (λ (p : List Part). p ++ new_parts edit.text.now) some_is)
-          ∙ (append_assoc (made ++ old_parts low edit.start) (new_parts edit.text.now) (parts_left len edit.stop more)
-          ∙ (append_assoc made (old_parts low edit.start) (new_parts edit.text.now ++ parts_left len edit.stop more) ∙ here));
+            ap (λ (p : List Part). p ++ parts_left len edit.stop more) (all_is ∙ ap (λ (p : List Part). p ++ new_parts edit.text.now) some_is)
+            ∙ (append_assoc (made ++ old_parts low edit.start) (new_parts edit.text.now) (parts_left len edit.stop more)
+            ∙ (append_assoc made (old_parts low edit.start) (new_parts edit.text.now ++ parts_left len edit.stop more) ∙ here));
         apart = λ a. apart (order, a);
         behind = inr (front, edit, next_is, refl, refl);
       }

@@ -12,10 +12,25 @@ type Edited = (&'static str, &'static [Edit], &'static str, &'static [Edit]);
 static EDITED: [Edited; 13] = [
     ("abc", &[], "abc", &[]),
     // texts at one place come in the order of the list
-    ("abc", &[(0, 1, 0, 1, "X"), (0, 1, 0, 1, "Y")], "aXYbc", &[(0, 1, 0, 1, "XY")]),
+    (
+        "abc",
+        &[(0, 1, 0, 1, "X"), (0, 1, 0, 1, "Y")],
+        "aXYbc",
+        &[(0, 1, 0, 1, "XY")],
+    ),
     // an insertion at the start of a replacement, and one at its stop
-    ("abc", &[(0, 1, 0, 1, "X"), (0, 1, 0, 2, "Y")], "aXYc", &[(0, 1, 0, 2, "XY")]),
-    ("abc", &[(0, 2, 0, 2, "X"), (0, 1, 0, 2, "Y")], "aYXc", &[(0, 1, 0, 2, "YX")]),
+    (
+        "abc",
+        &[(0, 1, 0, 1, "X"), (0, 1, 0, 2, "Y")],
+        "aXYc",
+        &[(0, 1, 0, 2, "XY")],
+    ),
+    (
+        "abc",
+        &[(0, 2, 0, 2, "X"), (0, 1, 0, 2, "Y")],
+        "aYXc",
+        &[(0, 1, 0, 2, "YX")],
+    ),
     // the order of the list is of no account else
     (
         "abc",
@@ -43,36 +58,68 @@ static EDITED: [Edited; 13] = [
         &[(1, 0, 1, 3, "2"), (0, 0, 0, 0, "\n\n")],
     ),
     // also where a line end arises before them
-    ("a\rb", &[(1, 0, 1, 0, "x"), (1, 0, 1, 1, "\n")], "a\rx\n", &[(1, 0, 1, 1, "x\n")]),
-    ("a\rb", &[(0, 0, 0, 1, "z"), (1, 0, 1, 1, "\n")], "z\r\n", &[(1, 0, 1, 1, "\n"), (0, 0, 0, 1, "z")]),
+    (
+        "a\rb",
+        &[(1, 0, 1, 0, "x"), (1, 0, 1, 1, "\n")],
+        "a\rx\n",
+        &[(1, 0, 1, 1, "x\n")],
+    ),
+    (
+        "a\rb",
+        &[(0, 0, 0, 1, "z"), (1, 0, 1, 1, "\n")],
+        "z\r\n",
+        &[(1, 0, 1, 1, "\n"), (0, 0, 0, 1, "z")],
+    ),
     // a range may end past its line, and past the text
-    ("a\r\nb", &[(0, 9, 0, 9, "!"), (7, 0, 7, 0, "?")], "a!\r\nb?", &[(1, 1, 1, 1, "?"), (0, 1, 0, 1, "!")]),
+    (
+        "a\r\nb",
+        &[(0, 9, 0, 9, "!"), (7, 0, 7, 0, "?")],
+        "a!\r\nb?",
+        &[(1, 1, 1, 1, "?"), (0, 1, 0, 1, "!")],
+    ),
     // the same text again takes the place of the old one
     ("abc", &[(0, 0, 0, 1, "a")], "abc", &[(0, 0, 0, 1, "a")]),
-    ("\u{1F600}b", &[(0, 2, 0, 3, "c")], "\u{1F600}c", &[(0, 2, 0, 3, "c")]),
+    (
+        "\u{1F600}b",
+        &[(0, 2, 0, 3, "c")],
+        "\u{1F600}c",
+        &[(0, 2, 0, 3, "c")],
+    ),
 ];
 
 static FAULTS: [(&str, &[Edit], TextEditFault); 8] = [
     (
         "abcdef",
         &[(0, 0, 0, 3, ""), (0, 2, 0, 4, "")],
-        TextEditFault::Overlap { first: 0, second: 1 },
+        TextEditFault::Overlap {
+            first: 0,
+            second: 1,
+        },
     ),
     (
         "abcdef",
         &[(0, 2, 0, 4, ""), (0, 0, 0, 3, "")],
-        TextEditFault::Overlap { first: 1, second: 0 },
+        TextEditFault::Overlap {
+            first: 1,
+            second: 0,
+        },
     ),
     (
         "abcdef",
         &[(0, 5, 0, 6, ""), (0, 1, 0, 4, "X"), (0, 2, 0, 2, "Y")],
-        TextEditFault::Overlap { first: 1, second: 2 },
+        TextEditFault::Overlap {
+            first: 1,
+            second: 2,
+        },
     ),
     // in the list, an insertion stands before what is replaced from there
     (
         "abcdef",
         &[(0, 1, 0, 2, "X"), (0, 1, 0, 1, "Y")],
-        TextEditFault::Overlap { first: 0, second: 1 },
+        TextEditFault::Overlap {
+            first: 0,
+            second: 1,
+        },
     ),
     (
         "\u{1F600}",
@@ -90,7 +137,11 @@ static FAULTS: [(&str, &[Edit], TextEditFault); 8] = [
             side: Side::Stop,
         },
     ),
-    ("abc", &[(0, 2, 0, 1, "")], TextEditFault::ReversedRange { edit: 0 }),
+    (
+        "abc",
+        &[(0, 2, 0, 1, "")],
+        TextEditFault::ReversedRange { edit: 0 },
+    ),
     // a faulty range comes before an overlap
     (
         "abcdef",
@@ -107,17 +158,22 @@ static TEXTS: [(TextEditFault, &str); 4] = [
         },
         "edit 3: Stop lies inside a character",
     ),
-    (TextEditFault::ReversedRange { edit: 1 }, "edit 1: the range is reversed"),
-    (TextEditFault::Overlap { first: 4, second: 2 }, "edits 4 and 2 overlap"),
+    (
+        TextEditFault::ReversedRange { edit: 1 },
+        "edit 1: the range is reversed",
+    ),
+    (
+        TextEditFault::Overlap {
+            first: 4,
+            second: 2,
+        },
+        "edits 4 and 2 overlap",
+    ),
     (TextEditFault::NoMemory, "out of memory"),
 ];
 
 /// What edits of a text are as a batch.
-fn as_batch(
-    alloc: Global,
-    text: &str,
-    edits: &[TextEdit],
-) -> Result<Vec<Change>, TextEditFault> {
+fn as_batch(alloc: Global, text: &str, edits: &[TextEdit]) -> Result<Vec<Change>, TextEditFault> {
     if text.len() > MAX_OLD_TEXT {
         return Err(TextEditFault::NoMemory);
     }
@@ -149,10 +205,7 @@ fn is_edited(alloc: Global, row: &Edited) -> Result<bool, AllocError> {
     Ok(text.as_str() == row.2)
 }
 
-fn is_refused(
-    alloc: Global,
-    row: &(&str, &[Edit], TextEditFault),
-) -> Result<bool, AllocError> {
+fn is_refused(alloc: Global, row: &(&str, &[Edit], TextEditFault)) -> Result<bool, AllocError> {
     let edits = text_edits(alloc, row.1)?;
     Ok(as_batch(alloc, row.0, &edits) == Err(row.2))
 }
@@ -222,7 +275,11 @@ fn many_edits_are_put_in_order(rt: HostRuntime) -> Result<(), Fail> {
     Ok(())
 }
 
-fn edits_again(alloc: Global, edits: &[Edit], refused: &mut usize) -> Result<Vec<TextEdit>, AllocError> {
+fn edits_again(
+    alloc: Global,
+    edits: &[Edit],
+    refused: &mut usize,
+) -> Result<Vec<TextEdit>, AllocError> {
     let made = text_edits(alloc, edits);
     if made.is_err() {
         *refused = refused.saturating_add(1);

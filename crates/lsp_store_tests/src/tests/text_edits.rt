@@ -39,7 +39,12 @@ fn leave(
 ) -> Result<bool, StoreFault> {
     let mut store = store_of(alloc, narrow(1, 3)?, 1, "ab\ncd")?;
     let answer = edit(&mut store, alloc, edits)?;
-    Ok(answer == wanted && store.get(URI).is_some_and(|document| document.text() == text))
+    Ok(
+        answer == wanted
+            && store
+                .get(URI)
+                .is_some_and(|document| document.text() == text),
+    )
 }
 
 #[test]
@@ -49,6 +54,12 @@ fn text_edits_change_a_document(rt: HostRuntime) {
 
 #[test]
 fn text_edits_that_overlap_change_nothing(rt: HostRuntime) {
-    let fault = TextEditFault::Overlap { first: 0, second: 1 };
-    assert_eq!(rt; leave(rt.alloc(), &OVERLAP, Some(fault), "ab\ncd"), Ok(true));
+    let fault = TextEditFault::Overlap {
+        first: 0,
+        second: 1,
+    };
+    assert_eq!(rt;
+        leave(rt.alloc(), &OVERLAP, Some(fault), "ab\ncd"),
+        Ok(true)
+    );
 }
