@@ -1,6 +1,6 @@
 #!/usr/bin/env bash
-# The session of with-neovim.sh with Emacs and eglot: `lspsync serve` as the language server behind a `tee`, some edits, and then what `lspsync replay`
-# makes of the record beside the file that Emacs saved.
+# The session of with-neovim.sh with Emacs and eglot. `lspsync serve` is the language server, and `tee` records what Emacs sends it. After some
+# edits the script compares the text that `lspsync replay` prints with the file that Emacs saved.
 #
 #   examples/with-emacs.sh [FOLDER]      FOLDER keeps the record and the file; without it they are thrown away
 #

@@ -1,6 +1,6 @@
 #!/usr/bin/env bash
-# A session with a real editor: starts Neovim without a screen, with `lspsync serve` as its language server behind a `tee` that records
-# what the editor sends; makes some edits, saves and quits; then looks at the record by `lspsync check` and `lspsync replay`, and compares the
+# A session with a real editor. Starts Neovim without a screen, with `lspsync serve` as its language server and a `tee` that records what
+# Neovim sends. Neovim edits, saves and quits. Then the script reads the record by `lspsync check` and `lspsync replay`, and compares the
 # replayed text with the file that Neovim saved.
 #
 #   examples/with-neovim.sh [FOLDER]      FOLDER keeps the record and the file; without it they are thrown away

@@ -174,6 +174,68 @@ static void test_canonical(void) {
     laspidru_close(&document);
 }
 
+static laspidru_u32 apply(laspidru_handle *document, const laspidru_edit *edits, laspidru_size count, const char *texts,
+                          laspidru_edits_fault *fault) {
+    return laspidru_document_apply_edits(document, LASPIDRU_UTF16, edits, count, bytes(texts), strlen(texts), fault);
+}
+
+static int is_about(laspidru_edits_fault fault, laspidru_size edit, laspidru_size other, int at_end) {
+    return fault.edit == edit && fault.other == other && fault.at_end == at_end;
+}
+
+static void test_apply_edits(void) {
+    laspidru_handle document = {0}, batch = {0};
+    laspidru_edits_fault fault = {9, 9, 0};
+    /* In order as changes these would leave "12bc". */
+    laspidru_edit two[2] = {{{0, 0}, {0, 0}, 1, 0}, {{0, 1}, {0, 2}, 1, 0}};
+    laspidru_edit one_place[3] = {{{0, 1}, {0, 1}, 1, 0}, {{0, 0}, {0, 0}, 1, 0}, {{0, 1}, {0, 1}, 1, 0}};
+    laspidru_edit over[2] = {{{0, 1}, {0, 3}, 0, 0}, {{0, 0}, {0, 2}, 0, 0}};
+    laspidru_edit whole[2] = {{{4, 4}, {0, 0}, 3, 1}, {{0, 1}, {0, 1}, 1, 0}};
+    laspidru_edit inside[2] = {{{0, 0}, {0, 0}, 1, 0}, {{1, 1}, {1, 2}, 0, 0}};
+    laspidru_edit reversed = {{0, 1}, {0, 0}, 0, 0};
+    CHECK(apply(&document, two, 2, "12", &fault) == LASPIDRU_EMPTY);
+    CHECK(laspidru_document_batch_of_edits(&document, LASPIDRU_UTF16, two, 2, bytes("12"), 2, &batch, &fault) == LASPIDRU_EMPTY);
+    CHECK(open_text(&document, "abc") == LASPIDRU_OK);
+    CHECK(laspidru_document_apply_edits(&document, 7, two, 2, bytes("12"), 2, &fault) == LASPIDRU_BAD_ENCODING);
+    CHECK(apply(&document, two, 2, "1", &fault) == LASPIDRU_BAD_LENGTH);
+    CHECK(apply(&document, two, 2, "1\xff", &fault) == LASPIDRU_NOT_UTF8);
+    CHECK(is_about(fault, 9, 9, 0) && has_text(&document, "abc"));
+    CHECK(apply(&document, over, 2, "", &fault) == LASPIDRU_OVERLAP && is_about(fault, 1, 0, 0));
+    CHECK(apply(&document, whole, 2, "newX", &fault) == LASPIDRU_OVERLAP && is_about(fault, 0, 1, 0));
+    CHECK(apply(&document, &reversed, 1, "", &fault) == LASPIDRU_REVERSED_RANGE && is_about(fault, 0, 0, 0));
+    CHECK(has_text(&document, "abc"));
+    CHECK(apply(&document, two, 2, "12", &fault) == LASPIDRU_OK && has_text(&document, "1a2c"));
+    CHECK(apply(&document, one_place, 3, "123", &fault) == LASPIDRU_OK && has_text(&document, "2113a2c"));
+    CHECK(apply(&document, whole, 0, "", &fault) == LASPIDRU_OK && has_text(&document, "2113a2c"));
+    CHECK(apply(&document, whole, 1, "new", &fault) == LASPIDRU_OK && has_text(&document, "new"));
+    laspidru_close(&document);
+    CHECK(open_text(&document, sample) == LASPIDRU_OK);
+    CHECK(apply(&document, inside, 2, "Z", &fault) == LASPIDRU_INSIDE_CHARACTER && is_about(fault, 1, 0, 1));
+    CHECK(has_text(&document, sample));
+    laspidru_close(&document);
+}
+
+static void test_batch_of_edits(void) {
+    laspidru_handle document = {0}, batch = {0};
+    laspidru_edits_fault fault = {9, 9, 0};
+    laspidru_edit two[2] = {{{0, 0}, {0, 0}, 1, 0}, {{0, 1}, {0, 2}, 1, 0}}, found = {{7, 7}, {7, 7}, 7, 1};
+    laspidru_edit over[2] = {{{0, 0}, {0, 2}, 0, 0}, {{0, 1}, {0, 3}, 0, 0}};
+    unsigned char out[4] = "---";
+    laspidru_size len = 9, copied = 9;
+    CHECK(open_text(&document, "abc") == LASPIDRU_OK);
+    CHECK(laspidru_document_batch_of_edits(&document, LASPIDRU_UTF16, over, 2, bytes(""), 0, &batch, &fault) == LASPIDRU_OVERLAP);
+    CHECK(!batch.is_full && is_about(fault, 0, 1, 0));
+    CHECK(laspidru_document_batch_of_edits(&document, LASPIDRU_UTF16, two, 2, bytes("12"), 2, &batch, &fault) == LASPIDRU_OK);
+    CHECK(has_text(&document, "abc") && laspidru_batch_len(&batch, &len) == LASPIDRU_OK && len == 2);
+    CHECK(laspidru_batch_edit(&batch, 0, &found, out, 3, &copied) == LASPIDRU_OK && copied == 1 && out[0] == '2');
+    CHECK(found.start.character == 1 && found.end.character == 2 && !found.is_whole);
+    CHECK(laspidru_batch_edit(&batch, 1, &found, out, 3, &copied) == LASPIDRU_OK && copied == 1 && out[0] == '1');
+    CHECK(laspidru_document_batch_of_edits(&document, LASPIDRU_UTF16, two, 2, bytes("12"), 2, &batch, &fault) == LASPIDRU_IN_USE);
+    CHECK(apply(&batch, two, 2, "12", &fault) == LASPIDRU_OTHER_KIND);
+    laspidru_close(&batch);
+    laspidru_close(&document);
+}
+
 static const laspidru_settings settings = {4096, 64, 2, 4, LASPIDRU_UTF8, 0, 0};
 static const char initialize[] = "{\"jsonrpc\":\"2.0\",\"id\":1,\"method\":\"initialize\",\"params\":{\"capabilities\":"
                                  "{\"general\":{\"positionEncodings\":[\"utf-8\",\"utf-16\"]}}}}";
@@ -518,6 +580,7 @@ static int run_refused(void) {
     static const char texts[] = "\r\nlonger";
     laspidru_handle document = {0}, batch = {0};
     laspidru_fault fault = {0, 0};
+    laspidru_edits_fault edits_fault = {0, 0, 0};
     laspidru_u32 code;
     int refusals = 0;
     while ((code = open_text(&document, "ab\ncd")) == LASPIDRU_OUT_OF_MEMORY) {
@@ -537,6 +600,18 @@ static int run_refused(void) {
         refusals++;
     }
     CHECK(code == LASPIDRU_OK && has_text(&document, "a\r\nlonger\ncd"));
+    laspidru_close(&batch);
+    while ((code = laspidru_document_batch_of_edits(&document, LASPIDRU_UTF16, edits, 2, bytes(texts), 8, &batch, &edits_fault)) ==
+           LASPIDRU_OUT_OF_MEMORY) {
+        CHECK(!batch.is_full && has_text(&document, "a\r\nlonger\ncd"));
+        refusals++;
+    }
+    CHECK(code == LASPIDRU_OK);
+    while ((code = apply(&document, edits, 2, texts, &edits_fault)) == LASPIDRU_OUT_OF_MEMORY) {
+        CHECK(has_text(&document, "a\r\nlonger\ncd"));
+        refusals++;
+    }
+    CHECK(code == LASPIDRU_OK && has_text(&document, "a\r\n\r\nlongeronger\ncd"));
     laspidru_close(&batch);
     laspidru_close(&document);
     CHECK(heap_blocks() == 0);
@@ -568,6 +643,8 @@ int main(void) {
     test_lines();
     test_change();
     test_canonical();
+    test_apply_edits();
+    test_batch_of_edits();
     test_server_new();
     test_server();
     test_other_kinds();

@@ -1,4 +1,5 @@
-/* The library for Node, by N-API: documents as externals, which the collector closes. index.js makes classes of them. */
+/* The library for Node, by N-API: documents as externals, which the collector closes. index.js makes classes of them, and
+   functions of the commands on logs. */
 #include <node_api.h>
 #include <stdlib.h>
 
@@ -13,12 +14,35 @@ static void close_document(napi_env env, void *document, void *hint) {
     free(document);
 }
 
+/* The name of a code. */
+static const char *word_of(laspidru_u32 code) {
+    static const char *const words[] = {
+        [LASPIDRU_OK] = "OK",
+        [LASPIDRU_NOT_UTF8] = "NOT_UTF8",
+        [LASPIDRU_OUT_OF_MEMORY] = "OUT_OF_MEMORY",
+        [LASPIDRU_IN_USE] = "IN_USE",
+        [LASPIDRU_EMPTY] = "EMPTY",
+        [LASPIDRU_TOO_LONG] = "TOO_LONG",
+        [LASPIDRU_INSIDE_CHARACTER] = "INSIDE_CHARACTER",
+        [LASPIDRU_REVERSED_RANGE] = "REVERSED_RANGE",
+        [LASPIDRU_BAD_ENCODING] = "BAD_ENCODING",
+        [LASPIDRU_BAD_LENGTH] = "BAD_LENGTH",
+        [LASPIDRU_OTHER_KIND] = "OTHER_KIND",
+        [LASPIDRU_OUT_OF_RANGE] = "OUT_OF_RANGE",
+        [LASPIDRU_BAD_LIMIT] = "BAD_LIMIT",
+        [LASPIDRU_CUT] = "CUT",
+        [LASPIDRU_BAD_FRAME] = "BAD_FRAME",
+        [LASPIDRU_BODY_TOO_LONG] = "BODY_TOO_LONG",
+        [LASPIDRU_BAD_LOG] = "BAD_LOG",
+        [LASPIDRU_TOO_MANY_TURNS] = "TOO_MANY_TURNS",
+        [LASPIDRU_OVERLAP] = "OVERLAP",
+    };
+    return words[code];
+}
+
 /* Throws a RangeError whose code is that of the library. */
 static napi_value refuse(napi_env env, laspidru_u32 code) {
-    static const char *const words[] = {"OK",        "NOT_UTF8",         "OUT_OF_MEMORY",  "IN_USE",
-                                        "EMPTY",     "TOO_LONG",         "INSIDE_CHARACTER", "REVERSED_RANGE",
-                                        "BAD_ENCODING", "BAD_LENGTH",    "OTHER_KIND",     "OUT_OF_RANGE"};
-    napi_throw_range_error(env, words[code], words[code]);
+    napi_throw_range_error(env, word_of(code), word_of(code));
     return NULL;
 }
 
@@ -65,32 +89,91 @@ static napi_value open_document(napi_env env, napi_callback_info info) {
     return refuse(env, code == LASPIDRU_OK ? (laspidru_u32)LASPIDRU_OUT_OF_MEMORY : code);
 }
 
-/* change(document, encoding, numbers, texts): `numbers` is a Uint32Array with six of each edit: the start's line and
-   character, the end's, how many bytes its text has, and 1 where it is of the whole text. */
-static napi_value change(napi_env env, napi_callback_info info) {
-    napi_value found[MOST_ARGUMENTS];
+/* Edits as JavaScript passes them. `few` has room for some, so that most calls allocate none. */
+typedef struct {
     laspidru_handle *document;
-    laspidru_u32 encoding, code = LASPIDRU_OUT_OF_MEMORY, *numbers;
+    laspidru_u32 encoding;
+    laspidru_edit few[4];
+    laspidru_edit *edits;
+    size_t count;
+    unsigned char *texts;
+    size_t texts_len;
+} batch;
+
+static void free_batch(batch *it) {
+    free(it->texts);
+    if (it->edits != it->few)
+        free(it->edits);
+}
+
+/* Reads the arguments (document, encoding, numbers, texts). `numbers` is a Uint32Array with six of each edit: the start's line
+   and character, the end's, how many bytes its text has, and 1 where it is of the whole text. Where it returns false it has
+   thrown, and there is nothing to free. */
+static int read_batch(napi_env env, napi_callback_info info, batch *it) {
+    napi_value found[MOST_ARGUMENTS];
     napi_typedarray_type type;
-    size_t count, len;
-    laspidru_fault fault = {0, 0};
-    if (!arguments(env, info, 4, found) || napi_get_value_external(env, found[0], (void **)&document) != napi_ok ||
-        napi_get_value_uint32(env, found[1], &encoding) != napi_ok ||
-        napi_get_typedarray_info(env, found[2], &type, &count, (void **)&numbers, NULL, NULL) != napi_ok || type != napi_uint32_array)
-        return refuse_arguments(env);
-    count /= NUMBERS_OF_EDIT;
-    laspidru_edit few[4], *edits = count <= 4 ? few : malloc(count * sizeof *edits);
-    unsigned char *texts = utf8_of(env, found[3], &len);
-    if (edits != NULL && texts != NULL) {
-        for (size_t i = 0; i < count; i++) {
-            const laspidru_u32 *n = numbers + NUMBERS_OF_EDIT * i;
-            edits[i] = (laspidru_edit){{n[0], n[1]}, {n[2], n[3]}, n[4], n[5] != 0};
-        }
-        code = laspidru_document_change(document, encoding, edits, count, texts, len, &fault);
+    laspidru_u32 *numbers;
+    if (!arguments(env, info, 4, found) || napi_get_value_external(env, found[0], (void **)&it->document) != napi_ok ||
+        napi_get_value_uint32(env, found[1], &it->encoding) != napi_ok ||
+        napi_get_typedarray_info(env, found[2], &type, &it->count, (void **)&numbers, NULL, NULL) != napi_ok ||
+        type != napi_uint32_array) {
+        refuse_arguments(env);
+        return 0;
     }
-    free(texts);
-    if (edits != few)
-        free(edits);
+    it->count /= NUMBERS_OF_EDIT;
+    it->edits = it->count <= 4 ? it->few : malloc(it->count * sizeof *it->edits);
+    it->texts = utf8_of(env, found[3], &it->texts_len);
+    if (it->edits == NULL || it->texts == NULL) {
+        free_batch(it);
+        refuse(env, LASPIDRU_OUT_OF_MEMORY);
+        return 0;
+    }
+    for (size_t i = 0; i < it->count; i++) {
+        const laspidru_u32 *n = numbers + NUMBERS_OF_EDIT * i;
+        it->edits[i] = (laspidru_edit){{n[0], n[1]}, {n[2], n[3]}, n[4], n[5] != 0};
+    }
+    return 1;
+}
+
+/* change(document, encoding, numbers, texts) */
+static napi_value change(napi_env env, napi_callback_info info) {
+    laspidru_fault fault = {0, 0};
+    batch it;
+    if (!read_batch(env, info, &it))
+        return NULL;
+    laspidru_u32 code = laspidru_document_change(it.document, it.encoding, it.edits, it.count, it.texts, it.texts_len, &fault);
+    free_batch(&it);
+    return code == LASPIDRU_OK ? NULL : refuse(env, code);
+}
+
+static void set_number(napi_env env, napi_value object, const char *name, double number) {
+    napi_value value;
+    napi_create_double(env, number, &value);
+    napi_set_named_property(env, object, name, value);
+}
+
+/* Throws a RangeError with the numbers of the faulty edits. */
+static napi_value refuse_edits(napi_env env, laspidru_u32 code, laspidru_edits_fault fault) {
+    napi_value word, error;
+    napi_create_string_utf8(env, word_of(code), NAPI_AUTO_LENGTH, &word);
+    napi_create_range_error(env, word, word, &error);
+    set_number(env, error, "edit", (double)fault.edit);
+    if (code == LASPIDRU_OVERLAP)
+        set_number(env, error, "other", (double)fault.other);
+    napi_throw(env, error);
+    return NULL;
+}
+
+/* applyEdits(document, encoding, numbers, texts) */
+static napi_value apply_edits(napi_env env, napi_callback_info info) {
+    laspidru_edits_fault fault = {0, 0, 0};
+    batch it;
+    if (!read_batch(env, info, &it))
+        return NULL;
+    laspidru_u32 code = laspidru_document_apply_edits(it.document, it.encoding, it.edits, it.count, it.texts, it.texts_len, &fault);
+    free_batch(&it);
+    if (code == LASPIDRU_INSIDE_CHARACTER || code == LASPIDRU_REVERSED_RANGE || code == LASPIDRU_OVERLAP)
+        return refuse_edits(env, code, fault);
     return code == LASPIDRU_OK ? NULL : refuse(env, code);
 }
 
@@ -197,11 +280,72 @@ static napi_value position(napi_env env, napi_callback_info info) {
     return out;
 }
 
+typedef laspidru_u32 log_command(laspidru_handle *output, const laspidru_log_settings *settings, const unsigned char *log,
+                                 laspidru_size log_len, laspidru_ending *ending);
+
+/* The settings of a command: six numbers, in the order of laspidru_log_settings. */
+static laspidru_log_settings settings_of(const laspidru_u32 *n) {
+    return (laspidru_log_settings){n[0], n[1], n[2], n[3], n[4], n[5] != 0};
+}
+
+/* A Buffer of the output behind a handle, or NULL. */
+static napi_value output_of(napi_env env, laspidru_handle *output, size_t len) {
+    static unsigned char no_room[1];
+    napi_value out;
+    void *bytes;
+    laspidru_size copied;
+    if (napi_create_buffer(env, len, &bytes, &out) != napi_ok)
+        return NULL;
+    return laspidru_log_output(output, 0, bytes != NULL ? bytes : no_room, len, &copied) == LASPIDRU_OK ? out : NULL;
+}
+
+/* How a command ended, for index.js: {code, output, status, messages, refused, frame, place}. */
+static napi_value ended(napi_env env, laspidru_u32 code, napi_value output, laspidru_ending ending) {
+    napi_value out, word;
+    napi_create_object(env, &out);
+    napi_create_string_utf8(env, word_of(code), NAPI_AUTO_LENGTH, &word);
+    napi_set_named_property(env, out, "code", word);
+    napi_set_named_property(env, out, "output", output);
+    set_number(env, out, "status", ending.status);
+    set_number(env, out, "messages", (double)ending.messages);
+    set_number(env, out, "refused", (double)ending.refused);
+    set_number(env, out, "frame", ending.frame);
+    set_number(env, out, "place", (double)ending.place);
+    return out;
+}
+
+/* log(command, log, settings): how command 0 to 3 ended on the bytes of a Uint8Array, with the settings of a Uint32Array. */
+static napi_value run_log(napi_env env, napi_callback_info info) {
+    static log_command *const commands[] = {laspidru_log_check, laspidru_log_replay, laspidru_log_normalise, laspidru_log_convert};
+    static const unsigned char no_log[1];
+    napi_value found[MOST_ARGUMENTS], output;
+    napi_typedarray_type log_type, numbers_type;
+    laspidru_handle handle = {0};
+    laspidru_ending ending;
+    laspidru_u32 command, *numbers;
+    const unsigned char *log;
+    size_t log_len, count;
+    if (!arguments(env, info, 3, found) || napi_get_value_uint32(env, found[0], &command) != napi_ok || command > 3 ||
+        napi_get_typedarray_info(env, found[1], &log_type, &log_len, (void **)&log, NULL, NULL) != napi_ok ||
+        log_type != napi_uint8_array ||
+        napi_get_typedarray_info(env, found[2], &numbers_type, &count, (void **)&numbers, NULL, NULL) != napi_ok ||
+        numbers_type != napi_uint32_array || count != 6)
+        return refuse_arguments(env);
+    laspidru_log_settings settings = settings_of(numbers);
+    laspidru_u32 code = commands[command](&handle, &settings, log_len > 0 ? log : no_log, log_len, &ending);
+    if (!handle.is_full)
+        return refuse(env, code);
+    output = output_of(env, &handle, ending.output_len);
+    laspidru_close(&handle);
+    return output != NULL ? ended(env, code, output, ending) : refuse(env, LASPIDRU_OUT_OF_MEMORY);
+}
+
 NAPI_MODULE_INIT() {
     const napi_property_descriptor functions[] = {
         {"open", 0, open_document, 0, 0, 0, napi_default, 0}, {"change", 0, change, 0, 0, 0, napi_default, 0},
         {"text", 0, text, 0, 0, 0, napi_default, 0},          {"lineCount", 0, line_count, 0, 0, 0, napi_default, 0},
-        {"line", 0, line, 0, 0, 0, napi_default, 0},
+        {"line", 0, line, 0, 0, 0, napi_default, 0},          {"applyEdits", 0, apply_edits, 0, 0, 0, napi_default, 0},
+        {"log", 0, run_log, 0, 0, 0, napi_default, 0},
         {"offset", 0, offset, 0, 0, 0, napi_default, 0},      {"position", 0, position, 0, 0, 0, napi_default, 0},
     };
     napi_define_properties(env, exports, sizeof functions / sizeof *functions, functions);

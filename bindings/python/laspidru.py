@@ -16,13 +16,13 @@ from ctypes import POINTER, byref, c_bool, c_char_p, c_size_t, c_uint32, c_uint6
 UTF8, UTF16, UTF32 = 8, 16, 32
 ENCODINGS = {"utf-8": UTF8, "utf-16": UTF16, "utf-32": UTF32}
 INSIDE_CHARACTER, REVERSED_RANGE, OUT_OF_MEMORY, OUT_OF_RANGE = 6, 7, 2, 11
-CUT, BAD_FRAME, BODY_TOO_LONG, BAD_LOG = 20, 21, 22, 23
+CUT, BAD_FRAME, BODY_TOO_LONG, BAD_LOG, OVERLAP = 20, 21, 22, 23, 25
 WHY = {1: "the text is not UTF-8", 2: "out of memory", 3: "the handle is in use", 4: "the document is closed",
        5: "the text is too long", 6: "a position lies inside a character", 7: "a range is reversed",
        8: "unknown encoding", 9: "the lengths of the edits exceed their texts", 10: "an object of another kind",
        11: "out of range", 12: "a limit is out of its range", 20: "the log ends inside a record",
        21: "the header of a frame is faulty", 22: "a canonical message is too long", 23: "what is there belongs in no log",
-       24: "too many reads and writes"}
+       24: "too many reads and writes", 25: "two edits overlap"}
 
 
 class _Handle(ctypes.Structure):
@@ -39,6 +39,10 @@ class _Edit(ctypes.Structure):
 
 class _Fault(ctypes.Structure):
     _fields_ = [("change", c_size_t), ("at_end", c_bool)]
+
+
+class _EditsFault(ctypes.Structure):
+    _fields_ = [("edit", c_size_t), ("other", c_size_t), ("at_end", c_bool)]
 
 
 class _Line(ctypes.Structure):
@@ -73,6 +77,8 @@ def _library():
         "document_offset": [handle, c_uint32, _Place, size],
         "document_position": [handle, c_uint32, c_size_t, POINTER(_Place)],
         "document_canonical": batch + [handle, POINTER(_Fault)],
+        "document_apply_edits": batch + [POINTER(_EditsFault)],
+        "document_batch_of_edits": batch + [handle, POINTER(_EditsFault)],
         "batch_len": [handle, size],
         "batch_edit": [handle, c_size_t, POINTER(_Edit), c_void_p, c_size_t, size],
         "log_check": log,
@@ -100,6 +106,18 @@ class LaspidruError(ValueError):
         self.code, self.change, self.at_end = code, change, at_end
 
 
+class EditsFault(LaspidruError):
+    """A fault of text edits: its code, the number of the faulty edit, which end is faulty, and for two that overlap the other's."""
+
+    def __init__(self, code, edit, other, at_end):
+        super().__init__(code)
+        self.edit, self.other, self.at_end = edit, other, at_end
+
+    def __str__(self):
+        which = f"edits {self.edit} and {self.other}" if self.other is not None else f"edit {self.edit}"
+        return f"{which}: {super().__str__()}"
+
+
 class LogFault(LaspidruError):
     """A fault of a log: its code, its byte offset, which of F1 to F7 a faulty frame has, else 0, and the output up to it."""
 
@@ -118,6 +136,12 @@ def _demand(code):
         raise LaspidruError(code)
 
 
+def _demand_edits(code, fault):
+    if code in (INSIDE_CHARACTER, REVERSED_RANGE, OVERLAP):
+        raise EditsFault(code, fault.edit, fault.other if code == OVERLAP else None, fault.at_end)
+    _demand(code)
+
+
 def _place(position):
     """A position as LSP writes it, or as an object with its members."""
     if isinstance(position, dict):
@@ -126,10 +150,10 @@ def _place(position):
 
 
 def _parts(change):
-    """The range of a change, if it has one, and its text."""
+    """The range of a change or a text edit, if it has one, and its text."""
     if isinstance(change, dict):
-        return change.get("range"), change["text"]
-    return getattr(change, "range", None), change.text
+        return change.get("range"), change["newText"] if "newText" in change else change["text"]
+    return getattr(change, "range", None), change.new_text if hasattr(change, "new_text") else change.text
 
 
 def _ends(range_):
@@ -216,18 +240,35 @@ class Document:
     def canonical(self, changes):
         """The one canonical batch that means the same on the text: a list of changes as LSP writes them."""
         edits, texts = _batch(changes)
-        batch, fault, count = _Handle(), _Fault(), c_size_t()
+        batch, fault = _Handle(), _Fault()
         with self._lock:
             code = _LIBRARY.laspidru_document_canonical(
                 byref(self._handle), self._encoding, edits, len(edits), texts, len(texts), byref(batch), byref(fault))
         if code in (INSIDE_CHARACTER, REVERSED_RANGE):
             raise LaspidruError(code, fault.change, fault.at_end)
         _demand(code)
-        try:
-            _demand(_LIBRARY.laspidru_batch_len(byref(batch), byref(count)))
-            return [_change_at(batch, index) for index in range(count.value)]
-        finally:
-            _LIBRARY.laspidru_close(byref(batch))
+        return _changes(batch)
+
+    def apply_edits(self, edits):
+        """Makes text edits, as a formatter returns them, or raises EditsFault and makes none of them. All count in the text as it is."""
+        passed, texts = _batch(edits)
+        fault = _EditsFault()
+        with self._lock:
+            code = _LIBRARY.laspidru_document_apply_edits(
+                byref(self._handle), self._encoding, passed, len(passed), texts, len(texts), byref(fault))
+            if code == 0:
+                self._text = None
+        _demand_edits(code, fault)
+
+    def batch_of_edits(self, edits):
+        """The canonical batch of what text edits mean on the text: the changes of the didChange that reports them."""
+        passed, texts = _batch(edits)
+        batch, fault = _Handle(), _EditsFault()
+        with self._lock:
+            code = _LIBRARY.laspidru_document_batch_of_edits(
+                byref(self._handle), self._encoding, passed, len(passed), texts, len(texts), byref(batch), byref(fault))
+        _demand_edits(code, fault)
+        return _changes(batch)
 
     def byte_offset(self, position):
         """The byte offset of a position. One after the line's end is the line's end."""
@@ -244,6 +285,16 @@ class Document:
             _demand(_LIBRARY.laspidru_document_position(
                 byref(self._handle), self._encoding, byte_offset, byref(place)))
         return {"line": place.line, "character": place.character}
+
+
+def _changes(batch):
+    """The changes of a batch, which is closed."""
+    count = c_size_t()
+    try:
+        _demand(_LIBRARY.laspidru_batch_len(byref(batch), byref(count)))
+        return [_change_at(batch, index) for index in range(count.value)]
+    finally:
+        _LIBRARY.laspidru_close(byref(batch))
 
 
 def _change_at(batch, index):

@@ -5,7 +5,7 @@ import re
 import unittest
 
 import laspidru
-from laspidru import Document, LaspidruError, LogFault, TextDocument, check, convert, normalise, replay
+from laspidru import Document, EditsFault, LaspidruError, LogFault, TextDocument, check, convert, normalise, replay
 
 EXAMPLES = os.path.join(os.path.dirname(os.path.abspath(__file__)), "..", "..", "examples")
 
@@ -62,6 +62,27 @@ def changed(text, changes, encoding):
     return text
 
 
+def edit(start, end, text):
+    return {"range": {"start": start, "end": end}, "newText": text}
+
+
+def edited(text, edits, encoding):
+    """What text edits leave of a text, or the numbers of the faulty ones: LSP 3.17 as a plain program."""
+    placed = []
+    for number, one in enumerate(edits):
+        start = denoted(text, one["range"]["start"], encoding)
+        end = denoted(text, one["range"]["end"], encoding)
+        if start is None or end is None or start > end:
+            return number, None
+        placed.append((start, number, end, one["newText"]))
+    out, low, last = "", 0, None
+    for start, number, end, new in sorted(placed, key=lambda it: it[0]):
+        if start < low:
+            return last, number
+        out, low, last = out + text[low:start] + new, end, number
+    return out + text[low:]
+
+
 class Tests(unittest.TestCase):
     def test_change(self):
         document = Document("a\r\nb\U0001F600")
@@ -95,6 +116,20 @@ class Tests(unittest.TestCase):
         changes = [change(at(0, 1), at(0, 1), "X"), change(at(0, 2), at(0, 2), "Y")]
         self.assertEqual(document.canonical(changes), [change(at(0, 1), at(0, 1), "XY")])
         self.assertEqual(document.text, "abc")
+
+    def test_edits(self):
+        document = Document("abc")
+        edits = [edit(at(0, 0), at(0, 0), "1"), edit(at(0, 1), at(0, 2), "2")]
+        self.assertEqual(document.batch_of_edits(edits), [change(at(0, 1), at(0, 2), "2"), change(at(0, 0), at(0, 0), "1")])
+        document.apply_edits(edits)
+        self.assertEqual(document.text, "1a2c")
+        for overlapping in (document.apply_edits, document.batch_of_edits):
+            with self.assertRaises(EditsFault) as raised:
+                overlapping([edit(at(0, 1), at(0, 3), ""), edit(at(0, 0), at(0, 2), "")])
+            fault = raised.exception
+            self.assertEqual((fault.code, fault.edit, fault.other), (laspidru.OVERLAP, 1, 0))
+            self.assertEqual(str(fault), "edits 1 and 0: two edits overlap")
+        self.assertEqual(document.text, "1a2c")
 
     def test_text_document(self):
         document = TextDocument("file:///a", "one\u2028two\r\nthree", version=1)
@@ -131,6 +166,34 @@ class Tests(unittest.TestCase):
                 with self.assertRaises(LaspidruError) as raised:
                     document.change(changes)
                 self.assertEqual((raised.exception.change, document.text), (wanted, old))
+
+    def test_random_edits(self):
+        """Random text edits against the plain program, in three encodings; as many as LASPIDRU_BATCHES says."""
+        chance = random.Random(2)
+        letters = ["a", "\r", "\n", "\r\n", "\u00e9", "\u2028", "\U0001F600"]
+
+        def text(most):
+            return "".join(chance.choice(letters) for _ in range(chance.randrange(most)))
+
+        def place():
+            return at(chance.randrange(4), chance.randrange(6))
+
+        for _ in range(int(os.environ.get("LASPIDRU_BATCHES", "2000"))):
+            encoding = chance.choice(["utf-8", "utf-16", "utf-32"])
+            old = text(10)
+            edits = [edit(start, start if chance.random() < 0.5 else place(), text(4))
+                     for start in (place() for _ in range(chance.randrange(4)))]
+            wanted, document = edited(old, edits, encoding), Document(old, encoding)
+            if isinstance(wanted, str):
+                batch = document.batch_of_edits(edits)
+                self.assertEqual((changed(old, batch, encoding), document.text), (wanted, old))
+                self.assertEqual(document.canonical(batch), batch)
+                document.apply_edits(edits)
+                self.assertEqual(document.text, wanted)
+            else:
+                with self.assertRaises(EditsFault) as raised:
+                    document.apply_edits(edits)
+                self.assertEqual((raised.exception.edit, raised.exception.other, document.text), wanted + (old,))
 
     def test_logs(self):
         stale = check(example("stale-version"))

@@ -13,6 +13,7 @@ pub const CUT: u32 = 20;
 pub const BAD_FRAME: u32 = 21;
 pub const BODY_TOO_LONG: u32 = 22;
 pub const BAD_LOG: u32 = 23;
+pub const OVERLAP: u32 = 25;
 
 #[repr(C)]
 pub struct Handle {
@@ -37,6 +38,14 @@ pub struct Edit {
 #[derive(Default)]
 pub struct Fault {
     pub change: usize,
+    pub at_end: bool,
+}
+
+#[repr(C)]
+#[derive(Default)]
+pub struct EditsFault {
+    pub edit: usize,
+    pub other: usize,
     pub at_end: bool,
 }
 
@@ -120,6 +129,25 @@ extern "C" {
         texts_len: usize,
         batch: *mut Handle,
         fault: *mut Fault,
+    ) -> u32;
+    pub fn laspidru_document_apply_edits(
+        document: *mut Handle,
+        encoding: u32,
+        edits: *const Edit,
+        edits_len: usize,
+        texts: *const u8,
+        texts_len: usize,
+        fault: *mut EditsFault,
+    ) -> u32;
+    pub fn laspidru_document_batch_of_edits(
+        document: *mut Handle,
+        encoding: u32,
+        edits: *const Edit,
+        edits_len: usize,
+        texts: *const u8,
+        texts_len: usize,
+        batch: *mut Handle,
+        fault: *mut EditsFault,
     ) -> u32;
     pub fn laspidru_batch_len(batch: *mut Handle, len: *mut usize) -> u32;
     pub fn laspidru_batch_edit(

@@ -48,16 +48,25 @@ pub struct Change {
     pub text: String,
 }
 
+/// A text edit, as a formatter returns it: a text in place of a range.
+#[derive(Clone, Debug, PartialEq, Eq)]
+pub struct TextEdit {
+    pub range: Range,
+    pub new_text: String,
+}
+
 /// Why a call was refused. It changed nothing.
 #[derive(Clone, Copy, Debug, PartialEq, Eq)]
 pub enum Error {
     OutOfMemory,
     /// A text has more than 1,073,741,824 bytes.
     TooLong,
-    /// An end of a change's range lies inside a character.
+    /// An end of a change's or a text edit's range lies inside a character.
     InsideCharacter { change: usize, at_end: bool },
-    /// A change's range starts after its end.
+    /// A change's or a text edit's range starts after its end.
     ReversedRange { change: usize },
+    /// The second text edit starts before the first one ends.
+    Overlap { first: usize, second: usize },
     /// A position or an offset lies inside a character, or an offset inside a CRLF or past the end.
     NoPlace,
 }
@@ -72,6 +81,7 @@ impl fmt::Display for Error {
                 write!(f, "change {change}: the {side} of its range lies inside a character")
             }
             Error::ReversedRange { change } => write!(f, "change {change}: the range is reversed"),
+            Error::Overlap { first, second } => write!(f, "text edits {first} and {second} overlap"),
             Error::NoPlace => write!(f, "no place of the text"),
         }
     }
@@ -160,6 +170,48 @@ impl Document {
         };
         demand(code, &fault)?;
         Ok(made.changes())
+    }
+
+    /// Makes text edits, or none of them. All their ranges count in the text as it is.
+    pub fn apply_edits(&mut self, edits: &[TextEdit]) -> Result<(), Error> {
+        let (passed, texts) = passed_edits(edits);
+        let mut fault = ffi::EditsFault::default();
+        let code = unsafe {
+            ffi::laspidru_document_apply_edits(
+                &mut *self.handle.borrow_mut(),
+                self.encoding as u32,
+                passed.as_ptr(),
+                passed.len(),
+                texts.as_ptr(),
+                texts.len(),
+                &mut fault,
+            )
+        };
+        demand_edits(code, &fault)?;
+        self.text.take();
+        Ok(())
+    }
+
+    /// The canonical batch of what text edits mean on the text, which stays as it is: the changes
+    /// of the `didChange` that reports them.
+    pub fn batch_of_edits(&self, edits: &[TextEdit]) -> Result<Vec<Change>, Error> {
+        let (passed, texts) = passed_edits(edits);
+        let mut fault = ffi::EditsFault::default();
+        let mut found = Batch(ffi::Handle::EMPTY);
+        let code = unsafe {
+            ffi::laspidru_document_batch_of_edits(
+                &mut *self.handle.borrow_mut(),
+                self.encoding as u32,
+                passed.as_ptr(),
+                passed.len(),
+                texts.as_ptr(),
+                texts.len(),
+                &mut found.0,
+                &mut fault,
+            )
+        };
+        demand_edits(code, &fault)?;
+        Ok(found.changes())
     }
 
     /// The byte offset of a position. One after the line's end is the line's end.
@@ -261,6 +313,22 @@ fn batch(changes: &[Change]) -> (Vec<ffi::Edit>, Vec<u8>) {
         texts.extend_from_slice(change.text.as_bytes());
     }
     (changes.iter().map(edit).collect(), texts)
+}
+
+/// Text edits as the library takes them.
+fn passed_edits(edits: &[TextEdit]) -> (Vec<ffi::Edit>, String) {
+    let passed = |edit: &TextEdit| {
+        let Range { start, end } = edit.range;
+        ffi::Edit { start, end, len: edit.new_text.len(), is_whole: false }
+    };
+    (edits.iter().map(passed).collect(), edits.iter().map(|edit| edit.new_text.as_str()).collect())
+}
+
+fn demand_edits(code: u32, fault: &ffi::EditsFault) -> Result<(), Error> {
+    match code {
+        ffi::OVERLAP => Err(Error::Overlap { first: fault.edit, second: fault.other }),
+        code => demand(code, &ffi::Fault { change: fault.edit, at_end: fault.at_end }),
+    }
 }
 
 fn demand(code: u32, fault: &ffi::Fault) -> Result<(), Error> {

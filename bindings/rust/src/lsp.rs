@@ -1,6 +1,6 @@
 //! Conversions from and to the types of the crate lsp-types. Each keeps every number and every text.
 
-use crate::{Change, Position, Range};
+use crate::{Change, Position, Range, TextEdit};
 use lsp_types::TextDocumentContentChangeEvent;
 
 impl From<lsp_types::Position> for Position {
@@ -42,5 +42,17 @@ impl From<Change> for TextDocumentContentChangeEvent {
             range_length: None,
             text: change.text,
         }
+    }
+}
+
+impl From<lsp_types::TextEdit> for TextEdit {
+    fn from(edit: lsp_types::TextEdit) -> Self {
+        TextEdit { range: edit.range.into(), new_text: edit.new_text }
+    }
+}
+
+impl From<TextEdit> for lsp_types::TextEdit {
+    fn from(edit: TextEdit) -> Self {
+        lsp_types::TextEdit { range: edit.range.into(), new_text: edit.new_text }
     }
 }

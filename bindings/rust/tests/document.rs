@@ -1,4 +1,4 @@
-use laspidru::{Change, Document, Encoding, Error, Position, Range};
+use laspidru::{Change, Document, Encoding, Error, Position, Range, TextEdit};
 
 fn at(line: u32, character: u32) -> Position {
     Position { line, character }
@@ -60,6 +60,24 @@ fn canonical_batch() -> Result<(), Error> {
     let changes = [change(at(0, 1), at(0, 1), "X"), change(at(0, 2), at(0, 2), "Y")];
     assert_eq!(document.canonical(&changes)?, [change(at(0, 1), at(0, 1), "XY")]);
     assert_eq!(document.text(), "abc");
+    Ok(())
+}
+
+#[test]
+fn text_edits() -> Result<(), Error> {
+    let edit = |start, end, text: &str| TextEdit { range: Range { start, end }, new_text: text.into() };
+    let mut document = Document::new("abc", Encoding::Utf16)?;
+    let edits = [edit(at(0, 0), at(0, 0), "1"), edit(at(0, 1), at(0, 2), "2")];
+    let batch = document.batch_of_edits(&edits)?;
+    assert_eq!(batch, [change(at(0, 1), at(0, 2), "2"), change(at(0, 0), at(0, 0), "1")]);
+    document.apply_edits(&edits)?;
+    assert_eq!(document.text(), "1a2c");
+    let over = [edit(at(0, 1), at(0, 3), ""), edit(at(0, 0), at(0, 2), "")];
+    assert_eq!(document.apply_edits(&over), Err(Error::Overlap { first: 1, second: 0 }));
+    assert_eq!(document.batch_of_edits(&over), Err(Error::Overlap { first: 1, second: 0 }));
+    let reversed = [edit(at(0, 2), at(0, 0), "")];
+    assert_eq!(document.apply_edits(&reversed), Err(Error::ReversedRange { change: 0 }));
+    assert_eq!(document.text(), "1a2c");
     Ok(())
 }
 

@@ -1,7 +1,7 @@
 //! The feature `lsp-types`.
 #![cfg(feature = "lsp-types")]
 
-use laspidru::{Change, Document, Encoding, Error, Position, Range};
+use laspidru::{Change, Document, Encoding, Error, Position, Range, TextEdit};
 use lsp_types::TextDocumentContentChangeEvent;
 
 const OURS: Range = Range { start: Position { line: 1, character: 2 }, end: Position { line: 3, character: u32::MAX } };
@@ -29,6 +29,14 @@ fn changes() {
         assert_eq!(Change::from(event(theirs, Some(7))), change);
         assert_eq!(TextDocumentContentChangeEvent::from(change), event(theirs, None));
     }
+}
+
+#[test]
+fn text_edits() {
+    let ours = TextEdit { range: OURS, new_text: "X".into() };
+    let theirs = lsp_types::TextEdit { range: THEIRS, new_text: "X".into() };
+    assert_eq!(TextEdit::from(theirs.clone()), ours);
+    assert_eq!(lsp_types::TextEdit::from(ours), theirs);
 }
 
 #[test]

@@ -51,7 +51,8 @@ enum {
     LASPIDRU_BODY_TOO_LONG = 22, /* the canonical message of a change has a longer body than max_body */
     LASPIDRU_BAD_LOG = 23,       /* what is there belongs in no log, or for laspidru_log_convert in none of version 1 */
 
-    LASPIDRU_TOO_MANY_TURNS = 24 /* more than 2^64 - 1 reads and writes would be needed; nothing has changed */
+    LASPIDRU_TOO_MANY_TURNS = 24, /* more than 2^64 - 1 reads and writes would be needed; nothing has changed */
+    LASPIDRU_OVERLAP = 25         /* two text edits overlap */
 };
 
 /* Kinds of a server's answer. */
@@ -79,7 +80,7 @@ typedef struct laspidru_place {
     laspidru_u32 character;
 } laspidru_place;
 
-/* A change: the next `len` bytes of the texts in place of a range, or of the whole text. */
+/* A change or a text edit: the next `len` bytes of the texts in place of a range, or of the whole text. */
 typedef struct laspidru_edit {
     laspidru_place start;
     laspidru_place end;
@@ -92,6 +93,14 @@ typedef struct laspidru_fault {
     laspidru_size change;
     laspidru_bool at_end;
 } laspidru_fault;
+
+/* Which text edit a fault is about, counted from 0, and whether it is about the end of its range.
+   OVERLAP is about two: `other` starts before `edit` ends, and not before `edit` starts. */
+typedef struct laspidru_edits_fault {
+    laspidru_size edit;
+    laspidru_size other; /* OVERLAP; else 0 */
+    laspidru_bool at_end;
+} laspidru_edits_fault;
 
 /* Where a line starts and ends, in bytes. Its line end is not in it. */
 typedef struct laspidru_line {
@@ -188,6 +197,20 @@ laspidru_u32 laspidru_document_position(laspidru_handle *document, laspidru_u32 
 laspidru_u32 laspidru_document_canonical(laspidru_handle *document, laspidru_u32 encoding,
     const laspidru_edit *edits, laspidru_size edits_len, const unsigned char *texts, laspidru_size texts_len,
     laspidru_handle *batch, laspidru_fault *fault);
+
+/* Makes text edits, as a formatter returns them (LSP 3.17, TextEdit[]), or none of them. Unlike the
+   changes of a didChange, all of them count in the text as it is. Texts that are put in at one place
+   come in the order of the list. With INSIDE_CHARACTER, REVERSED_RANGE and OVERLAP `fault` says
+   which edits are faulty. */
+laspidru_u32 laspidru_document_apply_edits(laspidru_handle *document, laspidru_u32 encoding,
+    const laspidru_edit *edits, laspidru_size edits_len, const unsigned char *texts, laspidru_size texts_len,
+    laspidru_edits_fault *fault);
+
+/* Puts the canonical batch of what text edits mean on the text into the empty handle `batch`: the
+   changes of the didChange that reports them. The document stays as it is. */
+laspidru_u32 laspidru_document_batch_of_edits(laspidru_handle *document, laspidru_u32 encoding,
+    const laspidru_edit *edits, laspidru_size edits_len, const unsigned char *texts, laspidru_size texts_len,
+    laspidru_handle *batch, laspidru_edits_fault *fault);
 
 /* How many changes a batch has. */
 laspidru_u32 laspidru_batch_len(laspidru_handle *batch, laspidru_size *len);

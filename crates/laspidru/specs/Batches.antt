@@ -1,4 +1,4 @@
--- The batch that C passes: its texts follow each other in one row of bytes.
+-- The batch that C passes: its edits, and their texts one after another in one array of bytes.
 use Rattle.std.specs.Prelude.{ℕ, ◌≡◌, ◌&&◌, if◌then◌else◌, nat_le, nat_lt, length, slice_get, string_bytes, string_len, sum_by, Bool, true, false, List, [], ◌∷◌, take, drop, map, Option, Some, None, Result, Ok, Err}
 use Rattle.std.specs.Option.{ok_or}
 use Rattle.std.specs.Str.{chars, is_utf8}
@@ -26,22 +26,22 @@ use Rattle.laspidru.specs.declared.place.Fault.{Fault}
 use Rattle.laspidru.specs.Codes.{and_then, unless}
 use Rattle.laspidru.specs.Objects.{encoding_at, position_at, IsCopy}
 
--- the range of an edit, if it isn't one of the whole text
+-- The range of an edit, if it isn't one of the whole text.
 abbrev pub range_if : Bool → Place → Place → Option Range
 range_if true start end = None
 range_if false start end = Some (record { start = position_at start; stop = position_at end })
 
--- an edit whose new text has these bytes
+-- An edit whose new text has these bytes.
 abbrev pub edit_with : Edit → List ℕ → batch.Edit
 edit_with edit own = record { range = range_if edit.is_whole edit.start edit.end; text = chars own }
 
--- the edits, each with its part of the texts
+-- The edits, each with its part of the texts.
 abbrev pub edits_of : List Edit → List ℕ → List batch.Edit
 edits_of [] texts = []
 edits_of (edit ∷ rest) texts =
     edit_with edit (take edit.len texts) ∷ edits_of rest (drop edit.len texts)
 
--- The first edit whose text isn't there, or isn't UTF-8, is refused.
+-- The code of the first edit whose text is missing or isn't UTF-8.
 abbrev pub refused_edit : List Edit → List ℕ → Option ℕ
 refused_edit [] texts = None
 refused_edit (edit ∷ rest) texts =
@@ -49,7 +49,7 @@ refused_edit (edit ∷ rest) texts =
     else if is_utf8 (take edit.len texts) then refused_edit rest (drop edit.len texts)
     else Some NOT_UTF8
 
--- how many bytes the texts of edits have
+-- How many bytes the texts of edits have.
 abbrev pub len_of : List Edit → ℕ
 len_of edits = sum_by (λ edit. edit.len) edits
 
@@ -59,30 +59,31 @@ pub record Asked : Type 0 where
   pub edits : List batch.Edit
   pub text : List ℕ
 
--- a batch on the text of a document, if neither is too long
+-- A batch on the text of a document, if neither is too long.
 abbrev pub fitting : Encoding → List Edit → List ℕ → Result (List ℕ) ℕ → Result Asked ℕ
 fitting encoding edits texts document = and_then document (λ text.
     if nat_le (len_of edits) MAX_NEW_TEXT && nat_le (length text) MAX_OLD_TEXT
     then Ok (record { encoding = encoding; edits = edits_of edits texts; text = text })
     else Err TOO_LONG)
 
--- a batch as C passes it
+-- A batch as C passes it, or the code of its refusal.
 abbrev pub batch_asked : ℕ → List Edit → List ℕ → Result (List ℕ) ℕ → Result Asked ℕ
 batch_asked number edits texts document = and_then (encoding_at number) (λ encoding.
     unless (refused_edit edits texts) (fitting encoding edits texts document))
 
--- what a batch leaves of the text, if that isn't too long
+-- The text after a batch, if that isn't too long.
 abbrev pub left_by : Asked → Result (List ℕ) TextFault
 left_by asked =
     let means = meaning (units_in asked.encoding) (chars asked.text) asked.edits in
     text_within MAX_OLD_TEXT asked.text means
 
--- which end of a range a fault is about
+-- The end of a range that a fault is about.
 abbrev pub side_at : Bool → Side
 side_at true = Stop
 side_at false = Start
 
--- A fault is reported by its code; one of a change with the number of that change, and the end of its range.
+-- A fault is reported by its code. If it is one of a change, `out` has the number of the change and
+-- the end of its range.
 abbrev pub IsReport : TextFault → ℕ → Fault → Type 0
 IsReport (EditOf (edit.InsideCharacter change side)) code out =
     (code ≡ INSIDE_CHARACTER) × (out.change ≡ change) × (side_at out.at_end ≡ side)
@@ -92,12 +93,12 @@ IsReport (EditOf edit.NoMemory) code out = code ≡ OUT_OF_MEMORY
 IsReport TooLong code out = code ≡ TOO_LONG
 IsReport NoMemory code out = code ≡ OUT_OF_MEMORY
 
--- The handle holds the text that is left; else it is reported why there is none.
+-- The handle has the text after the batch, or the fault is reported.
 abbrev pub IsLeft : Result (List ℕ) TextFault → ℕ → Option Object → Fault → Type 0
-IsLeft (Ok text) code held out = (code ≡ OK) × (held ≡ Some (Document text))
-IsLeft (Err fault) code held out = IsReport fault code out
+IsLeft (Ok text) code stored out = (code ≡ OK) × (stored ≡ Some (Document text))
+IsLeft (Err fault) code stored out = IsReport fault code out
 
--- The object is the canonical batch of what was asked.
+-- The object is the canonical batch of this batch.
 abbrev pub IsBatchOf : Asked → Object → Type 0
 IsBatchOf asked (Batch changes) =
     let made = map edit_of changes.items in
@@ -106,17 +107,17 @@ IsBatchOf asked (Document other) = ⊥
 IsBatchOf asked (Server session) = ⊥
 IsBatchOf asked (Output bytes) = ⊥
 
--- the same of what a handle holds
+-- The handle has the canonical batch of this batch.
 abbrev pub HoldsBatchOf : Asked → Option Object → Type 0
 HoldsBatchOf asked (Some object) = IsBatchOf asked object
 HoldsBatchOf asked None = ⊥
 
--- The handle holds the canonical batch, if the batch leaves a text; else it is reported why there is none.
+-- The handle has the canonical batch if there is a text after the batch, or the fault is reported.
 abbrev pub IsCanonicalIf : Result (List ℕ) TextFault → Asked → ℕ → Option Object → Fault → Type 0
-IsCanonicalIf (Ok text) asked code held out = (code ≡ OK) × HoldsBatchOf asked held
-IsCanonicalIf (Err fault) asked code held out = IsReport fault code out
+IsCanonicalIf (Ok text) asked code stored out = (code ≡ OK) × HoldsBatchOf asked stored
+IsCanonicalIf (Err fault) asked code stored out = IsReport fault code out
 
--- a change of a batch, by its number
+-- A change of a batch, by its number.
 abbrev pub change_asked : ℕ → Result (List Change) ℕ → Result Change ℕ
 change_asked index batch = and_then batch (λ changes. ok_or (slice_get changes index) OUT_OF_RANGE)
 

@@ -1,7 +1,8 @@
 pub mod Sessions
-pub mod Held
+pub mod Stored
 pub mod Codes
 pub mod Objects
 pub mod Batches
+pub mod Edits
 pub mod Servers
 pub mod Logs

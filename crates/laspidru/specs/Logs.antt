@@ -1,19 +1,19 @@
--- What C asks of a log, and what a command on it answers.
+-- A command on a log that C asks for, and the result that C gets.
 use Rattle.std.specs.Prelude.{ℕ, ◌≡◌, ◌≢◌, Bool, true, false, List, [], length, Option, Some, None, Result, Ok, Err, IfOk}
 use Rattle.lsp_frame.specs.Limits.{Bounds}
 use Rattle.lsp_frame.specs.declared.fault.FrameFault.{FrameFault}
 use Rattle.lsp_frame.specs.declared.fault.FrameFault.TheVariants as frame
 use Rattle.lsp_stream.specs.declared.fault.EngineFault.{EngineFault}
 use Rattle.lsp_stream.specs.declared.fault.EngineFault.TheVariants.{Read, Write, Frame, Truncated, BodyTooLong, NoMemory, TooManyTurns, BadLog}
-use Rattle.lsp_log.specs.Log.{Reading, Record}
+use Rattle.lsp_log.specs.Log.{LogRules, Record}
 use Rattle.lsp_replay.specs.declared.engines.Settings.{Settings}
 use Rattle.lsp_replay.specs.declared.outcome.Outcome.{Outcome}
-use Rattle.lsp_replay.specs.Course.{Course}
+use Rattle.lsp_replay.specs.RunOutput.{RunOutput}
 use Rattle.lsp_replay.specs.Engine.{Ran, state_of}
 use Rattle.lsp_replay.specs.Engines.{as_converted, as_log, converted, report, verdicts}
-use Rattle.lsp_replay.specs.Laws.{IsConverted, IsNormal, IsSquashed, Wrote}
+use Rattle.lsp_replay.specs.Laws.{IsConverted, IsCanonicalLog, IsSquashed, Wrote}
 use Rattle.lsp_replay.specs.Squashed.{normalised}
-use Rattle.lsp_replay.specs.Told.{RanOver}
+use Rattle.lsp_replay.specs.AllRecords.{RanOver}
 use Rattle.laspidru.specs.declared.codes.TheConstants.{BAD_FRAME, BAD_LOG, BODY_TOO_LONG, CUT, EMPTY, OK, OTHER_KIND, OUT_OF_MEMORY, TOO_MANY_TURNS}
 use Rattle.laspidru.specs.declared.command.Command.{Command}
 use Rattle.laspidru.specs.declared.command.Command.TheVariants.{Check, Replay, Normalise, Convert}
@@ -27,6 +27,7 @@ use Rattle.laspidru.specs.Servers.{limits_asked}
 
 -- ---- how a log is read
 
+-- The limits in the settings of a log.
 abbrev pub log_bounds : LogSettings → Bounds
 log_bounds settings = record {
   max_body = settings.max_body;
@@ -35,7 +36,7 @@ log_bounds settings = record {
   max_changes = settings.max_changes;
 }
 
--- the settings of a log, if the encoding is known and each limit is in its range
+-- The settings of a log, if the encoding is known and each limit is in its range.
 abbrev pub log_asked : LogSettings → Result Settings ℕ
 log_asked settings = and_then (encoding_at settings.encoding) (λ encoding.
     and_then (limits_asked (log_bounds settings)) (λ limits. Ok (record {
@@ -44,48 +45,58 @@ log_asked settings = and_then (encoding_at settings.encoding) (λ encoding.
       squash = settings.squash;
     })))
 
--- ---- what a command does
+-- ---- the output of a command
 
--- How a command reads a log: `convert` takes version 1 alone.
-abbrev pub reading_of : Command → Settings → Reading
+-- How a command reads a log: `convert` refuses version 2.
+abbrev pub reading_of : Command → Settings → LogRules
 reading_of Check settings = as_log settings
 reading_of Replay settings = as_log settings
 reading_of Normalise settings = as_log settings
 reading_of Convert settings = as_converted settings
 
--- what it gives for the records of a log
-abbrev pub course_of : Command → Settings → List Record → Course
-course_of Check settings = verdicts settings
-course_of Replay settings = report settings
-course_of Normalise settings = normalised settings
-course_of Convert settings = converted settings
+-- The output of a command for the records of a log.
+abbrev pub command_output : Command → Settings → List Record → RunOutput
+command_output Check settings = verdicts settings
+command_output Replay settings = report settings
+command_output Normalise settings = normalised settings
+command_output Convert settings = converted settings
 
 -- What `normalise` and `convert` write of a log is a log again, of which `replay` reports the same.
-abbrev pub IsLawful : Command → Settings → (left_old left_new held_old held_new : Option (List ℕ)) → Result Outcome EngineFault → Type 0
-IsLawful Check settings left_old left_new held_old held_new answer = Unit {0}
-IsLawful Replay settings left_old left_new held_old held_new answer = Unit {0}
-IsLawful Normalise settings left_old left_new held_old held_new answer =
-    (settings.squash ≡ false → IfOk answer (Wrote settings (IsNormal settings) left_old left_new held_old held_new))
-    × (settings.squash ≡ true → IfOk answer (Wrote settings (IsSquashed settings) left_old left_new held_old held_new))
-IsLawful Convert settings left_old left_new held_old held_new answer =
-    IfOk answer (Wrote settings (IsConverted settings) left_old left_new held_old held_new)
+abbrev pub IsLawful : Command → Settings →
+    (left_old left_new received_old received_new : Option (List ℕ)) → Result Outcome EngineFault →
+    Type 0
+IsLawful Check settings left_old left_new received_old received_new answer = Unit {0}
+IsLawful Replay settings left_old left_new received_old received_new answer = Unit {0}
+IsLawful Normalise settings left_old left_new received_old received_new answer =
+    (settings.squash ≡ false →
+    IfOk answer (Wrote settings (IsCanonicalLog settings) left_old left_new received_old
+    received_new))
+    × (settings.squash ≡ true →
+    IfOk answer (Wrote settings (IsSquashed settings) left_old left_new received_old
+    received_new))
+IsLawful Convert settings left_old left_new received_old received_new answer =
+    IfOk answer (Wrote settings (IsConverted settings) left_old left_new received_old received_new)
 
--- A command ran over the bytes of a log, wrote this output and came to this answer. It read the bytes in order, up to those that are left.
-pub record RanOn (command : Command) (settings : Settings) (log output : List ℕ) (answer : Result Outcome EngineFault) : Type 0 where
+-- A command ran over the bytes of a log, with this output and this result. It read the bytes in
+-- order, up to those that are left.
+pub record RanOn (command : Command) (settings : Settings) (log output : List ℕ)
+    (answer : Result Outcome EngineFault) : Type 0 where
   pub left : List ℕ
   -- Did it come to the end of the log?
   pub ended : Bool
   pub all_read : answer ≢ Err TooManyTurns → ended ≡ true → left ≡ []
   -- by some records of what it read, and by all of them
-  pub ran : Ran (reading_of command settings) (course_of command settings) (state_of false ended false) (Some log) (Some left) (Some []) (Some output) answer
-  pub told : RanOver (reading_of command settings) (course_of command settings) (state_of false ended false) (Some log) (Some left) (Some []) (Some output) answer
+  pub ran : Ran (reading_of command settings) (command_output command settings)
+      (state_of false ended false) (Some log) (Some left) (Some []) (Some output) answer
+  pub error : RanOver (reading_of command settings) (command_output command settings)
+      (state_of false ended false) (Some log) (Some left) (Some []) (Some output) answer
   pub lawful : IsLawful command settings (Some log) (Some left) (Some []) (Some output) answer
   -- No read fails.
   pub no_read_fault : answer ≢ Err Read
 
--- ---- what C gets of it
+-- ---- the result that C gets
 
--- how a command ended that came to an outcome, with so many bytes of output
+-- The ending of a command that came to an outcome, with so many bytes of output.
 abbrev pub outcome_out : ℕ → Outcome → Ending
 outcome_out len outcome = record {
   status = outcome.status;
@@ -96,12 +107,13 @@ outcome_out len outcome = record {
   output_len = len;
 }
 
--- how one ended at a fault, by its place
+-- The ending of a command at a fault, with the fault's byte offset.
 abbrev pub fault_out : ℕ → ℕ → Ending
 fault_out len place =
     record { status = 0; frame = 0; messages = 0; refused = 0; place = place; output_len = len }
 
--- how one ended at a faulty frame: F1 to F7 have a place; F8 and F9 are faults of no log
+-- The ending of a command at a faulty frame. F1 to F7 have a byte offset; F8 and F9 aren't faults
+-- of a log.
 abbrev pub frame_out : ℕ → FrameFault → Ending
 frame_out len (frame.BadHeader place) = record (fault_out len place) { frame = 1 }
 frame_out len (frame.HeaderTooLong place) = record (fault_out len place) { frame = 2 }
@@ -113,7 +125,7 @@ frame_out len (frame.BadCharset place) = record (fault_out len place) { frame = 
 frame_out len frame.Failed = record (fault_out len 0) { frame = 8 }
 frame_out len frame.NoMemory = record (fault_out len 0) { frame = 9 }
 
--- The code of an answer, and how the command ended. After a fault that isn't the log's there is a code alone.
+-- The code of a result, and the ending. After a fault that isn't the log's there is only a code.
 abbrev pub ending_out : ℕ → Result Outcome EngineFault → Result (ℕ × Ending) ℕ
 ending_out len (Ok outcome) = Ok (OK, outcome_out len outcome)
 ending_out len (Err (Frame fault)) = Ok (BAD_FRAME, frame_out len fault)
@@ -125,33 +137,38 @@ ending_out len (Err NoMemory) = Err OUT_OF_MEMORY
 ending_out len (Err Read) = Err OUT_OF_MEMORY
 ending_out len (Err Write) = Err OUT_OF_MEMORY
 
--- This holds, unless a command came to an outcome or to a fault of the log.
+-- This holds, unless the code is of an outcome or of a fault of the log.
 abbrev pub IsUnlessEnded : ℕ → Type 0 → Type 0
-IsUnlessEnded code Fact = code ≢ OK → code ≢ CUT → code ≢ BAD_FRAME → code ≢ BODY_TOO_LONG → code ≢ BAD_LOG → Fact
+IsUnlessEnded code Fact = code ≢ OK → code ≢ CUT → code ≢ BAD_FRAME → code ≢ BODY_TOO_LONG →
+    code ≢ BAD_LOG → Fact
 
--- the output of a command
+-- The output of a command.
 abbrev pub output_of : Object → Result (List ℕ) ℕ
 output_of (Document text) = Err OTHER_KIND
 output_of (Batch changes) = Err OTHER_KIND
 output_of (Server session) = Err OTHER_KIND
 output_of (Output bytes) = Ok bytes.items
 
--- the output behind a handle
+-- The output in a handle.
 abbrev pub output_in : Option Object → Result (List ℕ) ℕ
 output_in (Some object) = output_of object
 output_in None = Err EMPTY
 
--- The handle holds the output, and C gets the code and the ending; or the code alone.
+-- The handle has the output, and C gets the code and the ending; or only the code.
 abbrev pub IsKept : Result (ℕ × Ending) ℕ → List ℕ → ℕ → Option Object → Ending → Type 0
-IsKept (Ok ended) output code held out = (code ≡ ended.0) × (output_in held ≡ Ok output) × (out ≡ ended.1)
-IsKept (Err fault) output code held out = code ≡ fault
+IsKept (Ok ended) output code stored out = (code ≡ ended.0) × (output_in stored ≡ Ok output)
+    × (out ≡ ended.1)
+IsKept (Err fault) output code stored out = code ≡ fault
 
+-- The same by the result of the command.
 abbrev pub IsEnded : List ℕ → Result Outcome EngineFault → ℕ → Option Object → Ending → Type 0
-IsEnded output answer code held out = IsKept (ending_out (length output) answer) output code held out
+IsEnded output answer code stored out
+    = IsKept (ending_out (length output) answer) output code stored out
 
--- A command ran over a log: C gets its answer, and the handle holds its output.
-pub record IsRun (command : Command) (settings : Settings) (log : List ℕ) (code : ℕ) (held : Option Object) (out : Ending) : Type 0 where
+-- A command ran over a log: C gets its result, and the handle has its output.
+pub record IsRun (command : Command) (settings : Settings) (log : List ℕ) (code : ℕ)
+    (stored : Option Object) (out : Ending) : Type 0 where
   pub output : List ℕ
   pub answer : Result Outcome EngineFault
   pub ran : RanOn command settings log output answer
-  pub ended : IsEnded output answer code held out
+  pub ended : IsEnded output answer code stored out

@@ -1,4 +1,4 @@
--- What the objects behind handles hold, and what is asked of a text in one of the three encodings.
+-- The objects in handles, and what C asks of a text in one of the three encodings.
 use Rattle.std.specs.Prelude.{ℕ, ◌≡◌, ◌≤◌, ◌+◌, ◌++◌, ◌⊎◌, List, length, min, take, drop, Option, Some, None, Result, Ok, Err, if◌then◌else◌, nat_eq, nat_lt, option_map}
 use Rattle.std.specs.Option.{ok_or}
 use Rattle.std.specs.Str.{chars, is_utf8}
@@ -20,43 +20,43 @@ use Rattle.laspidru.specs.declared.object.Object.{Object}
 use Rattle.laspidru.specs.declared.object.Object.TheVariants.{Document, Batch, Server, Output}
 use Rattle.laspidru.specs.Codes.{and_then}
 
--- A handle that is to be filled is refused where it holds an object.
+-- A handle that is to be filled is refused if it has an object.
 abbrev pub in_use : Option Object → Option ℕ
 in_use (Some object) = Some IN_USE
 in_use None = None
 
--- a text to be opened, if it isn't too long and is UTF-8
+-- A text to be opened, if it isn't too long and is UTF-8.
 abbrev pub text_asked : List ℕ → Result (List ℕ) ℕ
 text_asked text =
     if nat_lt MAX_OLD_TEXT (length text) then Err TOO_LONG
     else if is_utf8 text then Ok text
     else Err NOT_UTF8
 
--- the text of a document
+-- The text of a document.
 abbrev pub document_of : Object → Result (List ℕ) ℕ
 document_of (Document text) = Ok text
 document_of (Batch changes) = Err OTHER_KIND
 document_of (Server session) = Err OTHER_KIND
 document_of (Output bytes) = Err OTHER_KIND
 
--- the text of the document behind a handle
+-- The text of the document in a handle.
 abbrev pub document_in : Option Object → Result (List ℕ) ℕ
 document_in (Some object) = document_of object
 document_in None = Err EMPTY
 
--- the changes of a batch
+-- The changes of a batch.
 abbrev pub batch_of : Object → Result (List Change) ℕ
 batch_of (Document text) = Err OTHER_KIND
 batch_of (Batch changes) = Ok changes.items
 batch_of (Server session) = Err OTHER_KIND
 batch_of (Output bytes) = Err OTHER_KIND
 
--- the changes of the batch behind a handle
+-- The changes of the batch in a handle.
 abbrev pub batch_in : Option Object → Result (List Change) ℕ
 batch_in (Some object) = batch_of object
 batch_in None = Err EMPTY
 
--- the encoding that a number of C stands for
+-- The encoding of a number of C.
 abbrev pub encoding_numbered : ℕ → Option Encoding
 encoding_numbered number =
     if nat_eq number 8 then Some Utf8
@@ -64,6 +64,7 @@ encoding_numbered number =
     else if nat_eq number 32 then Some Utf32
     else None
 
+-- The same, or the code of its refusal.
 abbrev pub encoding_at : ℕ → Result Encoding ℕ
 encoding_at number = ok_or (encoding_numbered number) BAD_ENCODING
 
@@ -71,47 +72,50 @@ encoding_at number = ok_or (encoding_numbered number) BAD_ENCODING
 abbrev pub IsSize : Size → List ℕ → Type 0
 IsSize size text = (size.bytes ≡ length text) × (size.lines ≡ line_ends (chars text) + 1)
 
--- a text with a line of this number
+-- A text with a line of this number.
 abbrev pub line_asked : ℕ → Result (List ℕ) ℕ → Result (List ℕ) ℕ
 line_asked line document = and_then document (λ text.
     if nat_lt (line_ends (chars text)) line then Err OUT_OF_RANGE else Ok text)
 
--- Where the line starts, and where it ends before its line end.
+-- The byte offsets at which a line starts, and at which it ends before its line end.
 pub record IsLine (number : ℕ) (line : Line) (text : List ℕ) : Type 0 where
   pub start : line.start ≡ place_of (chars text) (line_start (chars text) number)
   pub end : line.end ≡ place_of (chars text) (line_stop (chars text) number)
 
--- the bytes of a text from `start` on
+-- The bytes of a text from `start` on.
 abbrev pub rest_asked : ℕ → Result (List ℕ) ℕ → Result (List ℕ) ℕ
 rest_asked start document =
     and_then document (λ text.
     if nat_lt (length text) start then Err OUT_OF_RANGE else Ok (drop start text))
 
--- `new` is `old` with its head replaced by `copied` of these bytes, as many as there are and `old` holds.
+-- `new` is `old` with its first bytes replaced by the first `copied` of these: as many as there
+-- are, and as `old` has room for.
 abbrev pub IsCopy : List ℕ → List ℕ → ℕ → List ℕ → Type 0
 IsCopy old new copied bytes =
     (copied ≡ min (length bytes) (length old)) × (new ≡ take copied bytes ++ drop copied old)
 
--- the position of a place of C
+-- The position in a `Place` of C.
 abbrev pub position_at : Place → Position
 position_at place = record { line = place.line; character = place.character }
 
--- the byte offset that a position denotes, if it lies inside no character
+-- The byte offset that a position denotes, if it lies inside no character.
 abbrev pub offset_in : Position → Encoding → List ℕ → Option ℕ
 offset_in position encoding text =
     option_map (place_of (chars text)) (denoted (units_in encoding) (chars text) position)
 
+-- The same, or the code of its refusal.
 abbrev pub offset_asked : Position → Result Encoding ℕ → Result (List ℕ) ℕ → Result ℕ ℕ
 offset_asked position encoding document = and_then encoding (λ units. and_then document (λ text.
     ok_or (offset_in position units text) INSIDE_CHARACTER))
 
--- The place denotes this byte offset, and is the exact position of each character index there.
+-- `place` denotes this byte offset, and is the exact position of each character index there.
 pub record IsExact (offset : ℕ) (place : Place) (encoding : Encoding) (text : List ℕ) : Type 0 where
   pub denotes : offset_in (position_at place) encoding text ≡ Some offset
   pub exact : (k : ℕ) → k ≤ length (chars text) → place_of (chars text) k ≡ offset
       → position_at place ≡ exact_position (units_in encoding) (chars text) k
 
--- The place is the exact position of a byte offset, if that lies inside no character and splits no CRLF.
+-- `place` is the exact position of a byte offset, if that lies inside no character and splits no
+-- CRLF.
 abbrev pub IsPositionAt : ℕ → Encoding → List ℕ → ℕ → Place → Type 0
 IsPositionAt offset encoding text code place =
     ((code ≡ OK) × IsPlace (chars text) offset × IsExact offset place encoding text)

@@ -1,4 +1,4 @@
--- What C asks of a server, and what the server answers.
+-- A server that C asks for, and the answer that C gets.
 use Rattle.std.specs.Prelude.{ℕ, ℤ, ◌≡◌, pos, if◌then◌else◌, Bool, true, false, List, [], length, option_map, Option, Some, None, Result, Ok, Err}
 use Rattle.std.specs.Option.{ok_or}
 use Rattle.std.specs.Str.{is_utf8}
@@ -34,6 +34,7 @@ use Rattle.laspidru.specs.Sessions.{SessionData}
 
 -- ---- how a server is set up
 
+-- The limits in the settings of a server.
 abbrev pub bounds_of : Settings → Bounds
 bounds_of settings = record {
   max_body = settings.max_body;
@@ -42,18 +43,22 @@ bounds_of settings = record {
   max_changes = settings.max_changes;
 }
 
+-- The choice of encoding: fixed, or negotiated with a preference (LSP 3.17, PositionEncodingKind).
 abbrev pub choice_of : Bool → Encoding → EncodingChoice
 choice_of true encoding = Fixed encoding
 choice_of false encoding = Negotiated encoding
 
+-- The kind of synchronisation (LSP 3.17, TextDocumentSyncKind).
 abbrev pub sync_of : Bool → Sync
 sync_of true = Full
 sync_of false = Incremental
 
--- limits, if each is in its range
+-- Limits, if each is in its range.
 abbrev pub limits_asked : Bounds → Result Bounds ℕ
-limits_asked bounds = unless (option_map (λ which. BAD_LIMIT) (first_out_of_range bounds)) (Ok bounds)
+limits_asked bounds
+    = unless (option_map (λ which. BAD_LIMIT) (first_out_of_range bounds)) (Ok bounds)
 
+-- The set-up of a server, if the encoding is known and each limit is in its range.
 abbrev pub config_asked : Settings → Result Config ℕ
 config_asked settings = and_then (encoding_at settings.encoding) (λ encoding.
     and_then (limits_asked (bounds_of settings)) (λ limits. Ok (record {
@@ -62,14 +67,14 @@ config_asked settings = and_then (encoding_at settings.encoding) (λ encoding.
       sync = sync_of settings.is_full;
     })))
 
--- ---- what it answers
+-- ---- the answer that C gets
 
--- the number of an error reply, 0 of a result
+-- The number of an error reply; 0 of a result.
 abbrev pub error_number : Option ErrorCode → ℤ
 error_number (Some code) = code_of code
 error_number None = pos 0
 
--- why the store refuses a command
+-- The code for why the documents refuse a command.
 abbrev pub store_code : StoreFault → ℕ
 store_code store.AlreadyOpen = ALREADY_OPEN
 store_code store.TooManyDocuments = TOO_MANY_DOCUMENTS
@@ -83,15 +88,16 @@ store_code (store.Edit edit.NoMemory) = OUT_OF_MEMORY
 store_code (store.BodyTooLong len) = TOO_LONG
 store_code store.NoMemory = OUT_OF_MEMORY
 
+-- The code for why a notification is refused.
 abbrev pub refusal_code : Refusal → ℕ
 refusal_code refusal.InvalidParams = INVALID_PARAMS
 refusal_code (refusal.Store fault) = store_code fault
 
--- an answer of a kind alone
+-- An answer with only a kind.
 abbrev pub plain_out : ℕ → Answer
 plain_out kind = record { kind = kind; reason = 0; status = 0; error = pos 0; reply_len = 0 }
 
--- An answer as C gets it. A session that has ended gives none.
+-- An answer as C gets it. After the end of a session there is none.
 abbrev pub answer_out : AnswerData Sent → Answer
 answer_out (reply sent) =
     record (plain_out REPLIED) { error = error_number sent.code; reply_len = length sent.frame }
@@ -102,68 +108,69 @@ answer_out already_ended = plain_out IGNORED
 answer_out (refused why) = record (plain_out REFUSED) { reason = refusal_code why }
 answer_out (exits status) = record (plain_out EXITED) { status = status }
 
--- the bytes of a reply; none of another answer
+-- The bytes of a reply; none of another answer.
 abbrev pub reply_out : AnswerData Sent → List ℕ
 reply_out (reply sent) = sent.frame
 reply_out other = []
 
--- ---- what is asked of it
+-- ---- what is asked of a server
 
--- the server of an object, with its last reply
+-- The server of an object, with its last reply.
 abbrev pub server_of : Object → Result SessionData ℕ
 server_of (Document text) = Err OTHER_KIND
 server_of (Batch changes) = Err OTHER_KIND
 server_of (Server session) = Ok session
 server_of (Output bytes) = Err OTHER_KIND
 
--- the server behind a handle
+-- The server in a handle.
 abbrev pub server_in : Option Object → Result SessionData ℕ
 server_in (Some object) = server_of object
 server_in None = Err EMPTY
 
--- A session that has ended takes no message.
+-- A session that has ended handles no message.
 abbrev pub ended : Phase → Option ℕ
 ended New = None
 ended Running = None
 ended Down = None
 ended Ended = Some ENDED
 
--- the server of a session that goes on
+-- The server of a session that hasn't ended.
 abbrev pub live_asked : Result SessionData ℕ → Result SessionData ℕ
 live_asked server =
     and_then server (λ session. unless (ended session.server.phase) (Ok session))
 
--- what a server does at a message
+-- The step of a server at a message.
 abbrev pub step_at : SessionData → List ℕ → Step
 step_at session body = step session.server (reading body)
 
--- a server after a step, with what it replied
+-- The server after a step, with its reply.
 abbrev pub after_step : Step → SessionData
 after_step made = record { server = made.state; reply = reply_out (as_sent made.answer) }
 
--- The handle holds the server after the step, and C gets its answer.
-pub record IsHandled (made : Step) (code : ℕ) (held : Option Object) (out : Answer) : Type 0 where
+-- The handle has the server after the step, and C gets its answer.
+pub record IsHandled (made : Step) (code : ℕ) (stored : Option Object) (out : Answer) : Type 0 where
   pub done : code ≡ OK
-  pub server : held ≡ Some (Server (after_step made))
+  pub server : stored ≡ Some (Server (after_step made))
   pub answer : out ≡ answer_out (as_sent made.answer)
 
--- a URI, if it is UTF-8
+-- A URI, if it is UTF-8.
 abbrev pub uri_asked : List ℕ → Result (List ℕ) ℕ
 uri_asked uri = if is_utf8 uri then Ok uri else Err NOT_UTF8
 
--- the open document of a URI
+-- The open document of a URI.
 abbrev pub entry_in : List ℕ → SessionData → Result Entry ℕ
 entry_in uri session = ok_or (entry_at session.server.table uri) NOT_OPEN
 
+-- The same, with the codes of the URI and of the handle before it.
 abbrev pub entry_asked : List ℕ → Result SessionData ℕ → Result Entry ℕ
 entry_asked uri server =
     and_then (uri_asked uri) (λ named. and_then server (λ session. entry_in named session))
 
--- the text of a document
+-- The text of a document.
 abbrev pub text_of : Result Entry ℕ → Result (List ℕ) ℕ
 text_of document = and_then document (λ entry. Ok entry.text)
 
--- the last reply of a server
+-- The last reply of a server.
 abbrev pub reply_asked : Result SessionData ℕ → Result (List ℕ) ℕ
 reply_asked server = and_then server (λ session. Ok session.reply)
 
@@ -172,6 +179,6 @@ pub record IsOpened (out : Opened) (entry : Entry) : Type 0 where
   pub version : out.version ≡ entry.version
   pub bytes : out.bytes ≡ length entry.text
 
--- a new server, which has replied nothing
+-- A new server, which has replied nothing.
 abbrev pub session_of : Config → SessionData
 session_of config = record { server = start config; reply = [] }

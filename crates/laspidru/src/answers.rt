@@ -1,4 +1,4 @@
-//! What C passes to a server, and what it gets from it.
+//! The settings that C passes to a server, and the answer that it gets.
 
 ghost use Rattle.std.specs.Prelude.{◌≡◌, Err, IfErr, IfOk, Ok};
 ghost use Rattle.lsp_frame.specs.Limits.{Bounds};
@@ -17,7 +17,9 @@ use lsp_message::ErrorCode;
 use lsp_server::{Config, EncodingChoice, Refusal, Sync};
 use lsp_store::StoreFault;
 
-/// How a server is set up: its limits, the number of an encoding that it prefers or insists on, and whether it asks for whole texts.
+/// The set-up of a server: its limits, the number of its encoding, and its kind of synchronisation.
+/// With `is_fixed` the server insists on the encoding, else it prefers it. With `is_full` it asks
+/// for whole texts.
 #[repr(C)]
 #[derive(Clone, Copy, Debug, PartialEq, Eq)]
 pub struct Settings {
@@ -30,15 +32,15 @@ pub struct Settings {
     pub is_full: bool,
 }
 
-/// What a server answers to a message. A member that isn't of the kind is 0.
+/// A server's answer to a message. A member that isn't of the kind is 0.
 #[repr(C)]
 #[derive(Clone, Copy, Debug, PartialEq, Eq)]
 pub struct Answer {
     /// REPLIED, CHANGED, DROPPED, IGNORED, REFUSED or EXITED.
     pub kind: u32,
-    /// Why it is refused.
+    /// The code for why it is refused.
     pub reason: u32,
-    /// With which status the process is to end.
+    /// The status with which the process is to end.
     pub status: u32,
     /// The number of an error reply (LSP 3.17, ErrorCodes); 0 of a result.
     pub error: i32,
@@ -54,7 +56,7 @@ pub struct Opened {
     pub bytes: usize,
 }
 
-/// Limits, or BAD_LIMIT where one is out of its range.
+/// Returns the limits, or BAD_LIMIT if one is out of its range.
 pub(crate) fn limits_of(
     max_body: usize,
     max_text: usize,
@@ -74,7 +76,7 @@ pub(crate) fn limits_of(
     }
 }
 
-/// How a server is to be set up, or why it can't be.
+/// Returns the set-up of a server, or the code for why there is none.
 pub(crate) fn config_of(settings: &Settings) -> Result<Config, u32>
     ensures ok { IfOk result (λ config. config_asked settings.now ≡ Ok config) }
     ensures error { IfErr result (λ code. config_asked settings.now ≡ Err code) }
@@ -115,7 +117,7 @@ fn error_of(code: Option<ErrorCode>) -> i32
     }
 }
 
-/// Why the store refuses a command.
+/// The code for why the store refuses a command.
 fn store_code_of(fault: StoreFault) -> u32
     ensures { result ≡ store_code fault }
 {
@@ -132,7 +134,7 @@ fn store_code_of(fault: StoreFault) -> u32
     }
 }
 
-/// Why a notification is refused.
+/// The code for why a notification is refused.
 fn reason_of(refusal: Refusal) -> u32
     ensures { result ≡ refusal_code refusal }
 {
@@ -142,7 +144,7 @@ fn reason_of(refusal: Refusal) -> u32
     }
 }
 
-/// An answer of this kind alone.
+/// An answer with only a kind.
 fn plain(kind: u32) -> Answer
     ensures { result ≡ plain_out kind }
 {

@@ -56,9 +56,9 @@ fn object_canonical(
     OK
 }
 
-/// Puts the canonical batch of what a batch means on the text into an empty handle: one change for each changed gap, from the last
-/// to the first. The document stays as it is. Codes and cost are those of `laspidru_document_change`, with IN_USE of `batch` before
-/// EMPTY.
+/// Puts the canonical batch of a batch on the text into an empty handle. It has one change for each
+/// changed gap, from the last to the first. The document stays as it is. Codes and cost are those
+/// of `laspidru_document_change`, with IN_USE of `batch` before EMPTY.
 #[unsafe(no_mangle)]
 pub extern "C" fn laspidru_document_canonical(
     alloc: Global,
@@ -82,8 +82,8 @@ pub extern "C" fn laspidru_document_canonical(
     if let Some(code) = refusal_of(edits, texts) {
         return code;
     }
-    if let Some(held) = batch.take(alloc) {
-        batch.put(held);
+    if let Some(stored) = batch.take(alloc) {
+        batch.put(stored);
         return IN_USE;
     }
     let Some(object) = handle.take(alloc) else {
@@ -94,7 +94,7 @@ pub extern "C" fn laspidru_document_canonical(
     code
 }
 
-/// How many changes a batch has.
+/// Returns how many changes a batch has.
 fn object_len(object: &Object, out: &mut usize) -> u32
     ensures answer { IsAnswer (batch_of object.now) result (λ changes. out.new ≡ length changes) }
     ensures unchanged { result ≢ OK → out.new ≡ out.old }
@@ -106,7 +106,7 @@ fn object_len(object: &Object, out: &mut usize) -> u32
     OK
 }
 
-/// How many changes a batch has, in constant time. Codes: EMPTY, OTHER_KIND.
+/// Returns how many changes a batch has, in constant time. Codes: EMPTY, OTHER_KIND.
 #[unsafe(no_mangle)]
 pub extern "C" fn laspidru_batch_len(alloc: Global, batch: &mut Handle, out: &mut usize) -> u32
     ensures answer { IsAnswer (batch_in batch.old.value) result
@@ -132,7 +132,7 @@ fn place_of(position: Position) -> Place
     }
 }
 
-/// A change for C. One of the whole text has places of zeroes.
+/// A change for C. One of the whole text has positions of zeros.
 fn edit_of_change(change: &Change) -> Edit
     ensures { IsEdit result change.now }
 {
@@ -152,7 +152,7 @@ fn edit_of_change(change: &Change) -> Edit
     }
 }
 
-/// A change of a batch, and as much of its text as `out` holds.
+/// Returns a change of a batch, and as much of its text as `out` has room for.
 fn object_edit(
     object: &Object,
     index: usize,
@@ -176,8 +176,9 @@ fn object_edit(
     OK
 }
 
-/// A change of a batch, counted from 0, with the length of its text; and as much of the text as `out` holds. Codes, in this order:
-/// EMPTY, OTHER_KIND, OUT_OF_RANGE. Costs the copy.
+/// Returns a change of a batch, counted from 0, with the length of its text. Copies as much of the
+/// text as `out` has room for. Codes, in this order: EMPTY, OTHER_KIND, OUT_OF_RANGE. Costs the
+/// copy.
 #[unsafe(no_mangle)]
 pub extern "C" fn laspidru_batch_edit(
     alloc: Global,

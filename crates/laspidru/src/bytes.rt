@@ -7,7 +7,7 @@ ghost use Rattle.laspidru.specs.Objects.{IsCopy, rest_asked};
 
 use crate::codes::{OK, OUT_OF_RANGE};
 
-/// The text of bytes that are UTF-8.
+/// Returns the text of bytes that are UTF-8.
 pub(crate) fn utf8_text(bytes: &[u8]) -> Option<&str>
     ensures text { IfSome result (λ text. (text.now ≡ bytes.now) × (is_utf8 bytes.now ≡ true)) }
     ensures none { IfNone result (is_utf8 bytes.now ≡ false) }
@@ -18,7 +18,7 @@ pub(crate) fn utf8_text(bytes: &[u8]) -> Option<&str>
     }
 }
 
-/// Copies as many bytes as `out` holds, and says how many.
+/// Copies as many bytes as `out` has room for, and returns how many.
 pub(crate) fn copy_bytes(bytes: &[u8], out: &mut [u8]) -> usize
     ensures { IsCopy out.old out.new result bytes.now }
 {
@@ -27,7 +27,7 @@ pub(crate) fn copy_bytes(bytes: &[u8], out: &mut [u8]) -> usize
     count
 }
 
-/// Copies bytes from `start` on, as many as `out` holds.
+/// Copies bytes from `start` on, as many as `out` has room for. Writes how many to `copied`.
 pub(crate) fn copy_from(bytes: &[u8], start: usize, out: &mut [u8], copied: &mut usize) -> u32
     ensures answer { IsAnswer (rest_asked start (Ok bytes.now)) result
         (IsCopy out.old out.new copied.new) }

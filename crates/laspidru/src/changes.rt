@@ -1,4 +1,4 @@
-//! A batch as C passes it, and which fault of it is reported.
+//! A batch as C passes it, and the report of its fault.
 
 ghost use Rattle.std.specs.Prelude.{◌≡◌, ◌≢◌, ◌≤◌, ◌↔◌, None, IfOk, IsTrue, length, map, string_len, sum_by, true};
 ghost use Rattle.std.specs.Str.{is_utf8};
@@ -15,7 +15,7 @@ use lsp_edit::{Change, EditFault, MAX_NEW_TEXT, Side, TextFault};
 use lsp_text::{Encoding, Position, Range};
 use std::alloc::{AllocError, Global};
 
-/// The encoding that a number stands for: 8, 16 or 32.
+/// The encoding of a number: 8, 16 or 32.
 pub(crate) fn encoding_of(number: u32) -> Option<Encoding>
     ensures { result ≡ encoding_numbered number }
 {
@@ -37,7 +37,7 @@ pub(crate) fn position_of(place: Place) -> Position
     }
 }
 
-/// The code of the first edit whose text isn't there or isn't UTF-8. Takes no memory.
+/// Returns the code of the first edit whose text is missing or isn't UTF-8. Takes no memory.
 pub(crate) fn refusal_of(edits: &[Edit], texts: &[u8]) -> Option<u32>
     ensures { result ≡ refused_edit edits.now texts.now }
 {
@@ -54,7 +54,7 @@ pub(crate) fn refusal_of(edits: &[Edit], texts: &[u8]) -> Option<u32>
     None
 }
 
-/// Whether the texts of edits have together at most [`MAX_NEW_TEXT`] bytes.
+/// Have the texts of edits together at most [`MAX_NEW_TEXT`] bytes?
 pub(crate) fn fits(edits: &[Edit]) -> bool
     ensures { IsTrue result ↔ (len_of edits.now ≤ MAX_NEW_TEXT) }
 {
@@ -108,7 +108,8 @@ pub(crate) fn changes_of(
     Ok(changes)
 }
 
-/// The code of a fault. A fault of a change is written to `out`, another leaves it as it is.
+/// Returns the code of a fault. A fault of a change is written to `out`; another leaves `out` as it
+/// is.
 pub(crate) fn report(fault: TextFault, out: &mut Fault) -> u32
     ensures report { IsReport fault result out.new }
     ensures unchanged { result ≢ INSIDE_CHARACTER → result ≢ REVERSED_RANGE → out.new ≡ out.old }

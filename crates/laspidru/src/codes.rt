@@ -1,6 +1,6 @@
-//! What the functions answer.
+//! The codes that the functions return, and the kinds of a server's answers.
 
-/// It is done.
+/// The call is done.
 pub const OK: u32 = 0;
 /// A text is not UTF-8.
 pub const NOT_UTF8: u32 = 1;
@@ -16,7 +16,7 @@ pub const TOO_LONG: u32 = 5;
 pub const INSIDE_CHARACTER: u32 = 6;
 /// A range starts after its end.
 pub const REVERSED_RANGE: u32 = 7;
-/// A number is none of 8, 16 and 32.
+/// The number of an encoding is none of 8, 16 and 32.
 pub const BAD_ENCODING: u32 = 8;
 /// The lengths of the edits exceed their texts.
 pub const BAD_LENGTH: u32 = 9;
@@ -32,7 +32,7 @@ pub const ENDED: u32 = 13;
 pub const NOT_OPEN: u32 = 14;
 /// A document of this URI is open already.
 pub const ALREADY_OPEN: u32 = 15;
-/// As many documents are open as may be.
+/// As many documents are open as the limit allows.
 pub const TOO_MANY_DOCUMENTS: u32 = 16;
 /// The version is not greater than the current one.
 pub const STALE_VERSION: u32 = 17;
@@ -42,14 +42,16 @@ pub const TOO_MANY_CHANGES: u32 = 18;
 pub const INVALID_PARAMS: u32 = 19;
 /// The log ends inside a record.
 pub const CUT: u32 = 20;
-/// What follows in the log has a faulty header.
+/// What follows in the log is a faulty frame.
 pub const BAD_FRAME: u32 = 21;
 /// The canonical message of a change has a longer body than allowed.
 pub const BODY_TOO_LONG: u32 = 22;
-/// What follows in the log belongs in none.
+/// What follows in the log can't be in one.
 pub const BAD_LOG: u32 = 23;
-/// More reads and writes would be needed than a `u64` counts.
+/// The command needs more reads and writes than a `u64` counts.
 pub const TOO_MANY_TURNS: u32 = 24;
+/// Two text edits overlap.
+pub const OVERLAP: u32 = 25;
 
 /// The server replies.
 pub const REPLIED: u32 = 0;
@@ -57,7 +59,7 @@ pub const REPLIED: u32 = 0;
 pub const CHANGED: u32 = 1;
 /// The notification came before `initialize` or after `shutdown`.
 pub const DROPPED: u32 = 2;
-/// The message is none of the server's.
+/// The message is none that the server handles.
 pub const IGNORED: u32 = 3;
 /// The notification changed nothing.
 pub const REFUSED: u32 = 4;

@@ -2,9 +2,9 @@
 
 ghost use Rattle.std.specs.Prelude.{◌≡◌, ◌≢◌, Err, Some, [], false, true};
 ghost use Rattle.lsp_replay.specs.Engine.{Ran, state_of};
-ghost use Rattle.lsp_replay.specs.Told.{RanOver};
+ghost use Rattle.lsp_replay.specs.AllRecords.{RanOver};
 ghost use Rattle.lsp_stream.specs.declared.fault.EngineFault.TheVariants.{Read, TooManyTurns};
-ghost use Rattle.laspidru.specs.Logs.{IsLawful, RanOn, course_of, reading_of};
+ghost use Rattle.laspidru.specs.Logs.{IsLawful, RanOn, command_output, reading_of};
 
 use crate::log_reader::LogReader;
 use lsp_replay::{EngineFault, Outcome, Settings, Told, check, convert, normalise, replay};
@@ -23,7 +23,7 @@ pub enum Command {
     Convert,
 }
 
-/// How a command ended, and what it wrote.
+/// The result of a command, and its output.
 #[derive(Drop)]
 pub struct Run {
     pub(crate) answer: Result<Outcome, EngineFault>,
@@ -38,11 +38,11 @@ fn run_between(
     reader: &mut LogReader,
     writer: &mut Told<Vec<u8>>,
 ) -> Result<Outcome, EngineFault>
-    ensures ran { Ran (reading_of command settings) (course_of command settings)
+    ensures ran { Ran (reading_of command settings) (command_output command settings)
         (state_of reader.old.ended reader.new.ended false)
         (Some reader.old.rest.now) (Some reader.new.rest.now)
         (Some writer.old.inner.items) (Some writer.new.inner.items) result }
-    ensures told { RanOver (reading_of command settings) (course_of command settings)
+    ensures all_records { RanOver (reading_of command settings) (command_output command settings)
         (state_of reader.old.ended reader.new.ended false)
         (Some reader.old.rest.now) (Some reader.new.rest.now)
         (Some writer.old.inner.items) (Some writer.new.inner.items) result }

@@ -23,7 +23,7 @@ use lsp_edit::{IndexedText, MAX_OLD_TEXT};
 use lsp_text::{Encoding, Lines, Position, Starts, line_laws, position_laws};
 use std::alloc::{AllocError, Global};
 
-/// A text to be opened, or why it can't be.
+/// Returns the text to be opened, or the code for why it can't be.
 fn text_of(bytes: &[u8]) -> Result<&str, u32>
     ensures ok { IfOk result (λ text. text_asked bytes.now ≡ Ok text.now) }
     ensures error { IfErr result (λ code. text_asked bytes.now ≡ Err code) }
@@ -37,7 +37,7 @@ fn text_of(bytes: &[u8]) -> Result<&str, u32>
     }
 }
 
-/// A document of a copy of a text.
+/// Makes a document of a copy of a text.
 fn opened(alloc: Global, text: &str) -> Result<Box<Object>, AllocError>
     requires { length text.now ≤ MAX_OLD_TEXT }
     ensures { IfOk result (λ object. object.value ≡ Document text.now) }
@@ -46,8 +46,8 @@ fn opened(alloc: Global, text: &str) -> Result<Box<Object>, AllocError>
     Ok(Box::new(alloc, Object::Document(document))?)
 }
 
-/// Opens a document in an empty handle, by a copy of the text. Codes, in this order: IN_USE, TOO_LONG, NOT_UTF8; OUT_OF_MEMORY.
-/// Costs a copy of the text and two passes over it.
+/// Opens a document in an empty handle, with a copy of the text. Codes, in this order: IN_USE,
+/// TOO_LONG, NOT_UTF8; OUT_OF_MEMORY. Costs a copy of the text and two passes over it.
 #[unsafe(no_mangle)]
 pub extern "C" fn laspidru_document_open(alloc: Global, handle: &mut Handle, text: &[u8]) -> u32
     ensures answer { let asked = unless (in_use handle.old.value) (text_asked text.now) in
@@ -55,8 +55,8 @@ pub extern "C" fn laspidru_document_open(alloc: Global, handle: &mut Handle, tex
         (λ text. (result ≡ OK) × (handle.new.value ≡ Some (Document text))) }
     ensures unchanged { result ≢ OK → handle.new.value ≡ handle.old.value }
 {
-    if let Some(held) = handle.take(alloc) {
-        handle.put(held);
+    if let Some(stored) = handle.take(alloc) {
+        handle.put(stored);
         return IN_USE;
     }
     let text = match text_of(text) {
@@ -70,7 +70,7 @@ pub extern "C" fn laspidru_document_open(alloc: Global, handle: &mut Handle, tex
     OK
 }
 
-/// Frees what a handle holds. An empty handle stays empty. There is no code.
+/// Frees the object in a handle. An empty handle stays empty. There is no code.
 #[unsafe(no_mangle)]
 pub extern "C" fn laspidru_close(alloc: Global, handle: &mut Handle)
     ensures { handle.new.value ≡ None }
@@ -78,7 +78,7 @@ pub extern "C" fn laspidru_close(alloc: Global, handle: &mut Handle)
     drop(handle.take(alloc));
 }
 
-/// Makes the changes of a batch on an object.
+/// Applies the changes of a batch to an object.
 fn change_object(
     alloc: Global,
     object: &mut Object,
@@ -109,10 +109,15 @@ fn change_object(
     }
 }
 
-/// Makes the changes of a `didChange`, in order, or none of them (LSP 3.17, DidChangeTextDocumentParams). The texts of the edits
-/// follow each other in `texts`. Codes, in this order: BAD_ENCODING; BAD_LENGTH or NOT_UTF8 of the first such edit; EMPTY,
-/// OTHER_KIND, TOO_LONG; OUT_OF_MEMORY, or INSIDE_CHARACTER, REVERSED_RANGE or TOO_LONG where the batch leaves no text. With the two
-/// codes of a faulty change `fault` says which it is. Costs a pass over the texts, their copy, and [`IndexedText::change`].
+/// Applies the changes of a `didChange` in order, or none of them (LSP 3.17,
+/// DidChangeTextDocumentParams). The texts of the edits follow each other in `texts`.
+///
+/// Codes, in this order: BAD_ENCODING; BAD_LENGTH or NOT_UTF8 of the first such edit; EMPTY,
+/// OTHER_KIND, TOO_LONG. Then OUT_OF_MEMORY, or INSIDE_CHARACTER, REVERSED_RANGE or TOO_LONG if
+/// there is no text after the batch. With the two codes of a faulty change `fault` says which
+/// change it is.
+///
+/// Costs a pass over the texts, their copy, and [`IndexedText::change`].
 #[unsafe(no_mangle)]
 pub extern "C" fn laspidru_document_change(
     alloc: Global,
@@ -142,7 +147,7 @@ pub extern "C" fn laspidru_document_change(
     code
 }
 
-/// How many bytes and how many lines an object's text has.
+/// Returns how many bytes and how many lines an object's text has.
 #[tactic(auto, using(lsp_text::proofs::IndexesLemmas::indexes_count))]
 fn object_size(object: &Object, out: &mut Size) -> u32
     ensures answer { IsAnswer (document_of object.now) result (IsSize out.new) }
@@ -158,7 +163,8 @@ fn object_size(object: &Object, out: &mut Size) -> u32
     OK
 }
 
-/// How many bytes and how many lines the text has, in constant time. Codes: EMPTY, OTHER_KIND.
+/// Returns how many bytes and how many lines the text has, in constant time. Codes: EMPTY,
+/// OTHER_KIND.
 #[unsafe(no_mangle)]
 pub extern "C" fn laspidru_document_size(alloc: Global, handle: &mut Handle, out: &mut Size) -> u32
     ensures answer { IsAnswer (document_in handle.old.value) result (IsSize out.new) }
@@ -173,7 +179,7 @@ pub extern "C" fn laspidru_document_size(alloc: Global, handle: &mut Handle, out
     code
 }
 
-/// Where a line starts.
+/// The byte offset at which a line starts.
 fn line_start_of(lines: &Lines, line: usize) -> usize
     requires { line < length lines.now }
     ensures { (text : List ℕ) → Indexes lines.now text → line ≤ line_ends (chars text)
@@ -183,7 +189,7 @@ fn line_start_of(lines: &Lines, line: usize) -> usize
     lines.looks().at(line)
 }
 
-/// Where the content of a line ends.
+/// The byte offset at which the content of a line ends.
 fn line_stop_of(text: &str, lines: &Lines, line: u32) -> usize
     requires indexed { Indexes lines.now text.now }
     requires line { line ≤ line_ends (chars text.now) }
@@ -200,7 +206,7 @@ fn line_stop_of(text: &str, lines: &Lines, line: u32) -> usize
         .unwrap_or(text.len())
 }
 
-/// Where a line starts and ends, if the text has it.
+/// The byte offsets at which a line starts and ends, if the text has the line.
 fn line_of(text: &str, lines: &Lines, line: u32) -> Option<Line>
     requires { Indexes lines.now text.now }
     ensures some { IfSome result (λ found. IsLine line found text.now) }
@@ -216,7 +222,7 @@ fn line_of(text: &str, lines: &Lines, line: u32) -> Option<Line>
     })
 }
 
-/// Where a line of an object's text starts and ends.
+/// Returns where a line of an object's text starts and ends.
 fn object_line(object: &Object, line: u32, out: &mut Line) -> u32
     ensures answer { IsAnswer (line_asked line (document_of object.now)) result
         (IsLine line out.new) }
@@ -232,8 +238,8 @@ fn object_line(object: &Object, line: u32, out: &mut Line) -> u32
     OK
 }
 
-/// Where a line starts, and where it ends without its line end, in constant time. Codes, in this order: EMPTY, OTHER_KIND,
-/// OUT_OF_RANGE.
+/// Returns the byte offsets at which a line starts, and at which it ends without its line end, in
+/// constant time. Codes, in this order: EMPTY, OTHER_KIND, OUT_OF_RANGE.
 #[unsafe(no_mangle)]
 pub extern "C" fn laspidru_document_line(
     alloc: Global,
@@ -254,7 +260,7 @@ pub extern "C" fn laspidru_document_line(
     code
 }
 
-/// Copies the bytes of an object's text from `start` on, as many as `out` holds.
+/// Copies the bytes of an object's text from `start` on, as many as `out` has room for.
 fn object_copy(object: &Object, start: usize, out: &mut [u8], copied: &mut usize) -> u32
     ensures answer { IsAnswer (rest_asked start (document_of object.now)) result
         (IsCopy out.old out.new copied.new) }
@@ -270,8 +276,8 @@ fn object_copy(object: &Object, start: usize, out: &mut [u8], copied: &mut usize
     OK
 }
 
-/// Copies the bytes of the text from `start` on, as many as `out` holds, and says how many. Codes, in this order: EMPTY, OTHER_KIND,
-/// OUT_OF_RANGE. Costs the copy.
+/// Copies the bytes of the text from `start` on, as many as `out` has room for, and returns how
+/// many. Codes, in this order: EMPTY, OTHER_KIND, OUT_OF_RANGE. Costs the copy.
 #[unsafe(no_mangle)]
 pub extern "C" fn laspidru_document_copy(
     alloc: Global,
@@ -293,7 +299,7 @@ pub extern "C" fn laspidru_document_copy(
     code
 }
 
-/// The byte offset that a position denotes in an object's text.
+/// Returns the byte offset that a position denotes in an object's text.
 fn object_offset(object: &Object, encoding: Encoding, position: Place, out: &mut usize) -> u32
     ensures answer { IsAnswer
         (offset_asked (position_at position) (Ok encoding) (document_of object.now)) result
@@ -315,8 +321,10 @@ fn object_offset(object: &Object, encoding: Encoding, position: Place, out: &mut
     }
 }
 
-/// The byte offset that a position denotes: the end of the text after its last line, the end of the line after its last character.
-/// Codes, in this order: BAD_ENCODING, EMPTY, OTHER_KIND, INSIDE_CHARACTER. Costs the line up to the character, in UTF-8 nothing.
+/// Returns the byte offset that a position denotes (LSP 3.17, Position). After the last line that
+/// is the end of the text, after a line's last character the end of the line. Codes, in this order:
+/// BAD_ENCODING, EMPTY, OTHER_KIND, INSIDE_CHARACTER. Costs the line up to the character, in UTF-8
+/// nothing.
 #[unsafe(no_mangle)]
 pub extern "C" fn laspidru_document_offset(
     alloc: Global,
@@ -342,7 +350,7 @@ pub extern "C" fn laspidru_document_offset(
     code
 }
 
-/// The exact position of a byte offset in an object's text.
+/// Returns the exact position of a byte offset in an object's text.
 fn object_position(object: &Object, encoding: Encoding, offset: usize, out: &mut Place) -> u32
     ensures answer { IsRefusedOr (document_of object.now) result
         (λ text. IsPositionAt offset encoding text result out.new) }
@@ -363,8 +371,9 @@ fn object_position(object: &Object, encoding: Encoding, offset: usize, out: &mut
     OK
 }
 
-/// The exact position of a byte offset. Codes, in this order: BAD_ENCODING, EMPTY, OTHER_KIND; INSIDE_CHARACTER, also for an offset
-/// between CR and LF or past the end. Costs a search among the lines, and the line up to the offset.
+/// Returns the exact position of a byte offset. Codes, in this order: BAD_ENCODING, EMPTY,
+/// OTHER_KIND; INSIDE_CHARACTER, also for an offset between CR and LF or past the end. Costs a
+/// search among the lines, and the line up to the offset.
 #[unsafe(no_mangle)]
 pub extern "C" fn laspidru_document_position(
     alloc: Global,

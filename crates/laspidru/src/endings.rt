@@ -1,4 +1,4 @@
-//! What C passes to a command on a log, and what it gets from it.
+//! The settings that C passes to a command on a log, and the ending that it gets.
 
 ghost use Rattle.std.specs.Prelude.{◌≡◌, Err, IfErr, IfOk, Ok};
 ghost use Rattle.laspidru.specs.Logs.{IsUnlessEnded, ending_out, fault_out, frame_out, log_asked, outcome_out};
@@ -11,8 +11,8 @@ use crate::codes::{
 use lsp_frame::FrameFault;
 use lsp_replay::{EngineFault, Outcome, Settings};
 
-/// How a log is read: the limits, the number of the encoding of its positions, and whether changes of one document that follow each
-/// other are normalised to one message.
+/// How a log is read: the limits, and the number of the encoding of its positions. With `squash`
+/// changes of one document that follow each other are normalised to one message.
 #[repr(C)]
 #[derive(Clone, Copy, Debug, PartialEq, Eq)]
 pub struct LogSettings {
@@ -24,25 +24,25 @@ pub struct LogSettings {
     pub squash: bool,
 }
 
-/// How a command on a log ended. A member that isn't of the code is 0.
+/// The ending of a command on a log. A member that isn't of the code is 0.
 #[repr(C)]
 #[derive(Clone, Copy, Debug, PartialEq, Eq)]
 pub struct Ending {
-    /// OK: 1 where something was refused, else 0.
+    /// OK: 1 if something was refused, else 0.
     pub status: u32,
-    /// BAD_FRAME: which fault of a header it is, 1 to 7.
+    /// BAD_FRAME: the number of the fault, 1 to 7 for F1 to F7.
     pub frame: u32,
     /// OK: how many messages were handled.
     pub messages: u64,
     /// OK: how many of them were refused.
     pub refused: u64,
-    /// CUT, BAD_FRAME, BODY_TOO_LONG and BAD_LOG: where the fault is, in bytes from the log's start.
+    /// CUT, BAD_FRAME, BODY_TOO_LONG and BAD_LOG: the fault's byte offset in the log.
     pub place: u64,
     /// How many bytes the output has.
     pub output_len: usize,
 }
 
-/// How a log is to be read, or why it can't be.
+/// Returns how a log is to be read, or the code for why it can't be.
 pub(crate) fn log_settings_of(settings: &LogSettings) -> Result<Settings, u32>
     ensures ok { IfOk result (λ taken. log_asked settings.now ≡ Ok taken) }
     ensures error { IfErr result (λ code. log_asked settings.now ≡ Err code) }
@@ -63,7 +63,7 @@ pub(crate) fn log_settings_of(settings: &LogSettings) -> Result<Settings, u32>
     })
 }
 
-/// How a command ended that came to an outcome.
+/// The ending of a command that came to an outcome.
 fn outcome_ending(output_len: usize, outcome: Outcome) -> Ending
     ensures { result ≡ outcome_out output_len outcome }
 {
@@ -77,7 +77,7 @@ fn outcome_ending(output_len: usize, outcome: Outcome) -> Ending
     }
 }
 
-/// How a command ended at a fault.
+/// The ending of a command at a fault.
 fn fault_ending(output_len: usize, place: u64) -> Ending
     ensures { result ≡ fault_out output_len place }
 {
@@ -91,7 +91,7 @@ fn fault_ending(output_len: usize, place: u64) -> Ending
     }
 }
 
-/// How a command ended at a faulty frame.
+/// The ending of a command at a faulty frame.
 fn frame_ending(output_len: usize, fault: FrameFault) -> Ending
     ensures { result ≡ frame_out output_len fault }
 {
@@ -112,7 +112,8 @@ fn frame_ending(output_len: usize, fault: FrameFault) -> Ending
     }
 }
 
-/// The code of a command's answer, and how it ended. After a fault that isn't the log's the code alone: the output isn't kept.
+/// Returns the code of a command's result, and its ending. After a fault that isn't the log's it
+/// returns only the code: the output isn't kept.
 pub(crate) fn ending_of(
     output_len: usize,
     answer: Result<Outcome, EngineFault>,
@@ -129,7 +130,7 @@ pub(crate) fn ending_of(
         }
         Err(EngineFault::BadLog { place }) => Ok((BAD_LOG, fault_ending(output_len, place))),
         Err(EngineFault::TooManyTurns) => Err(TOO_MANY_TURNS),
-        // No read fails, and a write into memory only where that runs out.
+        // No read fails, and a write into memory fails only if out of memory.
         Err(EngineFault::NoMemory | EngineFault::Read | EngineFault::Write) => Err(OUT_OF_MEMORY),
     }
 }

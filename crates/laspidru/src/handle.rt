@@ -2,8 +2,8 @@
 
 ghost use Rattle.std.specs.Prelude.{◌≡◌, Option, Some, None, IsSome, option_map};
 ghost use Rattle.std.specs.Option.{is_some};
-ghost use Rattle.laspidru.specs.declared.object.Object.{Object as HeldObject};
-ghost use Rattle.laspidru.specs.Held.{object_if};
+ghost use Rattle.laspidru.specs.declared.object.Object.{Object as StoredObject};
+ghost use Rattle.laspidru.specs.Stored.{object_if};
 
 use crate::object::Object;
 use raw_box::RawBox;
@@ -12,14 +12,14 @@ use std::marker::{Model, Send};
 use std::mem::replace;
 use std::ptr::null_mut;
 
-/// A handle: room for an object that C holds. C makes an empty one by zeroes.
+/// A handle: room for an object that C holds. In C an empty handle is all zeros.
 #[repr(C)]
 #[derive(Drop)]
 pub struct Handle {
     pointer: *mut u8,
     is_full: bool,
     alloc: Global,
-    pub ghost value: { Option HeldObject },
+    pub ghost value: { Option StoredObject },
 }
 
 impl Model for Handle {
@@ -38,7 +38,7 @@ impl Handle {
         }
     }
 
-    /// A handle that holds an object.
+    /// A handle with an object.
     fn of_raw(raw: RawBox<Object, Global>) -> Self
         ensures { result.value ≡ Some raw.value }
     {
@@ -50,7 +50,7 @@ impl Handle {
         }
     }
 
-    /// Whether it holds an object, and the handle itself.
+    /// Returns whether it has an object, and the handle itself.
     fn parts(self) -> (bool, Self)
         ensures full { result.0 ≡ is_some self.value }
         ensures same { result.1.value ≡ self.value }
@@ -86,7 +86,7 @@ impl Handle {
         }
     }
 
-    /// Takes the object out, which leaves the handle empty.
+    /// Takes the object out, and leaves the handle empty.
     pub(crate) fn take(&mut self, alloc: Global) -> Option<Box<Object>>
         ensures taken { option_map (λ object. object.value) result ≡ self.old.value }
         ensures left { self.new.value ≡ None }
@@ -108,7 +108,7 @@ impl Handle {
     }
 }
 
-// Its object goes to another thread with it.
+// The object moves to another thread with its handle.
 unsafe impl Send for Handle {}
 
 /// Takes what may go to another thread.

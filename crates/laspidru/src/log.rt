@@ -14,7 +14,8 @@ use crate::handle::Handle;
 use crate::object::Object;
 use std::alloc::Global;
 
-/// Keeps the output of a run in an empty handle, where it is kept.
+/// Puts the output of a run into an empty handle. After a fault that isn't the log's the output
+/// isn't kept.
 fn keep(alloc: Global, handle: &mut Handle, run: Run, out: &mut Ending) -> u32
     requires { handle.old.value ≡ None }
     ensures answer { (result ≡ OUT_OF_MEMORY)
@@ -50,8 +51,8 @@ fn run_log(
     ensures unchanged { IsUnlessEnded result
         ((handle.new.value ≡ handle.old.value) × (out.new ≡ out.old)) }
 {
-    if let Some(held) = handle.take(alloc) {
-        handle.put(held);
+    if let Some(stored) = handle.take(alloc) {
+        handle.put(stored);
         return IN_USE;
     }
     let settings = match log_settings_of(settings) {
@@ -62,9 +63,12 @@ fn run_log(
     keep(alloc, handle, run, out)
 }
 
-/// Runs [`lsp_replay::check`] over a log: a line for each record, its number and what a server answers. The output is put into the
-/// empty handle, also after a fault of the log, up to the fault. Codes, in this order: IN_USE, BAD_ENCODING, BAD_LIMIT;
-/// OUT_OF_MEMORY, or the fault: CUT, BAD_FRAME, BAD_LOG. TOO_MANY_TURNS needs more than 2^64 - 1 reads and writes. Costs
+/// Runs [`lsp_replay::check`] over a log: writes a line for each record, with its number and what a
+/// server answers. The output is put into the empty handle, after a fault of the log up to the
+/// fault.
+///
+/// Codes, in this order: IN_USE, BAD_ENCODING, BAD_LIMIT; OUT_OF_MEMORY, or the fault: CUT,
+/// BAD_FRAME, BAD_LOG. TOO_MANY_TURNS needs more than 2^64 - 1 reads and writes. Costs
 /// [`lsp_replay::check`], and keeps the output in memory.
 #[unsafe(no_mangle)]
 pub extern "C" fn laspidru_log_check(
@@ -83,8 +87,9 @@ pub extern "C" fn laspidru_log_check(
     run_log(alloc, Command::Check, handle, settings, log, out)
 }
 
-/// Runs [`lsp_replay::replay`] over a log: a line of JSON for each document that is open at the end. Codes are those of
-/// `laspidru_log_check`; after a fault of the log the output has no bytes. Costs [`lsp_replay::replay`], and keeps the output in memory.
+/// Runs [`lsp_replay::replay`] over a log: writes a line of JSON for each document that is open at
+/// the end. Codes are those of `laspidru_log_check`. After a fault of the log the output has no
+/// bytes. Costs [`lsp_replay::replay`], and keeps the output in memory.
 #[unsafe(no_mangle)]
 pub extern "C" fn laspidru_log_replay(
     alloc: Global,
@@ -102,9 +107,10 @@ pub extern "C" fn laspidru_log_replay(
     run_log(alloc, Command::Replay, handle, settings, log, out)
 }
 
-/// Runs [`lsp_replay::normalise`] over a log: each accepted change as its canonical message; with `squash` each run of changes of one
-/// document as one. Codes are those of `laspidru_log_check`, and the fault BODY_TOO_LONG. Costs [`lsp_replay::normalise`], and keeps the
-/// output in memory.
+/// Runs [`lsp_replay::normalise`] over a log: writes each accepted change as its canonical message,
+/// with `squash` each run of changes of one document as one. Codes are those of
+/// `laspidru_log_check`, and the fault BODY_TOO_LONG. Costs [`lsp_replay::normalise`], and keeps
+/// the output in memory.
 #[unsafe(no_mangle)]
 pub extern "C" fn laspidru_log_normalise(
     alloc: Global,
@@ -122,8 +128,9 @@ pub extern "C" fn laspidru_log_normalise(
     run_log(alloc, Command::Normalise, handle, settings, log, out)
 }
 
-/// Runs [`lsp_replay::convert`] over a log of version 1: the log in version 2, with the server's replies. Codes are those of
-/// `laspidru_log_check`; a log of version 2 is BAD_LOG. Costs [`lsp_replay::convert`], and keeps the output in memory.
+/// Runs [`lsp_replay::convert`] over a log of version 1: writes the log in version 2, with the
+/// server's replies. Codes are those of `laspidru_log_check`. A log of version 2 is BAD_LOG. Costs
+/// [`lsp_replay::convert`], and keeps the output in memory.
 #[unsafe(no_mangle)]
 pub extern "C" fn laspidru_log_convert(
     alloc: Global,
@@ -153,8 +160,8 @@ fn object_output(object: &Object, start: usize, out: &mut [u8], copied: &mut usi
     copy_from(output, start, out, copied)
 }
 
-/// Copies the bytes of a command's output from `start` on, as many as `out` holds, and says how many. Codes, in this order: EMPTY,
-/// OTHER_KIND, OUT_OF_RANGE. Costs the copy.
+/// Copies the bytes of a command's output from `start` on, as many as `out` has room for, and
+/// returns how many. Codes, in this order: EMPTY, OTHER_KIND, OUT_OF_RANGE. Costs the copy.
 #[unsafe(no_mangle)]
 pub extern "C" fn laspidru_log_output(
     alloc: Global,

@@ -14,7 +14,7 @@ pub(crate) struct LogReader<'a> {
 }
 
 impl<'a> LogReader<'a> {
-    /// Nothing was read yet.
+    /// Starts at the first byte of a log.
     pub(crate) fn new(log: &'a [u8]) -> LogReader<'a>
         ensures rest { result.rest.now ≡ log.now }
         ensures ended { result.ended ≡ false }
@@ -28,13 +28,13 @@ impl<'a> LogReader<'a> {
 }
 
 impl Source for LogReader<'_> {
-    ghost left = { λ reader. Some reader.rest.now };
-
-    ghost has_failed = { λ reader. false };
-
-    ghost count = { λ reader. reader.calls };
-
-    ghost has_ended = { λ reader. reader.ended };
+    ghost seen = { λ reader.
+        record {
+          left = Some reader.rest.now;
+          failed = false;
+          calls = reader.calls;
+          ended = reader.ended;
+        } };
 
     fn read(&mut self, buf: &mut [u8]) -> io::Result<usize> {
         let count = buf.len().min(self.rest.len());

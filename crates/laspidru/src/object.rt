@@ -1,9 +1,9 @@
-//! What a handle holds.
+//! The object in a handle.
 
 use crate::session::Session;
 use lsp_edit::{Change, IndexedText};
 
-/// What a handle holds.
+/// The object in a handle.
 #[derive(Drop)]
 pub enum Object {
     /// A text with its lines.
@@ -12,6 +12,6 @@ pub enum Object {
     Batch(Vec<Change>),
     /// A server, with its last reply.
     Server(Session),
-    /// What a command on a log wrote.
+    /// The output of a command on a log.
     Output(Vec<u8>),
 }

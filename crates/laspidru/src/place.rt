@@ -8,7 +8,8 @@ pub struct Place {
     pub character: u32,
 }
 
-/// A change of a batch: the next `len` bytes of its texts, in place of a range, or of the whole text.
+/// A change of a batch, or a text edit: the next `len` bytes of its texts replace a range, or the
+/// whole text.
 #[repr(C)]
 #[derive(Clone, Copy, Debug, PartialEq, Eq)]
 pub struct Edit {
@@ -18,7 +19,7 @@ pub struct Edit {
     pub is_whole: bool,
 }
 
-/// Which change of a batch a fault is about, counted from 0, and which end of its range.
+/// The change of a batch that a fault is about, counted from 0, and which end of its range.
 #[repr(C)]
 #[derive(Clone, Copy, Debug, PartialEq, Eq)]
 pub struct Fault {
@@ -26,7 +27,18 @@ pub struct Fault {
     pub at_end: bool,
 }
 
-/// Where a line starts and ends, in bytes. Its line end is not in it.
+/// Which text edit a fault is about, counted from 0, and which end of its range. Of two that
+/// overlap
+/// `edit` is the one that starts first, and `other` starts before it ends; else `other` is 0.
+#[repr(C)]
+#[derive(Clone, Copy, Debug, PartialEq, Eq)]
+pub struct EditsFault {
+    pub edit: usize,
+    pub other: usize,
+    pub at_end: bool,
+}
+
+/// The byte offsets at which a line starts and ends. Its line end is not in it.
 #[repr(C)]
 #[derive(Clone, Copy, Debug, PartialEq, Eq)]
 pub struct Line {

@@ -16,7 +16,8 @@ use crate::session::Session;
 use lsp_server::{Server, ServerFault};
 use std::alloc::Global;
 
-/// Makes a server in an empty handle, at the start of a session. Codes, in this order: IN_USE, BAD_ENCODING, BAD_LIMIT; OUT_OF_MEMORY.
+/// Makes a server in an empty handle, at the start of a session. Codes, in this order: IN_USE,
+/// BAD_ENCODING, BAD_LIMIT; OUT_OF_MEMORY.
 #[unsafe(no_mangle)]
 pub extern "C" fn laspidru_server_new(
     alloc: Global,
@@ -28,8 +29,8 @@ pub extern "C" fn laspidru_server_new(
         (result ≡ OK) × (handle.new.value ≡ Some (ServerOf (session_of config)))) }
     ensures unchanged { result ≢ OK → handle.new.value ≡ handle.old.value }
 {
-    if let Some(held) = handle.take(alloc) {
-        handle.put(held);
+    if let Some(stored) = handle.take(alloc) {
+        handle.put(stored);
         return IN_USE;
     }
     let config = match config_of(settings) {
@@ -57,7 +58,7 @@ fn reply_of(alloc: Global, answer: lsp_server::Answer) -> Vec<u8>
     }
 }
 
-/// Hands a message to the server of an object.
+/// Handles a message by the server of an object.
 fn object_handle(alloc: Global, object: &mut Object, body: &[u8], out: &mut Answer) -> u32
     ensures answer { IsAnswerOrNoMemory (live_asked (server_of object.old)) result
         (λ session. IsHandled (step_at session body.now) result (Some object.new) out.new) }
@@ -76,9 +77,10 @@ fn object_handle(alloc: Global, object: &mut Object, body: &[u8], out: &mut Answ
     OK
 }
 
-/// Hands the body of a message to a server (LSP 3.17, Base Protocol), which answers as [`Server::handle`] does. The server keeps its reply
-/// until the next message. Codes, in this order: EMPTY, OTHER_KIND, ENDED; OUT_OF_MEMORY, after which the body may be handed in again.
-/// Costs [`Server::handle`].
+/// Handles the body of a message by a server (LSP 3.17, Base Protocol). The answer is that of
+/// [`Server::handle`], and the server keeps its reply until the next message. Codes, in this order:
+/// EMPTY, OTHER_KIND, ENDED; OUT_OF_MEMORY, after which the body may be passed again. Costs
+/// [`Server::handle`].
 #[unsafe(no_mangle)]
 pub extern "C" fn laspidru_server_handle(
     alloc: Global,
@@ -111,8 +113,9 @@ fn object_reply(object: &Object, start: usize, out: &mut [u8], copied: &mut usiz
     copy_from(&session.reply, start, out, copied)
 }
 
-/// Copies the bytes of the reply to the last message from `start` on, as many as `out` holds, and says how many. The reply is a frame, whole
-/// with its header; where there was none it has no bytes. Codes, in this order: EMPTY, OTHER_KIND, OUT_OF_RANGE. Costs the copy.
+/// Copies the bytes of the reply to the last message from `start` on, as many as `out` has room
+/// for, and returns how many. The reply is a frame with its header; without a reply it has no
+/// bytes. Codes, in this order: EMPTY, OTHER_KIND, OUT_OF_RANGE. Costs the copy.
 #[unsafe(no_mangle)]
 pub extern "C" fn laspidru_server_reply(
     alloc: Global,
@@ -134,7 +137,7 @@ pub extern "C" fn laspidru_server_reply(
     code
 }
 
-/// How many documents are open in an object's server.
+/// Returns how many documents are open in an object's server.
 fn object_documents(object: &Object, out: &mut usize) -> u32
     ensures answer { IsAnswer (server_of object.now) result
         (λ session. out.new ≡ length session.server.table) }
@@ -147,7 +150,7 @@ fn object_documents(object: &Object, out: &mut usize) -> u32
     OK
 }
 
-/// How many documents are open, in constant time. Codes: EMPTY, OTHER_KIND.
+/// Returns how many documents are open, in constant time. Codes: EMPTY, OTHER_KIND.
 #[unsafe(no_mangle)]
 pub extern "C" fn laspidru_server_documents(
     alloc: Global,
@@ -167,7 +170,7 @@ pub extern "C" fn laspidru_server_documents(
     code
 }
 
-/// The version and the length of a document of an object's server.
+/// Returns the version and the length of a document of an object's server.
 fn object_opened(object: &Object, uri: &str, out: &mut Opened) -> u32
     ensures answer { IsAnswer (and_then (server_of object.now) (entry_in uri.now)) result
         (IsOpened out.new) }
@@ -186,8 +189,9 @@ fn object_opened(object: &Object, uri: &str, out: &mut Opened) -> u32
     OK
 }
 
-/// The version of an open document, and how many bytes its text has. URIs are compared byte for byte. Codes, in this order: NOT_UTF8 of the
-/// URI, EMPTY, OTHER_KIND, NOT_OPEN. Costs a hash look-up.
+/// Returns the version of an open document, and how many bytes its text has. URIs are compared byte
+/// for byte. Codes, in this order: NOT_UTF8 of the URI, EMPTY, OTHER_KIND, NOT_OPEN. Costs a hash
+/// look-up.
 #[unsafe(no_mangle)]
 pub extern "C" fn laspidru_server_document(
     alloc: Global,
@@ -227,8 +231,9 @@ fn object_text(object: &Object, uri: &str, start: usize, out: &mut [u8], copied:
     copy_from(document.text().as_bytes(), start, out, copied)
 }
 
-/// Copies the bytes of an open document's text from `start` on, as many as `out` holds, and says how many. Codes, in this order: NOT_UTF8 of
-/// the URI, EMPTY, OTHER_KIND, NOT_OPEN, OUT_OF_RANGE. Costs a hash look-up and the copy.
+/// Copies the bytes of an open document's text from `start` on, as many as `out` has room for, and
+/// returns how many. Codes, in this order: NOT_UTF8 of the URI, EMPTY, OTHER_KIND, NOT_OPEN,
+/// OUT_OF_RANGE. Costs a hash look-up and the copy.
 #[unsafe(no_mangle)]
 pub extern "C" fn laspidru_server_text(
     alloc: Global,

@@ -1,9 +1,9 @@
-//! A server behind a handle.
+//! A server in a handle.
 
 use lsp_server::Server;
 use std::marker::Model;
 
-/// A server, and its reply to the last message: a frame, or no bytes where it had none.
+/// A server, and its reply to the last message: a frame, or no bytes if it had none.
 #[derive(Drop)]
 pub struct Session {
     pub(crate) server: Server,

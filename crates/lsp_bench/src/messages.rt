@@ -1,145 +1,113 @@
 //! Messages, read and written many times.
 
+use crate::frames::is_object;
+use crate::text::{URI, keystrokes, made_text};
+use crate::timing::{Row, Work, time};
 use anyhow::Result;
-use lsp_edit::Change;
 use lsp_message::{
     ChangeParams, ErrorCode, Id, Message, Offers, OpenParams, Outgoing, SyncKind, params_change,
     params_open, read, write,
 };
-use lsp_text::{Encoding, Position, Range};
-use serde_json::Value;
+use lsp_text::Encoding;
 use std::alloc::{AllocError, Global};
 use std::rt::Runtime;
-use std::time::{Duration, Instant};
 
 const MEGABYTE: usize = 1_048_576;
 
-/// The least time of this many rounds is printed.
-const ROUNDS: u32 = 5;
-
-/// A line of the text that is opened.
-const LINE: &str = "    let position = lines.position(text);\n";
-
-/// Times reading and writing: a text of so many megabytes once in a round, small messages a thousand times for each megabyte.
-pub fn time_messages(rt: &(impl Runtime + AllocGlobal), megabytes: u16) -> Result<()> {
-    let repeats = u32::from(megabytes).saturating_mul(1_000);
-    time_changes(rt, 1, repeats)?;
-    time_changes(rt, 1_000, repeats / 100)?;
-    time_open(rt, megabytes)?;
-    time_calls(rt, repeats)?;
-    time_replies(rt, repeats)
+/// What is done with a message.
+#[derive(Clone, Copy)]
+enum Call {
+    Parse,
+    ReadChange,
+    ReadOpen,
+    Write,
 }
 
-/// Times the parse alone, `read`, and `read` with `params_change`, on a change with this many entries.
-fn time_changes(rt: &(impl Runtime + AllocGlobal), entries: u32, repeats: u32) -> Result<()> {
-    let alloc = rt.alloc();
-    let message = Outgoing::DidChange(changed(alloc, entries)?);
-    let body = write(alloc, &message)?;
-    timed(rt, "Value::from_slice of a change", entries, repeats, || {
-        parsed(alloc, &body)
-    })?;
-    timed(rt, "read of a change", entries, repeats, || {
-        read_only(alloc, &body)
-    })?;
-    timed(rt, "read and params_change", entries, repeats, || {
-        change_read(alloc, &body)
-    })?;
-    timed(rt, "write of a change", entries, repeats, || {
-        written(alloc, &message)
-    })
-}
+/// What is done with a change.
+static OF_CHANGE: [(Call, &str); 3] = [
+    (Call::Parse, "Value::from_slice of a change, entries"),
+    (Call::ReadChange, "read and params_change, entries"),
+    (Call::Write, "write of a change, entries"),
+];
 
-/// Times the parse alone, and `read` with `params_open`, on a text of this many megabytes.
-fn time_open(rt: &(impl Runtime + AllocGlobal), megabytes: u16) -> Result<()> {
-    let alloc = rt.alloc();
-    let message = Outgoing::DidOpen(opened(alloc, megabytes)?);
-    let body = write(alloc, &message)?;
-    let size = u32::from(megabytes);
-    timed(rt, "Value::from_slice of an open, MB", size, 1, || {
-        parsed(alloc, &body)
-    })?;
-    timed(rt, "read and params_open, MB", size, 1, || {
-        open_read(alloc, &body)
-    })?;
-    timed(rt, "write of an open, MB", size, 1, || {
-        written(alloc, &message)
-    })
-}
+/// What is done with a text that is opened.
+static OF_OPEN: [(Call, &str); 3] = [
+    (Call::Parse, "Value::from_slice of an open, bytes"),
+    (Call::ReadOpen, "read and params_open, bytes"),
+    (Call::Write, "write of an open, bytes"),
+];
 
-/// Times `write` of the messages of a client that have no document.
-fn time_calls(rt: &(impl Runtime + AllocGlobal), repeats: u32) -> Result<()> {
-    let initialize = Outgoing::Initialize(Offers::new(true, true));
-    time_write(rt, "initialize", repeats, &initialize)?;
-    time_write(rt, "initialized", repeats, &Outgoing::Initialized)?;
-    time_write(rt, "shutdown", repeats, &Outgoing::Shutdown)?;
-    time_write(rt, "exit", repeats, &Outgoing::Exit)
-}
-
-/// Times `write` of the replies of a server.
-fn time_replies(rt: &(impl Runtime + AllocGlobal), repeats: u32) -> Result<()> {
-    let result = Outgoing::InitializeResult {
-        id: Id::Whole(1),
-        encoding: Encoding::Utf16,
-        kind: SyncKind::Incremental,
-    };
-    time_write(rt, "the result of initialize", repeats, &result)?;
-    let result = Outgoing::ShutdownResult { id: Id::Whole(2) };
-    time_write(rt, "the result of shutdown", repeats, &result)?;
-    let error = Outgoing::ErrorReply {
-        id: Some(Id::Whole(7)),
-        error: ErrorCode::MethodNotFound,
-    };
-    time_write(rt, "an error", repeats, &error)
-}
-
-fn time_write(
-    rt: &(impl Runtime + AllocGlobal),
-    what: &str,
-    repeats: u32,
-    message: &Outgoing,
-) -> Result<()> {
-    let alloc = rt.alloc();
-    timed(rt, what, 1, repeats, || written(alloc, message))
-}
-
-/// Tells the least time of a call over some rounds, and the sum of what the calls of one round answer.
-fn timed<F: Fn() -> Result<usize>>(
-    rt: &impl Runtime,
-    what: &str,
-    size: u32,
-    repeats: u32,
-    call: F,
-) -> Result<()>
-    requires { F.IsAlwaysCallable call }
-{
-    let mut least = Duration::MAX;
-    let mut sum: usize = 0;
-    for _ in 0..ROUNDS {
-        sum = 0;
-        let start = Instant::now(rt)?;
-        for _ in 0..repeats {
-            sum = sum.wrapping_add(call()?);
-        }
-        least = least.min(start.elapsed(rt)?);
+/// Times a text of so many megabytes once in a round, and small messages a thousand times for each
+/// megabyte.
+pub fn run<R: Runtime + AllocGlobal>(rt: &R, megabytes: u16) -> Result<()> {
+    let repeats = u32::from(megabytes) * 1_000;
+    time_change(rt, 1, repeats)?;
+    time_change(rt, 1_000, repeats / 100)?;
+    time_open(rt, usize::from(megabytes) * MEGABYTE)?;
+    for (index, what) in SMALL.iter().enumerate() {
+        let message = small(index);
+        time_calls(rt, &message, &[(Call::Write, what)], 1, repeats)?;
     }
-    println!(rt; "{what}, {size}: {repeats} times, {sum}")?;
-    let each = least.as_nanos() / u128::from(repeats.max(1));
-    eprintln!(rt; "{what}, {size}: {each} ns")?;
     Ok(())
 }
 
-fn parsed(alloc: Global, body: &[u8]) -> Result<usize> {
-    let value = Value::from_slice(alloc, body)?;
-    Ok(usize::from(value.is_object()))
+fn time_change<R: Runtime + AllocGlobal>(rt: &R, entries: u32, repeats: u32) -> Result<()> {
+    let message = changed(rt.alloc(), entries)?;
+    time_calls(rt, &message, &OF_CHANGE, entries as usize, repeats)
 }
 
-fn read_only(alloc: Global, body: &[u8]) -> Result<usize> {
-    match read(alloc, body)? {
-        Message::Notification { method, .. } => Ok(method.len()),
-        _other => Ok(0),
+fn time_open<R: Runtime + AllocGlobal>(rt: &R, size: usize) -> Result<()> {
+    let message = opened(rt.alloc(), size)?;
+    time_calls(rt, &message, &OF_OPEN, size, 1)
+}
+
+fn time_calls<R: Runtime + AllocGlobal>(
+    rt: &R,
+    message: &Outgoing,
+    calls: &[(Call, &str)],
+    size: usize,
+    repeats: u32,
+) -> Result<()> {
+    let alloc = rt.alloc();
+    let body = write(alloc, message)?;
+    for (call, what) in calls {
+        let row = Row {
+            what,
+            size,
+            repeats,
+        };
+        let mut work = Passing {
+            alloc,
+            message,
+            body: &body,
+            call: *call,
+        };
+        time(rt, row, &mut work)?;
+    }
+    Ok(())
+}
+
+/// A message, its body, and what is done with it.
+#[derive(Drop)]
+struct Passing<'a> {
+    alloc: Global,
+    message: &'a Outgoing,
+    body: &'a [u8],
+    call: Call,
+}
+
+impl Work for Passing<'_> {
+    fn once(&mut self) -> Result<usize> {
+        match self.call {
+            Call::Parse => Ok(usize::from(is_object(self.alloc, self.body)?)),
+            Call::ReadChange => change_read(self.alloc, self.body),
+            Call::ReadOpen => open_read(self.alloc, self.body),
+            Call::Write => Ok(write(self.alloc, self.message)?.len()),
+        }
     }
 }
 
+/// How many entries the change has.
 fn change_read(alloc: Global, body: &[u8]) -> Result<usize> {
     match read(alloc, body)? {
         Message::Notification { params, .. } => Ok(params_change(alloc, params)?.changes.len()),
@@ -147,6 +115,7 @@ fn change_read(alloc: Global, body: &[u8]) -> Result<usize> {
     }
 }
 
+/// How many bytes the text has that is opened.
 fn open_read(alloc: Global, body: &[u8]) -> Result<usize> {
     match read(alloc, body)? {
         Message::Notification { params, .. } => Ok(params_open(alloc, params)?.text.len()),
@@ -154,41 +123,55 @@ fn open_read(alloc: Global, body: &[u8]) -> Result<usize> {
     }
 }
 
-fn written(alloc: Global, message: &Outgoing) -> Result<usize> {
-    Ok(write(alloc, message)?.len())
-}
-
-/// A change of a real client's size: this many entries, each of which puts one character in.
-fn changed(alloc: Global, entries: u32) -> Result<ChangeParams, AllocError> {
-    let mut changes = Vec::new(alloc);
-    for line in 0..entries {
-        let start = Position {
-            line,
-            character: 12,
-        };
-        changes.push(Change {
-            range: Some(Range { start, stop: start }),
-            text: String::from_str(alloc, "x")?,
-        })?;
-    }
-    Ok(ChangeParams {
-        uri: String::from_str(alloc, "file:///home/user/project/src/main.rs")?,
+/// A change of so many entries, each of which puts one character in.
+fn changed(alloc: Global, entries: u32) -> Result<Outgoing, AllocError> {
+    let changes = keystrokes(alloc, entries, 2, 1_000)?;
+    let uri = String::from_str(alloc, URI)?;
+    Ok(Outgoing::DidChange(ChangeParams {
+        uri,
         version: 1_234,
         changes,
-    })
+    }))
 }
 
-fn opened(alloc: Global, megabytes: u16) -> Result<OpenParams, AllocError> {
-    let mut text = String::new(alloc);
-    for _ in 0..megabytes {
-        for _ in 0..MEGABYTE / LINE.len().max(1) {
-            text.push_str(LINE)?;
-        }
-    }
-    Ok(OpenParams {
-        uri: String::from_str(alloc, "file:///home/user/project/src/main.rs")?,
-        language: String::from_str(alloc, "rust")?,
+fn opened(alloc: Global, size: usize) -> Result<Outgoing, AllocError> {
+    let text = made_text(alloc, size)?;
+    let uri = String::from_str(alloc, URI)?;
+    let language = String::from_str(alloc, "rust")?;
+    Ok(Outgoing::DidOpen(OpenParams {
+        uri,
+        language,
         version: 1,
         text,
-    })
+    }))
+}
+
+/// The messages of a client and of a server that have no document, in the order of [`small`].
+static SMALL: [&str; 7] = [
+    "write of initialize, messages",
+    "write of initialized, messages",
+    "write of shutdown, messages",
+    "write of exit, messages",
+    "write of the result of initialize, messages",
+    "write of the result of shutdown, messages",
+    "write of an error, messages",
+];
+
+fn small(index: usize) -> Outgoing {
+    match index {
+        0 => Outgoing::Initialize(Offers::new(true, true)),
+        1 => Outgoing::Initialized,
+        2 => Outgoing::Shutdown,
+        3 => Outgoing::Exit,
+        4 => Outgoing::InitializeResult {
+            id: Id::Whole(1),
+            encoding: Encoding::Utf16,
+            kind: SyncKind::Incremental,
+        },
+        5 => Outgoing::ShutdownResult { id: Id::Whole(2) },
+        _ => Outgoing::ErrorReply {
+            id: Some(Id::Whole(7)),
+            error: ErrorCode::MethodNotFound,
+        },
+    }
 }

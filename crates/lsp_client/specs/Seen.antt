@@ -1,4 +1,4 @@
--- What the calls of a client answer, by the tables of its steps.
+-- The results of a client's calls, by the tables of its steps.
 use Rattle.std.specs.Prelude.{ℕ, ℤ, ◌≡◌, ◌⊎◌, List, map, String, string_bytes, None, Result, Ok, Err}
 use Rattle.std.specs.declared.alloc.Global.{Global}
 use Rattle.lsp_frame.specs.Frame.{frame}
@@ -17,9 +17,9 @@ use Rattle.lsp_store.specs.Table.{open_refusal, close_refusal}
 use Rattle.lsp_client.specs.declared.phase.Phase.TheVariants.{Ready}
 use Rattle.lsp_client.specs.Step.{State, Sending, Refusal, wrong_phase, store, Order, opens, edits, closes, Delivery, DeliveredData, sends, noted, ignored, bad_server}
 
--- ---- what is asked
+-- ---- what a call asks
 
--- The order of a call of `open`, of `edit`, and of `close`.
+-- The order of a call of `open`.
 abbrev pub open_order : String Global → String Global → ℤ → String Global → Order
 open_order uri language version text =
     opens (record {
@@ -29,23 +29,24 @@ open_order uri language version text =
       text = string_bytes text;
     })
 
+-- The order of a call of `edit`.
 abbrev pub edit_order : List ℕ → ℤ → List Change → Order
 edit_order uri version changes = edits uri version (map edit_of changes)
 
 -- ---- what is refused
 
--- the fault of a refusal
+-- The fault of a refusal.
 abbrev pub fault_of : Refusal → ClientFault
 fault_of (wrong_phase phase) = WrongPhase phase
 fault_of (store refusal) = Store (documents.fault_of refusal)
 
--- the client's fault of a fault of the store
+-- The client's fault of a fault of the store.
 abbrev pub client_fault : documents_fault.StoreFault → ClientFault
 client_fault faults.NoMemory = NoMemory
 client_fault fault = Store fault
 
--- This is the fault of a step that is refused, or the client ran out of memory. A call in a wrong
--- phase takes no memory.
+-- This is the fault of a refused step, or the client is out of memory. A call in a wrong phase
+-- takes no memory.
 abbrev pub IsFaultOf : {A : Type 0} → Result A Refusal → ClientFault → Type 0
 IsFaultOf (Ok a) fault = fault ≡ NoMemory
 IsFaultOf (Err (wrong_phase phase)) fault = fault ≡ WrongPhase phase
@@ -53,26 +54,27 @@ IsFaultOf (Err (store refusal)) fault = (fault ≡ NoMemory) ⊎ (fault ≡ faul
 
 -- ---- what is accepted
 
--- A call is accepted: this frame is to be sent, and this is the client then.
+-- A call is accepted: this frame is to be sent, and this is the client's new state.
 abbrev pub IsSent : Result Sending Refusal → List ℕ → State → Type 0
 IsSent (Ok sending) bytes new =
     (bytes ≡ frame (body_of sending.message)) × (new ≡ sending.state)
 IsSent (Err refusal) bytes new = ⊥
 
--- what a delivery gives, with what is to be sent as a frame
+-- The result of a delivery, with what is to be sent as a frame.
 abbrev pub delivered_view : Delivered → DeliveredData (List ℕ)
 delivered_view (Send frame) = sends frame.items
 delivered_view Noted = noted
 delivered_view Ignored = ignored
 delivered_view (BadServer reason) = bad_server reason
 
+-- The result of a delivery, with its message as a frame.
 abbrev pub as_sent : DeliveredData OutgoingData → DeliveredData (List ℕ)
 as_sent (sends m) = sends (frame (body_of m))
 as_sent noted = noted
 as_sent ignored = ignored
 as_sent (bad_server reason) = bad_server reason
 
--- A body is accepted: this is what it gives, and this is the client then.
+-- A body is accepted: this is the result, and this is the client's new state.
 abbrev pub IsDelivered : Result Delivery Refusal → DeliveredData (List ℕ) → State → Type 0
 IsDelivered (Ok delivery) delivered new =
     (delivered ≡ as_sent delivery.delivered) × (new ≡ delivery.state)
@@ -80,7 +82,7 @@ IsDelivered (Err refusal) delivered new = ⊥
 
 -- ---- memory
 
--- Nothing refuses an order any more but what a batch means, and the length of the message.
+-- Only what a batch means, or the length of the message, can still refuse an order.
 abbrev pub IsAdmitted : State → Order → Type 0
 IsAdmitted s (opens entry) = open_refusal s.limits s.table entry ≡ None
 IsAdmitted s (edits uri version batch) =

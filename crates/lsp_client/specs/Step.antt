@@ -1,5 +1,6 @@
--- One step of a session's client end (LSP 3.17, Lifecycle Messages, Text Document Synchronization):
--- which calls it accepts, which message each sends, and what it makes of what the server sends.
+-- One step of the client's end of a session (LSP 3.17, Lifecycle Messages, Text Document
+-- Synchronization). The tables say which calls it accepts, which message each sends, and what it
+-- does with what the server sends.
 use Rattle.std.specs.Prelude.{ℕ, ℤ, Bool, true, false, ◌==◌, if◌then◌else◌, List, [], Option, Some, None, unwrap_or, Result, Ok, Err, pos, negsuc}
 use Rattle.lsp_frame.specs.Limits.{Bounds}
 use Rattle.lsp_text.specs.declared.encoding.Encoding.{Encoding}
@@ -23,8 +24,8 @@ use Rattle.lsp_client.specs.declared.phase.Phase.TheVariants.{New, Asked, Ready,
 use Rattle.lsp_client.specs.declared.phase.Reason.{Reason}
 use Rattle.lsp_client.specs.declared.phase.Reason.TheVariants.{NotAnAnswer, ErrorAnswer, NoSync, BadEncoding}
 
--- A client: its limits, the encodings that it offers, the phase of its session, what was agreed on,
--- if anything was, and the open documents.
+-- A client: its limits, the encodings that it offers, its phase, what was agreed on, if anything,
+-- and the open documents.
 pub record State : Type 0 where
   pub limits : Bounds
   pub offers : Offers
@@ -39,14 +40,14 @@ start limits offers =
 
 -- ---- calls
 
--- What is asked of the open documents: to open one, to edit one by a batch that leads to a version,
--- and to close one.
+-- A call on the open documents: open one; edit one, by its URI, new version and batch of changes;
+-- close one, by its URI.
 pub data Order : Type 0 where
   opens : Entry → Order
   edits : List ℕ → ℤ → List Edit → Order
   closes : List ℕ → Order
 
--- What is asked of a client.
+-- A call of the client.
 pub data Call : Type 0 where
   starts shuts_down exits : Call
   orders : Order → Call
@@ -56,7 +57,7 @@ pub data Refusal : Type 0 where
   wrong_phase : Phase → Refusal
   store : documents.Refusal → Refusal
 
--- What an accepted call sends, and what the client is then.
+-- What an accepted call sends, and the client's new state.
 pub record Sending : Type 0 where
   pub message : OutgoingData
   pub state : State
@@ -65,13 +66,13 @@ pub record Sending : Type 0 where
 abbrev pub agreement : State → Agreed
 agreement s = unwrap_or s.agreed (record { encoding = Utf16; kind = Incremental })
 
--- An order is a command, whose changes count in the encoding that was agreed on.
+-- The command of an order, whose changes are in the encoding that was agreed on.
 abbrev pub command_of : Encoding → Order → Command
 command_of encoding (opens entry) = documents.opens entry
 command_of encoding (edits uri version batch) = documents.changes uri version encoding batch
 command_of encoding (closes uri) = documents.closes uri
 
--- The batch that is sent for a batch: the canonical one, or under Full the text that it leaves.
+-- The batch that is sent for a batch: the canonical one, or under Full the document's new text.
 abbrev pub sent_batch : SyncKind → (ℕ → ℕ) → List Entry → List ℕ → ℤ → List Edit → List Edit
 sent_batch Full units table uri version batch = whole_batch units table uri version batch
 sent_batch Incremental units table uri version batch = canonical_batch units table uri batch
@@ -90,20 +91,23 @@ message_of kind table (documents.changes uri version encoding batch) =
     change_message uri version (sent_batch kind (units_in encoding) table uri version batch)
 message_of kind table (documents.closes uri) = did_close (record { uri = uri })
 
+-- The body of the message of a command on a table.
 unfoldable pub sent_body : SyncKind → List Entry → Command → List ℕ
 sent_body kind table command = body_of (message_of kind table command)
 
--- A command is refused as the store does, and then where the body to send is too long.
+-- Why a command is refused: as the store refuses it, then because the body to send is too long.
 abbrev pub order_refusal : Bounds → SyncKind → List Entry → Command → Option documents.Refusal
 order_refusal limits kind table command =
     else_refused
     (command_refusal limits table command)
     (body_refusal limits (sent_body kind table command))
 
+-- What a call sends, unless there is a refusal.
 abbrev pub unless_refused : Option documents.Refusal → Sending → Result Sending Refusal
 unless_refused (Some refusal) sending = Err (store refusal)
 unless_refused None sending = Ok sending
 
+-- What a command sends and the client's new state, or why it is refused.
 abbrev pub command_result : State → SyncKind → Command → Result Sending Refusal
 command_result s kind command =
     unless_refused
@@ -113,16 +117,18 @@ command_result s kind command =
       state = record s { table = table_after s.table command };
     })
 
+-- What an order sends and the client's new state, or why it is refused.
 abbrev pub order_result : State → Order → Result Sending Refusal
 order_result s order =
     command_result s (agreement s).kind (command_of (agreement s).encoding order)
 
--- A message of the session's lifecycle is sent, and leads to a phase.
+-- A message of the session's lifecycle is sent, and the client enters this phase.
 abbrev pub lifecycle_result : State → Phase → OutgoingData → Result Sending Refusal
 lifecycle_result s phase m = Ok (record { message = m; state = record s { phase = phase } })
 
 -- ---- the table of calls: the first row that fits decides
 
+-- The result of a call, by phase.
 abbrev pub call_result_in : Phase → State → Call → Result Sending Refusal
 call_result_in New s starts = lifecycle_result s Asked (initialize s.offers)
 call_result_in Ready s (orders order) = order_result s order
@@ -130,28 +136,30 @@ call_result_in Ready s shuts_down = lifecycle_result s Closing shutdown
 call_result_in Closed s exits = lifecycle_result s Done exit
 call_result_in phase s call = Err (wrong_phase phase)
 
--- What a call sends and leaves, or why it is refused; what is refused changes nothing.
+-- What a call sends and the client's new state, or why it is refused. A refused call changes
+-- nothing.
 abbrev pub call_result : State → Call → Result Sending Refusal
 call_result s call = call_result_in s.phase s call
 
 -- ---- what the server sends
 
--- What a client makes of a body: it sends a message, notes an answer, ignores a notification, or
--- can't go on with this server.
+-- What a client does with a body: it sends a message, notes a response, ignores a notification, or
+-- can't continue with this server.
 pub data DeliveredData (Reply : Type 0) : Type 0 where
   sends : Reply → DeliveredData Reply
   noted ignored : DeliveredData Reply
   bad_server : Reason → DeliveredData Reply
 
--- What a delivery gives, and what the client is then.
+-- The result of a delivery, and the client's new state.
 pub record Delivery : Type 0 where
   pub delivered : DeliveredData OutgoingData
   pub state : State
 
+-- A delivery that changes nothing.
 abbrev pub same_state : State → DeliveredData OutgoingData → Delivery
 same_state s delivered = record { delivered = delivered; state = s }
 
--- The session can't go on; the documents stay.
+-- The session can't continue; the documents stay.
 abbrev pub failure : State → Reason → Delivery
 failure s reason =
     record { delivered = bad_server reason; state = record s { phase = Failed reason } }
@@ -167,41 +175,45 @@ begin_in s encoding kind =
       };
     }
 
--- The server's encoding is one that was offered (PositionEncodingKind).
+-- The session begins, if the announced encoding is one that was offered (PositionEncodingKind).
 abbrev pub begin_if_offered : State → SyncKind → Option Encoding → Delivery
 begin_if_offered s kind None = failure s BadEncoding
 begin_if_offered s kind (Some encoding) =
     if is_offered s.offers encoding then begin_in s encoding kind else failure s BadEncoding
 
--- The server wants to know which documents are open, and how they change (TextDocumentSyncOptions).
+-- The session begins, if the server wants to be notified of open documents and of changes
+-- (TextDocumentSyncOptions).
 abbrev pub begin_if_synced : State → Bool → SyncKind → Option Encoding → Delivery
 begin_if_synced s false kind encoding = failure s NoSync
 begin_if_synced s true Off encoding = failure s NoSync
 begin_if_synced s true kind encoding = begin_if_offered s kind encoding
 
+-- The session begins, if the result of `initialize` can be read.
 abbrev pub begin_as_announced : State → Option Announced → Delivery
 begin_as_announced s None = failure s NotAnAnswer
 begin_as_announced s (Some announced) =
     begin_if_synced s announced.open_close announced.kind announced.encoding
 
--- The answers to `initialize` and to `shutdown`.
+-- The response to `initialize`.
 abbrev pub initialize_delivery : State → OutcomeData → Delivery
 initialize_delivery s failed = failure s ErrorAnswer
 initialize_delivery s (given result) = begin_as_announced s (announced_of result)
 
+-- The response to `shutdown`.
 abbrev pub shutdown_delivery : State → OutcomeData → Delivery
 shutdown_delivery s failed = failure s ErrorAnswer
 shutdown_delivery s (given result) =
     record { delivered = noted; state = record s { phase = Closed } }
 
--- whether an id is this number
+-- Whether an id is this number.
 abbrev pub is_id : ℕ → Option IdData → Bool
 is_id n None = false
 is_id n (Some (whole (pos k))) = k == n
 is_id n (Some (whole (negsuc k))) = false
 is_id n (Some (text t)) = false
 
--- `initialize` has the id 1 and `shutdown` the id 2; nothing else is asked.
+-- A response, by phase. `initialize` has the id 1 and `shutdown` the id 2; the client sends no
+-- other request.
 abbrev pub response_delivery : Phase → State → Option IdData → OutcomeData → Delivery
 response_delivery Asked s id outcome =
     if is_id 1 id then initialize_delivery s outcome else failure s NotAnAnswer
@@ -211,6 +223,7 @@ response_delivery phase s id outcome = failure s NotAnAnswer
 
 -- ---- the table of deliveries: the first row that fits decides
 
+-- What a client that listens does with a body.
 abbrev pub delivery_of : State → Reading → Delivery
 delivery_of s not_json = failure s NotAnAnswer
 delivery_of s (not_a_message id) = failure s NotAnAnswer
@@ -229,10 +242,11 @@ is_listening Closed = true
 is_listening Done = false
 is_listening (Failed reason) = false
 
+-- What a client does with a body, if it listens.
 abbrev pub if_listening : Bool → State → Reading → Result Delivery Refusal
 if_listening true s body = Ok (delivery_of s body)
 if_listening false s body = Err (wrong_phase s.phase)
 
--- What a body that the server sent gives and leaves, or why it is refused.
+-- The result of a body that the server sent and the client's new state, or why the body is refused.
 abbrev pub delivery_result : State → Reading → Result Delivery Refusal
 delivery_result s body = if_listening (is_listening s.phase) s body

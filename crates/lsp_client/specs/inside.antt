@@ -1,1 +1,2 @@
+-- Definitions that only the private contracts name.
 pub mod Orders

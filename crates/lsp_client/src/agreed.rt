@@ -1,9 +1,10 @@
-//! What client and server agreed on.
+//! What client and server agree on.
 
 use lsp_message::SyncKind;
 use lsp_text::Encoding;
 
-/// What the answer to `initialize` settles for the session: how characters are counted, and how changes are sent.
+/// What the result of `initialize` fixes for the session: the encoding of positions, and how
+/// changes are sent.
 #[derive(Clone, Copy, Debug, PartialEq, Eq, Hash)]
 pub struct Agreed {
     pub encoding: Encoding,

@@ -15,8 +15,9 @@ use lsp_text::Encoding;
 use std::alloc::Global;
 use std::marker::Model;
 
-/// The client's end of one session (LSP 3.17, Lifecycle Messages, Text Document Synchronization). Clauses see its limits, the encodings
-/// that it offers, the phase, what was agreed on, and the open documents.
+/// The client's end of one session (LSP 3.17, Lifecycle Messages, Text Document Synchronization).
+/// Clauses see its limits, the encodings that it offers, its phase, what was agreed on, and the
+/// open documents.
 #[derive(Drop)]
 pub struct Client {
     pub(crate) alloc: Global,
@@ -41,7 +42,7 @@ impl Model for Client {
 }
 
 impl Client {
-    /// At the start of a session, in phase New and with no document. Takes no memory.
+    /// Returns a client in phase New, with no open document. Takes no memory.
     pub fn new(alloc: Global, limits: Limits, offers: Offers) -> Client
         ensures { result ≡ start limits offers }
     {
@@ -54,29 +55,33 @@ impl Client {
         }
     }
 
-    /// The phase of the session.
+    /// Returns the phase of the session.
     pub fn phase(&self) -> Phase
         ensures { result ≡ self.now.phase }
     {
         self.phase
     }
 
-    /// The open documents, to be read.
+    /// Returns a reference to the open documents.
     pub fn store(&self) -> &Store
         ensures { result.now ≡ record { limits = self.now.limits; table = self.now.table } }
     {
         &self.store
     }
 
-    /// The encoding in which positions are counted (LSP 3.17, PositionEncodingKind); none before phase Ready.
+    /// Returns the encoding of positions (LSP 3.17, PositionEncodingKind). There is none before
+    /// phase Ready.
     pub fn encoding(&self) -> Option<Encoding>
         ensures { result ≡ option_map (λ agreed. agreed.encoding) self.now.agreed }
     {
         self.agreed.map(|agreed| agreed.encoding)
     }
 
-    /// Begins the session: the frame of `initialize` (LSP 3.17, Initialize Request), which has the id 1 and names the encodings that are
-    /// offered. In phase New, which becomes Asked; else [`ClientFault::WrongPhase`]. Costs the message's bytes.
+    /// Begins the session, and returns the frame of `initialize` (LSP 3.17, Initialize Request).
+    /// Its id is 1, and it names the encodings that the client offers.
+    ///
+    /// In phase New, which becomes Asked; else [`ClientFault::WrongPhase`]. Costs the message's
+    /// bytes.
     pub fn start(&mut self) -> Result<Vec<u8>, ClientFault>
         ensures ok { IfOk result (λ frame.
             IsSent (call_result self.old starts) frame.items self.new) }
@@ -93,8 +98,11 @@ impl Client {
         }
     }
 
-    /// Asks the server to shut down: the frame of `shutdown` (LSP 3.17, Shutdown Request), which has the id 2. In phase Ready, which becomes
-    /// Closing; else [`ClientFault::WrongPhase`]. The documents stay open. Costs the message's bytes.
+    /// Asks the server to shut down, and returns the frame of `shutdown` (LSP 3.17, Shutdown
+    /// Request). Its id is 2.
+    ///
+    /// In phase Ready, which becomes Closing; else [`ClientFault::WrongPhase`]. The documents stay
+    /// open. Costs the message's bytes.
     pub fn shutdown(&mut self) -> Result<Vec<u8>, ClientFault>
         ensures ok { IfOk result (λ frame.
             IsSent (call_result self.old shuts_down) frame.items self.new) }
@@ -111,8 +119,10 @@ impl Client {
         }
     }
 
-    /// Ends the session: the frame of `exit` (LSP 3.17, Exit Notification). In phase Closed, which becomes Done; else
-    /// [`ClientFault::WrongPhase`]. Costs the message's bytes.
+    /// Ends the session, and returns the frame of `exit` (LSP 3.17, Exit Notification).
+    ///
+    /// In phase Closed, which becomes Done; else [`ClientFault::WrongPhase`]. Costs the message's
+    /// bytes.
     pub fn exit(&mut self) -> Result<Vec<u8>, ClientFault>
         ensures ok { IfOk result (λ frame.
             IsSent (call_result self.old exits) frame.items self.new) }

@@ -1,4 +1,4 @@
-//! What the client makes of a body that the server sent.
+//! What the client does with a body that the server sent.
 
 ghost use Rattle.std.specs.Prelude.{◌≡◌, IfErr, IfOk, Ok, OnErr, Some, option_map};
 ghost use Rattle.lsp_message.specs.Message.{reading, message as read_as};
@@ -20,8 +20,8 @@ use lsp_message::{
 use std::alloc::AllocError;
 
 impl Client {
-    /// Takes a body that the server sent (LSP 3.17, Base Protocol). In the phases Asked, Ready, Closing and Closed; else
-    /// [`ClientFault::WrongPhase`]. The first row that fits decides:
+    /// Handles a body that the server sent (LSP 3.17, Base Protocol). In the phases Asked, Ready,
+    /// Closing and Closed; else [`ClientFault::WrongPhase`]. The first row that fits decides:
     ///
     /// | Phase | Body | Delivered |
     /// |---|---|---|
@@ -37,8 +37,9 @@ impl Client {
     /// | Closing | the response 2 with a result | `Noted`; now Closed |
     /// | any of the four | another response | `BadServer(NotAnAnswer)` |
     ///
-    /// After `BadServer` the phase is Failed, and the documents are as before. Nothing else changes. After [`ClientFault::NoMemory`] the
-    /// client is as it was, and the same body can be delivered again. Costs one parse of the body, and the bytes of what is to be sent.
+    /// After `BadServer` the phase is Failed, and the documents are as before. Nothing else
+    /// changes. After [`ClientFault::NoMemory`] the client is unchanged, and a caller can deliver
+    /// the same body again. Costs one parse of the body, and the bytes of what is to be sent.
     pub fn deliver(&mut self, body: &[u8]) -> Result<Delivered, ClientFault>
         ensures ok { IfOk result (λ delivered.
             IsDelivered (delivery_result self.old (reading body.now))
@@ -116,7 +117,7 @@ impl Client {
         }
     }
 
-    /// The answer to `initialize`.
+    /// Handles the response to `initialize`.
     fn begin(&mut self, outcome: Outcome) -> Result<Delivered, AllocError>
         ensures ok { IfOk result (λ delivered.
             IsDelivered (Ok (initialize_delivery self.old (outcome_view outcome)))
@@ -156,7 +157,7 @@ impl Client {
         }
     }
 
-    /// The answer to `shutdown`.
+    /// Handles the response to `shutdown`.
     fn close_down(&mut self, outcome: Outcome) -> Delivered
         ensures { IsDelivered (Ok (shutdown_delivery self.old (outcome_view outcome)))
             (delivered_view result) self.new }
@@ -170,7 +171,7 @@ impl Client {
         }
     }
 
-    /// The session can't go on. The documents stay.
+    /// Ends the session with this reason; the documents stay.
     fn fail(&mut self, reason: Reason) -> Delivered
         ensures { IsDelivered (Ok (failure self.old reason)) (delivered_view result) self.new }
     {
@@ -179,7 +180,7 @@ impl Client {
     }
 }
 
-/// Is an id this number?
+/// Returns whether an id is this number.
 fn is_id(number: u32, id: &Option<Id>) -> bool
     ensures { result ≡ spec.is_id number (option_map id_view id.now) }
 {

@@ -1,16 +1,16 @@
-//! What a client makes of what the server sends.
+//! The results of a delivery.
 
 use crate::phase::Reason;
 
-/// What a client makes of a body.
+/// What a client does with a body of the server.
 #[derive(Debug, PartialEq, Eq, Drop)]
 pub enum Delivered {
     /// A frame to send to the server.
     Send(Vec<u8>),
-    /// The answer to `shutdown`.
+    /// The response to `shutdown`.
     Noted,
     /// A notification, which changes nothing.
     Ignored,
-    /// The session can't go on; the phase is now Failed with this reason.
+    /// The session can't continue; the phase is now Failed with this reason.
     BadServer(Reason),
 }

@@ -22,10 +22,13 @@ use lsp_store::StoreFault;
 use lsp_text::Encoding;
 
 impl Client {
-    /// Opens a document (LSP 3.17, DidOpenTextDocument): the frame of `textDocument/didOpen`. In phase Ready; else
-    /// [`ClientFault::WrongPhase`]. Refuses as [`Store::open`](lsp_store::Store::open), then
-    /// [`StoreFault::BodyTooLong`](lsp_store::StoreFault::BodyTooLong). The texts are moved in, and copied once, into the message. Costs
-    /// what `Store::open` costs, and the message's bytes.
+    /// Opens a document, and returns the frame of `textDocument/didOpen` (LSP 3.17,
+    /// DidOpenTextDocument).
+    ///
+    /// In phase Ready; else [`ClientFault::WrongPhase`]. Refuses as
+    /// [`Store::open`](lsp_store::Store::open), then with
+    /// [`StoreFault::BodyTooLong`](lsp_store::StoreFault::BodyTooLong). The texts are moved in, and
+    /// copied once, into the message. Costs what `Store::open` costs, and the message's bytes.
     pub fn open(
         &mut self,
         uri: String,
@@ -80,12 +83,18 @@ impl Client {
         Ok(frame)
     }
 
-    /// Changes a document (LSP 3.17, DidChangeTextDocument): the frame of one `textDocument/didChange`, which carries the canonical batch,
-    /// or where the server asked for whole texts one change without a range that holds the text that the batch leaves. Characters of
-    /// positions are counted in the encoding that was agreed on. In phase Ready; else [`ClientFault::WrongPhase`]. Refuses as
-    /// [`Store::change`](lsp_store::Store::change), then [`StoreFault::BodyTooLong`](lsp_store::StoreFault::BodyTooLong). Costs what
-    /// [`Store::canonical_message`](lsp_store::Store::canonical_message) and `Store::change` cost; where whole texts are sent, in
-    /// place of the first what `Store::change` costs once more, one copy of the text, and the message's bytes.
+    /// Changes a document, and returns the frame of one `textDocument/didChange` (LSP 3.17,
+    /// DidChangeTextDocument). It has the canonical batch. Where the server asked for whole texts,
+    /// it has one change without a range, with the document's new text. Positions are in the
+    /// encoding that was agreed on.
+    ///
+    /// In phase Ready; else [`ClientFault::WrongPhase`]. Refuses as
+    /// [`Store::change`](lsp_store::Store::change), then with
+    /// [`StoreFault::BodyTooLong`](lsp_store::StoreFault::BodyTooLong).
+    ///
+    /// Costs what [`Store::canonical_message`](lsp_store::Store::canonical_message) and
+    /// `Store::change` cost. For whole texts it costs `Store::change` twice, one copy of the text,
+    /// and the message's bytes.
     pub fn edit(
         &mut self,
         uri: &str,
@@ -128,7 +137,7 @@ impl Client {
         }
     }
 
-    /// Changes a document, and sends the canonical batch.
+    /// Changes a document, and returns the frame of its canonical batch.
     fn send_change(
         &mut self,
         uri: &str,
@@ -153,7 +162,7 @@ impl Client {
         Ok(frame)
     }
 
-    /// Changes a document, and sends the text that it has then.
+    /// Changes a document, and returns the frame of its new text.
     fn send_whole(
         &mut self,
         uri: &str,
@@ -177,10 +186,13 @@ impl Client {
         Ok(frame)
     }
 
-    /// Closes a document (LSP 3.17, DidCloseTextDocument): the frame of `textDocument/didClose`. In phase Ready; else
-    /// [`ClientFault::WrongPhase`]. Refuses [`StoreFault::NotOpen`](lsp_store::StoreFault::NotOpen), then
-    /// [`StoreFault::BodyTooLong`](lsp_store::StoreFault::BodyTooLong). Costs what [`Store::close`](lsp_store::Store::close) costs, and the
-    /// message's bytes.
+    /// Closes a document, and returns the frame of `textDocument/didClose` (LSP 3.17,
+    /// DidCloseTextDocument).
+    ///
+    /// In phase Ready; else [`ClientFault::WrongPhase`]. Refuses with
+    /// [`StoreFault::NotOpen`](lsp_store::StoreFault::NotOpen), then with
+    /// [`StoreFault::BodyTooLong`](lsp_store::StoreFault::BodyTooLong). Costs what
+    /// [`Store::close`](lsp_store::Store::close) costs, and the message's bytes.
     pub fn close(&mut self, uri: &str) -> Result<Vec<u8>, ClientFault>
         ensures ok { IfOk result (λ frame.
             IsSent (call_result self.old (orders (closes uri.now))) frame.items self.new) }
@@ -213,7 +225,7 @@ impl Client {
         Ok(frame)
     }
 
-    /// What was agreed on; before phase Ready the protocol's default.
+    /// Returns what was agreed on; before phase Ready the protocol's default.
     fn agreement(&self) -> Agreed
         ensures { result ≡ agreement self.now }
     {
@@ -224,7 +236,7 @@ impl Client {
     }
 }
 
-/// The params of a message that opens a document.
+/// Returns the params of a message that opens a document.
 fn open_params(message: Outgoing) -> Option<OpenParams>
     ensures { (params : OpenParams) → message ≡ DidOpen params → result ≡ Some params }
 {

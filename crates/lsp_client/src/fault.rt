@@ -11,13 +11,14 @@ use thiserror::Error;
 /// Why a call of the client is refused. A refused call changes nothing.
 #[derive(Clone, Copy, Debug, PartialEq, Eq, Error)]
 pub enum ClientFault {
-    /// C1: the call has no place in this phase.
+    /// C1: the call isn't allowed in this phase.
     #[error("the call has no place in phase {phase:?}")]
     WrongPhase { phase: Phase },
-    /// C2: the open documents don't admit it, or the message is too long; never [`StoreFault::NoMemory`].
+    /// C2: the store refuses the call, or the message is too long. It is never
+    /// [`StoreFault::NoMemory`].
     #[error("{0}")]
     Store(StoreFault),
-    /// C3: out of memory. The same call can be made again.
+    /// C3: out of memory. A caller can repeat the same call.
     #[error("out of memory")]
     NoMemory,
 }

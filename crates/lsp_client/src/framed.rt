@@ -12,7 +12,7 @@ use lsp_message::{Outgoing, write};
 use lsp_store::StoreFault;
 use std::alloc::{AllocError, Global};
 
-/// The frame of a message, however long.
+/// Returns the frame of a message of any length.
 pub(crate) fn framed(alloc: Global, message: &Outgoing) -> Result<Vec<u8>, AllocError>
     ensures { IfOk result (λ bytes. bytes.items ≡ frame (body_of (outgoing_view message.now))) }
 {
@@ -20,7 +20,7 @@ pub(crate) fn framed(alloc: Global, message: &Outgoing) -> Result<Vec<u8>, Alloc
     frame(alloc, &body)
 }
 
-/// The frame of a message whose body is within the limit.
+/// Returns the frame of a message, unless its body is too long.
 pub(crate) fn framed_within(
     alloc: Global,
     limits: &Limits,

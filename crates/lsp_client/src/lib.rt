@@ -1,8 +1,10 @@
-//! The client's end of a session of the Language Server Protocol 3.17: a call in, a frame out; a body in, what it means out.
+//! The client's end of a session of the Language Server Protocol 3.17: a call in, a frame out; a
+//! body in, its outcome out.
 //!
-//! A [`Client`] is the editor's half. It keeps the open documents, sends each change in one message, and follows the session's lifecycle.
-//! You bring the bytes: each call answers a frame to write to the server, and each body that the server sends goes into
-//! [`Client::deliver`]. `lsp_frame` takes the server's stream apart into bodies.
+//! A [`Client`] is the editor's half. It keeps the open documents, sends each change in one
+//! message, and follows the session's lifecycle. You bring the bytes. Each call returns a frame to
+//! write to the server, and each body that the server sends is passed to [`Client::deliver`].
+//! `lsp_frame` splits the server's stream into bodies.
 //!
 //! ```text
 //! let mut client = Client::new(alloc, limits, Offers::new(true, false));
@@ -22,26 +24,37 @@
 //! output.write_all(&client.exit()?)?;
 //! ```
 //!
-//! An edit of `abc` that puts `X` in place of `b` sends
+//! An edit of `abc` that replaces `b` by `X` sends a frame with a body of 215 bytes, which is here
+//! on several lines:
 //!
 //! ```text
-//! Content-Length: 215
-//!
-//! {"jsonrpc":"2.0","method":"textDocument/didChange","params":{"contentChanges":[{"range":{"end":{"character":2,"line":0},"start":{"character":1,"line":0}},"text":"X"}],"textDocument":{"uri":"file:///a","version":2}}}
+//! {"jsonrpc":"2.0","method":"textDocument/didChange","params":{
+//!  "contentChanges":[{"range":{"end":{"character":2,"line":0},
+//!                              "start":{"character":1,"line":0}},"text":"X"}],
+//!  "textDocument":{"uri":"file:///a","version":2}}}
 //! ```
 //!
-//! and where the server asked for whole texts one change without a range, with the text `aXc`. A client and a server of `lsp_server` talk in
-//! the tests, `lsp_client_tests/src/tests/session.rt`.
+//! Where the server asked for whole texts, the edit sends one change without a range, with the text
+//! `aXc`. A client and a server of `lsp_server` talk in the tests,
+//! `lsp_client_tests/src/tests/session.rt`.
 //!
-//! A call is refused, and changes nothing, where the phase is another ([`ClientFault::WrongPhase`]), where the documents don't admit it or
-//! the message would be too long ([`ClientFault::Store`]), and where memory runs out. What a server sends that no session can go on with
-//! sets the phase to Failed; the documents stay, so that an editor can start a new server and open them again.
+//! A refused call changes nothing. A call is refused
+//!
+//! - in a wrong phase ([`ClientFault::WrongPhase`]),
+//! - where the store refuses it or the message would be too long ([`ClientFault::Store`]),
+//! - and where memory runs out ([`ClientFault::NoMemory`]).
+//!
+//! When the server sends what no session can continue with, the phase becomes Failed. The documents
+//! stay, so that an editor can start a new server and open them again.
 //!
 //! - `client`: the client, and the calls of its lifecycle.
 //! - `documents`: the calls on the open documents.
-//! - `deliver`: what a body of the server means, and the table of deliveries.
-//! - `delivered`, `fault`, `phase`: what comes back.
-//! - `agreed`, `framed`: what client and server agreed on; the frames of messages.
+//! - `deliver`: what the client does with a body of the server.
+//! - `delivered`: the results of a delivery.
+//! - `fault`: why a call is refused.
+//! - `phase`: the phases of a session.
+//! - `agreed`: the encoding and the kind of synchronisation of a session.
+//! - `framed`: the frames of messages.
 //! - `whole`: edits where the server asked for whole texts.
 #![tactic(auto)]
 

@@ -5,29 +5,30 @@
 pub enum Phase {
     /// Nothing was sent.
     New,
-    /// `initialize` was sent; its answer is awaited.
+    /// `initialize` was sent; its response is awaited.
     Asked,
     /// The session runs: documents are opened, edited and closed.
     Ready,
-    /// `shutdown` was sent; its answer is awaited.
+    /// `shutdown` was sent; its response is awaited.
     Closing,
     /// `shutdown` was answered; only `exit` is left.
     Closed,
     /// `exit` was sent.
     Done,
-    /// The server sent what no session can go on with.
+    /// The server sent what no session can continue with.
     Failed(Reason),
 }
 
-/// Why a session can't go on.
+/// Why a session can't continue.
 #[derive(Clone, Copy, Debug, PartialEq, Eq, Hash)]
 pub enum Reason {
-    /// A body that is no message, a response to no request of the client, or a result of `initialize` of the wrong form.
+    /// A body that is no message, a response to no request of the client, or a result of
+    /// `initialize` that can't be read.
     NotAnAnswer,
-    /// An error in answer to `initialize` or `shutdown`.
+    /// An error response to `initialize` or `shutdown`.
     ErrorAnswer,
-    /// The server doesn't want to know which documents are open, or how they change.
+    /// The server doesn't want to be notified of documents that open and close, or of changes.
     NoSync,
-    /// The server counts in an encoding that was not offered.
+    /// The server announces an encoding that wasn't offered.
     BadEncoding,
 }

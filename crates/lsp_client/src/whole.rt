@@ -24,7 +24,8 @@ use lsp_store::{Document, Store, StoreFault};
 use lsp_text::{Encoding, Lines};
 use std::alloc::Global;
 
-/// The text that a batch leaves of an open document, whose own text stays. Refuses as [`Store::change`](lsp_store::Store::change) does.
+/// Returns the text of an open document after a batch; the document stays as it is. Refuses as
+/// [`Store::change`](lsp_store::Store::change) does.
 pub(crate) fn text_after(
     alloc: Global,
     store: &Store,
@@ -53,7 +54,7 @@ pub(crate) fn text_after(
     Ok(text)
 }
 
-/// The text that a batch leaves of a document, within limits.
+/// Returns the text of a document after a batch, within limits.
 fn document_after(
     alloc: Global,
     document: &Document<'_>,
@@ -79,7 +80,8 @@ fn document_after(
     Ok(left)
 }
 
-/// Whether nothing but its meaning refuses a batch. Takes no memory.
+/// Checks a batch apart from its meaning: its version, and the limits on its changes. Takes no
+/// memory.
 fn may_change(
     document: &Document<'_>,
     limits: &Limits,
@@ -105,8 +107,10 @@ fn may_change(
     Ok(())
 }
 
-/// The text that a batch leaves of a text, if it has at most `max_len` bytes. Costs what each change costs to apply, and one copy: of one
-/// change it is made at the end, and with more it is there already, since later changes meet it.
+/// Returns a text after a batch, if that has at most `max_len` bytes.
+///
+/// Costs what each change costs to apply, and one copy. With one change the copy comes at the end;
+/// with more, applying the later changes needs it already.
 fn text_left(
     alloc: Global,
     before: &str,
@@ -137,7 +141,7 @@ fn text_left(
     Ok(left)
 }
 
-/// The frame of the `textDocument/didChange` of one change without a range.
+/// Returns the frame of the `textDocument/didChange` of one change without a range.
 pub(crate) fn whole_frame(
     alloc: Global,
     limits: &Limits,

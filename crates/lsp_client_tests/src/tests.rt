@@ -1,4 +1,4 @@
-//! Sessions of a client: calls and bodies, each with what is wanted of its answer.
+//! Sessions of a client: calls and bodies, each with the expected result.
 
 mod agreed;
 mod phases;
@@ -16,7 +16,7 @@ use std::test::Fail;
 
 pub(super) const URI: &str = "file:///a";
 
-/// A client that offers UTF-16 alone, with wide limits.
+/// Returns a client that offers UTF-16 alone, with wide limits.
 pub(super) fn new_client(alloc: Global) -> Result<Client, Fail> {
     client_with(alloc, Offers::new(false, false))
 }
@@ -26,7 +26,7 @@ pub(super) fn client_with(alloc: Global, offers: Offers) -> Result<Client, Fail>
     Ok(Client::new(alloc, limits, offers))
 }
 
-/// A change of characters on line 0.
+/// Returns a change of characters on line 0.
 pub(super) fn change(
     alloc: Global,
     start: u32,
@@ -57,13 +57,13 @@ pub(super) fn open_as(
     )
 }
 
-/// What is asked of a client.
+/// A call of a client.
 #[derive(Clone, Copy, Debug)]
 pub(super) enum Ask {
     Start,
     /// Opens the document with this text, in version 1.
     Open(&'static str),
-    /// Puts a text in place of characters on line 0, under a version.
+    /// Replaces characters on line 0 by a text, under a version.
     Edit(i32, u32, u32, &'static str),
     Close,
     Shutdown,
@@ -71,7 +71,7 @@ pub(super) enum Ask {
     Deliver(&'static str),
 }
 
-/// Makes one call; what it answers is the body that is to be sent, or a word.
+/// Makes one call, and returns its result: a frame to send, another delivery, or a fault.
 pub(super) fn answer_to(
     alloc: Global,
     client: &mut Client,
@@ -91,7 +91,7 @@ pub(super) fn answer_to(
     Ok(sent.map(Delivered::Send))
 }
 
-/// Is this the answer that is wanted: the frame of this body, or what this word names?
+/// Returns whether this is the expected result: the frame of this body, or the result of this word.
 pub(super) fn is_answer(
     alloc: Global,
     given: &Result<Delivered, ClientFault>,
@@ -133,7 +133,7 @@ fn word_of_fault(fault: ClientFault) -> &'static str {
     }
 }
 
-/// The word of a call in a wrong phase, which names the phase.
+/// Returns the word of a call in a wrong phase, which names the phase.
 fn word_of_phase(phase: Phase) -> &'static str {
     match phase {
         Phase::New => "C1 New",

@@ -15,10 +15,12 @@ use Rattle.lsp_edit.specs.declared.fault.EditFault.{EditFault}
 use Rattle.lsp_edit.specs.declared.fault.EditFault.TheVariants.{NoMemory}
 use Rattle.lsp_edit.specs.Items.{Item, New, character_of, text_of}
 use Rattle.lsp_edit.specs.Batch.{Edit, InsideStart, InsideStop, Reversed, replaced, after_change}
-use Rattle.lsp_edit.specs.Faults.{fault_at, TellsFault, IsPlaces, in_order, ends_of, places_at}
+use Rattle.lsp_edit.specs.Faults.{fault_at, IsFaultOfChange, in_order, ends_of, places_at}
+use Rattle.lsp_edit.specs.inside.Faults.{IsPlaces}
 use Rattle.lsp_edit.specs.Keeps.{Keeps}
-use Rattle.lsp_edit.specs.Parts.{Part, items_of, bytes_of, AreParts, AreCut, AreOrdered, NoneTouch, new_parts, replaced_parts}
-use Rattle.lsp_edit.specs.Edited.{ArePieces, Applied, Edited, edit_of, edited_text, edited_bytes, one_more}
+use Rattle.lsp_edit.specs.Parts.{Part, items_of, bytes_of, AreParts, NoneTouch, new_parts}
+use Rattle.lsp_edit.specs.inside.Parts.{AreCut, AreOrdered, replaced_parts}
+use Rattle.lsp_edit.specs.Edited.{ArePieces, Applied, Edited, edit_of, edited_text, edited_bytes, next_number}
 use Rattle.lsp_edit.proofs.KeepsLemmas.{after_change_keeps}
 use Rattle.lsp_edit.proofs.CutLemmas.{text_of-new, part_ordered}
 use Rattle.lsp_edit.proofs.CutPartsLemmas.{cut_parts, parts_bytes}
@@ -62,14 +64,14 @@ ends_told units text range number start stop is = by_ends (denoted units text ra
 
 -- A fault of the places is that of the change.
 pub fault_told : (units : ℕ → ℕ) (old : List ℕ) (items : List Item) (characters : List ℕ) (range : Range) (number : ℕ) (fault : EditFault)
-    → IsPlaces (Err fault) (places_at number (text_of old items) (ends_of units (text_of old items) range)) → TellsFault number (after_change units old items (record { range = Some range; text = characters })) fault
-fault_told units old items characters range number fault told =
+    → IsPlaces (Err fault) (places_at number (text_of old items) (ends_of units (text_of old items) range)) → IsFaultOfChange number (after_change units old items (record { range = Some range; text = characters })) fault
+fault_told units old items characters range number fault error =
     ⊎_elim
     (λ (e : Err fault ≡ Err NoMemory). inl (cc))
     (λ (e : Err fault ≡ places_at number (text_of old items) (ends_of units (text_of old items) range)). by_ends (denoted units (text_of old items) range.start) (denoted units (text_of old items) range.stop) e)
-    told
+    error
   where
-    by_ends : (a b : Option ℕ) → ◌≡◌ {A = Result (ℕ × ℕ) EditFault} (Err fault) (places_at number (text_of old items) (in_order a b)) → TellsFault number (replaced items characters a b) fault
+    by_ends : (a b : Option ℕ) → ◌≡◌ {A = Result (ℕ × ℕ) EditFault} (Err fault) (places_at number (text_of old items) (in_order a b)) → IsFaultOfChange number (replaced items characters a b) fault
     by_ends None b e = inr (InsideStart, refl, cc)
     by_ends (Some a) None e = inr (InsideStop, refl, cc)
     by_ends (Some a) (Some b) e =
@@ -83,7 +85,7 @@ bytes_split text k =
     sym (length-append (encode_utf8_all (take k text)) (encode_utf8_all (drop k text)))
     ∙ ap length (sym (encodes-append (take k text) (drop k text)) ∙ ap encode_utf8_all (take-append-drop k text))
 
-one_more_some : (changes : ℕ) → one_more changes ≡ 0 → ⊥
+one_more_some : (changes : ℕ) → next_number changes ≡ 0 → ⊥
 one_more_some changes e = omega arith
 
 -- what callers see of the fields
@@ -93,7 +95,7 @@ seen before parts changes = record { before = chars before; items = items_of (ch
 -- The fields after a change.
 pub record IsNext (units : ℕ → ℕ) (before lines : List ℕ) (parts : List Part) (changes : ℕ) (change : Edit) (next : List Part) (len : ℕ) : Type 0 where
   pub made : after_change units (chars before) (items_of (chars before) parts) change ≡ Ok (items_of (chars before) next)
-  pub are : ArePieces before lines next len (one_more changes)
+  pub are : ArePieces before lines next len (next_number changes)
 
 module _ (units : ℕ → ℕ) (before lines : List ℕ) (parts : List Part) (len changes : ℕ) (are : ArePieces before lines parts len changes) (new : List ℕ) (utf8 : IsUtf8 new) (room : len + length new ≤ 2147483648) where
   now_long : len ≡ length (encode_utf8_all (text_of (chars before) (items_of (chars before) parts)))
@@ -243,7 +245,7 @@ room_told before lines parts len changes more edited are is room =
     omega (arith, n, ap (λ (e : Edited). length (edited_bytes e)) is)
 
 pub next_told : (units : ℕ → ℕ) (before lines : List ℕ) (parts : List Part) (changes : ℕ) (change : Edit) (next : List Part) (len : ℕ) → IsNext units before lines parts changes change next len
-    → (edited : Edited) → seen before parts changes ≡ edited → (made : List Part) → made ≡ next → (count : ℕ) → count ≡ one_more changes → Applied units edited change (seen before made count)
+    → (edited : Edited) → seen before parts changes ≡ edited → (made : List Part) → made ≡ next → (count : ℕ) → count ≡ next_number changes → Applied units edited change (seen before made count)
 next_told units before lines parts changes change next len is edited view made same count counted =
     subst (λ (e : Edited). Applied units e change (seen before made count)) view (record {
       made = is.made ∙ ap (λ (ps : List Part). Ok (items_of (chars before) ps)) (sym same);
@@ -252,18 +254,18 @@ next_told units before lines parts changes change next len is edited view made s
     })
 
 pub next_holds : (units : ℕ → ℕ) (before lines : List ℕ) (parts : List Part) (changes : ℕ) (change : Edit) (next : List Part) (len : ℕ) → IsNext units before lines parts changes change next len
-    → (made : List Part) → made ≡ next → (count : ℕ) → count ≡ one_more changes → ArePieces before lines made len count
+    → (made : List Part) → made ≡ next → (count : ℕ) → count ≡ next_number changes → ArePieces before lines made len count
 next_holds units before lines parts changes change next len is made same count counted = rw (same, counted) is.are
 
 -- What was told of a range's places, told of the fields.
 module _ (units : ℕ → ℕ) (range : Range) (before lines : List ℕ) (parts : List Part) (len changes : ℕ) (are : ArePieces before lines parts len changes) (edited : Edited) (view : seen before parts changes ≡ edited) where
   pub ends_seen : (start stop : ℕ) → IsPlaces (Ok (start, stop)) (places_at edited.changes (edited_text edited) (ends_of units (edited_text edited) range)) → AreEnds units (text_of (chars before) (items_of (chars before) parts)) range start stop
-  ends_seen start stop told =
+  ends_seen start stop error =
       ⊎_elim
       (λ (e : Ok (start, stop) ≡ Err NoMemory). absurd (cc))
       (λ (e : Ok (start, stop) ≡ places_at edited.changes (edited_text edited) (ends_of units (edited_text edited) range)).
       subst (λ (text : List ℕ). AreEnds units text range start stop) (sym (ap edited_text view)) (ends_told units (edited_text edited) range edited.changes start stop e))
-      told
+      error
 
   -- a range whose places were told may be replaced
   pub record IsRanged (new : List ℕ) (start stop : ℕ) : Type 0 where
@@ -279,9 +281,9 @@ module _ (units : ℕ → ℕ) (range : Range) (before lines : List ℕ) (parts 
     pub next : length (replaced_parts parts start stop new) < 18446744073709551616 → IsNext units before lines parts changes (record { range = Some range; text = chars new }) (replaced_parts parts start stop new) (len - (stop - start) + length new)
 
   pub ranged : (new : List ℕ) → IsUtf8 new → length (edited_bytes edited) + length new ≤ 2147483648 → (start stop : ℕ) → IsPlaces (Ok (start, stop)) (places_at edited.changes (edited_text edited) (ends_of units (edited_text edited) range)) → IsRanged new start stop
-  ranged new utf8 room start stop told =
+  ranged new utf8 room start stop error =
       let fits : len + length new ≤ 2147483648 = room_told before lines parts len changes (length new) edited are view room in
-      let ends : AreEnds units (text_of (chars before) (items_of (chars before) parts)) range start stop = ends_seen start stop told in
+      let ends : AreEnds units (text_of (chars before) (items_of (chars before) parts)) range start stop = ends_seen start stop error in
       record {
         start_cut = start_cut units before lines parts len changes are new utf8 fits range start stop ends;
         stop_cut = stop_cut units before lines parts len changes are new utf8 fits range start stop ends;

@@ -1,7 +1,7 @@
 -- Batches, one after the other: what the second makes of what the first left.
 use Rattle.std.proofs.Common.{ℕ, suc, ◌≡◌, ◌+◌, List, [], ◌∷◌, ◌++◌, length, Result, Ok, Err, refl, ap, ◌∙◌, subst, arith}
 use Rattle.lsp_edit.specs.Items.{Item}
-use Rattle.lsp_edit.specs.Batch.{Edit, Fault, after_change, after_changes, go_on}
+use Rattle.lsp_edit.specs.Batch.{Edit, Fault, after_change, after_changes, continue_with}
 use Rattle.lsp_edit.specs.Laws.{RangesStay}
 
 module _ (units : ℕ → ℕ) (old : List ℕ) where
@@ -12,27 +12,27 @@ module _ (units : ℕ → ℕ) (old : List ℕ) where
       let n : number ≡ number + 0 = omega arith in
       ap (λ (m : ℕ). after_changes units old m items second) n ∙ ap (λ (m : List Item). after_changes units old (number + 0) m second) e
   after_changes-append number items middle (change ∷ first) second is =
-      behind (after_change units old items change) (λ next. after_changes-append (suc number) next middle first second) is
+      rest_after (after_change units old items change) (λ next. after_changes-append (suc number) next middle first second) is
     where
-      behind : (made : Result (List Item) Fault)
+      rest_after : (made : Result (List Item) Fault)
           → ((next : List Item) → after_changes units old (suc number) next first ≡ Ok middle → after_changes units old (suc number) next (first ++ second) ≡ after_changes units old (suc number + length first) middle second)
-          → go_on (λ next. after_changes units old (suc number) next first) number made ≡ Ok middle
-          → go_on (λ next. after_changes units old (suc number) next (first ++ second)) number made ≡ after_changes units old (number + suc (length first)) middle second
-      behind (Ok next) more r = let n : suc number + length first ≡ number + suc (length first) = omega arith in more next r ∙ ap (λ (m : ℕ). after_changes units old m middle second) n
-      behind (Err fault) more r = absurd (cc)
+          → continue_with (λ next. after_changes units old (suc number) next first) number made ≡ Ok middle
+          → continue_with (λ next. after_changes units old (suc number) next (first ++ second)) number made ≡ after_changes units old (number + suc (length first)) middle second
+      rest_after (Ok next) more r = let n : suc number + length first ≡ number + suc (length first) = omega arith in more next r ∙ ap (λ (m : ℕ). after_changes units old m middle second) n
+      rest_after (Err fault) more r = absurd (cc)
 
   -- The number of the first change matters only for a fault.
   pub any_number : (number other : ℕ) (items last : List Item) (batch : List Edit) → after_changes units old number items batch ≡ Ok last → after_changes units old other items batch ≡ Ok last
   any_number number other items last [] is = cc
   any_number number other items last (change ∷ batch) is =
-      behind (after_change units old items change) (λ next. any_number (suc number) (suc other) next last batch) is
+      rest_after (after_change units old items change) (λ next. any_number (suc number) (suc other) next last batch) is
     where
-      behind : (made : Result (List Item) Fault)
+      rest_after : (made : Result (List Item) Fault)
           → ((next : List Item) → after_changes units old (suc number) next batch ≡ Ok last → after_changes units old (suc other) next batch ≡ Ok last)
-          → go_on (λ next. after_changes units old (suc number) next batch) number made ≡ Ok last
-          → go_on (λ next. after_changes units old (suc other) next batch) other made ≡ Ok last
-      behind (Ok next) more r = more next r
-      behind (Err fault) more r = absurd (cc)
+          → continue_with (λ next. after_changes units old (suc number) next batch) number made ≡ Ok last
+          → continue_with (λ next. after_changes units old (suc other) next batch) other made ≡ Ok last
+      rest_after (Ok next) more r = more next r
+      rest_after (Err fault) more r = absurd (cc)
 
   pub ranges_stay-append : (number : ℕ) (items middle : List Item) (first second : List Edit) → after_changes units old number items first ≡ Ok middle → RangesStay units old items first → RangesStay units old middle second → RangesStay units old items (first ++ second)
   ranges_stay-append number items middle [] second is stay more = let e : middle ≡ items = cc in subst (λ (m : List Item). RangesStay units old m second) e more

@@ -6,8 +6,8 @@ use Rattle.lsp_text.specs.declared.position.Range.{Range}
 use Rattle.lsp_text.specs.TextLines.{numbers_from}
 use Rattle.lsp_text.specs.Positions.{denoted}
 use Rattle.lsp_edit.specs.Items.{Item, Old, New, plain, character_of, text_of}
-use Rattle.lsp_edit.specs.Batch.{Edit, Fault, Reversed, replaced, changed_in, after_change, after_changes, go_on, meaning}
-use Rattle.lsp_edit.specs.Compose.{told_through, then_items}
+use Rattle.lsp_edit.specs.Batch.{Edit, Fault, Reversed, replaced, changed_in, after_change, after_changes, continue_with, meaning}
+use Rattle.lsp_edit.specs.Compose.{item_through, then_items}
 use Rattle.lsp_edit.specs.Canonical.{canonical}
 use Rattle.lsp_edit.specs.Keeps.{Keeps}
 use Rattle.lsp_edit.proofs.BatchLemmas.{after_changes-append, any_number}
@@ -42,16 +42,16 @@ told_new first (c ∷ characters) = ap (λ (is : List Item). New c ∷ is) (told
 
 pub then_associative : (first second third : List Item) → then_items (then_items first second) third ≡ then_items first (then_items second third)
 then_associative first second [] = refl
-then_associative first second (Old index ∷ third) = ap₂ (λ (i : Item) (is : List Item). i ∷ is) (at_mapped (told_through first) second index (New 0)) (then_associative first second third)
+then_associative first second (Old index ∷ third) = ap₂ (λ (i : Item) (is : List Item). i ∷ is) (at_mapped (item_through first) second index (New 0)) (then_associative first second third)
 then_associative first second (New character ∷ third) = ap (λ (is : List Item). New character ∷ is) (then_associative first second third)
 
 module _ (units : ℕ → ℕ) (old : List ℕ) (first : List Item) where
   told_replaced : (items : List Item) (characters : List ℕ) (a b : ℕ) → take a (then_items first items) ++ (map New characters ++ drop b (then_items first items)) ≡ then_items first (take a items ++ (map New characters ++ drop b items))
   told_replaced items characters a b =
-      let front : take a (then_items first items) ≡ then_items first (take a items) = take-map (told_through first) a items in
-      let back : drop b (then_items first items) ≡ then_items first (drop b items) = drop-map (told_through first) b items in
-      let inner : then_items first (map New characters ++ drop b items) ≡ then_items first (map New characters) ++ then_items first (drop b items) = map-append (told_through first) (map New characters) (drop b items) in
-      let outer : then_items first (take a items ++ (map New characters ++ drop b items)) ≡ then_items first (take a items) ++ then_items first (map New characters ++ drop b items) = map-append (told_through first) (take a items) (map New characters ++ drop b items) in
+      let front : take a (then_items first items) ≡ then_items first (take a items) = take-map (item_through first) a items in
+      let back : drop b (then_items first items) ≡ then_items first (drop b items) = drop-map (item_through first) b items in
+      let inner : then_items first (map New characters ++ drop b items) ≡ then_items first (map New characters) ++ then_items first (drop b items) = map-append (item_through first) (map New characters) (drop b items) in
+      let outer : then_items first (take a items ++ (map New characters ++ drop b items)) ≡ then_items first (take a items) ++ then_items first (map New characters ++ drop b items) = map-append (item_through first) (take a items) (map New characters ++ drop b items) in
       rw (front, back, outer, inner, told_new first characters) refl
 
   then-changed : (items next : List Item) (change : Edit) → after_change units (text_of old first) items change ≡ Ok next → after_change units old (then_items first items) change ≡ Ok (then_items first next)
@@ -65,8 +65,8 @@ module _ (units : ℕ → ℕ) (old : List ℕ) (first : List Item) where
           (λ (e : nat_le a b ≡ true).
           let made : ◌≡◌ {A = Result (List Item) Fault} (Ok (take a items ++ (map New change.text ++ drop b items))) (Ok next) = rw e at r in
           let is_next : take a items ++ (map New change.text ++ drop b items) ≡ next = cc in
-          let told : take a (then_items first items) ++ (map New change.text ++ drop b (then_items first items)) ≡ then_items first next = told_replaced items change.text a b ∙ ap (then_items first) is_next in
-          rw e (ap (λ (is : List Item). Ok is) told))
+          let error : take a (then_items first items) ++ (map New change.text ++ drop b (then_items first items)) ≡ then_items first next = told_replaced items change.text a b ∙ ap (then_items first) is_next in
+          rw e (ap (λ (is : List Item). Ok is) error))
           (λ (e : nat_le a b ≡ false). absurd (let f : ◌≡◌ {A = Result (List Item) Fault} (Err Reversed) (Ok next) = rw e at r in cc))
           (cases_Bool (nat_le a b))
 
@@ -79,21 +79,21 @@ module _ (units : ℕ → ℕ) (old : List ℕ) (first : List Item) where
   then-changes : (number : ℕ) (items last : List Item) (batch : List Edit) → after_changes units (text_of old first) number items batch ≡ Ok last → after_changes units old number (then_items first items) batch ≡ Ok (then_items first last)
   then-changes number items last [] is = let e : items ≡ last = cc in ap (λ (is : List Item). Ok (then_items first is)) e
   then-changes number items last (change ∷ batch) is =
-      behind (after_change units (text_of old first) items change) refl (λ next. then-changes (suc number) next last batch) is
+      rest_after (after_change units (text_of old first) items change) refl (λ next. then-changes (suc number) next last batch) is
     where
-      behind : (made : Result (List Item) Fault) → after_change units (text_of old first) items change ≡ made
+      rest_after : (made : Result (List Item) Fault) → after_change units (text_of old first) items change ≡ made
           → ((next : List Item) → after_changes units (text_of old first) (suc number) next batch ≡ Ok last → after_changes units old (suc number) (then_items first next) batch ≡ Ok (then_items first last))
-          → go_on (λ next. after_changes units (text_of old first) (suc number) next batch) number made ≡ Ok last
+          → continue_with (λ next. after_changes units (text_of old first) (suc number) next batch) number made ≡ Ok last
           → after_changes units old number (then_items first items) (change ∷ batch) ≡ Ok (then_items first last)
-      behind (Ok next) e more r = rw (then-changed items next change e) (more next r)
-      behind (Err fault) e more r = absurd (cc)
+      rest_after (Ok next) e more r = rw (then-changed items next change e) (more next r)
+      rest_after (Err fault) e more r = absurd (cc)
 
 -- What two batches mean, one after the other.
 pub then_means : (units : ℕ → ℕ) (old : List ℕ) (first second : List Edit) (items others : List Item) → meaning units old first ≡ Ok items → meaning units (text_of old items) second ≡ Ok others → meaning units old (first ++ second) ≡ Ok (then_items items others)
 then_means units old first second items others is are =
     let on : after_changes units old 0 (plain old) (first ++ second) ≡ after_changes units old (0 + length first) items second = after_changes-append units old 0 (plain old) items first second is in
-    let told : after_changes units old 0 (then_items items (plain (text_of old items))) second ≡ Ok (then_items items others) = then-changes units old items 0 (plain (text_of old items)) others second are in
-    let here : after_changes units old 0 items second ≡ Ok (then_items items others) = rw then-plain at told in
+    let error : after_changes units old 0 (then_items items (plain (text_of old items))) second ≡ Ok (then_items items others) = then-changes units old items 0 (plain (text_of old items)) others second are in
+    let here : after_changes units old 0 items second ≡ Ok (then_items items others) = rw then-plain at error in
     on ∙ any_number units old 0 (0 + length first) items (then_items items others) second here
 
 -- Items that keep each CRLF whole do so composed.

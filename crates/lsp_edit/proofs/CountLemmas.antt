@@ -6,7 +6,7 @@ use Rattle.lsp_text.specs.declared.position.Range.{Range}
 use Rattle.lsp_text.specs.TextLines.{numbers_from}
 use Rattle.lsp_text.specs.Positions.{denoted}
 use Rattle.lsp_edit.specs.Items.{Item, Old, New, plain, text_of}
-use Rattle.lsp_edit.specs.Batch.{Edit, Fault, Reversed, replaced, changed_in, after_change, after_changes, go_on, meaning}
+use Rattle.lsp_edit.specs.Batch.{Edit, Fault, Reversed, replaced, changed_in, after_change, after_changes, continue_with, meaning}
 use Rattle.lsp_edit.specs.Canonical.{Gap, is_changed, change_of, gaps, canonical}
 use Rattle.lsp_edit.proofs.GapLemmas.{gap, gaps_from, gaps_are}
 
@@ -107,14 +107,14 @@ module _ (size : ℕ) where
     changes_add : (number : ℕ) (items last : List Item) (batch : List Edit) → after_changes units old number items batch ≡ Ok last → hunks size false 0 last ≤ hunks size false 0 items + length batch
     changes_add number items last [] is = let e : items ≡ last = cc in omega (arith, ap (hunks size false 0) e)
     changes_add number items last (change ∷ batch) is =
-        behind (after_change units old items change) refl (λ next. changes_add (suc number) next last batch) is
+        rest_after (after_change units old items change) refl (λ next. changes_add (suc number) next last batch) is
       where
-        behind : (made : Result (List Item) Fault) → after_change units old items change ≡ made
+        rest_after : (made : Result (List Item) Fault) → after_change units old items change ≡ made
             → ((next : List Item) → after_changes units old (suc number) next batch ≡ Ok last → hunks size false 0 last ≤ hunks size false 0 next + length batch)
-            → go_on (λ next. after_changes units old (suc number) next batch) number made ≡ Ok last
+            → continue_with (λ next. after_changes units old (suc number) next batch) number made ≡ Ok last
             → hunks size false 0 last ≤ hunks size false 0 items + suc (length batch)
-        behind (Ok next) e more r = omega (arith, change_adds items next change e, more next r)
-        behind (Err fault) e more r = absurd (cc)
+        rest_after (Ok next) e more r = omega (arith, change_adds items next change e, more next r)
+        rest_after (Err fault) e more r = absurd (cc)
 
 one_longer : (b : Bool) (g : Gap) (gs : List Gap) → length (cond b (g ∷ gs) gs) ≡ one_if b + length gs
 one_longer true g gs = omega arith

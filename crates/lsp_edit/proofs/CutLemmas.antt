@@ -7,7 +7,8 @@ use Rattle.lsp_text.specs.Text.{place_of}
 use Rattle.lsp_text.specs.TextLines.{numbers_from}
 use Rattle.lsp_text.proofs.PlaceLemmas.{place_end, place_rises, place_add, take_place, drop_place, part_place, place_boundary, place_within, IsIndexAt, index_at}
 use Rattle.lsp_edit.specs.Items.{Item, Old, New, character_of, text_of}
-use Rattle.lsp_edit.specs.Parts.{Part, OldPart, NewPart, index_of, items_in, bytes_in, part_len, IsPart, front_part, back_part, IsOrdered, IsCut}
+use Rattle.lsp_edit.specs.Parts.{Part, OldPart, NewPart, index_of, items_in, bytes_in, part_len, IsPartOf}
+use Rattle.lsp_edit.specs.inside.Parts.{front_part, back_part, IsOrdered, IsCutAt}
 use Rattle.lsp_edit.proofs.RebuiltLemmas.{numbers-append, length-numbers, text_row}
 use Rattle.lsp_edit.proofs.IndexLemmas.{index_of-place, index_rises}
 
@@ -47,7 +48,7 @@ module _ (old : List ℕ) (utf8 : IsUtf8 old) where
     items_are : items_in (chars old) (OldPart from to) ≡ map Old (numbers_from low count)
     text_is : text_of (chars old) (items_in (chars old) (OldPart from to)) ≡ take count (drop low (chars old))
 
-  row_of : (from to : ℕ) → IsPart old (OldPart from to) → IsRow from to
+  row_of : (from to : ℕ) → IsPartOf old (OldPart from to) → IsRow from to
   row_of from to is = rows (index_at old from utf8 is.1) (index_at old to utf8 is.2)
     where
       rows : IsIndexAt old from → IsIndexAt old to → IsRow from to
@@ -71,7 +72,7 @@ module _ (old : List ℕ) (utf8 : IsUtf8 old) where
           }
 
   -- The bytes of a part are those of its items' characters.
-  pub part_bytes : (part : Part) → IsPart old part → bytes_in old part ≡ encode_utf8_all (text_of (chars old) (items_in (chars old) part))
+  pub part_bytes : (part : Part) → IsPartOf old part → bytes_in old part ≡ encode_utf8_all (text_of (chars old) (items_in (chars old) part))
   part_bytes (NewPart bytes) is = sym (ap encode_utf8_all (text_of-new (chars old) (chars bytes)) ∙ encodes-chars bytes (IsUtf8-from_is_utf8 bytes is.1))
   part_bytes (OldPart from to) is = of_row (row_of from to is)
     where
@@ -83,7 +84,7 @@ module _ (old : List ℕ) (utf8 : IsUtf8 old) where
           let n : (r.low + r.count) - r.low ≡ r.count = omega arith in
           rw r.text_is (rw (r.from_is, r.to_is, e, n) at p)
 
-  pub part_length : (part : Part) → IsPart old part → part_len part ≡ length (encode_utf8_all (text_of (chars old) (items_in (chars old) part)))
+  pub part_length : (part : Part) → IsPartOf old part → part_len part ≡ length (encode_utf8_all (text_of (chars old) (items_in (chars old) part)))
   part_length (NewPart bytes) is = ap length (part_bytes (NewPart bytes) is)
   part_length (OldPart from to) is =
       let b : length (bytes_in old (OldPart from to)) ≡ to - from = length-take-le (to - from) (drop from old) (simp length-drop (omega (arith, is.0, is.2.0))) in
@@ -110,7 +111,7 @@ module _ (old : List ℕ) (utf8 : IsUtf8 old) where
       }
 
   -- A part cut at the place of one of its indexes.
-  pub front_items : (part : Part) (k : ℕ) → IsPart old part → k ≤ length (items_in (chars old) part) → items_in (chars old) (front_part part (place_of (text_of (chars old) (items_in (chars old) part)) k)) ≡ take k (items_in (chars old) part)
+  pub front_items : (part : Part) (k : ℕ) → IsPartOf old part → k ≤ length (items_in (chars old) part) → items_in (chars old) (front_part part (place_of (text_of (chars old) (items_in (chars old) part)) k)) ≡ take k (items_in (chars old) part)
   front_items (NewPart bytes) k is within =
       let u : IsUtf8 bytes = IsUtf8-from_is_utf8 bytes is.1 in
       let n : length (map New (chars bytes)) ≡ length (chars bytes) = length-map (chars bytes) New in
@@ -124,7 +125,7 @@ module _ (old : List ℕ) (utf8 : IsUtf8 old) where
       ap₂ (λ (x y : ℕ). map Old (numbers_from x y)) r.low_is (ap₂ (λ (x y : ℕ). x - y) c.cut_is r.low_is ∙ n)
       ∙ sym (ap (take k) r.items_are ∙ (take-map Old k (numbers_from r.low r.count) ∙ ap (map Old) t))
 
-  pub back_items : (part : Part) (k : ℕ) → IsPart old part → k ≤ length (items_in (chars old) part) → items_in (chars old) (back_part part (place_of (text_of (chars old) (items_in (chars old) part)) k)) ≡ drop k (items_in (chars old) part)
+  pub back_items : (part : Part) (k : ℕ) → IsPartOf old part → k ≤ length (items_in (chars old) part) → items_in (chars old) (back_part part (place_of (text_of (chars old) (items_in (chars old) part)) k)) ≡ drop k (items_in (chars old) part)
   back_items (NewPart bytes) k is within =
       let u : IsUtf8 bytes = IsUtf8-from_is_utf8 bytes is.1 in
       let n : length (map New (chars bytes)) ≡ length (chars bytes) = length-map (chars bytes) New in
@@ -148,7 +149,7 @@ module _ (old : List ℕ) (utf8 : IsUtf8 old) where
   pub text_long : (items : List Item) → length (text_of (chars old) items) ≡ length items
   text_long items = length-map items (character_of (chars old))
 
-  pub front_is : (part : Part) (k : ℕ) → IsPart old part → 0 < k → k ≤ length (items_in (chars old) part) → IsPart old (front_part part (place_of (text_of (chars old) (items_in (chars old) part)) k))
+  pub front_is : (part : Part) (k : ℕ) → IsPartOf old part → 0 < k → k ≤ length (items_in (chars old) part) → IsPartOf old (front_part part (place_of (text_of (chars old) (items_in (chars old) part)) k))
   front_is (NewPart bytes) k is some within =
       let u : IsUtf8 bytes = IsUtf8-from_is_utf8 bytes is.1 in
       let n : length (map New (chars bytes)) ≡ length (chars bytes) = length-map (chars bytes) New in
@@ -163,7 +164,7 @@ module _ (old : List ℕ) (utf8 : IsUtf8 old) where
       let above : 0 < place_of (text_of (chars old) (items_in (chars old) (OldPart from to))) k = place_above (text_of (chars old) (items_in (chars old) (OldPart from to))) k some (omega (arith, text_long (items_in (chars old) (OldPart from to)))) in
       (omega arith, is.1, rw c.place_is (place_boundary old (r.low + k) utf8 (omega (arith, r.within, c.inside))))
 
-  pub back_is : (part : Part) (k : ℕ) → IsPart old part → k < length (items_in (chars old) part) → IsPart old (back_part part (place_of (text_of (chars old) (items_in (chars old) part)) k))
+  pub back_is : (part : Part) (k : ℕ) → IsPartOf old part → k < length (items_in (chars old) part) → IsPartOf old (back_part part (place_of (text_of (chars old) (items_in (chars old) part)) k))
   back_is (NewPart bytes) k is within =
       let u : IsUtf8 bytes = IsUtf8-from_is_utf8 bytes is.1 in
       let n : length (map New (chars bytes)) ≡ length (chars bytes) = length-map (chars bytes) New in
@@ -178,7 +179,7 @@ module _ (old : List ℕ) (utf8 : IsUtf8 old) where
       let below : place_of (text_of (chars old) (items_in (chars old) (OldPart from to))) k < length (encode_utf8_all (text_of (chars old) (items_in (chars old) (OldPart from to)))) = place_below (text_of (chars old) (items_in (chars old) (OldPart from to))) k (omega (arith, text_long (items_in (chars old) (OldPart from to)))) in
       (omega (arith, part_length (OldPart from to) is), rw c.place_is (place_boundary old (r.low + k) utf8 (omega (arith, r.within, c.inside))), is.2)
 
-  pub part_cut : (part : Part) (k : ℕ) → IsPart old part → k ≤ length (items_in (chars old) part) → IsCut part (place_of (text_of (chars old) (items_in (chars old) part)) k)
+  pub part_cut : (part : Part) (k : ℕ) → IsPartOf old part → k ≤ length (items_in (chars old) part) → IsCutAt part (place_of (text_of (chars old) (items_in (chars old) part)) k)
   part_cut (NewPart bytes) k is within =
       let n : length (map New (chars bytes)) ≡ length (chars bytes) = length-map (chars bytes) New in
       rw (text_of-new (chars old) (chars bytes)) (place_boundary bytes k (IsUtf8-from_is_utf8 bytes is.1) (omega arith))
@@ -186,6 +187,6 @@ module _ (old : List ℕ) (utf8 : IsUtf8 old) where
       let p : place_of (text_of (chars old) (items_in (chars old) (OldPart from to))) k ≤ length (encode_utf8_all (text_of (chars old) (items_in (chars old) (OldPart from to)))) = place_within (text_of (chars old) (items_in (chars old) (OldPart from to))) k (omega (arith, text_long (items_in (chars old) (OldPart from to)))) in
       (omega (arith, is.0), omega (arith, part_length (OldPart from to) is))
 
-  pub part_ordered : (part : Part) → IsPart old part → IsOrdered part
+  pub part_ordered : (part : Part) → IsPartOf old part → IsOrdered part
   part_ordered (NewPart bytes) is = tt
   part_ordered (OldPart from to) is = omega (arith, is.0)

@@ -7,7 +7,8 @@ use Rattle.std.proofs.lemmas.Str.{encodes-append}
 use Rattle.lsp_text.specs.Text.{place_of}
 use Rattle.lsp_text.proofs.PlaceLemmas.{place_add}
 use Rattle.lsp_edit.specs.Items.{Item, character_of, text_of}
-use Rattle.lsp_edit.specs.Parts.{Part, items_in, items_of, bytes_of, part_len, IsPart, AreParts, front_part, back_part, front_parts, back_parts, AreCut}
+use Rattle.lsp_edit.specs.Parts.{Part, items_in, items_of, bytes_of, part_len, IsPartOf, AreParts}
+use Rattle.lsp_edit.specs.inside.Parts.{front_part, back_part, front_parts, back_parts, AreCut}
 use Rattle.lsp_edit.proofs.CutLemmas.{part_bytes, part_length, front_items, back_items, place_above, place_below, text_long, front_is, back_is, part_cut, part_ordered}
 
 take_more : {X : Type 0} (xs ys : List X) (n : ℕ) → take (length xs + n) (xs ++ ys) ≡ xs ++ take n ys
@@ -27,7 +28,7 @@ module _ (old : List ℕ) (utf8 : IsUtf8 old) where
       ∙ (sym (encodes-append (text_of (chars old) (items_in (chars old) part)) (text_of (chars old) (items_of (chars old) parts)))
       ∙ ap encode_utf8_all (sym (map-append (character_of (chars old)) (items_in (chars old) part) (items_of (chars old) parts))))
 
-  part_some : (part : Part) → IsPart old part → 0 < part_len part
+  part_some : (part : Part) → IsPartOf old part → 0 < part_len part
   part_some (Part.OldPart from to) is = omega (arith, is.0)
   part_some (Part.NewPart bytes) is = is.0
 
@@ -49,7 +50,7 @@ module _ (old : List ℕ) (utf8 : IsUtf8 old) where
     cut = cut;
   }
 
-  module _ (part : Part) (parts : List Part) (is : IsPart old part) (are : AreParts old parts) (place : ℕ) where
+  module _ (part : Part) (parts : List Part) (is : IsPartOf old part) (are : AreParts old parts) (place : ℕ) where
     cut_inside : (k : ℕ) → 0 < k → k < length (items_in (chars old) part) → place ≡ place_of (text_of (chars old) (items_in (chars old) part)) k → AreCutAt (part ∷ parts) k place
     cut_inside k some inside e =
         let above : 0 < place_of (text_of (chars old) (items_in (chars old) part)) k = place_above old utf8 (text_of (chars old) (items_in (chars old) part)) k some (omega (arith, text_long old utf8 (items_in (chars old) part))) in
@@ -124,7 +125,7 @@ module _ (old : List ℕ) (utf8 : IsUtf8 old) where
       ⊎_elim
       (λ (inside : suc k < length (items_in (chars old) part)).
       cut_inside part parts are.0 are.1 (place_of (text_of (chars old) (items_of (chars old) (part ∷ parts))) (suc k)) (suc k) (omega arith) inside (front_place (items_in (chars old) part) (items_of (chars old) parts) (suc k) (omega arith)))
-      (λ (behind : length (items_in (chars old) part) ≤ suc k).
+      (λ (rest_after : length (items_in (chars old) part) ≤ suc k).
       let here : suc k ≡ length (items_in (chars old) part) + (suc k - length (items_in (chars old) part)) = omega arith in
       let long : length (items_in (chars old) part ++ items_of (chars old) parts) ≡ length (items_in (chars old) part) + length (items_of (chars old) parts) = length-append (items_in (chars old) part) (items_of (chars old) parts) in
       let p : place_of (text_of (chars old) (items_of (chars old) (part ∷ parts))) (suc k) ≡ part_len part + place_of (text_of (chars old) (items_of (chars old) parts)) (suc k - length (items_in (chars old) part))

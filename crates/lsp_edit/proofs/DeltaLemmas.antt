@@ -5,20 +5,22 @@ use Rattle.std.proofs.lemmas.Bool.{cases_Bool}
 use Rattle.std.proofs.lemmas.List.{drop_more, drop_all, map-append, take-append-drop}
 use Rattle.std.proofs.lemmas.List.Concat.{flat_map-append}
 use Rattle.std.proofs.lemmas.Str.{encodes-chars, chars_from_encodes, chars-append, IsUtf8-append, IsUtf8-between, IsUtf8-nil, IsUtf8-from_is_utf8, is_utf8-from_IsUtf8, IsCharBoundary-start}
-use Rattle.lsp_edit.specs.declared.delta.Delta.{Delta}
-use Rattle.lsp_edit.specs.declared.delta.OwnedSpan.{OwnedSpan}
-use Rattle.lsp_edit.specs.declared.delta.OwnedSpan.TheVariants.{Old as OldSpan}
+use Rattle.lsp_edit.specs.declared.joined.delta.Delta.{Delta}
+use Rattle.lsp_edit.specs.declared.joined.delta.OwnedSpan.{OwnedSpan}
+use Rattle.lsp_edit.specs.declared.joined.delta.OwnedSpan.TheVariants.{Old as OldSpan}
 use Rattle.lsp_edit.specs.declared.indexed.TextFault.{TextFault}
 use Rattle.lsp_edit.specs.declared.indexed.TextFault.TheVariants.{TooLong}
 use Rattle.lsp_edit.specs.Items.{Item, New, plain, text_of}
 use Rattle.lsp_edit.specs.Batch.{Edit, Fault, meaning}
 use Rattle.lsp_edit.specs.Compose.{then_items}
-use Rattle.lsp_edit.specs.Deltas.{AllOver, AreSameItems, delta_parts, IsDelta, IsOver, items_over, owned_part, owned_parts}
+use Rattle.lsp_edit.specs.Deltas.{AllOver, delta_parts, IsOver, items_over, owned_part, owned_parts}
+use Rattle.lsp_edit.specs.inside.Deltas.{AreSameItems, IsDelta}
 use Rattle.lsp_edit.specs.Edited.{Edited, Means, before_bytes}
 use Rattle.lsp_edit.specs.Indexed.{bytes_left, text_within}
 use Rattle.lsp_edit.specs.Joined.{IsJoined, IsReached, JoinedData, joined_text}
 use Rattle.lsp_edit.specs.Keeps.{Keeps}
-use Rattle.lsp_edit.specs.Parts.{Part, OldPart, NewPart, AreParts, AreThrough, Ascend, IsPart, bytes_in, bytes_of, items_in, items_of, new_parts, through_parts, whole_parts}
+use Rattle.lsp_edit.specs.Parts.{Part, OldPart, NewPart, AreParts, Ascend, IsPartOf, bytes_in, bytes_of, items_in, items_of, new_parts}
+use Rattle.lsp_edit.specs.inside.Parts.{AreThrough, through_parts, whole_parts}
 use Rattle.lsp_edit.proofs.ComposeLemmas.{text_of-then, then_associative, then_keeps}
 use Rattle.lsp_edit.proofs.CutPartsLemmas.{parts_bytes}
 use Rattle.lsp_edit.proofs.EditedLemmas.{index_first, plain_text, whole_is}
@@ -247,7 +249,7 @@ module _ (before : List ℕ) (deltas : List Delta) (all : AllOver (chars before)
 pub first_reached : (before : List ℕ) (joined : JoinedData) → IsUtf8 before → joined ≡ record { before = before; items = plain (chars before) } → IsReached joined before
 first_reached before joined utf8 is = record { utf8 = utf8; text_is = sym (ap joined_text is ∙ plain_text (chars before)) }
 
-part_utf8 : (old : List ℕ) → IsUtf8 old → (part : Part) → IsPart old part → IsUtf8 (bytes_in old part)
+part_utf8 : (old : List ℕ) → IsUtf8 old → (part : Part) → IsPartOf old part → IsUtf8 (bytes_in old part)
 part_utf8 old utf8 (NewPart bytes) is = IsUtf8-from_is_utf8 bytes is.1
 part_utf8 old utf8 (OldPart from to) is = IsUtf8-between old from to utf8 (omega (arith, is.0)) is.1 is.2
 

@@ -9,10 +9,12 @@ use Rattle.lsp_text.specs.TextLines.{numbers_from}
 use Rattle.lsp_text.specs.LineStarts.{Indexes}
 use Rattle.lsp_text.proofs.PlaceLemmas.{place_end}
 use Rattle.lsp_edit.specs.Items.{Item, Old, plain, text_of}
-use Rattle.lsp_edit.specs.Parts.{Part, OldPart, index_of, items_in, items_of, bytes_of, AreParts, NoneTouch, whole_parts}
+use Rattle.lsp_edit.specs.Parts.{Part, OldPart, index_of, items_in, items_of, bytes_of, AreParts, NoneTouch}
+use Rattle.lsp_edit.specs.inside.Parts.{whole_parts}
 use Rattle.lsp_edit.specs.Keeps.{Keeps}
 use Rattle.lsp_edit.specs.Edited.{ArePieces, Edited, edited_text, edited_bytes}
-use Rattle.lsp_edit.specs.Faults.{IsPlaces, places_at, ends_of}
+use Rattle.lsp_edit.specs.Faults.{places_at, ends_of}
+use Rattle.lsp_edit.specs.inside.Faults.{IsPlaces}
 use Rattle.lsp_edit.specs.declared.fault.EditFault.{EditFault}
 use Rattle.lsp_text.specs.declared.position.Range.{Range}
 use Rattle.lsp_edit.proofs.KeepsLemmas.{plain_keeps}

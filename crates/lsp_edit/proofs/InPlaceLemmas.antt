@@ -18,7 +18,7 @@ use Rattle.lsp_edit.specs.declared.indexed.TextFault.TheVariants.{Edit as EditOf
 use Rattle.lsp_edit.specs.Items.{Item, New, plain, character_of, text_of}
 use Rattle.lsp_edit.specs.Batch.{Fault, InsideStart, InsideStop, Reversed, after_change, meaning}
 use Rattle.lsp_edit.specs.Faults.{fault_at, ends_of, places_at}
-use Rattle.lsp_edit.specs.Indexed.{alone, bytes_left, text_within, told_as}
+use Rattle.lsp_edit.specs.Indexed.{alone, bytes_left, text_within, text_fault_of}
 use Rattle.lsp_edit.proofs.AppliedLemmas.{AreEnds, ends_told, fault_told}
 use Rattle.lsp_edit.proofs.CutLemmas.{text_of-new}
 use Rattle.lsp_edit.proofs.EditedLemmas.{plain_text}
@@ -27,14 +27,14 @@ assoc : (a b c : List ℕ) → a ++ b ++ c ≡ a ++ (b ++ c)
 assoc a b c = simp append_assoc
 
 module _ (units : ℕ → ℕ) (before : List ℕ) (utf8 : IsUtf8 before) (range : Range) (new : List ℕ) (new_utf8 : IsUtf8 new) where
-  module _ (start stop : ℕ) (told : Ok (start, stop) ≡ places_at 0 (chars before) (ends_of units (chars before) range)) where
+  module _ (start stop : ℕ) (error : Ok (start, stop) ≡ places_at 0 (chars before) (ends_of units (chars before) range)) where
     abbrev now : List ℕ
     now = text_of (chars before) (plain (chars before))
 
     ends : AreEnds units now range start stop
     ends =
         ends_told units now range 0 start stop
-        (subst (λ (t : List ℕ). ◌≡◌ {A = Result (ℕ × ℕ) EditFault} (Ok (start, stop)) (places_at 0 t (ends_of units t range))) (sym (plain_text (chars before))) told)
+        (subst (λ (t : List ℕ). ◌≡◌ {A = Result (ℕ × ℕ) EditFault} (Ok (start, stop)) (places_at 0 t (ends_of units t range))) (sym (plain_text (chars before))) error)
 
     low_place : place_of (chars before) ends.low ≡ start
     low_place = subst (λ (t : List ℕ). place_of t ends.low ≡ start) (plain_text (chars before)) ends.start_is
@@ -83,20 +83,20 @@ module _ (units : ℕ → ℕ) (before : List ℕ) (utf8 : IsUtf8 before) (range
     pub range_order : start ≤ stop
     range_order = omega (arith, place_rises (chars before) ends.low ends.high ends.order high_within, low_place, high_place)
 
-  fault_edit : (number : ℕ) (why : Fault) → EditOf (fault_at number why) ≡ told_as (fault_at number why)
+  fault_edit : (number : ℕ) (why : Fault) → EditOf (fault_at number why) ≡ text_fault_of (fault_at number why)
   fault_edit number InsideStart = refl
   fault_edit number InsideStop = refl
   fault_edit number Reversed = refl
 
   pub range_fault : (max_len : ℕ) (fault : EditFault) → Err fault ≡ places_at 0 (chars before) (ends_of units (chars before) range)
-      → (told_as fault ≡ NoMemory) ⊎ (text_within max_len before (meaning units (chars before) (alone range new)) ≡ Err (told_as fault))
-  range_fault max_len fault told =
+      → (text_fault_of fault ≡ NoMemory) ⊎ (text_within max_len before (meaning units (chars before) (alone range new)) ≡ Err (text_fault_of fault))
+  range_fault max_len fault error =
       ⊎_elim
-      (λ (e : fault ≡ edit.NoMemory). inl (ap told_as e))
+      (λ (e : fault ≡ edit.NoMemory). inl (ap text_fault_of e))
       (λ (why : (w : Fault) × (after_change units (chars before) (plain (chars before)) (record { range = Some range; text = chars new }) ≡ Err w) × (fault ≡ fault_at 0 w)).
       inr (rw (why.1, why.2) (ap (λ (f : TextFault). Err f) (fault_edit 0 why.0))))
       (fault_told units (chars before) (plain (chars before)) (chars new) range 0 fault
-      (inr (subst (λ (t : List ℕ). ◌≡◌ {A = Result (ℕ × ℕ) EditFault} (Err fault) (places_at 0 t (ends_of units t range))) (sym (plain_text (chars before))) told)))
+      (inr (subst (λ (t : List ℕ). ◌≡◌ {A = Result (ℕ × ℕ) EditFault} (Err fault) (places_at 0 t (ends_of units t range))) (sym (plain_text (chars before))) error)))
 
 -- ---- the bytes and the lines after it
 
@@ -157,11 +157,11 @@ module _ (old : List ℕ) (utf8 : IsUtf8 old) (start stop : ℕ) (new : List ℕ
   undone =
       ap₂ (λ (x y : List ℕ). x ++ slice_range old start stop ++ y) front_at back_at
       ∙ (assoc (take start old) (slice_range old start stop) (drop stop old)
-      ∙ (ap (λ (x : List ℕ). take start old ++ (slice_range old start stop ++ x)) behind
+      ∙ (ap (λ (x : List ℕ). take start old ++ (slice_range old start stop ++ x)) rest_after
       ∙ (ap (λ (x : List ℕ). take start old ++ x) (take-append-drop (stop - start) (drop start old)) ∙ take-append-drop start old)))
     where
-      behind : drop stop old ≡ drop (stop - start) (drop start old)
-      behind = let n : stop ≡ start + (stop - start) = omega (arith, order) in ap (λ (k : ℕ). drop k old) n ∙ sym (drop-drop (stop - start) start old)
+      rest_after : drop stop old ≡ drop (stop - start) (drop start old)
+      rest_after = let n : stop ≡ start + (stop - start) = omega (arith, order) in ap (λ (k : ℕ). drop k old) n ∙ sym (drop-drop (stop - start) start old)
 
 -- What was removed fits where it was.
 pub put_back : {A E : Type 0} (r : Result A E) (now wanted : List ℕ) (capacity needed : ℕ) → OnOk r (now ≡ wanted) → OnErr r (capacity < needed) → needed ≤ capacity → now ≡ wanted
@@ -178,4 +178,4 @@ at_err P (Err e) is p = p
 
 -- what was told of the places in a text, told of its bytes
 pub places_of_bytes : (units : ℕ → ℕ) (range : Range) (r : Result (ℕ × ℕ) EditFault) (seen bytes : List ℕ) → seen ≡ bytes → r ≡ places_at 0 (chars seen) (ends_of units (chars seen) range) → r ≡ places_at 0 (chars bytes) (ends_of units (chars bytes) range)
-places_of_bytes units range r seen bytes same told = subst (λ (b : List ℕ). r ≡ places_at 0 (chars b) (ends_of units (chars b) range)) same told
+places_of_bytes units range r seen bytes same error = subst (λ (b : List ℕ). r ≡ places_at 0 (chars b) (ends_of units (chars b) range)) same error

@@ -8,7 +8,7 @@ use Rattle.lsp_text.specs.Positions.{denoted}
 use Rattle.lsp_text.proofs.LineLemmas.{splits_none_past}
 use Rattle.lsp_text.proofs.PositionLemmas.{IsWhole, denoted_whole}
 use Rattle.lsp_edit.specs.Items.{Item, Old, New, plain, character_of, text_of}
-use Rattle.lsp_edit.specs.Batch.{Edit, Fault, Reversed, replaced, changed_in, after_change, after_changes, go_on, meaning}
+use Rattle.lsp_edit.specs.Batch.{Edit, Fault, Reversed, replaced, changed_in, after_change, after_changes, continue_with, meaning}
 use Rattle.lsp_edit.specs.Keeps.{Keeps}
 
 -- The index behind the last kept character, where that before the items was `low`.
@@ -154,13 +154,13 @@ module _ (old : List ℕ) where
   pub after_changes_keeps : (units : ℕ → ℕ) (number : ℕ) (items last : List Item) (batch : List Edit) → Keeps old 0 items → after_changes units old number items batch ≡ Ok last → Keeps old 0 last
   after_changes_keeps units number items last [] keeps is = let e : items ≡ last = cc in subst (Keeps old 0) e keeps
   after_changes_keeps units number items last (change ∷ batch) keeps is =
-      behind (after_change units old items change) refl (λ next k. after_changes_keeps units (suc number) next last batch k) is
+      rest_after (after_change units old items change) refl (λ next k. after_changes_keeps units (suc number) next last batch k) is
     where
-      behind : (made : Result (List Item) Fault) → after_change units old items change ≡ made
+      rest_after : (made : Result (List Item) Fault) → after_change units old items change ≡ made
           → ((next : List Item) → Keeps old 0 next → after_changes units old (suc number) next batch ≡ Ok last → Keeps old 0 last)
-          → go_on (λ next. after_changes units old (suc number) next batch) number made ≡ Ok last → Keeps old 0 last
-      behind (Ok next) e more r = more next (after_change_keeps units items next change keeps e) r
-      behind (Err fault) e more r = absurd (cc)
+          → continue_with (λ next. after_changes units old (suc number) next batch) number made ≡ Ok last → Keeps old 0 last
+      rest_after (Ok next) e more r = more next (after_change_keeps units items next change keeps e) r
+      rest_after (Err fault) e more r = absurd (cc)
 
   -- What a batch means keeps both characters of each CRLF or neither.
   pub meaning_keeps : (units : ℕ → ℕ) (batch : List Edit) (items : List Item) → meaning units old batch ≡ Ok items → Keeps old 0 items

@@ -2,9 +2,10 @@
 use Rattle.std.proofs.Common.{ℕ, zero, suc, ◌≡◌, ◌+◌, ◌-◌, ◌<◌, ◌≤◌, List, length, take, drop, get_or, sum_by, refl, sym, ap, ◌∙◌, subst, arith}
 use Rattle.std.proofs.lemmas.List.{take_more}
 use Rattle.std.proofs.lemmas.List.Sums.{sum_by_push}
-use Rattle.lsp_edit.specs.declared.span.Span.{Span}
-use Rattle.lsp_edit.specs.declared.span.Span.TheVariants.{Old as OldSpan}
-use Rattle.lsp_edit.specs.Parts.{AreOrdered, EndsBehind, IsMark, IsOrdered, part_of, parts_of, span_len}
+use Rattle.lsp_edit.specs.declared.pieces.span.Span.{Span}
+use Rattle.lsp_edit.specs.declared.pieces.span.Span.TheVariants.{Old as OldSpan}
+use Rattle.lsp_edit.specs.Parts.{part_of, parts_of}
+use Rattle.lsp_edit.specs.inside.Parts.{AreOrdered, EndAfter, IsMark, IsOrdered, span_len}
 use Rattle.lsp_edit.proofs.PassedLemmas.{Passing, drop_ordered, ends_behind, first_ordered, passing_begins, span_passing}
 use Rattle.lsp_edit.proofs.WalkLemmas.{rest_is}
 
@@ -48,6 +49,6 @@ pub span_ordered : (spans : List Span) (index : ℕ) (default : Span) → index 
 span_ordered spans index default within ordered =
     first_ordered (parts_of (drop index spans)) (part_of (get_or spans index default)) (parts_of (drop (index + 1) spans)) (rest_is spans index default (part_of (get_or spans index default)) within refl) (drop_ordered spans index ordered)
 
-pub behind_at : (spans : List Span) (index place len : ℕ) (default : Span) → index < length spans → len ≡ span_len (get_or spans index default) → place < len → EndsBehind (parts_of (drop index spans)) place
+pub behind_at : (spans : List Span) (index place len : ℕ) (default : Span) → index < length spans → len ≡ span_len (get_or spans index default) → place < len → EndAfter (parts_of (drop index spans)) place
 behind_at spans index place len default within is less =
     ends_behind (parts_of (drop index spans)) (part_of (get_or spans index default)) (parts_of (drop (index + 1) spans)) place (rest_is spans index default (part_of (get_or spans index default)) within refl) (omega (arith, is, less))

@@ -7,10 +7,10 @@ use Rattle.lsp_edit.specs.Laws.{KeepsPairs}
 use Rattle.lsp_edit.proofs.KeepsLemmas.{after, rest_keeps}
 
 module _ (old : List ℕ) where
-  behind_return : (index : ℕ) (rest : List Item) → splits_crlf old (suc index) ≡ true → Keeps old (suc index) rest → (more : List Item) × (rest ≡ Old (suc index) ∷ more)
-  behind_return index [] split keeps = absurd (cc)
-  behind_return index (New character ∷ rest) split keeps = absurd (let k : splits_crlf old (suc index) ≡ false = keeps.0 in cc)
-  behind_return index (Old next ∷ rest) split keeps =
+  after_return : (index : ℕ) (rest : List Item) → splits_crlf old (suc index) ≡ true → Keeps old (suc index) rest → (more : List Item) × (rest ≡ Old (suc index) ∷ more)
+  after_return index [] split keeps = absurd (cc)
+  after_return index (New character ∷ rest) split keeps = absurd (let k : splits_crlf old (suc index) ≡ false = keeps.0 in cc)
+  after_return index (Old next ∷ rest) split keeps =
       ⊎_elim
       (λ (e : suc index ≡ next). (rest, ap (λ (n : ℕ). Old n ∷ rest) (sym e)))
       (λ (e : (splits_crlf old (suc index) ≡ false) × (splits_crlf old next ≡ false)). absurd (let k : splits_crlf old (suc index) ≡ false = e.0 in cc))
@@ -27,10 +27,10 @@ module _ (old : List ℕ) where
       (New character ∷ r.0, ap (λ (items : List Item). New character ∷ items) r.1)
 
   before_feed : (front rest : List Item) (index : ℕ) → splits_crlf old (suc index) ≡ true → Keeps old 0 (front ++ Old (suc index) ∷ rest) → (more : List Item) × (front ≡ more ++ Old index ∷ [])
-  before_feed front rest index split keeps = nonempty front keeps behind
+  before_feed front rest index split keeps = nonempty front keeps rest_after
     where
-      behind : after 0 front ≡ suc index
-      behind =
+      rest_after : after 0 front ≡ suc index
+      rest_after =
           ⊎_elim
           (λ (e : after 0 front ≡ suc index). e)
           (λ (e : (splits_crlf old (after 0 front) ≡ false) × (splits_crlf old (suc index) ≡ false)). absurd (let k : splits_crlf old (suc index) ≡ false = e.1 in cc))
@@ -42,6 +42,6 @@ module _ (old : List ℕ) where
 
   pub pairs_kept : (items : List Item) → Keeps old 0 items → KeepsPairs old items
   pairs_kept items keeps = record {
-    behind_return = λ front rest index split e. behind_return index rest split (rest_keeps old 0 front (Old index ∷ rest) (subst (Keeps old 0) e keeps)).3;
+    after_return = λ front rest index split e. after_return index rest split (rest_keeps old 0 front (Old index ∷ rest) (subst (Keeps old 0) e keeps)).3;
     before_feed = λ front rest index split e. before_feed front rest index split (subst (Keeps old 0) e keeps);
   }

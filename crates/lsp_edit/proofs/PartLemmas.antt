@@ -1,8 +1,9 @@
 -- Parts: putting one behind others, and cutting at a place.
 use Rattle.std.proofs.Common.{ℕ, ◌≡◌, ◌-◌, ◌<◌, ◌≤◌, List, [], ◌∷◌, ◌++◌, refl, sym, ap, ◌∙◌, append_assoc, append-nil, lt-ltb, le-ltb, ne_eqb}
 use Rattle.std.proofs.lemmas.List.{map-append}
-use Rattle.lsp_edit.specs.declared.span.Span.{Span}
-use Rattle.lsp_edit.specs.Parts.{Part, part_of, parts_of, part_len, joined, put_part, front_part, front_parts, back_part, back_parts, IsOrdered, IsCut, AreCut}
+use Rattle.lsp_edit.specs.declared.pieces.span.Span.{Span}
+use Rattle.lsp_edit.specs.Parts.{Part, part_of, parts_of, part_len}
+use Rattle.lsp_edit.specs.inside.Parts.{joined, put_part, front_part, front_parts, back_part, back_parts, IsOrdered, IsCutAt, AreCut}
 
 put_behind : (parts : List Part) (last part : Part) → put_part (parts ++ last ∷ []) part ≡ parts ++ joined last part
 put_behind [] last part = refl
@@ -48,7 +49,7 @@ module _ (made rest first parts : List Part) (left place : ℕ) (fronts : Fronts
         let c : AreCut (part ∷ more) left = rw is at fronts.cut in
         record { made_is = append_assoc made (part ∷ []) (front_parts more (left - part_len part)) ∙ g; cut = c.2 fits }
 
-    pub front_cut : left < part_len part → IsCut part left
+    pub front_cut : left < part_len part → IsCutAt part left
     front_cut less = let c : AreCut (part ∷ more) left = rw is at fronts.cut in c.1 less
 
     pub front_ordered : IsOrdered part
@@ -60,7 +61,7 @@ pub record Backs (rest : List Part) (left : ℕ) (parts : List Part) (place : �
   pub cut : AreCut rest left
 
 module _ (rest parts : List Part) (left place : ℕ) (backs : Backs rest left parts place) (part : Part) (more : List Part) (is : rest ≡ part ∷ more) where
-  pub back_cut : left < part_len part → (IsCut part left) × (back_parts parts place ≡ back_part part left ∷ more)
+  pub back_cut : left < part_len part → (IsCutAt part left) × (back_parts parts place ≡ back_part part left ∷ more)
   back_cut less =
       let c : AreCut (part ∷ more) left = rw is at backs.cut in
       let b : back_parts (part ∷ more) left ≡ back_parts parts place = rw is at backs.left_is in

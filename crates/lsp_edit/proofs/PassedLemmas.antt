@@ -3,8 +3,9 @@ use Rattle.std.proofs.Common.{ℕ, zero, suc, ◌≡◌, ◌+◌, ◌-◌, ◌<�
 use Rattle.std.proofs.lemmas.Bool.{cases_eq, cases_lt}
 use Rattle.std.proofs.lemmas.List.{length-drop, map-append, take_more}
 use Rattle.std.proofs.lemmas.Str.{IsCharBoundary-end}
-use Rattle.lsp_edit.specs.Parts.{AreBefore, AreOrdered, EndsBehind, IsFirstCut, first_front, new_parts, put_first_back, replaced_parts, Part, OldPart, NewPart, part_of, parts_of, part_len, front_part, back_part, front_parts, back_parts, IsOrdered, IsCut, AreCut, put_part, put_parts, between_parts, put_through, through_parts, AreThrough, Ascend, ArePassed}
-use Rattle.lsp_edit.specs.declared.span.Span.{Span}
+use Rattle.lsp_edit.specs.Parts.{new_parts, Part, OldPart, NewPart, part_of, parts_of, part_len, Ascend}
+use Rattle.lsp_edit.specs.inside.Parts.{AreBefore, AreOrdered, EndAfter, IsFirstCut, first_front, put_first_back, replaced_parts, front_part, back_part, front_parts, back_parts, IsOrdered, IsCutAt, AreCut, put_part, put_parts, between_parts, put_through, through_parts, AreThrough, ArePassed}
+use Rattle.lsp_edit.specs.declared.pieces.span.Span.{Span}
 use Rattle.lsp_edit.proofs.WalkLemmas.{rest_is}
 use Rattle.lsp_edit.proofs.PutLemmas.{put_all_few, back_fewer, cut_adds}
 
@@ -93,38 +94,38 @@ span_passing spans index default passed low len within is fits p =
 pub first_ordered : (rest : List Part) (part : Part) (more : List Part) → rest ≡ part ∷ more → AreOrdered rest → IsOrdered part
 first_ordered rest part more is ordered = (subst AreOrdered is ordered).0
 
-pub ends_behind : (rest : List Part) (part : Part) (more : List Part) (place : ℕ) → rest ≡ part ∷ more → place < part_len part → EndsBehind rest place
-ends_behind rest part more place is less = subst (λ (ps : List Part). EndsBehind ps place) (sym is) less
+pub ends_behind : (rest : List Part) (part : Part) (more : List Part) (place : ℕ) → rest ≡ part ∷ more → place < part_len part → EndAfter rest place
+ends_behind rest part more place is less = subst (λ (ps : List Part). EndAfter ps place) (sym is) less
 
 -- A part cut at its end is the part itself.
 front_whole : (part : Part) → IsOrdered part → front_part part (part_len part) ≡ part
 front_whole (OldPart from to) order = let e : from + (to - from) ≡ to = omega arith in ap (OldPart from) e
 front_whole (NewPart bytes) order = ap NewPart (take_all (length bytes) bytes (omega arith))
 
-cut_end : (part : Part) → IsOrdered part → IsCut part (part_len part)
+cut_end : (part : Part) → IsOrdered part → IsCutAt part (part_len part)
 cut_end (OldPart from to) order = (order, omega arith)
 cut_end (NewPart bytes) order = IsCharBoundary-end bytes
 
-cut_to_end : (part : Part) (parts : List Part) (place : ℕ) → AreCut (part ∷ parts) place → place ≤ part_len part → IsCut part place
+cut_to_end : (part : Part) (parts : List Part) (place : ℕ) → AreCut (part ∷ parts) place → place ≤ part_len part → IsCutAt part place
 cut_to_end part parts place cut fits =
     ⊎_elim
     (λ (l : place < part_len part). cut.1 l)
-    (λ (l : part_len part ≤ place). let e : part_len part ≡ place = omega arith in subst (IsCut part) e (cut_end part cut.0))
+    (λ (l : part_len part ≤ place). let e : part_len part ≡ place = omega arith in subst (IsCutAt part) e (cut_end part cut.0))
     (cases_lt place (part_len part))
 
-pub first_cut : (rest : List Part) (place : ℕ) → AreCut rest place → EndsBehind rest place → IsFirstCut rest place
-first_cut [] place cut behind = tt
-first_cut (part ∷ parts) place cut behind = cut.1 behind
+pub first_cut : (rest : List Part) (place : ℕ) → AreCut rest place → EndAfter rest place → IsFirstCut rest place
+first_cut [] place cut rest_after = tt
+first_cut (part ∷ parts) place cut rest_after = cut.1 rest_after
 
 -- The first parts, up to a place that lies behind those passed.
 pub record AreEnded (parts front rest : List Part) (passed place : ℕ) : Type 0 where
   pub front_is : front_parts parts place ≡ front ++ first_front rest (place - passed)
   pub cut : IsFirstCut rest (place - passed)
 
-pub ended_behind : (parts front rest : List Part) (passed place : ℕ) → 0 < place → ArePassed parts rest passed (place - 1) → AreBefore parts front rest passed (place - 1) → EndsBehind rest ((place - 1) - passed) → AreCut parts place → AreEnded parts front rest passed place
-ended_behind parts front rest passed place some are before behind cut = by_first rest (before place (omega arith)) (are.cut place (omega arith) cut) behind
+pub ended_behind : (parts front rest : List Part) (passed place : ℕ) → 0 < place → ArePassed parts rest passed (place - 1) → AreBefore parts front rest passed (place - 1) → EndAfter rest ((place - 1) - passed) → AreCut parts place → AreEnded parts front rest passed place
+ended_behind parts front rest passed place some are before rest_after cut = by_first rest (before place (omega arith)) (are.cut place (omega arith) cut) rest_after
   where
-    by_first : (ps : List Part) → front_parts parts place ≡ front ++ front_parts ps (place - passed) → AreCut ps (place - passed) → EndsBehind ps ((place - 1) - passed) → AreEnded parts front ps passed place
+    by_first : (ps : List Part) → front_parts parts place ≡ front ++ front_parts ps (place - passed) → AreCut ps (place - passed) → EndAfter ps ((place - 1) - passed) → AreEnded parts front ps passed place
     by_first [] is c b = record { front_is = is; cut = tt }
     by_first (part ∷ ps) is c b =
         let fits : place - passed ≤ part_len part = omega (arith, b, are.within) in
@@ -163,13 +164,13 @@ more_passed parts rest left passed on low from order are were = record {
 -- How far parts were told through others: what is left to tell gives the rest, over the parts that were not passed.
 pub record Walks (first second made rest : List Part) (passed : ℕ) (left : List Part) : Type 0 where
   pub low : ℕ
-  pub told : put_through first made left ≡ through_parts first second
+  pub error : put_through first made left ≡ through_parts first second
   pub through : AreThrough first left
   pub order : Ascend low left
   pub are : ArePassed first rest passed low
 
 pub walk_begins : (first second : List Part) → AreThrough first second → Ascend 0 second → Walks first second [] first 0 second
-walk_begins first second through order = record { low = 0; told = refl; through = through; order = order; are = none_passed first }
+walk_begins first second through order = record { low = 0; error = refl; through = through; order = order; are = none_passed first }
 
 module _ (first second made rest : List Part) (passed : ℕ) (left : List Part) (walks : Walks first second made rest passed left) where
   -- behind a part of a new text
@@ -179,7 +180,7 @@ module _ (first second made rest : List Part) (passed : ℕ) (left : List Part) 
       let e : put_part made (NewPart bytes) ++ [] ≡ put_part made (NewPart bytes) = append-nil (put_part made (NewPart bytes)) in
       record {
         low = w.low;
-        told = ap (λ (ps : List Part). put_through first ps more) (sym e) ∙ w.told;
+        error = ap (λ (ps : List Part). put_through first ps more) (sym e) ∙ w.error;
         through = w.through.1;
         order = w.order;
         are = w.are;
@@ -204,7 +205,7 @@ module _ (first second made rest : List Part) (passed : ℕ) (left : List Part) 
         let e : now ≡ put_parts made (between_parts first from to) = made_is ∙ ap (λ (ps : List Part). put_parts made (front_parts ps (to - from))) (here.are.same from here.order.0) in
         record {
           low = to;
-          told = ap (λ (ps : List Part). put_through first ps more) e ∙ here.told;
+          error = ap (λ (ps : List Part). put_through first ps more) e ∙ here.error;
           through = here.through.1;
           order = here.order.2;
           are = passed_later first after (passed + on) from to here.order.1 (more_passed first rest after passed on here.low from here.order.0 here.are were);
@@ -230,12 +231,12 @@ first_some (part ∷ parts) place new some e =
 
 -- What the parts are whose bytes between two places were replaced, told by those that were passed on the way to each.
 pub replaced_is : (parts front rest later : List Part) (start stop passed more : ℕ) (text : List ℕ) → start ≤ stop → ArePassed parts rest passed start → front_parts parts start ≡ front ++ first_front rest (start - passed)
-    → (start - passed ≡ 0 → front ≡ []) → ArePassed rest later more (stop - passed) → EndsBehind later ((stop - passed) - more) → (rest ≡ [] → later ≡ [])
+    → (start - passed ≡ 0 → front ≡ []) → ArePassed rest later more (stop - passed) → EndAfter later ((stop - passed) - more) → (rest ≡ [] → later ≡ [])
     → front ++ (put_first_back (first_front rest (start - passed) ++ new_parts text) later ((stop - passed) - more) ++ drop 1 later) ≡ replaced_parts parts start stop text
-replaced_is parts front rest later start stop passed more text order are front_is first were behind some =
-    sym (ap₂ (λ (fs bs : List Part). put_parts (fs ++ new_parts text) bs) front_is (sym (were.same (stop - passed) (omega arith) ∙ are.same stop order)) ∙ by_later later behind some)
+replaced_is parts front rest later start stop passed more text order are front_is first were rest_after some =
+    sym (ap₂ (λ (fs bs : List Part). put_parts (fs ++ new_parts text) bs) front_is (sym (were.same (stop - passed) (omega arith) ∙ are.same stop order)) ∙ by_later later rest_after some)
   where
-    by_later : (ls : List Part) → EndsBehind ls ((stop - passed) - more) → (rest ≡ [] → ls ≡ [])
+    by_later : (ls : List Part) → EndAfter ls ((stop - passed) - more) → (rest ≡ [] → ls ≡ [])
         → put_parts ((front ++ first_front rest (start - passed)) ++ new_parts text) (back_parts ls ((stop - passed) - more))
         ≡ front ++ (put_first_back (first_front rest (start - passed) ++ new_parts text) ls ((stop - passed) - more) ++ drop 1 ls)
     by_later [] b s = append_assoc front (first_front rest (start - passed)) (new_parts text) ∙ ap (λ (ps : List Part). front ++ ps) (sym (append-nil (first_front rest (start - passed) ++ new_parts text)))
@@ -283,7 +284,7 @@ back_twice (part ∷ parts) from to order cut =
     ∙ (ap (λ (k : ℕ). length (back_parts (back_parts parts (from - part_len part)) k)) (sym n) ∙ (ih ∙ ap (λ (ps : List Part). length ps) (sym g))))
     (cases_lt from (part_len part))
   where
-    back_len : (p : Part) (count : ℕ) → IsCut p count → part_len (back_part p count) ≡ part_len p - count
+    back_len : (p : Part) (count : ℕ) → IsCutAt p count → part_len (back_part p count) ≡ part_len p - count
     back_len (OldPart a b) count is = omega arith
     back_len (NewPart bytes) count is = simp length-drop
 

@@ -21,7 +21,8 @@ use Rattle.lsp_edit.specs.Edited.{Edited, both_counts, edit_of, edited_bytes, ed
 use Rattle.lsp_edit.specs.Faults.{places_at, ends_of}
 use Rattle.lsp_edit.specs.Keeps.{Keeps}
 use Rattle.lsp_edit.specs.Laws.{HasExactEnds, AllHaveExactEnds}
-use Rattle.lsp_edit.specs.Plain.{ArePlain, item_of, items_in_order, gap_at, change_at}
+use Rattle.lsp_edit.specs.Plain.{ArePlain, item_of, items_in_order}
+use Rattle.lsp_edit.specs.inside.Plain.{gap_at, change_at}
 use Rattle.lsp_edit.proofs.AppliedLemmas.{AreEnds, ends_told}
 use Rattle.lsp_edit.proofs.ComposeLemmas.{text_of-then, then_keeps}
 use Rattle.lsp_edit.proofs.CutLemmas.{chars_front}
@@ -39,10 +40,10 @@ pub item_none : (items : List PlainItem) (index : ℕ) → length items ≤ inde
 item_none items index past = ap items_in_order (drop_all index items past)
 
 pub numbered_on : (items : List PlainItem) (index : ℕ) (item : PlainItem) → item_of item ≡ Old index → items_in_order items ≡ map Old (numbers_from 0 index) → items_in_order (items ++ item ∷ []) ≡ map Old (numbers_from 0 (index + 1))
-numbered_on items index item is told =
+numbered_on items index item is error =
     let e : 0 + index ≡ index = omega arith in
     map-append item_of items (item ∷ [])
-    ∙ (ap₂ (λ (is : List Item) (i : Item). is ++ i ∷ []) told is
+    ∙ (ap₂ (λ (is : List Item) (i : Item). is ++ i ∷ []) error is
     ∙ sym (ap (map Old) (numbers-append 0 index 1) ∙ (map-append Old (numbers_from 0 index) (numbers_from (0 + index) 1) ∙ ap (λ (n : ℕ). map Old (numbers_from 0 index) ++ Old n ∷ []) e)))
 
 -- The index of a place that is an index's.
@@ -59,13 +60,13 @@ range_made units old items characters range start stop ends = rw (ends.low_is, e
 
 -- How far the changes of items were written: those of the items that are left complete them.
 pub record Writes (units : ℕ → ℕ) (old : List ℕ) (all made : List Edit) (low : ℕ) (text : List ℕ) (rest : List Item) : Type 0 where
-  pub told : made ++ changes_of units old (gaps_from old low text rest) ≡ all
+  pub error : made ++ changes_of units old (gaps_from old low text rest) ≡ all
   pub ends : AllHaveExactEnds old (gaps_from old low text rest)
   pub keeps : Keeps old low rest
 
 pub write_begins : (units : ℕ → ℕ) (old : List ℕ) (items : List Item) → Keeps old 0 items → Writes units old (changes_of units old (gaps old items)) [] 0 [] items
 write_begins units old items keeps = record {
-  told = ap (changes_of units old) (sym (gaps_are old items));
+  error = ap (changes_of units old) (sym (gaps_are old items));
   ends = subst (AllHaveExactEnds old) (gaps_are old items) (ends_exact old items keeps);
   keeps = keeps;
 }
@@ -74,7 +75,7 @@ module _ (units : ℕ → ℕ) (old : List ℕ) (all made : List Edit) (low : �
   pub write_new : (character : ℕ) (more : List Item) → rest ≡ New character ∷ more → Writes units old all made low (text ++ character ∷ []) more
   write_new character more is =
       let w : Writes units old all made low text (New character ∷ more) = subst (Writes units old all made low text) is writes in
-      record { told = w.told; ends = w.ends; keeps = w.keeps.1 }
+      record { error = w.error; ends = w.ends; keeps = w.keeps.1 }
 
   module _ (index : ℕ) (more : List Item) (is : rest ≡ Old index ∷ more) where
     here : Writes units old all made low text (Old index ∷ more)
@@ -90,8 +91,8 @@ module _ (units : ℕ → ℕ) (old : List ℕ) (all made : List Edit) (low : �
     write_old next next_is =
         rw next_is
         (record {
-          told = append_assoc made (change_at units old (gap_at low index text)) (changes_of units old (gaps_from old (suc index) [] more))
-              ∙ (ap (λ (es : List Edit). made ++ es) (sym (changes_of-cons units old (gap_at low index text) (gaps_from old (suc index) [] more))) ∙ here.told);
+          error = append_assoc made (change_at units old (gap_at low index text)) (changes_of units old (gaps_from old (suc index) [] more))
+              ∙ (ap (λ (es : List Edit). made ++ es) (sym (changes_of-cons units old (gap_at low index text) (gaps_from old (suc index) [] more))) ∙ here.error);
           ends = here.ends.1;
           keeps = here.keeps.3;
         })
@@ -105,7 +106,7 @@ module _ (units : ℕ → ℕ) (old : List ℕ) (all made : List Edit) (low : �
 
     pub write_end : made ++ change_at units old (gap_at low (length old) text) ≡ all
     write_end =
-        ap (λ (es : List Edit). made ++ es) (sym (changes_of-cons units old (gap_at low (length old) text) [] ∙ append-nil (change_at units old (gap_at low (length old) text)))) ∙ last.told
+        ap (λ (es : List Edit). made ++ es) (sym (changes_of-cons units old (gap_at low (length old) text) [] ∙ append-nil (change_at units old (gap_at low (length old) text)))) ∙ last.error
 
 -- The change of a gap, as it is written.
 module _ (units : ℕ → ℕ) (old : List ℕ) (low high : ℕ) (text : List ℕ) where
@@ -200,9 +201,9 @@ pub record AreFound (units : ℕ → ℕ) (old : List ℕ) (items : List Item) (
 
 pub found : (units : ℕ → ℕ) (edited : Edited) (range : Range) (number start stop : ℕ) (bytes : List ℕ) → IsUtf8 bytes → bytes ≡ edited_bytes edited → Ok (start, stop) ≡ places_at number (chars bytes) (ends_of units (chars bytes) range)
     → AreFound units edited.before edited.items range bytes start stop
-found units edited range number start stop bytes utf8 is told =
+found units edited range number start stop bytes utf8 is error =
     let same : chars bytes ≡ edited_text edited = edited_chars edited bytes utf8 is in
-    let e : AreEnds units (edited_text edited) range start stop = subst (λ (t : List ℕ). AreEnds units t range start stop) same (ends_told units (chars bytes) range number start stop told) in
+    let e : AreEnds units (edited_text edited) range start stop = subst (λ (t : List ℕ). AreEnds units t range start stop) same (ends_told units (chars bytes) range number start stop error) in
     let low : e.low ≤ length (edited_text edited) = omega (arith, e.order, e.within) in
     record {
       ends = e;

@@ -8,7 +8,8 @@ use Rattle.std.proofs.lemmas.Str.{chars-nil}
 use Rattle.lsp_text.specs.Text.{place_of}
 use Rattle.lsp_text.specs.TextLines.{numbers_from}
 use Rattle.lsp_edit.specs.Items.{Item, Old, New, text_of}
-use Rattle.lsp_edit.specs.Parts.{Part, OldPart, NewPart, index_of, items_in, items_of, part_len, IsPart, AreParts, front_parts, back_parts, joined, put_part, put_parts, new_parts, replaced_parts}
+use Rattle.lsp_edit.specs.Parts.{Part, OldPart, NewPart, index_of, items_in, items_of, part_len, IsPartOf, AreParts, new_parts}
+use Rattle.lsp_edit.specs.inside.Parts.{front_parts, back_parts, joined, put_part, put_parts, replaced_parts}
 use Rattle.lsp_edit.proofs.RebuiltLemmas.{numbers-append}
 use Rattle.lsp_edit.proofs.IndexLemmas.{index_rises}
 use Rattle.lsp_edit.proofs.CutPartsLemmas.{AreCutAt, cut_parts}
@@ -78,7 +79,7 @@ replaced_few parts start stop bytes order =
     )
 
 module _ (old : List ℕ) where
-  joined_items : (first part : Part) → IsPart old first → IsPart old part → (items_of (chars old) (joined first part) ≡ items_in (chars old) first ++ items_in (chars old) part) × AreParts old (joined first part)
+  joined_items : (first part : Part) → IsPartOf old first → IsPartOf old part → (items_of (chars old) (joined first part) ≡ items_in (chars old) first ++ items_in (chars old) part) × AreParts old (joined first part)
   joined_items (OldPart from to) (OldPart next end) is was =
       ⊎_elim
       (λ (e : (to == next) ≡ true). touching (eqb-true to next e) e)
@@ -104,7 +105,7 @@ module _ (old : List ℕ) where
   joined_items (OldPart from to) (NewPart bytes) is was = (ap (λ (i : List Item). items_in (chars old) (OldPart from to) ++ i) (append-nil (map New (chars bytes))), (is, (was, tt)))
   joined_items (NewPart bytes) part is was = (ap (λ (i : List Item). map New (chars bytes) ++ i) (append-nil (items_in (chars old) part)), (is, (was, tt)))
 
-  put_items : (parts : List Part) (part : Part) → AreParts old parts → IsPart old part → (items_of (chars old) (put_part parts part) ≡ items_of (chars old) parts ++ items_in (chars old) part) × AreParts old (put_part parts part)
+  put_items : (parts : List Part) (part : Part) → AreParts old parts → IsPartOf old part → (items_of (chars old) (put_part parts part) ≡ items_of (chars old) parts ++ items_in (chars old) part) × AreParts old (put_part parts part)
   put_items [] part are is = (append-nil (items_in (chars old) part), (is, tt))
   put_items (first ∷ []) part are is =
       let j : (items_of (chars old) (joined first part) ≡ items_in (chars old) first ++ items_in (chars old) part) × AreParts old (joined first part) = joined_items first part are.0 is in

@@ -10,8 +10,8 @@ use Rattle.lsp_text.specs.Positions.{denoted}
 use Rattle.lsp_edit.specs.declared.change.Change.{Change}
 use Rattle.lsp_edit.specs.declared.fault.EditFault.{EditFault}
 use Rattle.lsp_edit.specs.Items.{Item, New, character_of, text_of}
-use Rattle.lsp_edit.specs.Batch.{Edit, Fault, Reversed, replaced, changed_in, after_change, after_changes, go_on}
-use Rattle.lsp_edit.specs.Faults.{TellsFault, TellsBatchFault, fault_at}
+use Rattle.lsp_edit.specs.Batch.{Edit, Fault, Reversed, replaced, changed_in, after_change, after_changes, continue_with}
+use Rattle.lsp_edit.specs.Faults.{IsFaultOfChange, IsFaultOfChanges, fault_at}
 use Rattle.lsp_edit.specs.Edited.{Applied, Edited, edit_of, edited_bytes}
 use Rattle.lsp_edit.proofs.CutLemmas.{text_of-new}
 use Rattle.lsp_edit.proofs.AppliedLemmas.{bytes_split}
@@ -66,7 +66,7 @@ pub record Applying (units : ℕ → ℕ) (before : List ℕ) (meant : Result (L
   pub room : length (edited_bytes edited) + texts_len rest ≤ 2147483648
 
 module _ (units : ℕ → ℕ) (before : List ℕ) (meant : Result (List Item) (ℕ × Fault)) (done : ℕ) (change : Change) (rest more : List Change) (edited : Edited) (is : rest ≡ change ∷ more) (applying : Applying units before meant done rest edited) where
-  left_here : go_on (λ next. after_changes units before (suc edited.changes) next (map edit_of more)) edited.changes (after_change units before edited.items (edit_of change)) ≡ meant
+  left_here : continue_with (λ next. after_changes units before (suc edited.changes) next (map edit_of more)) edited.changes (after_change units before edited.items (edit_of change)) ≡ meant
   left_here = rw is at applying.left
 
   pub room_here : length (edited_bytes edited) + string_len change.text ≤ 2147483648
@@ -87,12 +87,12 @@ module _ (units : ℕ → ℕ) (before : List ℕ) (meant : Result (List Item) (
         room = omega (arith, applying.room, ap texts_len is, sum_by-cons (λ (c : Change). string_len c.text) change more, longer, own, ap (λ (b : List ℕ). length (encode_utf8_all (text_of b next.items))) applied.same);
       }
 
-  pub faulted : (fault : EditFault) → TellsFault edited.changes (after_change units edited.before edited.items (edit_of change)) fault → TellsBatchFault meant fault
-  faulted fault told =
+  pub faulted : (fault : EditFault) → IsFaultOfChange edited.changes (after_change units edited.before edited.items (edit_of change)) fault → IsFaultOfChanges meant fault
+  faulted fault error =
       ⊎_elim
       (λ (memory : fault ≡ EditFault.NoMemory). inl memory)
       (λ (t : (why : Fault) × (after_change units edited.before edited.items (edit_of change) ≡ Err why) × (fault ≡ fault_at edited.changes why)).
       let made : after_change units before edited.items (edit_of change) ≡ Err t.0 = ap (λ (b : List ℕ). after_change units b edited.items (edit_of change)) (sym applying.same) ∙ t.1 in
       let l : Err (edited.changes, t.0) ≡ meant = rw made at left_here in
       inr (edited.changes, t.0, sym l, t.2))
-      told
+      error

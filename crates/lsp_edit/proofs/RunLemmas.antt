@@ -11,7 +11,8 @@ use Rattle.lsp_text.specs.declared.encoding.Encoding.{Encoding}
 use Rattle.lsp_text.specs.Units.{units_in}
 use Rattle.lsp_edit.specs.Canonical.{canonical}
 use Rattle.lsp_edit.specs.Indexed.{IsCanonicalBatch, bytes_left, text_within}
-use Rattle.lsp_edit.specs.Joined.{IsJoined, IsReached, IsWhole, JoinedData, joined_text}
+use Rattle.lsp_edit.specs.Joined.{IsJoined, IsReached, JoinedData, joined_text}
+use Rattle.lsp_edit.specs.inside.Joined.{IsWhole}
 use Rattle.lsp_edit.proofs.ComposeLemmas.{then_means}
 use Rattle.lsp_edit.proofs.LawLemmas.{canonical_law, units_some}
 
@@ -39,11 +40,11 @@ run_begins units before batch joined reached utf8 is at short = record {
 
 left_short : (max_len : ℕ) (reached left : List ℕ) (meant : Result (List Item) (ℕ × Fault)) (items : List Item) → meant ≡ Ok items → text_within max_len reached meant ≡ Ok left → length left ≤ max_len
 left_short max_len reached left meant items is within =
-    let told : text_within max_len reached (Ok items) ≡ Ok left = rw is at within in
+    let error : text_within max_len reached (Ok items) ≡ Ok left = rw is at within in
     ⊎_elim
-    (λ (e : nat_lt max_len (length (bytes_left reached items)) ≡ true). absurd (let bad : ◌≡◌ {A = Result (List ℕ) TextFault} (Err TooLong) (Ok left) = rw e at told in cc))
+    (λ (e : nat_lt max_len (length (bytes_left reached items)) ≡ true). absurd (let bad : ◌≡◌ {A = Result (List ℕ) TextFault} (Err TooLong) (Ok left) = rw e at error in cc))
     (λ (e : nat_lt max_len (length (bytes_left reached items)) ≡ false).
-    let same : ◌≡◌ {A = Result (List ℕ) TextFault} (Ok (bytes_left reached items)) (Ok left) = rw e at told in
+    let same : ◌≡◌ {A = Result (List ℕ) TextFault} (Ok (bytes_left reached items)) (Ok left) = rw e at error in
     let bytes : bytes_left reached items ≡ left = cc in
     omega (arith, ap length bytes, ltb-false max_len (length (bytes_left reached items)) e))
     (cases_Bool (nat_lt max_len (length (bytes_left reached items))))

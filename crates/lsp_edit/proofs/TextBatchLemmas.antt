@@ -16,11 +16,11 @@ use Rattle.lsp_edit.specs.declared.fault.EditFault.TheVariants.{NoMemory}
 use Rattle.lsp_edit.specs.declared.indexed.TextFault.{TextFault}
 use Rattle.lsp_edit.specs.declared.indexed.TextFault.TheVariants.{Edit as EditOf, TooLong, NoMemory as OutOfMemory}
 use Rattle.lsp_edit.specs.Items.{Item, New, plain, character_of, text_of}
-use Rattle.lsp_edit.specs.Batch.{Edit, Fault, InsideStart, InsideStop, Reversed, replaced, changed_in, after_change, after_changes, go_on, meaning}
-use Rattle.lsp_edit.specs.TextBatch.{text_replaced, text_changed, text_after_change, text_after_changes, text_go_on, IsFaultOf, IsFaultOfBatch}
+use Rattle.lsp_edit.specs.Batch.{Edit, Fault, InsideStart, InsideStop, Reversed, replaced, changed_in, after_change, after_changes, continue_with, meaning}
+use Rattle.lsp_edit.specs.inside.TextBatch.{text_replaced, text_changed, text_after_change, text_after_changes, text_continue_with, IsFaultOf, IsFaultOfBatch}
 use Rattle.lsp_edit.specs.Faults.{fault_at, in_order, ends_of, places_at}
 use Rattle.lsp_edit.specs.Edited.{edit_of}
-use Rattle.lsp_edit.specs.Indexed.{bytes_left, text_within, told_as}
+use Rattle.lsp_edit.specs.Indexed.{bytes_left, text_within, text_fault_of}
 use Rattle.lsp_edit.proofs.AppliedLemmas.{AreEnds, ends_told}
 use Rattle.lsp_edit.proofs.CutLemmas.{text_of-new}
 use Rattle.lsp_edit.proofs.EditedLemmas.{plain_text}
@@ -54,16 +54,16 @@ change_text units old items new (Some range) = replaced_text old items new (deno
 pub changes_text : (units : ℕ → ℕ) (old : List ℕ) (number : ℕ) (items : List Item) (batch : List Edit) → text_after_changes units number (text_of old items) batch ≡ text_result old (after_changes units old number items batch)
 changes_text units old number items [] = refl
 changes_text units old number items (change ∷ batch) =
-    ap (text_go_on (λ (next : List ℕ). text_after_changes units (suc number) next batch) number) (change_text units old items change.text change.range)
+    ap (text_continue_with (λ (next : List ℕ). text_after_changes units (suc number) next batch) number) (change_text units old items change.text change.range)
     ∙ go_on_text (after_change units old items change) (λ next. changes_text units old (suc number) next batch)
   where
     go_on_text : (made : Result (List Item) Fault) → ((next : List Item) → text_after_changes units (suc number) (text_of old next) batch ≡ text_result old (after_changes units old (suc number) next batch))
-        → text_go_on (λ (next : List ℕ). text_after_changes units (suc number) next batch) number (text_result old made)
-        ≡ text_result old (go_on (λ next. after_changes units old (suc number) next batch) number made)
+        → text_continue_with (λ (next : List ℕ). text_after_changes units (suc number) next batch) number (text_result old made)
+        ≡ text_result old (continue_with (λ next. after_changes units old (suc number) next batch) number made)
     go_on_text (Ok next) more = more next
     go_on_text (Err fault) more = refl
 
-fault_edit : (number : ℕ) (why : Fault) → EditOf (fault_at number why) ≡ told_as (fault_at number why)
+fault_edit : (number : ℕ) (why : Fault) → EditOf (fault_at number why) ≡ text_fault_of (fault_at number why)
 fault_edit number InsideStart = refl
 fault_edit number InsideStop = refl
 fault_edit number Reversed = refl
@@ -89,20 +89,20 @@ module _ (units : ℕ → ℕ) (before : List ℕ) (batch : List Edit) where
         by_meaning (λ meant. text_within max_len before meant ≡ Ok left) (λ items same. rw (same, le-ltb max_len (length left) fits) refl)
 
   pub left_fault : (max_len : ℕ) (fault : EditFault) → IsFaultOfBatch (text_after_changes units 0 (chars before) batch) fault
-      → (told_as fault ≡ OutOfMemory) ⊎ (text_within max_len before (meaning units (chars before) batch) ≡ Err (told_as fault))
-  left_fault max_len fault told =
+      → (text_fault_of fault ≡ OutOfMemory) ⊎ (text_within max_len before (meaning units (chars before) batch) ≡ Err (text_fault_of fault))
+  left_fault max_len fault error =
       ⊎_elim
-      (λ (memory : fault ≡ NoMemory). inl (ap told_as memory))
+      (λ (memory : fault ≡ NoMemory). inl (ap text_fault_of memory))
       (λ (t : (number : ℕ) × (why : Fault) × (text_after_changes units 0 (chars before) batch ≡ Err (number, why)) × (fault ≡ fault_at number why)).
       inr (found (meaning units (chars before) batch) t.0 t.1 t.3 (sym batch_text ∙ t.2)))
-      told
+      error
     where
       found : (meant : Result (List Item) (ℕ × Fault)) (number : ℕ) (why : Fault) → fault ≡ fault_at number why
-          → ◌≡◌ {A = Result (List ℕ) (ℕ × Fault)} (text_result (chars before) meant) (Err (number, why)) → text_within max_len before meant ≡ Err (told_as fault)
+          → ◌≡◌ {A = Result (List ℕ) (ℕ × Fault)} (text_result (chars before) meant) (Err (number, why)) → text_within max_len before meant ≡ Err (text_fault_of fault)
       found (Ok items) number why is e = absurd (cc)
       found (Err x) number why is e =
           let f : x ≡ (number, why) = cc in
-          ap (λ (y : ℕ × Fault). text_within max_len before (Err y)) f ∙ (ap (λ (y : TextFault). Err y) (fault_edit number why) ∙ ap (λ (y : EditFault). Err (told_as y)) (sym is))
+          ap (λ (y : ℕ × Fault). text_within max_len before (Err y)) f ∙ (ap (λ (y : TextFault). Err y) (fault_edit number why) ∙ ap (λ (y : EditFault). Err (text_fault_of y)) (sym is))
 
 -- ---- one change of a range
 
@@ -128,8 +128,8 @@ pub record IsRanged (units : ℕ → ℕ) (before : List ℕ) (range : Range) (n
 module _ (units : ℕ → ℕ) (number : ℕ) (before : List ℕ) (utf8 : IsUtf8 before) (range : Range) (new : List ℕ) (new_utf8 : IsUtf8 new) where
   range_left : (start stop : ℕ) → Ok (start, stop) ≡ places_at number (chars before) (ends_of units (chars before) range)
       → IsCharBoundary before start → IsCharBoundary before stop → text_after_change units (chars before) (record { range = Some range; text = chars new }) ≡ Ok (chars (replace_range before start stop new))
-  range_left start stop told at_start at_stop =
-      let ends : AreEnds units (chars before) range start stop = ends_told units (chars before) range number start stop told in
+  range_left start stop error at_start at_stop =
+      let ends : AreEnds units (chars before) range start stop = ends_told units (chars before) range number start stop error in
       let cs : List ℕ = take ends.low (chars before) ++ (chars new ++ drop ends.high (chars before)) in
       let front : encode_utf8_all (take ends.low (chars before)) ≡ take start before
       = sym (take_place (chars before) ends.low) ∙ rw (ends.start_is, encodes-chars before utf8) refl in
@@ -147,8 +147,8 @@ module _ (units : ℕ → ℕ) (number : ℕ) (before : List ℕ) (utf8 : IsUtf8
       assoc a b c = simp append_assoc
 
   pub is_ranged : (start stop : ℕ) → Ok (start, stop) ≡ places_at number (chars before) (ends_of units (chars before) range) → IsRanged units before range new start stop
-  is_ranged start stop told =
-      let first : Ok (start, stop) ≡ places_at 0 (chars before) (ends_of units (chars before) range) = places_any number (chars before) start stop (ends_of units (chars before) range) told in
+  is_ranged start stop error =
+      let first : Ok (start, stop) ≡ places_at 0 (chars before) (ends_of units (chars before) range) = places_any number (chars before) start stop (ends_of units (chars before) range) error in
       let order : start ≤ stop = range_order units before utf8 range new new_utf8 start stop first in
       let at_start : IsCharBoundary before start = range_start units before utf8 range new new_utf8 start stop first in
       let at_stop : IsCharBoundary before stop = range_stop units before utf8 range new new_utf8 start stop first in
@@ -156,14 +156,14 @@ module _ (units : ℕ → ℕ) (number : ℕ) (before : List ℕ) (utf8 : IsUtf8
         order = order;
         at_start = at_start;
         at_stop = at_stop;
-        left = range_left start stop told at_start at_stop;
+        left = range_left start stop error at_start at_stop;
         longer = omega (arith, replaced_len before utf8 start stop new new_utf8 order at_start at_stop, order, at_stop.0);
         room = omega (arith, order);
       }
 
   pub range_faulted : (fault : EditFault) → Err fault ≡ places_at number (chars before) (ends_of units (chars before) range)
       → IsFaultOf number (text_after_change units (chars before) (record { range = Some range; text = chars new })) fault
-  range_faulted fault told = by_ends (denoted units (chars before) range.start) (denoted units (chars before) range.stop) told
+  range_faulted fault error = by_ends (denoted units (chars before) range.start) (denoted units (chars before) range.stop) error
     where
       by_ends : (a b : Option ℕ) → ◌≡◌ {A = Result (ℕ × ℕ) EditFault} (Err fault) (places_at number (chars before) (in_order a b)) → IsFaultOf number (text_replaced (chars before) (chars new) a b) fault
       by_ends None b e = inr (InsideStart, refl, cc)
@@ -182,7 +182,7 @@ pub record Drafting (units : ℕ → ℕ) (left : Result (List ℕ) (ℕ × Faul
   pub room : length draft + texts_len rest ≤ 2147483648
 
 module _ (units : ℕ → ℕ) (left : Result (List ℕ) (ℕ × Fault)) (number : ℕ) (change : Change) (rest more : List Change) (draft : List ℕ) (is : rest ≡ change ∷ more) (drafting : Drafting units left number rest draft) where
-  same_here : text_go_on (λ next. text_after_changes units (suc number) next (map edit_of more)) number (text_after_change units (chars draft) (edit_of change)) ≡ left
+  same_here : text_continue_with (λ next. text_after_changes units (suc number) next (map edit_of more)) number (text_after_change units (chars draft) (edit_of change)) ≡ left
   same_here = rw is at drafting.same
 
   pub draft_room : length draft + string_len change.text ≤ 2147483648
@@ -198,13 +198,13 @@ module _ (units : ℕ → ℕ) (left : Result (List ℕ) (ℕ × Fault)) (number
       }
 
   pub draft_faulted : (fault : EditFault) → IsFaultOf number (text_after_change units (chars draft) (edit_of change)) fault → IsFaultOfBatch left fault
-  draft_faulted fault told =
+  draft_faulted fault error =
       ⊎_elim
       (λ (memory : fault ≡ NoMemory). inl memory)
       (λ (t : (why : Fault) × (text_after_change units (chars draft) (edit_of change) ≡ Err why) × (fault ≡ fault_at number why)).
       let l : Err (number, t.0) ≡ left = rw t.1 at same_here in
       inr (number, t.0, sym l, t.2))
-      told
+      error
 
 -- A batch that begins with a whole text leaves the same of every text.
 pub any_text : (units : ℕ → ℕ) (text other new : List ℕ) (batch : List Edit) → text_after_changes units 0 text (record { range = None; text = new } ∷ batch) ≡ text_after_changes units 0 other (record { range = None; text = new } ∷ batch)

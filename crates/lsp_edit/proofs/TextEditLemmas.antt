@@ -72,7 +72,7 @@ nowhere units old edits index placed first rest number why is at number_is lies 
       at = at;
       why = why;
       lies = subst (λ (m : ℕ). places_at m old (ends_of units old first.range) ≡ Err why) n (sym lies);
-      told = refl;
+      error = refl;
     }
 
 -- what is read past the end of a list
@@ -82,14 +82,14 @@ no_edit = record { number = 0; start = 0; stop = 0; text = record { ref_ptr = (0
 -- ---- the walk over edits in order
 
 -- The edit before a place, if there is one, stops there and has that number.
-abbrev pub IsBehind : List Placed → ℕ → ℕ → Type 0
-IsBehind front low last = (low ≡ 0) ⊎ ((before : List Placed) × (edit : Placed) × (front ≡ before ++ edit ∷ []) × (low ≡ edit.stop) × (last ≡ edit.number))
+abbrev pub HasTaken : List Placed → ℕ → ℕ → Type 0
+HasTaken front low last = (low ≡ 0) ⊎ ((before : List Placed) × (edit : Placed) × (front ≡ before ++ edit ∷ []) × (low ≡ edit.stop) × (last ≡ edit.number))
 
 -- How far the walk came: what edits leave from a place on completes the parts that were made.
 pub record Spanning (len : ℕ) (ordered front rest : List Placed) (made : List Part) (low last : ℕ) : Type 0 where
   pub parts : made ++ parts_left len low rest ≡ parts_left len 0 ordered
   pub apart : AreApart low rest → AreApart 0 ordered
-  pub behind : IsBehind front low last
+  pub rest_after : HasTaken front low last
 
 module _ (len : ℕ) (ordered front rest : List Placed) (made : List Part) (low last : ℕ) (edit : Placed) (more : List Placed) (is : rest ≡ edit ∷ more) (spanning : Spanning len ordered front rest made low last) where
   pub spanning_on : (next : List Placed) (some all : List Part) → next ≡ front ++ edit ∷ [] → low ≤ edit.start → some ≡ made ++ old_parts low edit.start → all ≡ some ++ new_parts edit.text.now → Spanning len ordered next more all edit.stop edit.number
@@ -103,11 +103,11 @@ module _ (len : ℕ) (ordered front rest : List Placed) (made : List Part) (low 
             ∙ (append_assoc (made ++ old_parts low edit.start) (new_parts edit.text.now) (parts_left len edit.stop more)
             ∙ (append_assoc made (old_parts low edit.start) (new_parts edit.text.now ++ parts_left len edit.stop more) ∙ here));
         apart = λ a. apart (order, a);
-        behind = inr (front, edit, next_is, refl, refl);
+        rest_after = inr (front, edit, next_is, refl, refl);
       }
 
   pub overlapping : (fault : TextEditFault) → ordered ≡ front ++ rest → edit.start < low → fault ≡ Overlap last edit.number → DoOverlap ordered fault
-  overlapping fault all less told =
+  overlapping fault all less error =
       ⊎_elim
       (λ (none : low ≡ 0). absurd (omega arith))
       (λ (b : (before : List Placed) × (first : Placed) × (front ≡ before ++ first ∷ []) × (low ≡ first.stop) × (last ≡ first.number)).
@@ -118,9 +118,9 @@ module _ (len : ℕ) (ordered front rest : List Placed) (made : List Part) (low 
         rest = more;
         all = all ∙ (ap (λ (r : List Placed). front ++ r) is ∙ (ap (λ (f : List Placed). f ++ edit ∷ more) b.2 ∙ append_assoc b.0 (b.1 ∷ []) (edit ∷ more)));
         over = omega (arith, b.3);
-        told = told ∙ ap (λ (n : ℕ). Overlap n edit.number) b.4;
+        error = error ∙ ap (λ (n : ℕ). Overlap n edit.number) b.4;
       })
-      spanning.behind
+      spanning.rest_after
 
 -- ---- what edits leave
 

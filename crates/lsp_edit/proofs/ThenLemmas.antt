@@ -5,7 +5,8 @@ use Rattle.std.proofs.lemmas.Str.{IsUtf8-from_is_utf8, IsCharBoundary-start}
 use Rattle.lsp_edit.specs.Items.{plain, text_of}
 use Rattle.lsp_edit.specs.Compose.{then_items}
 use Rattle.lsp_edit.specs.Keeps.{Keeps}
-use Rattle.lsp_edit.specs.Parts.{Part, items_of, bytes_of, AreParts, NoneTouch, through_parts, AreThrough, Ascend}
+use Rattle.lsp_edit.specs.Parts.{Part, items_of, bytes_of, AreParts, NoneTouch, Ascend}
+use Rattle.lsp_edit.specs.inside.Parts.{through_parts, AreThrough}
 use Rattle.lsp_edit.specs.Edited.{ArePieces, Edited, both_counts, edited_text}
 use Rattle.lsp_edit.proofs.ComposeLemmas.{text_of-then, then-plain, then_keeps}
 use Rattle.lsp_edit.proofs.CutPartsLemmas.{parts_bytes}
@@ -48,37 +49,37 @@ module _ (before lines : List ℕ) (parts : List Part) (len changes : ℕ) (mid 
   pub over_order : Ascend 0 more
   over_order = pieces_ascend mid mid_lines more more_len more_changes both.were
 
-  told : (items_of (chars before) (through_parts parts more) ≡ then_items (items_of (chars before) parts) (items_of (chars mid) more)) × AreParts before (through_parts parts more)
-  told = through_items before mid utf8 mid_utf8 parts both.are.are both.over more both.were.are
+  error : (items_of (chars before) (through_parts parts more) ≡ then_items (items_of (chars before) parts) (items_of (chars mid) more)) × AreParts before (through_parts parts more)
+  error = through_items before mid utf8 mid_utf8 parts both.are.are both.over more both.were.are
 
   text : text_of (chars before) (items_of (chars before) (through_parts parts more)) ≡ text_of (chars mid) (items_of (chars mid) more)
   text =
-      ap (text_of (chars before)) told.0
+      ap (text_of (chars before)) error.0
       ∙ (text_of-then (chars before) (items_of (chars before) parts) (items_of (chars mid) more)
       ∙ ap (λ (t : List ℕ). text_of t (items_of (chars mid) more)) (sym both.over))
 
   long : more_len ≡ length (bytes_of before (through_parts parts more))
   long =
       both.were.long
-      ∙ ap length (parts_bytes mid mid_utf8 more both.were.are ∙ (ap encode_utf8_all (sym text) ∙ sym (parts_bytes before utf8 (through_parts parts more) told.1)))
+      ∙ ap length (parts_bytes mid mid_utf8 more both.were.are ∙ (ap encode_utf8_all (sym text) ∙ sym (parts_bytes before utf8 (through_parts parts more) error.1)))
 
   keeps : Keeps (chars before) 0 (items_of (chars before) (through_parts parts more))
   keeps =
-      subst (Keeps (chars before) 0) (sym told.0)
+      subst (Keeps (chars before) 0) (sym error.0)
       (then_keeps (λ c. 1) (λ c. omega arith) (chars before) (items_of (chars before) parts) (items_of (chars mid) more) both.are.keeps
       (subst (λ (t : List ℕ). Keeps t 0 (items_of (chars mid) more)) both.over both.were.keeps))
 
   fresh : changes ≡ 0 → more_changes ≡ 0 → items_of (chars before) (through_parts parts more) ≡ plain (chars before)
   fresh none no_more =
       let second : items_of (chars mid) more ≡ plain (text_of (chars before) (items_of (chars before) parts)) = both.were.fresh no_more ∙ ap plain both.over in
-      told.0 ∙ (ap (then_items (items_of (chars before) parts)) second ∙ (then-plain (chars before) (items_of (chars before) parts) ∙ both.are.fresh none))
+      error.0 ∙ (ap (then_items (items_of (chars before) parts)) second ∙ (then-plain (chars before) (items_of (chars before) parts) ∙ both.are.fresh none))
 
   module _ (made : List Part) (is : made ≡ through_parts parts more) (small : length made < 18446744073709551616) (count : ℕ) (counted : count ≡ both_counts changes more_changes) where
     pub then_holds : ArePieces before lines made more_len count
     then_holds = record {
       utf8 = both.are.utf8;
       indexed = both.are.indexed;
-      are = subst (AreParts before) (sym is) told.1;
+      are = subst (AreParts before) (sym is) error.1;
       apart = subst NoneTouch (sym is) (through_apart parts more both.are.apart);
       keeps = subst (λ (ps : List Part). Keeps (chars before) 0 (items_of (chars before) ps)) (sym is) keeps;
       long = long ∙ ap (λ (ps : List Part). length (bytes_of before ps)) (sym is);
@@ -90,7 +91,7 @@ module _ (before lines : List ℕ) (parts : List Part) (len changes : ℕ) (mid 
     pub then_told : (first second : Edited) → seen before parts changes ≡ first → seen mid more more_changes ≡ second
         → seen before made count ≡ record { before = first.before; items = then_items first.items second.items; changes = both_counts first.changes second.changes }
     then_told first second view other =
-        let e : items_of (chars before) made ≡ then_items (items_of (chars before) parts) (items_of (chars mid) more) = ap (λ (ps : List Part). items_of (chars before) ps) is ∙ told.0 in
+        let e : items_of (chars before) made ≡ then_items (items_of (chars before) parts) (items_of (chars mid) more) = ap (λ (ps : List Part). items_of (chars before) ps) is ∙ error.0 in
         let a : seen before made count ≡ record { before = chars before; items = then_items (items_of (chars before) parts) (items_of (chars mid) more); changes = both_counts changes more_changes }
         = λ i. record { before = chars before; items = e i; changes = counted i } in
         let b : record { before = chars before; items = then_items (items_of (chars before) parts) (items_of (chars mid) more); changes = both_counts changes more_changes } ≡ record { before = first.before; items = then_items first.items second.items; changes = both_counts first.changes second.changes }

@@ -7,9 +7,10 @@ use Rattle.lsp_text.specs.Text.{place_of}
 use Rattle.lsp_text.specs.TextLines.{numbers_from}
 use Rattle.lsp_text.proofs.PlaceLemmas.{place_add, IsIndexAt, index_at}
 use Rattle.lsp_edit.specs.Items.{Item, Old, New, character_of, text_of}
-use Rattle.lsp_edit.specs.Compose.{told_through, then_items}
+use Rattle.lsp_edit.specs.Compose.{item_through, then_items}
 use Rattle.lsp_edit.specs.Keeps.{Keeps}
-use Rattle.lsp_edit.specs.Parts.{Part, OldPart, NewPart, index_of, items_in, items_of, IsPart, AreParts, back_parts, put_parts, through_part, put_through, through_parts, IsThrough, AreThrough, Ascend}
+use Rattle.lsp_edit.specs.Parts.{Part, OldPart, NewPart, index_of, items_in, items_of, IsPartOf, AreParts, Ascend}
+use Rattle.lsp_edit.specs.inside.Parts.{back_parts, put_parts, through_part, put_through, through_parts, IsThrough, AreThrough}
 use Rattle.lsp_edit.proofs.ComposeLemmas.{told_row, told_new}
 use Rattle.lsp_edit.proofs.CutLemmas.{text_long}
 use Rattle.lsp_edit.proofs.CutPartsLemmas.{AreCutAt, cut_parts}
@@ -24,7 +25,7 @@ module _ (old mid : List ℕ) (old_utf8 : IsUtf8 old) (mid_utf8 : IsUtf8 mid) (f
     pub parts : AreParts old (through_part first part)
     pub cut : IsThrough first part
 
-  told_part : (part : Part) → IsPart mid part → IsTold part
+  told_part : (part : Part) → IsPartOf mid part → IsTold part
   told_part (NewPart bytes) is = record { items = append-nil (map New (chars bytes)) ∙ sym (told_new (items_of (chars old) first) (chars bytes)); parts = (is, tt); cut = tt }
   told_part (OldPart from to) is = by_indexes (index_at mid from mid_utf8 is.1) (index_at mid to mid_utf8 is.2)
     where
@@ -67,7 +68,7 @@ module _ (old mid : List ℕ) (old_utf8 : IsUtf8 old) (mid_utf8 : IsUtf8 mid) (f
       let r : (items_of (chars old) (put_through first (put_parts made (through_part first part)) second) ≡ items_of (chars old) (put_parts made (through_part first part)) ++ then_items items (items_of (chars mid) second)) × AreParts old (put_through first (put_parts made (through_part first part)) second)
       = told_all (put_parts made (through_part first part)) second q.1 are_second.1 in
       let split : then_items items (items_in (chars mid) part ++ items_of (chars mid) second) ≡ then_items items (items_in (chars mid) part) ++ then_items items (items_of (chars mid) second)
-      = map-append (told_through items) (items_in (chars mid) part) (items_of (chars mid) second) in (
+      = map-append (item_through items) (items_in (chars mid) part) (items_of (chars mid) second) in (
         r.0
             ∙ (ap (λ (i : List Item). i ++ then_items items (items_of (chars mid) second)) q.0
             ∙ (append_assoc (items_of (chars old) made) (items_of (chars old) (through_part first part)) (then_items items (items_of (chars mid) second))

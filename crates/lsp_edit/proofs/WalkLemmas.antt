@@ -15,10 +15,10 @@ use Rattle.lsp_edit.specs.Edited.{edit_of}
 use Rattle.lsp_edit.specs.Items.{Item, Old, New}
 use Rattle.lsp_edit.specs.Batch.{Edit}
 use Rattle.lsp_edit.specs.Canonical.{Gap, gaps, is_changed, change_of}
-use Rattle.lsp_edit.specs.Gaps.{gap_between, gap_change}
+use Rattle.lsp_edit.specs.inside.Gaps.{gap_between, gap_change}
 use Rattle.lsp_edit.specs.Laws.{HasExactEnds, AllHaveExactEnds}
-use Rattle.lsp_edit.specs.Parts.{Part, OldPart, NewPart, index_of, part_of, parts_of, items_in, items_of, IsPart, AreParts}
-use Rattle.lsp_edit.specs.declared.span.Span.{Span}
+use Rattle.lsp_edit.specs.Parts.{Part, OldPart, NewPart, index_of, part_of, parts_of, items_in, items_of, IsPartOf, AreParts}
+use Rattle.lsp_edit.specs.declared.pieces.span.Span.{Span}
 use Rattle.lsp_edit.proofs.GapLemmas.{gap, gaps_from, gaps_are}
 use Rattle.lsp_edit.proofs.EditedLemmas.{index_first}
 use Rattle.lsp_edit.proofs.IndexLemmas.{index_of-place, index_rises, indexes_less}
@@ -117,7 +117,7 @@ text_none text e = sym text.bytes.ok.0 ∙ eqb-true (string_len text) 0 (sym e)
 
 -- How far the changes of parts were written: those of the parts that are left complete them.
 pub record Walks (units : ℕ → ℕ) (before : List ℕ) (all made : List Edit) (low : ℕ) (text : List ℕ) (parts : List Part) : Type 0 where
-  pub told : made ++ changes_of units (chars before) (gaps_from (chars before) (index_of (chars before) low) (chars text) (items_of (chars before) parts)) ≡ all
+  pub error : made ++ changes_of units (chars before) (gaps_from (chars before) (index_of (chars before) low) (chars text) (items_of (chars before) parts)) ≡ all
   pub ends : AllHaveExactEnds (chars before) (gaps_from (chars before) (index_of (chars before) low) (chars text) (items_of (chars before) parts))
   pub at : IsCharBoundary before low
   pub are : AreParts before parts
@@ -145,7 +145,7 @@ module _ (units : ℕ → ℕ) (before : List ℕ) (utf8 : IsUtf8 before) where
         = new_gaps (chars before) (index_of (chars before) low) (chars text) (chars bytes) (items_of (chars before) more)
         ∙ ap (λ (t : List ℕ). gaps_from (chars before) (index_of (chars before) low) t (items_of (chars before) more)) (sym (chars-append text bytes text_utf8)) in
         record {
-          told = ap (λ (g : List Gap). made ++ changes_of units (chars before) g) (sym gs) ∙ w.told;
+          error = ap (λ (g : List Gap). made ++ changes_of units (chars before) g) (sym gs) ∙ w.error;
           ends = subst (AllHaveExactEnds (chars before)) gs w.ends;
           at = w.at;
           are = w.are.1;
@@ -156,7 +156,7 @@ module _ (units : ℕ → ℕ) (before : List ℕ) (utf8 : IsUtf8 before) where
       here : Walks units before all made low text (OldPart from to ∷ more)
       here = subst (Walks units before all made low text) is walks
 
-      part : IsPart before (OldPart from to)
+      part : IsPartOf before (OldPart from to)
       part = here.are.0
 
       count : ℕ
@@ -195,8 +195,8 @@ module _ (units : ℕ → ℕ) (before : List ℕ) (utf8 : IsUtf8 before) where
           ≡ gap_change units before low from text ++ changes_of units (chars before) (gaps_from (chars before) (index_of (chars before) to) (chars []) (items_of (chars before) more))
           = ap (changes_of units (chars before)) first_gap ∙ (cons ∙ ap (λ (es : List Edit). gap_change units before low from text ++ es) (rows ∙ ap (changes_of units (chars before)) empty_chars)) in
           record {
-            told = append_assoc made (gap_change units before low from text) (changes_of units (chars before) (gaps_from (chars before) (index_of (chars before) to) (chars []) (items_of (chars before) more)))
-                ∙ (ap (λ (es : List Edit). made ++ es) (sym both) ∙ here.told);
+            error = append_assoc made (gap_change units before low from text) (changes_of units (chars before) (gaps_from (chars before) (index_of (chars before) to) (chars []) (items_of (chars before) more)))
+                ∙ (ap (λ (es : List Edit). made ++ es) (sym both) ∙ here.error);
             ends = subst (AllHaveExactEnds (chars before)) empty_chars (row_ends (chars before) (suc (index_of (chars before) from)) count (items_of (chars before) more) here_ends.1);
             at = part.2;
             are = here.are.1;
@@ -222,7 +222,7 @@ module _ (units : ℕ → ℕ) (before : List ℕ) (utf8 : IsUtf8 before) where
       walk_end =
           let one : changes_of units (chars before) (gap_between before low (length before) text ∷ []) ≡ gap_change units before low (length before) text
           = changes_of-cons units (chars before) (gap_between before low (length before) text) [] ∙ append-nil (gap_change units before low (length before) text) in
-          ap (λ (es : List Edit). made ++ es) (sym (ap (λ (g : Gap). changes_of units (chars before) (g ∷ [])) last_gap ∙ one)) ∙ last.told
+          ap (λ (es : List Edit). made ++ es) (sym (ap (λ (g : Gap). changes_of units (chars before) (g ∷ [])) last_gap ∙ one)) ∙ last.error
 
       pub walk_end_ends : (low < length before) ⊎ (0 < length text) → IsPlace (chars before) low × IsPlace (chars before) (length before)
       walk_end_ends changed =
@@ -238,7 +238,7 @@ walk_begins units before utf8 parts are ends =
     let e : gaps (chars before) (items_of (chars before) parts) ≡ gaps_from (chars before) (index_of (chars before) 0) (chars []) (items_of (chars before) parts)
     = gaps_are (chars before) (items_of (chars before) parts) ∙ ap₂ (λ (n : ℕ) (t : List ℕ). gaps_from (chars before) n t (items_of (chars before) parts)) (sym (index_first (chars before))) (sym chars-nil) in
     record {
-      told = ap (changes_of units (chars before)) (sym e);
+      error = ap (changes_of units (chars before)) (sym e);
       ends = subst (AllHaveExactEnds (chars before)) e ends;
       at = IsCharBoundary-start before utf8;
       are = are;

@@ -67,6 +67,6 @@ module _ (weight : ℕ → ℕ) where
   pub no_longer : (units : ℕ → ℕ) (old : List ℕ) (items : List Item) → sum_by (λ change. sum_by weight change.text) (canonical units old items) ≤ sum_by weight (text_of old items)
   no_longer units old items =
       let turned : sum_by change_weight (canonical units old items) ≡ sum_by change_weight (map (change_of units old) (filter is_changed (gaps old items))) = sum_by-reverse change_weight (map (change_of units old) (filter is_changed (gaps old items))) in
-      let told : sum_by gap_weight (gaps old items) ≡ sum_by gap_weight (gaps_from old 0 [] items) = ap (sum_by gap_weight) (gaps_are old items) in
+      let error : sum_by gap_weight (gaps old items) ≡ sum_by gap_weight (gaps_from old 0 [] items) = ap (sum_by gap_weight) (gaps_are old items) in
       let none : sum_by weight [] ≡ 0 = refl in
-      omega (arith, turned, told, changes_weigh units old (filter is_changed (gaps old items)), changed_weigh (gaps old items), gaps_weigh old 0 [] items, new_lighter old items)
+      omega (arith, turned, error, changes_weigh units old (filter is_changed (gaps old items)), changed_weigh (gaps old items), gaps_weigh old 0 [] items, new_lighter old items)

@@ -1,4 +1,5 @@
--- The one canonical batch of all batches that keep the same old characters and insert the same texts between them.
+-- The one canonical batch of all batches that keep the same old characters and insert the same
+-- texts between them.
 use Rattle.std.specs.Prelude.{ℕ, suc, ◌≡◌, Bool, ◌||◌, nat_lt, List, [], ◌∷◌, ◌++◌, length, map, reverse, filter, Some}
 use Rattle.lsp_text.specs.Positions.{exact_position}
 use Rattle.lsp_edit.specs.Items.{Item, Old, New}
@@ -10,38 +11,44 @@ kept [] = []
 kept (Old index ∷ items) = index ∷ kept items
 kept (New character ∷ items) = kept items
 
--- The gap texts: the new characters before the first kept one, between neighbouring kept ones, and after the last.
+-- The gap texts, with one more character at the front of the first.
 abbrev pub put_first : ℕ → List (List ℕ) → List (List ℕ)
 put_first character [] = []
 put_first character (gap ∷ gaps) = (character ∷ gap) ∷ gaps
 
+-- The gap texts: the new characters before the first kept one, between neighbouring kept ones, and
+-- after the last.
 abbrev pub gap_texts : List Item → List (List ℕ)
 gap_texts [] = [] ∷ []
 gap_texts (Old index ∷ items) = [] ∷ gap_texts items
 gap_texts (New character ∷ items) = put_first character (gap_texts items)
 
--- Two batches do the same if what they mean keeps the same old characters and has the same gap texts.
+-- Two meanings do the same if they keep the same old characters and have the same gap texts.
 pub record DoTheSame (items others : List Item) : Type 0 where
   pub same_kept : kept items ≡ kept others
   pub same_texts : gap_texts items ≡ gap_texts others
 
--- A gap: where it lies in the old text, and the text that is to be there.
+-- A gap of the old text between kept characters, and the text that replaces it.
 pub record Gap : Type 0 where
   pub low : ℕ
   pub high : ℕ
   pub text : List ℕ
 
--- Each gap goes from after a kept character, or from 0, to the next kept one, or to the end of the old text.
+-- The gaps from each of `lows` to the one of `highs` at the same index, with their texts.
 abbrev pub gaps_between : List ℕ → List ℕ → List (List ℕ) → List Gap
 gaps_between [] highs texts = []
 gaps_between (low ∷ lows) [] texts = []
 gaps_between (low ∷ lows) (high ∷ highs) [] = []
-gaps_between (low ∷ lows) (high ∷ highs) (text ∷ texts) = record { low = low; high = high; text = text } ∷ gaps_between lows highs texts
+gaps_between (low ∷ lows) (high ∷ highs) (text ∷ texts)
+    = record { low = low; high = high; text = text } ∷ gaps_between lows highs texts
 
+-- All gaps. Each starts after a kept character, or at 0, and ends at the next kept one, or at the
+-- end of the old text.
 abbrev pub gaps : List ℕ → List Item → List Gap
-gaps old items = gaps_between (0 ∷ map suc (kept items)) (kept items ++ length old ∷ []) (gap_texts items)
+gaps old items
+    = gaps_between (0 ∷ map suc (kept items)) (kept items ++ length old ∷ []) (gap_texts items)
 
--- A gap is changed if it holds an old character, or new ones are there.
+-- A gap is changed if it has an old character, or a new text.
 abbrev pub is_changed : Gap → Bool
 is_changed gap = nat_lt gap.low gap.high || nat_lt 0 (length gap.text)
 
@@ -49,7 +56,10 @@ is_changed gap = nat_lt gap.low gap.high || nat_lt 0 (length gap.text)
 abbrev pub change_of : (ℕ → ℕ) → List ℕ → Gap → Edit
 change_of units old gap =
     record {
-      range = Some (record { start = exact_position units old gap.low; stop = exact_position units old gap.high });
+      range = Some (record {
+        start = exact_position units old gap.low;
+        stop = exact_position units old gap.high;
+      });
       text = gap.text;
     }
 

@@ -9,18 +9,21 @@ use Rattle.lsp_edit.specs.declared.fault.Side.TheVariants.{Start, Stop}
 use Rattle.lsp_edit.specs.Items.{Item}
 use Rattle.lsp_edit.specs.Batch.{Fault, InsideStart, InsideStop, Reversed}
 
--- the fault of a change, with the change's number
+-- The fault of a change, with the change's number.
 abbrev pub fault_at : ℕ → Fault → EditFault
 fault_at number InsideStart = InsideCharacter number Start
 fault_at number InsideStop = InsideCharacter number Stop
 fault_at number Reversed = ReversedRange number
 
--- A fault says out of memory, or the first change that has no result, and why.
-abbrev pub TellsFault : ℕ → Result (List Item) Fault → EditFault → Type 0
-TellsFault number made fault = (fault ≡ NoMemory) ⊎ ((why : Fault) × (made ≡ Err why) × (fault ≡ fault_at number why))
+-- The fault is out of memory, or why the change of this number has no result.
+abbrev pub IsFaultOfChange : ℕ → Result (List Item) Fault → EditFault → Type 0
+IsFaultOfChange number made fault = (fault ≡ NoMemory)
+    ⊎ ((why : Fault) × (made ≡ Err why) × (fault ≡ fault_at number why))
 
-abbrev pub TellsBatchFault : Result (List Item) (ℕ × Fault) → EditFault → Type 0
-TellsBatchFault made fault = (fault ≡ NoMemory) ⊎ ((number : ℕ) × (why : Fault) × (made ≡ Err (number, why)) × (fault ≡ fault_at number why))
+-- The fault is out of memory, or the first change of a batch that has no result, and why.
+abbrev pub IsFaultOfChanges : Result (List Item) (ℕ × Fault) → EditFault → Type 0
+IsFaultOfChanges made fault = (fault ≡ NoMemory)
+    ⊎ ((number : ℕ) × (why : Fault) × (made ≡ Err (number, why)) × (fault ≡ fault_at number why))
 
 -- The indexes that the two ends of a range denote, if both denote and are in order.
 abbrev pub in_order : Option ℕ → Option ℕ → Result (ℕ × ℕ) Fault
@@ -28,14 +31,11 @@ in_order None stop = Err InsideStart
 in_order (Some start) None = Err InsideStop
 in_order (Some start) (Some stop) = if nat_le start stop then Ok (start, stop) else Err Reversed
 
+-- The indexes of a range's two ends in a text, or the fault of the range.
 abbrev pub ends_of : (ℕ → ℕ) → List ℕ → Range → Result (ℕ × ℕ) Fault
 ends_of units text range = in_order (denoted units text range.start) (denoted units text range.stop)
 
--- their places, or the fault of a change
+-- Their byte offsets, or the fault of a change.
 abbrev pub places_at : ℕ → List ℕ → Result (ℕ × ℕ) Fault → Result (ℕ × ℕ) EditFault
 places_at number text (Ok ends) = Ok (place_of text ends.0, place_of text ends.1)
 places_at number text (Err why) = Err (fault_at number why)
-
--- The places of a range's ends or their fault are answered, or out of memory.
-abbrev pub IsPlaces : Result (ℕ × ℕ) EditFault → Result (ℕ × ℕ) EditFault → Type 0
-IsPlaces answer wanted = (answer ≡ Err NoMemory) ⊎ (answer ≡ wanted)

@@ -1,4 +1,4 @@
--- A text that is kept with its lines, under batches of changes.
+-- A text with its lines, under batches of changes.
 use Rattle.std.specs.Prelude.{ℕ, ◌≡◌, ◌≤◌, if◌then◌else◌, nat_lt, List, [], ◌∷◌, length, encode_utf8_all, Some, Result, Ok, Err}
 use Rattle.std.specs.Str.{IsUtf8, chars}
 use Rattle.lsp_text.specs.declared.position.Range.{Range}
@@ -12,31 +12,35 @@ use Rattle.lsp_edit.specs.Canonical.{canonical}
 use Rattle.lsp_edit.specs.Faults.{fault_at}
 use Rattle.lsp_edit.specs.Laws.{IsCanonical}
 
--- the bytes of the text of items, over a text of these bytes
+-- The bytes of the text of items, over a text of these bytes.
 abbrev pub bytes_left : List ℕ → List Item → List ℕ
 bytes_left before items = encode_utf8_all (text_of (chars before) items)
 
--- The bytes that a meaning leaves of a text, if they are at most `max_len`, or why there are none.
+-- The bytes that a meaning leaves of a text, if they are at most `max_len`; else why there are
+-- none.
 abbrev pub text_within : ℕ → List ℕ → Result (List Item) (ℕ × Fault) → Result (List ℕ) TextFault
 text_within max_len before (Err fault) = Err (EditOf (fault_at fault.0 fault.1))
-text_within max_len before (Ok items) = if nat_lt max_len (length (bytes_left before items)) then Err TooLong else Ok (bytes_left before items)
+text_within max_len before (Ok items) = if nat_lt max_len (length (bytes_left before items)) then
+    Err TooLong else Ok (bytes_left before items)
 
--- a batch of one change of a range, by the bytes of its text
+-- A batch of one change with a range, by the bytes of its text.
 abbrev pub alone : Range → List ℕ → List Edit
 alone range new = record { range = Some range; text = chars new } ∷ []
 
--- how a fault of a change is reported
-abbrev pub told_as : EditFault → TextFault
-told_as (edit.InsideCharacter change side) = EditOf (edit.InsideCharacter change side)
-told_as (edit.ReversedRange change) = EditOf (edit.ReversedRange change)
-told_as edit.NoMemory = NoMemory
+-- How a fault of a change is reported.
+abbrev pub text_fault_of : EditFault → TextFault
+text_fault_of (edit.InsideCharacter change side) = EditOf (edit.InsideCharacter change side)
+text_fault_of (edit.ReversedRange change) = EditOf (edit.ReversedRange change)
+text_fault_of edit.NoMemory = NoMemory
 
--- `answered` is the canonical batch of what `batch` means on the text with these bytes, of which at most `max_len` bytes are left; and
--- what holds of every batch on that text.
-pub record IsCanonicalBatch (units : ℕ → ℕ) (max_len : ℕ) (before : List ℕ) (batch answered : List Edit) : Type 0 where
+-- `answered` is the canonical batch of what `batch` means on the text with these bytes, and at most
+-- `max_len` bytes are left. `law` is true of every batch on that text.
+pub record IsCanonicalBatch (units : ℕ → ℕ) (max_len : ℕ) (before : List ℕ)
+    (batch answered : List Edit) : Type 0 where
   pub utf8 : IsUtf8 before
   pub items : List Item
   pub means : meaning units (chars before) batch ≡ Ok items
   pub within : length (bytes_left before items) ≤ max_len
   pub is : answered ≡ canonical units (chars before) items
-  pub law : (other : List Edit) (others : List Item) → meaning units (chars before) other ≡ Ok others → IsCanonical units (chars before) other others
+  pub law : (other : List Edit) (others : List Item) →
+      meaning units (chars before) other ≡ Ok others → IsCanonical units (chars before) other others

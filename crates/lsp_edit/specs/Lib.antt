@@ -1,6 +1,5 @@
 pub mod Items
 pub mod Batch
-pub mod TextBatch
 pub mod Canonical
 pub mod Compose
 pub mod Keeps
@@ -9,10 +8,10 @@ pub mod Spans
 pub mod Laws
 pub mod Faults
 pub mod Edited
-pub mod Gaps
 pub mod Indexed
 pub mod TextEdits
 pub mod Joined
 pub mod Deltas
 pub mod Examples
 pub mod Plain
+pub mod inside

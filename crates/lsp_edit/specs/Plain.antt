@@ -4,29 +4,22 @@ use Rattle.std.specs.Str.{chars, is_utf8}
 use Rattle.lsp_edit.specs.declared.plain.Item.{Item as PlainItem}
 use Rattle.lsp_edit.specs.declared.plain.Item.TheVariants.{Old as PlainOld, New as PlainNew}
 use Rattle.lsp_edit.specs.Items.{Item, Old, New, text_of}
-use Rattle.lsp_edit.specs.Batch.{Edit}
-use Rattle.lsp_edit.specs.Canonical.{Gap, is_changed, change_of}
 use Rattle.lsp_edit.specs.Keeps.{Keeps}
 
--- the items of an item of the program, and of items, one after another
+-- The item that an item of the program is.
 abbrev pub item_of : PlainItem → Item
 item_of (PlainOld index) = Old index
 item_of (PlainNew character) = New character
 
+-- The items that items of the program are, one after another.
 abbrev pub items_in_order : List PlainItem → List Item
 items_in_order items = map item_of items
 
--- What holds of the fields: the old text has its characters, and the items keep each of its CRLFs whole and have room.
+-- What is true of the fields: the characters are those of the old text. The items keep each CRLF of
+-- it whole, and have room.
 pub record ArePlain (before old : List ℕ) (items : List Item) : Type 0 where
   pub utf8 : is_utf8 before ≡ true
   pub old_is : old ≡ chars before
   pub size : length before ≤ 2147483648
   pub keeps : Keeps (chars before) 0 items
   pub room : length (encode_utf8_all (text_of (chars before) items)) ≤ 2147483648
-
--- the gap between two indexes, and its change, if it is changed
-abbrev pub gap_at : ℕ → ℕ → List ℕ → Gap
-gap_at low high text = record { low = low; high = high; text = text }
-
-abbrev pub change_at : (ℕ → ℕ) → List ℕ → Gap → List Edit
-change_at units old gap = if is_changed gap then change_of units old gap ∷ [] else []

@@ -1,5 +1,5 @@
--- What a list of text edits means (LSP 3.17, TextEdit[]): all ranges count in the old text, and texts that are put in at one place come in
--- the order of the list.
+-- What a list of text edits means (LSP 3.17, TextEdit[]). All ranges count in the old text, and
+-- insertions at one offset come in the order of the list.
 use Rattle.std.specs.Prelude.{ℕ, suc, ◌≡◌, ◌⊎◌, ◌<◌, ◌≤◌, if◌then◌else◌, nat_lt, List, [], ◌∷◌, ◌++◌, length, string_bytes, Ok, Err}
 use Rattle.std.specs.Ordering.{nat_cmp}
 use Rattle.std.specs.List.Sorted.{IsPermutation, IsSortedByKey, IsStableByKey}
@@ -15,13 +15,14 @@ use Rattle.lsp_edit.specs.Canonical.{canonical}
 use Rattle.lsp_edit.specs.Faults.{ends_of, places_at}
 use Rattle.lsp_edit.specs.Parts.{Part, OldPart, items_of, new_parts}
 
--- An edit with a number lies in the old text where the two ends of its range do.
-pub record IsPlaced (units : ℕ → ℕ) (old : List ℕ) (number : ℕ) (edit : TextEdit) (placed : Placed) : Type 0 where
+-- An edit with a number has these byte offsets in the old text.
+pub record IsPlaced (units : ℕ → ℕ) (old : List ℕ) (number : ℕ) (edit : TextEdit)
+    (placed : Placed) : Type 0 where
   pub at : places_at number old (ends_of units old edit.range) ≡ Ok (placed.start, placed.stop)
   pub number_is : placed.number ≡ number
   pub text : placed.text.now ≡ string_bytes edit.new_text
 
--- Each of them does, numbered from `number`.
+-- Each of the edits has such offsets; the edits are numbered from `number`.
 abbrev pub ArePlaced : (ℕ → ℕ) → List ℕ → ℕ → List TextEdit → List Placed → Type 0
 ArePlaced units old number [] [] = Unit {0}
 ArePlaced units old number [] (placed ∷ more) = ⊥
@@ -29,28 +30,31 @@ ArePlaced units old number (edit ∷ edits) [] = ⊥
 ArePlaced units old number (edit ∷ edits) (placed ∷ more) =
     IsPlaced units old number edit placed × ArePlaced units old (suc number) edits more
 
--- The same edits in the order of their starts, and those with one start in the order of the list.
+-- The same edits sorted by their starts. Those with the same start keep the order of the list.
 pub record IsInOrder (placed ordered : List Placed) : Type 0 where
   pub same : IsPermutation placed ordered
   pub sorted : IsSortedByKey (λ edit. edit.start) nat_cmp ordered
   pub stable : IsStableByKey (λ edit. edit.start) nat_cmp placed ordered
 
--- None starts before `low`, nor before the stop of the one before it.
+-- No edit starts before `low`, nor before the stop of the one before it.
 abbrev pub AreApart : ℕ → List Placed → Type 0
 AreApart low [] = Unit {0}
 AreApart low (edit ∷ edits) = (low ≤ edit.start) × AreApart edit.stop edits
 
--- The old text from one place to another, if that is any.
+-- The old text from one byte offset to another, if it isn't empty.
 abbrev pub old_parts : ℕ → ℕ → List Part
 old_parts from to = if nat_lt from to then OldPart from to ∷ [] else []
 
--- What edits leave of the old text from a place on: their texts, and the old text between them.
+-- What edits leave of the old text from the byte offset `low` on: their texts, and the old text
+-- between them.
 abbrev pub parts_left : ℕ → ℕ → List Placed → List Part
 parts_left len low [] = old_parts low len
-parts_left len low (edit ∷ edits) = old_parts low edit.start ++ (new_parts edit.text.now ++ parts_left len edit.stop edits)
+parts_left len low (edit ∷ edits)
+    = old_parts low edit.start ++ (new_parts edit.text.now ++ parts_left len edit.stop edits)
 
 -- These parts are what edits leave of the text with the bytes `before`.
-pub record AreLeftByEdits (units : ℕ → ℕ) (before : List ℕ) (edits : List TextEdit) (parts : List Part) : Type 0 where
+pub record AreLeftByEdits (units : ℕ → ℕ) (before : List ℕ) (edits : List TextEdit)
+    (parts : List Part) : Type 0 where
   pub placed : List Placed
   pub ordered : List Placed
   pub at : ArePlaced units (chars before) 0 edits placed
@@ -59,20 +63,22 @@ pub record AreLeftByEdits (units : ℕ → ℕ) (before : List ℕ) (edits : Lis
   pub are : parts ≡ parts_left (length before) 0 ordered
 
 -- `answered` is the canonical batch of what the edits mean, and as a batch it means the same.
-pub record IsBatchOfEdits (units : ℕ → ℕ) (before : List ℕ) (edits : List TextEdit) (answered : List Edit) : Type 0 where
+pub record IsBatchOfEdits (units : ℕ → ℕ) (before : List ℕ) (edits : List TextEdit)
+    (answered : List Edit) : Type 0 where
   pub parts : List Part
   pub edited : AreLeftByEdits units before edits parts
   pub is : answered ≡ canonical units (chars before) (items_of (chars before) parts)
   pub means : meaning units (chars before) answered ≡ Ok (items_of (chars before) parts)
 
--- how a fault of a range is reported
+-- How a fault of a range is reported.
 abbrev pub fault_of : EditFault → TextEditFault
 fault_of (edit.InsideCharacter number side) = InsideCharacter number side
 fault_of (edit.ReversedRange number) = ReversedRange number
 fault_of edit.NoMemory = NoMemory
 
--- The first edit that lies nowhere, with its number, and why.
-pub record LiesNowhere (units : ℕ → ℕ) (old : List ℕ) (edits : List TextEdit) (fault : TextEditFault) : Type 0 where
+-- The first edit whose range has a fault, with its number, and why.
+pub record LiesNowhere (units : ℕ → ℕ) (old : List ℕ) (edits : List TextEdit)
+    (fault : TextEditFault) : Type 0 where
   pub front : List TextEdit
   pub first : TextEdit
   pub rest : List TextEdit
@@ -81,9 +87,9 @@ pub record LiesNowhere (units : ℕ → ℕ) (old : List ℕ) (edits : List Text
   pub at : ArePlaced units old 0 front placed
   pub why : EditFault
   pub lies : places_at (length front) old (ends_of units old first.range) ≡ Err why
-  pub told : fault ≡ fault_of why
+  pub error : fault ≡ fault_of why
 
--- Two edits overlap: the second starts before the first stops, and none starts between them.
+-- Two neighbours in the order of their starts overlap: the second starts before the first stops.
 pub record DoOverlap (ordered : List Placed) (fault : TextEditFault) : Type 0 where
   pub front : List Placed
   pub first : Placed
@@ -91,16 +97,18 @@ pub record DoOverlap (ordered : List Placed) (fault : TextEditFault) : Type 0 wh
   pub rest : List Placed
   pub all : ordered ≡ front ++ first ∷ second ∷ rest
   pub over : second.start < first.stop
-  pub told : fault ≡ Overlap first.number second.number
+  pub error : fault ≡ Overlap first.number second.number
 
-pub record EditsOverlap (units : ℕ → ℕ) (old : List ℕ) (edits : List TextEdit) (fault : TextEditFault) : Type 0 where
+-- The same of a list of edits, once they are sorted.
+pub record EditsOverlap (units : ℕ → ℕ) (old : List ℕ) (edits : List TextEdit)
+    (fault : TextEditFault) : Type 0 where
   pub placed : List Placed
   pub ordered : List Placed
   pub at : ArePlaced units old 0 edits placed
   pub order : IsInOrder placed ordered
   pub over : DoOverlap ordered fault
 
--- Why edits mean nothing.
+-- Why edits have no meaning.
 abbrev pub IsEditsFault : (ℕ → ℕ) → List ℕ → List TextEdit → TextEditFault → Type 0
 IsEditsFault units old edits fault =
     (fault ≡ NoMemory) ⊎ LiesNowhere units old edits fault ⊎ EditsOverlap units old edits fault

@@ -5,17 +5,19 @@ use lsp_text::Range;
 /// How many bytes the texts of one batch may have together.
 pub const MAX_NEW_TEXT: usize = 1_073_741_824;
 
-/// One change of a batch (LSP 3.17, TextDocumentContentChangeEvent): the text that takes the range's place, or that of the whole
-/// text where there is no range.
+/// One change of a batch (LSP 3.17, TextDocumentContentChangeEvent): `text` replaces the range, or
+/// the whole text if there is no range.
 #[derive(Debug, PartialEq, Eq, Drop)]
 pub struct Change {
     pub range: Option<Range>,
     pub text: String,
 }
 
-/// Whether the texts of a batch have together at most [`MAX_NEW_TEXT`] bytes. Costs one step for each change.
+/// Returns whether the texts of a batch have at most [`MAX_NEW_TEXT`] bytes together. Costs one
+/// step for each change.
 pub fn fits(changes: &[Change]) -> bool
-    ensures { IsTrue result ↔ (sum_by (λ change. string_len change.text) changes.now ≤ MAX_NEW_TEXT) }
+    ensures { IsTrue result
+        ↔ (sum_by (λ change. string_len change.text) changes.now ≤ MAX_NEW_TEXT) }
 {
     let mut room = MAX_NEW_TEXT;
     for change in changes {

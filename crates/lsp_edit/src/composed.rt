@@ -1,4 +1,4 @@
-//! What a whole batch of changes makes of a text.
+//! `compose`, which applies a whole batch of changes to a text.
 
 ghost use Rattle.std.specs.Prelude.{◌≡◌, ◌+◌, ◌≤◌, ℕ, Ok, MatchResult, length, map, string_len, sum_by};
 ghost use Rattle.std.specs.Str.{chars};
@@ -6,7 +6,7 @@ ghost use Rattle.lsp_text.specs.LineStarts.{Indexes};
 ghost use Rattle.lsp_text.specs.Units.{units_in};
 ghost use Rattle.lsp_edit.specs.Batch.{after_changes, meaning};
 ghost use Rattle.lsp_edit.specs.Edited.{Means, edit_of, edited_bytes};
-ghost use Rattle.lsp_edit.specs.Faults.{TellsBatchFault};
+ghost use Rattle.lsp_edit.specs.Faults.{IsFaultOfChanges};
 
 use crate::change::{Change, MAX_NEW_TEXT};
 use crate::fault::EditFault;
@@ -14,7 +14,7 @@ use crate::pieces::{MAX_TEXT, Pieces};
 use lsp_text::{Encoding, Lines};
 use std::alloc::Global;
 
-/// How many bytes a text may have that a batch is composed over.
+/// How many bytes a text may have to which a batch is applied.
 pub const MAX_OLD_TEXT: usize = 1_073_741_824;
 
 /// Applies the changes of a batch to pieces, one after another.
@@ -30,7 +30,7 @@ fn apply_all<'a>(
         (λ made. Means pieces.entry.edited.before
         (after_changes (units_in encoding) pieces.entry.edited.before 0 pieces.entry.edited.items
         (map edit_of changes.now)) (length changes.now) made.edited)
-        (λ fault. TellsBatchFault (after_changes
+        (λ fault. IsFaultOfChanges (after_changes
         (units_in encoding) pieces.entry.edited.before 0 pieces.entry.edited.items
         (map edit_of changes.now)) fault) }
 {
@@ -41,8 +41,11 @@ fn apply_all<'a>(
     Ok(pieces)
 }
 
-/// What a batch makes of a text: its changes are applied one after another (LSP 3.17, DidChangeTextDocumentParams). The first change
-/// that has no result is reported. Costs what each change costs to apply.
+/// Applies the changes of a batch to a text, one after another (LSP 3.17,
+/// DidChangeTextDocumentParams).
+///
+/// Reports the first change that has no result, or out of memory. Costs what each change costs to
+/// apply.
 pub fn compose<'a>(
     alloc: Global,
     before: &'a str,
@@ -54,13 +57,14 @@ pub fn compose<'a>(
     ensures { MatchResult result
         (λ pieces. Means (chars before.now) (meaning (units_in encoding) (chars before.now)
         (map edit_of changes.now)) (length changes.now) pieces.edited)
-        (λ fault. TellsBatchFault (meaning (units_in encoding) (chars before.now) (map edit_of changes.now)) fault) }
+        (λ fault. IsFaultOfChanges
+        (meaning (units_in encoding) (chars before.now) (map edit_of changes.now)) fault) }
 {
     let pieces = Pieces::start(alloc, before)?;
     apply_all(pieces, encoding, changes)
 }
 
-/// The same, over a text whose lines the caller keeps.
+/// Does the same over a text whose lines the caller has.
 pub fn compose_over<'a>(
     alloc: Global,
     before: &'a str,
@@ -74,7 +78,8 @@ pub fn compose_over<'a>(
     ensures { MatchResult result
         (λ pieces. Means (chars before.now) (meaning (units_in encoding) (chars before.now)
         (map edit_of changes.now)) (length changes.now) pieces.edited)
-        (λ fault. TellsBatchFault (meaning (units_in encoding) (chars before.now) (map edit_of changes.now)) fault) }
+        (λ fault. IsFaultOfChanges
+        (meaning (units_in encoding) (chars before.now) (map edit_of changes.now)) fault) }
 {
     let pieces = Pieces::over(alloc, before, lines);
     apply_all(pieces, encoding, changes)

@@ -1,4 +1,4 @@
-//! The ends of a change's range, as places of the text that the change meets.
+//! The ends of a change's range, as byte offsets in the text that the change meets.
 
 ghost use Rattle.std.specs.Prelude.{◌≡◌, ℕ};
 ghost use Rattle.std.specs.Str.{chars};
@@ -9,7 +9,8 @@ ghost use Rattle.lsp_edit.specs.Faults.{ends_of, places_at};
 use crate::fault::{EditFault, Side};
 use lsp_text::{Encoding, Lines, Range};
 
-/// The places of a range's two ends in the text that `lines` index. `change` is the number of the change that a fault reports.
+/// Returns the byte offsets of a range's two ends in the text that `lines` index. `change` is the
+/// number of the change that a fault reports.
 pub fn ends(
     lines: &Lines,
     text: &str,
@@ -18,7 +19,8 @@ pub fn ends(
     change: usize,
 ) -> Result<(usize, usize), EditFault>
     requires { Indexes lines.now text.now }
-    ensures { result ≡ places_at change (chars text.now) (ends_of (units_in encoding) (chars text.now) range) }
+    ensures { result
+        ≡ places_at change (chars text.now) (ends_of (units_in encoding) (chars text.now) range) }
 {
     let Ok(start) = lines.resolve(text, encoding, range.start) else {
         return Err(EditFault::InsideCharacter {

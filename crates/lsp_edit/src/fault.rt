@@ -1,4 +1,4 @@
-//! Why a change can't be applied.
+//! Why a change has no result.
 
 ghost use Rattle.std.specs.Prelude.{◌≡◌};
 ghost use Rattle.lsp_edit.specs.declared.fault.EditFault.TheVariants.{NoMemory};
@@ -6,15 +6,17 @@ ghost use Rattle.lsp_edit.specs.declared.fault.EditFault.TheVariants.{NoMemory};
 use std::alloc::AllocError;
 use thiserror::Error;
 
-/// Which end of a change's range a fault is about.
+/// The end of a change's range that a fault is about.
 #[derive(Clone, Copy, Debug, PartialEq, Eq)]
 pub enum Side {
     Start,
     Stop,
 }
 
-/// Why a change has no result. Changes are counted from 0, and the first faulty one decides: first its start, then its stop, then
-/// their order.
+/// Why a batch has no result.
+///
+/// Changes are counted from 0, and the first faulty one decides: first by its start, then by its
+/// stop, then by their order.
 #[derive(Clone, Copy, Debug, PartialEq, Eq, Error)]
 pub enum EditFault {
     /// An end of the change's range lies inside a character.
@@ -23,7 +25,7 @@ pub enum EditFault {
     /// The change's range starts after its end.
     #[error("change {change}: the range is reversed")]
     ReversedRange { change: usize },
-    /// No memory was left.
+    /// Out of memory.
     #[error("out of memory")]
     NoMemory,
 }

@@ -1,4 +1,4 @@
-//! A text that is kept with its lines.
+//! `IndexedText`, a text with its lines, under batches of changes.
 
 ghost use Rattle.std.specs.Prelude.{◌≡◌, ◌<◌, ◌≤◌, ◌⊎◌, ℕ, List, IfErr, IfOk, IsOk, OnErr, OnOk, Err, Ok, length, map, string_bytes, string_len, sum_by};
 ghost use Rattle.std.specs.Str.{IsUtf8, chars};
@@ -7,20 +7,25 @@ ghost use Rattle.lsp_text.specs.Units.{units_in};
 ghost use Rattle.lsp_text.specs.declared.position.Range.{Range};
 ghost use Rattle.lsp_edit.specs.declared.indexed.TextFault.TheVariants.{TooLong, NoMemory};
 ghost use Rattle.lsp_edit.specs.Batch.{meaning};
-ghost use Rattle.lsp_edit.specs.Deltas.{IsDelta, delta_parts};
+ghost use Rattle.lsp_edit.specs.Deltas.{delta_parts};
+ghost use Rattle.lsp_edit.specs.inside.Deltas.{IsDelta};
 ghost use Rattle.lsp_edit.specs.Edited.{Means, edit_of, edited_bytes};
-ghost use Rattle.lsp_edit.specs.Indexed.{IsCanonicalBatch, alone, told_as, text_within};
+ghost use Rattle.lsp_edit.specs.Indexed.{IsCanonicalBatch, alone, text_fault_of, text_within};
 ghost use Rattle.lsp_edit.specs.TextEdits.{IsBatchOfEdits, IsEditsFault};
 
-use crate::canonical::canonical_of;
+pub(crate) mod draft;
+pub(crate) mod in_place;
+pub(crate) mod kept_lines;
+
 use crate::change::{Change, MAX_NEW_TEXT};
 use crate::composed::{MAX_OLD_TEXT, compose_over};
-use crate::delta::Delta;
-use crate::draft::Draft;
 use crate::ends::ends;
 use crate::fault::EditFault;
-use crate::in_place::put_in_place;
+use crate::indexed::draft::Draft;
+use crate::indexed::in_place::put_in_place;
+use crate::joined::delta::Delta;
 use crate::joined::{Joined, RUN};
+use crate::pieces::canonical::canonical_of;
 use crate::pieces::{MAX_TEXT, Pieces};
 use crate::text_edits::{TextEdit, TextEditFault, spans_of_edits};
 use lsp_text::{Encoding, Lines, Range};
@@ -28,22 +33,23 @@ use std::alloc::{AllocError, Global};
 use std::marker::Model;
 use thiserror::Error;
 
-/// Why a batch of changes leaves a text as it was.
+/// Why a batch of changes is refused. The text is unchanged then.
 #[derive(Clone, Copy, Debug, PartialEq, Eq, Error)]
 pub enum TextFault {
-    /// A change has no result: an end of its range lies inside a character, or the range is reversed.
+    /// A change has no result: an end of its range lies inside a character, or the range is
+    /// reversed.
     #[error("{0}")]
     Edit(EditFault),
-    /// The text that the batch leaves would be longer than the caller allows.
+    /// The result of the batch would be longer than the caller allows.
     #[error("the text is too long")]
     TooLong,
-    /// No memory was left.
+    /// Out of memory.
     #[error("out of memory")]
     NoMemory,
 }
 
 impl From<EditFault> for TextFault {
-    ghost from_gives = { λ fault told. told ≡ told_as fault };
+    ghost from_gives = { λ fault error. error ≡ text_fault_of fault };
 
     fn from(fault: EditFault) -> TextFault {
         match fault {
@@ -54,14 +60,15 @@ impl From<EditFault> for TextFault {
 }
 
 impl From<AllocError> for TextFault {
-    ghost from_gives = { λ _ told. told ≡ NoMemory };
+    ghost from_gives = { λ _ error. error ≡ NoMemory };
 
     fn from(_: AllocError) -> TextFault {
         TextFault::NoMemory
     }
 }
 
-/// A text that is kept with its lines, so that a change needs no search for them. Clauses see the bytes of the text.
+/// A text with its lines, so that a change needs no search for them. Clauses see the bytes of the
+/// text.
 #[derive(Debug, Drop)]
 pub struct IndexedText {
     text: String,
@@ -80,7 +87,8 @@ impl Model for IndexedText {
 }
 
 impl IndexedText {
-    /// A text with its lines. The text is moved in. Costs a search through it.
+    /// Finds the lines of a text, which is moved in. Fails only if it is out of memory. Costs a
+    /// search through the text.
     pub fn new(alloc: Global, text: String) -> Result<Self, AllocError>
         requires { string_len text ≤ MAX_TEXT }
         ensures { IfOk result (λ kept. kept ≡ string_bytes text) }
@@ -89,21 +97,21 @@ impl IndexedText {
         Ok(IndexedText { text, lines })
     }
 
-    /// The text.
+    /// Returns the text.
     pub fn text(&self) -> &str
         ensures { result.now ≡ self.now }
     {
         &self.text
     }
 
-    /// The lines of the text.
+    /// Returns the lines of the text.
     pub fn lines(&self) -> &Lines
         ensures { Indexes result.now self.now }
     {
         &self.lines
     }
 
-    /// A copy, with its lines. Costs the copies.
+    /// Copies the text and its lines. Costs the copies.
     pub(crate) fn copied(&self, alloc: Global) -> Result<Self, AllocError>
         ensures same { IfOk result (λ copy. copy ≡ self.now) }
         ensures utf8 { OnOk result (IsUtf8 self.now) }
@@ -113,7 +121,7 @@ impl IndexedText {
         Ok(IndexedText { text, lines })
     }
 
-    /// What a batch makes of the text, if it leaves at most `max_len` bytes.
+    /// Applies a batch to the text as pieces, if the result has at most `max_len` bytes.
     fn composed<'a>(
         &'a self,
         encoding: Encoding,
@@ -129,8 +137,9 @@ impl IndexedText {
         ensures within { IfOk result (λ pieces. length (edited_bytes pieces.edited) ≤ max_len) }
         ensures ok { OnOk result (IsOk (text_within max_len self.now
             (meaning (units_in encoding) (chars self.now) (map edit_of changes.now)))) }
-        ensures told { IfErr result (λ fault. (fault ≡ NoMemory)
-            ⊎ (text_within max_len self.now (meaning (units_in encoding) (chars self.now) (map edit_of changes.now)) ≡ Err fault)) }
+        ensures error { IfErr result (λ fault. (fault ≡ NoMemory)
+            ⊎ (text_within max_len self.now
+            (meaning (units_in encoding) (chars self.now) (map edit_of changes.now)) ≡ Err fault)) }
     {
         let alloc = *self.text.allocator();
         let pieces = compose_over(alloc, &self.text, &self.lines, encoding, changes)?;
@@ -138,7 +147,8 @@ impl IndexedText {
         Ok(pieces)
     }
 
-    /// What a batch leaves of the text, if that has at most `max_len` bytes. No spans are kept.
+    /// Applies a batch to a copy of the text, without spans, if the result has at most `max_len`
+    /// bytes.
     fn draft(
         &self,
         encoding: Encoding,
@@ -147,9 +157,12 @@ impl IndexedText {
     ) -> Result<Draft, TextFault>
         requires size { length self.now ≤ MAX_OLD_TEXT }
         requires fits { sum_by (λ change. string_len change.text) changes.now ≤ MAX_NEW_TEXT }
-        ensures ok { IfOk result (λ left. text_within max_len self.now (meaning (units_in encoding) (chars self.now) (map edit_of changes.now)) ≡ Ok left) }
-        ensures told { IfErr result (λ fault. (fault ≡ NoMemory)
-            ⊎ (text_within max_len self.now (meaning (units_in encoding) (chars self.now) (map edit_of changes.now)) ≡ Err fault)) }
+        ensures ok { IfOk result
+            (λ left. text_within max_len self.now
+            (meaning (units_in encoding) (chars self.now) (map edit_of changes.now)) ≡ Ok left) }
+        ensures error { IfErr result (λ fault. (fault ≡ NoMemory)
+            ⊎ (text_within max_len self.now
+            (meaning (units_in encoding) (chars self.now) (map edit_of changes.now)) ≡ Err fault)) }
     {
         let alloc = *self.text.allocator();
         let draft = Draft::left_by(alloc, &self.text, &self.lines, encoding, changes)?;
@@ -159,7 +172,7 @@ impl IndexedText {
         Ok(draft)
     }
 
-    /// Puts a text in place of a range, in place.
+    /// Replaces a range by a text, without a copy of the rest.
     fn put(
         &mut self,
         encoding: Encoding,
@@ -169,11 +182,14 @@ impl IndexedText {
     ) -> Result<(), TextFault>
         requires size { length self.old ≤ MAX_OLD_TEXT }
         requires fits { length new.now ≤ MAX_NEW_TEXT }
-        ensures changed { OnOk result (text_within max_len self.old (meaning (units_in encoding) (chars self.old) (alone range new.now)) ≡ Ok self.new) }
+        ensures changed { OnOk result
+            (text_within max_len self.old
+            (meaning (units_in encoding) (chars self.old) (alone range new.now)) ≡ Ok self.new) }
         ensures same { OnErr result (self.new ≡ self.old) }
-        ensures told { IfErr result (λ fault. (fault ≡ NoMemory)
-            ⊎ (text_within max_len self.old (meaning (units_in encoding) (chars self.old) (alone range new.now)) ≡ Err fault)) }
-        // Memory is taken last.
+        ensures error { IfErr result (λ fault. (fault ≡ NoMemory)
+            ⊎ (text_within max_len self.old
+            (meaning (units_in encoding) (chars self.old) (alone range new.now)) ≡ Err fault)) }
+        // Out of memory means that there is a result of at most `max_len` bytes.
         ensures memory { result ≡ Err NoMemory
             → IsOk (text_within max_len self.old
             (meaning (units_in encoding) (chars self.old) (alone range new.now))) }
@@ -186,11 +202,16 @@ impl IndexedText {
         Ok(())
     }
 
-    /// Makes the text what a batch means on it (LSP 3.17, DidChangeTextDocumentParams), if that has at most `max_len` bytes; the texts
-    /// between may have more. The first change that has no result is reported. Where anything is refused nothing changes. One change of a
-    /// range costs its two positions, one move of the text after it, and one pass over the line starts that follow. A longer batch costs
-    /// one copy of the text and of its line starts, if it doesn't begin with a whole text, and for each change its two positions, its
-    /// text, and the bytes and the lines between it and the change before. No spans are kept.
+    /// Applies a batch to the text (LSP 3.17, DidChangeTextDocumentParams), if the result has at
+    /// most `max_len` bytes. The texts between its changes may have more.
+    ///
+    /// An error reports the first change that has no result, a result that is too long, or out of
+    /// memory. The text is unchanged then.
+    ///
+    /// One change with a range costs its two positions, one move of the text after it, and one pass
+    /// over the later line starts. Any other batch costs a copy of the text and its line starts, if
+    /// its first change doesn't replace all. It also costs for each change its two positions, its
+    /// text, and what lies between it and the change before.
     pub fn change(
         &mut self,
         encoding: Encoding,
@@ -199,11 +220,15 @@ impl IndexedText {
     ) -> Result<(), TextFault>
         requires size { length self.old ≤ MAX_OLD_TEXT }
         requires fits { sum_by (λ change. string_len change.text) changes.now ≤ MAX_NEW_TEXT }
-        ensures changed { OnOk result (text_within max_len self.old (meaning (units_in encoding) (chars self.old) (map edit_of changes.now)) ≡ Ok self.new) }
+        ensures changed { OnOk result
+            (text_within max_len self.old
+            (meaning (units_in encoding) (chars self.old) (map edit_of changes.now))
+            ≡ Ok self.new) }
         ensures same { OnErr result (self.new ≡ self.old) }
-        ensures told { IfErr result (λ fault. (fault ≡ NoMemory)
-            ⊎ (text_within max_len self.old (meaning (units_in encoding) (chars self.old) (map edit_of changes.now)) ≡ Err fault)) }
-        // For one change of a range memory is taken last.
+        ensures error { IfErr result (λ fault. (fault ≡ NoMemory)
+            ⊎ (text_within max_len self.old
+            (meaning (units_in encoding) (chars self.old) (map edit_of changes.now)) ≡ Err fault)) }
+        // For one change with a range, out of memory means that there is a result of that length.
         ensures memory { result ≡ Err NoMemory → (range : Range) (text : List ℕ)
             → map edit_of changes.now ≡ alone range text → IsOk (text_within max_len self.old
             (meaning (units_in encoding) (chars self.old) (map edit_of changes.now))) }
@@ -223,10 +248,13 @@ impl IndexedText {
         Ok(())
     }
 
-    /// The canonical batch of what a batch means on the text: one change for each gap between kept characters that is changed, from
-    /// the last gap to the first. Refuses as [`IndexedText::change`] does, and changes nothing. Costs what each change costs to apply,
-    /// and one exact position for each end of a changed gap. A batch of some thousand changes is composed in runs, which cost some copies
-    /// of the text each; where it is refused it is composed once more to say why.
+    /// Returns the canonical batch of what a batch means on the text. It has one change for each
+    /// changed gap between kept characters, from the last gap to the first.
+    ///
+    /// It has the errors of [`IndexedText::change`], and changes nothing. Costs what each change
+    /// costs to apply, and one exact position for each end of a changed gap. Some thousand changes
+    /// are composed in runs, each of which costs some copies of the text. If that fails they are
+    /// composed once more, to find the error.
     pub fn canonical(
         &self,
         encoding: Encoding,
@@ -235,9 +263,12 @@ impl IndexedText {
     ) -> Result<Vec<Change>, TextFault>
         requires size { length self.now ≤ MAX_OLD_TEXT }
         requires fits { sum_by (λ change. string_len change.text) changes.now ≤ MAX_NEW_TEXT }
-        ensures batch { IfOk result (λ made. IsCanonicalBatch (units_in encoding) max_len self.now (map edit_of changes.now) (map edit_of made.items)) }
-        ensures told { IfErr result (λ fault. (fault ≡ NoMemory)
-            ⊎ (text_within max_len self.now (meaning (units_in encoding) (chars self.now) (map edit_of changes.now)) ≡ Err fault)) }
+        ensures batch { IfOk result
+            (λ made. IsCanonicalBatch (units_in encoding) max_len self.now (map edit_of changes.now)
+            (map edit_of made.items)) }
+        ensures error { IfErr result (λ fault. (fault ≡ NoMemory)
+            ⊎ (text_within max_len self.now
+            (meaning (units_in encoding) (chars self.now) (map edit_of changes.now)) ≡ Err fault)) }
     {
         if changes.len() >= 2 * RUN {
             let alloc = *self.text.allocator();
@@ -249,10 +280,12 @@ impl IndexedText {
         Ok(pieces.canonical(encoding)?)
     }
 
-    /// The batch that means what text edits mean (LSP 3.17, TextEdit[]): all their ranges count in the text as it is, and texts that are put
-    /// in at one place come in the order of the list. It is the canonical batch of that. Refuses edits of which one has a faulty range or
-    /// two overlap, and changes nothing. Costs each edit's two positions, a stable sort by their starts, and one exact position for each
-    /// end of a changed gap.
+    /// Returns the canonical batch of what text edits mean (LSP 3.17, TextEdit[]). All their ranges
+    /// count in the current text, and insertions at one offset come in the order of the list.
+    ///
+    /// An error reports an edit with a faulty range, two edits that overlap, or out of memory.
+    /// Costs each edit's two positions, a stable sort by their starts, and one exact position for
+    /// each end of a changed gap.
     pub fn batch_of_edits(
         &self,
         encoding: Encoding,
@@ -268,8 +301,8 @@ impl IndexedText {
         Ok(canonical_of(alloc, &self.text, &self.lines, &spans, encoding)?)
     }
 
-    /// What a batch makes of the text, in spans that own their texts. Refuses as [`IndexedText::change`] does, and changes nothing. Costs
-    /// what each change costs to apply.
+    /// Returns the result of a batch as a delta. It has the errors of [`IndexedText::change`], and
+    /// changes nothing. Costs what each change costs to apply.
     pub(crate) fn delta(
         &self,
         encoding: Encoding,
@@ -279,7 +312,8 @@ impl IndexedText {
         requires size { length self.now ≤ MAX_OLD_TEXT }
         requires fits { sum_by (λ change. string_len change.text) changes.now ≤ MAX_NEW_TEXT }
         ensures ok { IfOk result (λ delta. IsDelta
-            (meaning (units_in encoding) (chars self.now) (map edit_of changes.now)) self.now (delta_parts delta)) }
+            (meaning (units_in encoding) (chars self.now) (map edit_of changes.now)) self.now
+            (delta_parts delta)) }
         ensures within { OnOk result (IsOk (text_within max_len self.now
             (meaning (units_in encoding) (chars self.now) (map edit_of changes.now)))) }
         ensures error { IfErr result (λ fault. (fault ≡ NoMemory)
@@ -292,7 +326,7 @@ impl IndexedText {
     }
 }
 
-/// Whether the text of pieces has at most `max_len` bytes. Takes no memory.
+/// Fails if the text of pieces has more than `max_len` bytes. Takes no memory.
 fn may_have_len(pieces: &Pieces<'_>, max_len: usize) -> Result<(), TextFault>
     ensures ok { OnOk result (length (edited_bytes pieces.now.edited) ≤ max_len) }
     ensures error { IfErr result (λ fault. (fault ≡ TooLong)

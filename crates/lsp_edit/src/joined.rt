@@ -1,4 +1,4 @@
-//! Batches of changes on a text, one after another, joined.
+//! `Joined`, batches of changes on a text, one after another, as one.
 
 ghost use Rattle.std.specs.Prelude.{◌≡◌, ◌≤◌, ◌⊎◌, Err, IfErr, IfOk, IsOk, Ok, OnErr, OnOk, length, map, string_bytes, string_len, sum_by};
 ghost use Rattle.std.specs.Str.{chars};
@@ -9,16 +9,19 @@ ghost use Rattle.lsp_edit.specs.Canonical.{canonical};
 ghost use Rattle.lsp_edit.specs.Edited.{edit_of};
 ghost use Rattle.lsp_edit.specs.Indexed.{text_within};
 ghost use Rattle.lsp_edit.specs.Items.{plain};
-ghost use Rattle.lsp_edit.specs.Joined.{IsJoined, IsReached, IsWhole};
+ghost use Rattle.lsp_edit.specs.Joined.{IsJoined, IsReached};
+ghost use Rattle.lsp_edit.specs.inside.Joined.{IsWhole};
 
-use crate::canonical::canonical_of;
+pub(crate) mod delta;
+
 use crate::change::{Change, MAX_NEW_TEXT};
 use crate::composed::MAX_OLD_TEXT;
-use crate::delta::Delta;
 use crate::indexed::{IndexedText, TextFault};
+use crate::joined::delta::Delta;
 use crate::pieces::MAX_TEXT;
-use crate::spans::Spans;
-use crate::through::spans_through;
+use crate::pieces::canonical::canonical_of;
+use crate::pieces::spans::Spans;
+use crate::pieces::through::spans_through;
 use lsp_text::Encoding;
 use std::alloc::{AllocError, Global};
 use std::marker::Model;
@@ -26,10 +29,12 @@ use std::marker::Model;
 /// How many changes of a long batch are composed at once.
 pub(crate) const RUN: usize = 1024;
 
-/// Batches of changes on a text, one after another, and what they make of it together. It keeps the text as it was before them, and what
-/// became of it in deltas, each over the text that the one before it leaves. Two neighbours are joined when each was joined equally
-/// often, as the digits of a binary counter are carried: of k batches each takes part in some log k joins.
-#[derive(Drop)]
+/// Batches of changes on a text, one after another, and their result as one.
+///
+/// It keeps the text before them, and deltas, each over the text that the one before it leaves. Two
+/// neighbours of the same rank are joined, as a binary counter carries its digits. So each of k
+/// batches takes part in some log k joins.
+#[derive(Debug, Drop)]
 pub struct Joined {
     before: IndexedText,
     deltas: Vec<Delta>,
@@ -46,26 +51,32 @@ impl Model for Joined {
 
     ghost view = { λ joined. record {
       before = joined.before;
-      items = items_over (chars joined.before) (plain (chars joined.before)) (map delta_parts joined.deltas.items);
+      items = items_over (chars joined.before) (plain (chars joined.before))
+          (map delta_parts joined.deltas.items);
     } };
 
     ghost invariant = { λ joined.
-        AllOver (chars joined.before) (plain (chars joined.before)) (map delta_parts joined.deltas.items) };
+        AllOver (chars joined.before) (plain (chars joined.before))
+        (map delta_parts joined.deltas.items) };
 }
 
 impl Joined {
-    /// A text before any batch. The text is moved in. Costs a search through it for its lines.
+    /// Makes a text before any batch; the text is moved in. Fails only if it is out of memory.
+    /// Costs a search through the text for its lines.
     pub fn new(alloc: Global, text: String) -> Result<Self, AllocError>
         requires { string_len text ≤ MAX_TEXT }
         ensures joined { IfOk result (λ joined.
-            joined ≡ record { before = string_bytes text; items = plain (chars (string_bytes text)) }) }
+            joined ≡ record {
+              before = string_bytes text;
+              items = plain (chars (string_bytes text));
+            }) }
         ensures reached { IfOk result (λ joined. IsReached joined (string_bytes text)) }
     {
         let before = IndexedText::new(alloc, text)?;
         Ok(Self::begin(alloc, before))
     }
 
-    /// A text before any batch, with its lines.
+    /// Makes a text before any batch, with its lines.
     fn begin(alloc: Global, before: IndexedText) -> Self
         ensures { result ≡ record { before = before; items = plain (chars before) } }
     {
@@ -75,9 +86,11 @@ impl Joined {
         }
     }
 
-    /// A batch on a text, composed run by run: a change moves the spans of its run, and not those of the whole batch. It is refused where
-    /// a change has no result or a text grows too long, and not told why. Costs what the changes cost to apply, and for each run some copies
-    /// of the text and of its line starts.
+    /// Composes a batch run by run, so that a change moves only the spans of its run.
+    ///
+    /// Fails if a change has no result, a text grows too long, or memory runs out; the error
+    /// doesn't reliably say which. Costs what the changes cost to apply, and for each run some
+    /// copies of the text and its line starts.
     pub(crate) fn of_batch(
         alloc: Global,
         encoding: Encoding,
@@ -101,7 +114,7 @@ impl Joined {
         Ok(joined)
     }
 
-    /// Joins the last two deltas, if both were joined equally often. Says whether they were.
+    /// Joins the last two deltas, if they have the same rank. Returns whether they had.
     fn join_last(&mut self) -> Result<bool, AllocError>
         ensures { self.new ≡ self.old }
     {
@@ -120,7 +133,7 @@ impl Joined {
         Ok(true)
     }
 
-    /// Joins the last deltas for as long as two were joined equally often.
+    /// Joins the last two deltas again and again, while they have the same rank.
     fn join(&mut self) -> Result<(), AllocError>
         ensures { self.new ≡ self.old }
     {
@@ -132,9 +145,12 @@ impl Joined {
         Ok(())
     }
 
-    /// Joins a batch on `reached`, the text that the batches before it leave, if the text that it leaves has at most `max_len` bytes. Refuses
-    /// as [`IndexedText::change`] does, and then nothing changes. Costs what the changes cost to apply, and now and then a walk over the
-    /// spans of earlier batches: k changes, in as many batches, cost some k log k steps on spans.
+    /// Adds a batch on `reached`, the text after the batches before it, if the result has at most
+    /// `max_len` bytes.
+    ///
+    /// It has the errors of [`IndexedText::change`], and then nothing changes. Costs what the
+    /// changes cost to apply, and now and then a walk over the spans of earlier batches. k changes,
+    /// in as many batches, cost some k log k steps on spans.
     pub fn add(
         &mut self,
         encoding: Encoding,
@@ -145,13 +161,15 @@ impl Joined {
         requires reached { IsReached self.old reached.now }
         requires size { length reached.now ≤ MAX_OLD_TEXT }
         requires fits { sum_by (λ change. string_len change.text) changes.now ≤ MAX_NEW_TEXT }
-        ensures ok { OnOk result (IsJoined (units_in encoding) self.old (map edit_of changes.now) self.new) }
+        ensures ok { OnOk result
+            (IsJoined (units_in encoding) self.old (map edit_of changes.now) self.new) }
         ensures within { OnOk result (IsOk (text_within max_len reached.now
             (meaning (units_in encoding) (chars reached.now) (map edit_of changes.now)))) }
         ensures unchanged { OnErr result (self.new ≡ self.old) }
         ensures error { IfErr result (λ fault. (fault ≡ NoMemory)
             ⊎ (text_within max_len reached.now
-            (meaning (units_in encoding) (chars reached.now) (map edit_of changes.now)) ≡ Err fault)) }
+            (meaning (units_in encoding) (chars reached.now) (map edit_of changes.now))
+            ≡ Err fault)) }
     {
         self.join()?;
         let delta = reached.delta(encoding, changes, max_len)?;
@@ -160,8 +178,8 @@ impl Joined {
         Ok(())
     }
 
-    /// Joins a batch on `reached`, as [`Joined::add`] does, and makes `reached` the text that it leaves. Where anything is refused, both
-    /// stay as they are. Costs what both calls cost.
+    /// Adds a batch on `reached`, as [`Joined::add`] does, and applies it to `reached` too. After
+    /// an error both are unchanged. Costs what both calls cost.
     pub fn change(
         &mut self,
         encoding: Encoding,
@@ -172,15 +190,18 @@ impl Joined {
         requires reached { IsReached self.old reached.old }
         requires size { length reached.old ≤ MAX_OLD_TEXT }
         requires fits { sum_by (λ change. string_len change.text) changes.now ≤ MAX_NEW_TEXT }
-        ensures ok { OnOk result (IsJoined (units_in encoding) self.old (map edit_of changes.now) self.new) }
+        ensures ok { OnOk result
+            (IsJoined (units_in encoding) self.old (map edit_of changes.now) self.new) }
         ensures reached { OnOk result (IsReached self.new reached.new) }
         ensures changed { OnOk result (text_within max_len reached.old
-            (meaning (units_in encoding) (chars reached.old) (map edit_of changes.now)) ≡ Ok reached.new) }
+            (meaning (units_in encoding) (chars reached.old) (map edit_of changes.now))
+            ≡ Ok reached.new) }
         ensures unchanged { OnErr result (self.new ≡ self.old) }
         ensures reached_unchanged { OnErr result (reached.new ≡ reached.old) }
         ensures error { IfErr result (λ fault. (fault ≡ NoMemory)
             ⊎ (text_within max_len reached.old
-            (meaning (units_in encoding) (chars reached.old) (map edit_of changes.now)) ≡ Err fault)) }
+            (meaning (units_in encoding) (chars reached.old) (map edit_of changes.now))
+            ≡ Err fault)) }
     {
         self.join()?;
         let next = reached.delta(encoding, changes, max_len)?;
@@ -190,9 +211,11 @@ impl Joined {
         Ok(())
     }
 
-    /// The canonical batch of all batches: one change for each gap between kept characters of the text before them that is changed,
-    /// from the last gap to the first. Costs a walk over the spans for each of some log k deltas of k batches, and one exact position for
-    /// each end of a changed gap.
+    /// Returns the canonical batch of all batches. It has one change for each changed gap between
+    /// kept characters of the text before them, from the last gap to the first.
+    ///
+    /// Fails only if it is out of memory. Costs a walk over the spans for some log k deltas of k
+    /// batches, and one exact position for each end of a changed gap.
     pub fn canonical(&self, encoding: Encoding) -> Result<Vec<Change>, AllocError>
         ensures { IfOk result (λ changes. map edit_of changes.items
             ≡ canonical (units_in encoding) (chars self.now.before) self.now.items) }

@@ -1,37 +1,34 @@
-//! Changes of a text: what the batch of a `didChange` means, and its one canonical batch.
+//! Changes of a text: what the batch of a `didChange` means, and its one canonical batch (LSP 3.17,
+//! DidChangeTextDocumentParams).
 //!
-//! - `change`: a change as the protocol writes it, and the limit on the texts of a batch.
-//! - `pieces`: a text that changes are applied to, its canonical batch, and two runs of changes put together; `composed`: a whole batch.
-//! - `spans`, `row`, `replace`, `through`: what became of the old text, in runs of it and of the changes' texts.
-//! - `joined`: many batches, one after another, joined; `delta`: what some of them made of a text, in spans that own their texts.
-//! - `draft`: a text under the changes of a batch, where nobody asks for spans.
-//! - `text_edits`: edits that all count in one old text, as formatters and `applyEdits` have them.
-//! - `current`: the text that changes meet, made late.
-//! - `laws`: what holds of every batch and of its canonical batch.
-//! - `plain`: the definitions as a plain program, one item for each character, with the same clauses, save on memory.
+//! - `indexed`: `IndexedText`, a text with its lines, which a server changes batch by batch. It
+//!   uses `draft` (a text under the changes of a batch), `in_place` (one change alone) and `ends`
+//!   (byte offsets of a range).
+//! - `pieces`: `Pieces`, what became of an old text, in spans of it and of the changes' texts. Its
+//!   parts are `spans`, `span`, `row`, `replace`, `through`, `kept_lines` and `current` (the text
+//!   that later changes meet).
+//! - `composed`: `compose`, which makes the pieces of a whole batch. `canonical` writes their
+//!   canonical batch.
+//! - `change`, `fault`: a change as the protocol writes it, the limit on the texts of a batch, and
+//!   why a change has no result.
+//! - `joined`: `Joined`, many batches, one after another, as one. `delta` is a part of it.
+//! - `text_edits`: edits whose ranges all count in one old text, as formatters and `applyEdits`
+//!   send them.
+//! - `laws`: what follows from the definitions of a batch and its canonical batch alone.
+//! - `plain`: the definitions as a plain program over characters, with the same clauses, but not
+//!   those on memory.
 #![tactic(auto)]
 
-mod canonical;
 mod change;
 mod composed;
-mod current;
-mod delta;
-mod draft;
 mod ends;
 mod fault;
-mod in_place;
 mod indexed;
 mod joined;
-mod kept_lines;
 mod laws;
 mod pieces;
 pub mod plain;
-mod replace;
-mod row;
-mod span;
-mod spans;
 mod text_edits;
-mod through;
 
 pub use change::{Change, MAX_NEW_TEXT, fits};
 pub use composed::{MAX_OLD_TEXT, compose, compose_over};
@@ -39,6 +36,6 @@ pub use fault::{EditFault, Side};
 pub use indexed::{IndexedText, TextFault};
 pub use joined::Joined;
 pub use laws::batch_laws;
+pub use pieces::span::Span;
 pub use pieces::{MAX_TEXT, Pieces};
-pub use span::Span;
 pub use text_edits::{TextEdit, TextEditFault};

@@ -1,4 +1,4 @@
-//! A text that changes are applied to, kept as spans of the old text and of the changes' texts.
+//! `Pieces`, a text under changes, as spans of the old text and of the changes' texts.
 
 ghost use Rattle.std.specs.Prelude.{◌≡◌, ◌≢◌, ◌↔◌, ◌+◌, ◌*◌, ◌++◌, ◌≤◌, ℕ, IfErr, IfOk, OnErr, OnOk, Ok, Err, IsOk, IsTrue, List, map, length, string_bytes, string_len};
 ghost use Rattle.std.specs.Str.{chars};
@@ -9,22 +9,31 @@ ghost use Rattle.lsp_edit.specs.Items.{Item, plain};
 ghost use Rattle.lsp_edit.specs.Parts.{AreParts, Ascend, NoneEmpty, NoneTouch, items_of, parts_of};
 ghost use Rattle.lsp_edit.specs.Compose.{then_items};
 ghost use Rattle.lsp_edit.specs.Edited.{Applied, before_bytes, both_counts, edit_of, edited_bytes, edited_text, lines_of};
-ghost use Rattle.lsp_edit.specs.Faults.{IsPlaces, TellsFault, ends_of, places_at};
+ghost use Rattle.lsp_edit.specs.Faults.{IsFaultOfChange, ends_of, places_at};
+ghost use Rattle.lsp_edit.specs.inside.Faults.{IsPlaces};
 ghost use Rattle.lsp_edit.specs.Batch.{Edit, after_change, meaning};
 ghost use Rattle.lsp_edit.specs.Canonical.{canonical};
 ghost use Rattle.lsp_edit.specs.Laws.{IsCanonical, KeepsPairs, RangesStay};
 
-use crate::canonical::canonical_of;
+pub(crate) mod canonical;
+pub(crate) mod current;
+pub(crate) mod replace;
+pub(crate) mod row;
+pub(crate) mod span;
+pub(crate) mod spans;
+pub(crate) mod through;
+
 use crate::change::Change;
-use crate::current::{current_or_new, text_of_spans, text_with_lines};
-use crate::draft::ends_in;
 use crate::ends::ends;
 use crate::fault::EditFault;
-use crate::kept_lines::KeptLines;
-use crate::row::Row;
-use crate::span::Span;
-use crate::spans::Spans;
-use crate::through::spans_through;
+use crate::indexed::draft::ends_in;
+use crate::indexed::kept_lines::KeptLines;
+use crate::pieces::canonical::canonical_of;
+use crate::pieces::current::{current_or_new, text_of_spans, text_with_lines};
+use crate::pieces::row::Row;
+use crate::pieces::span::Span;
+use crate::pieces::spans::Spans;
+use crate::pieces::through::spans_through;
 use lsp_text::{Encoding, GapText, Lines, Range};
 use std::alloc::{AllocError, Global};
 use std::marker::Model;
@@ -32,8 +41,8 @@ use std::marker::Model;
 /// How many bytes a text may have.
 pub const MAX_TEXT: usize = 2_147_483_648;
 
-/// A text that changes are applied to, one after another. It borrows the old text and the texts of the changes, and copies neither
-/// to say what became of the old text.
+/// A text under changes, one after another. It borrows the old text and the texts of the changes,
+/// and describes the result by spans of both, without a copy.
 #[derive(Drop)]
 pub struct Pieces<'a> {
     alloc: Global,
@@ -62,12 +71,15 @@ impl<'a> Model for Pieces<'a> {
       parts = parts_of (spans_in pieces.spans);
     } };
 
-    ghost invariant = { λ pieces. ArePieces pieces.before.now (lines_of pieces.lines) (parts_of (spans_in pieces.spans)) pieces.len pieces.changes
-        × IsCurrent (bytes_of pieces.before.now (parts_of (spans_in pieces.spans))) pieces.current };
+    ghost invariant = { λ pieces.
+        ArePieces pieces.before.now (lines_of pieces.lines) (parts_of (spans_in pieces.spans))
+        pieces.len pieces.changes
+        × IsCurrent (bytes_of pieces.before.now (parts_of (spans_in pieces.spans)))
+        pieces.current };
 }
 
 impl<'a> Pieces<'a> {
-    /// Nothing changed yet, over lines of the text.
+    /// Makes pieces before any change, with the lines of the text.
     fn begin(alloc: Global, before: &'a str, lines: KeptLines<'a>) -> Self
         requires { Indexes (lines_of lines) before.now }
         ensures { result.edited ≡ record {
@@ -87,7 +99,8 @@ impl<'a> Pieces<'a> {
         }
     }
 
-    /// A text before any change. Costs a search through the text for its lines.
+    /// Makes pieces of a text before any change. Fails only if it is out of memory. Costs a search
+    /// through the text for its lines.
     pub fn start(alloc: Global, before: &'a str) -> Result<Self, AllocError>
         requires { length before.now ≤ MAX_TEXT }
         ensures { IfOk result (λ pieces. pieces.edited
@@ -97,7 +110,8 @@ impl<'a> Pieces<'a> {
         Ok(Self::begin(alloc, before, KeptLines::Own(lines)))
     }
 
-    /// A text before any change, whose lines the caller keeps. Takes no memory, and costs nothing that grows with the text.
+    /// Makes pieces of a text before any change, whose lines the caller has. Takes no memory, and
+    /// constant time.
     pub fn over(alloc: Global, before: &'a str, lines: &'a Lines) -> Self
         requires { Indexes lines.now before.now }
         ensures { result.edited ≡ record {
@@ -109,8 +123,11 @@ impl<'a> Pieces<'a> {
         Self::begin(alloc, before, KeptLines::Lent(lines))
     }
 
-    /// What two runs of changes make together, the second over the text that the first left. It is over the text that the first is over,
-    /// with the changes of both. Costs the spans of both, and borrows the lines of the first.
+    /// Composes two runs of changes; `second` is over the text that `first` leaves. The result is
+    /// over the old text of `first`, and counts the changes of both.
+    ///
+    /// Fails only if it is out of memory. Costs the spans of both, and borrows the lines of
+    /// `first`.
     pub fn then<'b, 'c>(
         alloc: Global,
         first: &'c Pieces<'a>,
@@ -145,7 +162,8 @@ impl<'a> Pieces<'a> {
         })
     }
 
-    /// Whether the text as it is now and the change's text have together at most 2,147,483,648 bytes.
+    /// Returns whether the current text and the change's text have at most 2,147,483,648 bytes
+    /// together.
     pub fn has_room(&self, change: &Change) -> bool
         ensures { IsTrue result ↔ (length (edited_bytes self.now.edited)
             + string_len change.now.text ≤ MAX_TEXT) }
@@ -153,14 +171,15 @@ impl<'a> Pieces<'a> {
         self.len + change.text.len() <= MAX_TEXT
     }
 
-    /// How many bytes the text as it is now has.
+    /// Returns how many bytes the current text has.
     pub fn text_len(&self) -> usize
         ensures { result ≡ length (edited_bytes self.now.edited) }
     {
         self.len
     }
 
-    /// The places of a range's two ends in the text as it is now. `change` is the number that a fault reports.
+    /// Returns the byte offsets of a range's two ends in the current text. A fault reports the
+    /// number of the change: how many came before.
     fn places(&mut self, encoding: Encoding, range: Range) -> Result<(usize, usize), EditFault>
         ensures same { self.new ≡ self.old }
         ensures memory { result ≡ Err NoMemory → self.old.edited.changes ≢ 0 }
@@ -183,7 +202,7 @@ impl<'a> Pieces<'a> {
         places
     }
 
-    /// Puts a new text in place of all that is there.
+    /// Replaces the whole text.
     fn apply_to_all(&mut self, text: &'a str)
         requires { length (edited_bytes self.old.edited) + length text.now ≤ MAX_TEXT }
         ensures { (units : ℕ → ℕ) → Applied units self.old.edited
@@ -195,7 +214,7 @@ impl<'a> Pieces<'a> {
         self.changes = self.changes.saturating_add(1);
     }
 
-    /// Puts a new text in place of a range.
+    /// Replaces a range by a new text.
     fn apply_to_range(
         &mut self,
         encoding: Encoding,
@@ -206,7 +225,7 @@ impl<'a> Pieces<'a> {
         ensures applied { OnOk result (Applied (units_in encoding) self.old.edited
             (record { range = Some range; text = chars text.now }) self.new.edited) }
         ensures same { OnErr result (self.new ≡ self.old) }
-        ensures told { IfErr result (λ fault. TellsFault self.old.edited.changes
+        ensures error { IfErr result (λ fault. IsFaultOfChange self.old.edited.changes
             (after_change (units_in encoding) self.old.edited.before self.old.edited.items
             (record { range = Some range; text = chars text.now })) fault) }
         ensures memory { result ≡ Err NoMemory → self.old.edited.changes ≡ 0
@@ -225,19 +244,21 @@ impl<'a> Pieces<'a> {
         Ok(())
     }
 
-    /// Applies a change to the text as it is now (LSP 3.17, TextDocumentContentChangeEvent). A fault leaves everything as it was, and
-    /// says how many changes were applied before. Costs a walk over the spans from the last change to this one and one move of those
-    /// after it; from the second change with a range on also a move of the text and of the line starts between the last change and this
-    /// one (at the second, two copies of the text).
+    /// Applies a change to the current text (LSP 3.17, TextDocumentContentChangeEvent).
+    ///
+    /// After an error everything is unchanged, and the fault reports how many changes were applied
+    /// before. Costs a walk over the spans from the last change to this one, and one move of those
+    /// after it. From the second change with a range on, it also moves the text and the line starts
+    /// between the last change and this one. The second of them makes two copies of the text.
     pub fn apply(&mut self, encoding: Encoding, change: &'a Change) -> Result<(), EditFault>
         requires { length (edited_bytes self.old.edited) + string_len change.now.text ≤ MAX_TEXT }
         ensures applied { OnOk result (Applied (units_in encoding) self.old.edited
             (edit_of change.now) self.new.edited) }
         ensures same { OnErr result (self.new ≡ self.old) }
-        ensures told { IfErr result (λ fault. TellsFault self.old.edited.changes
+        ensures error { IfErr result (λ fault. IsFaultOfChange self.old.edited.changes
             (after_change (units_in encoding) self.old.edited.before self.old.edited.items
             (edit_of change.now)) fault) }
-        // Before the first change its range is resolved without memory.
+        // Before the first change a range is resolved without memory.
         ensures memory { result ≡ Err NoMemory → self.old.edited.changes ≡ 0
             → IsOk (after_change (units_in encoding) self.old.edited.before self.old.edited.items
             (edit_of change.now)) }
@@ -249,9 +270,12 @@ impl<'a> Pieces<'a> {
         Ok(())
     }
 
-    /// The canonical batch of what was applied: one change for each gap between kept characters of the old text that is changed, from
-    /// the last gap to the first. It makes the same of the old text, character by character, and each of its ranges denotes in the text
-    /// that it meets what it denotes in the old text. Costs the spans, and one exact position for each end of a changed gap.
+    /// Returns the canonical batch of the changes. It has one change for each changed gap between
+    /// kept characters of the old text, from the last gap to the first.
+    ///
+    /// It has the same result, character by character. Each of its ranges denotes the same in the
+    /// text that it meets as in the old text. Fails only if it is out of memory. Costs the spans,
+    /// and one exact position for each end of a changed gap.
     pub fn canonical(&self, encoding: Encoding) -> Result<Vec<Change>, AllocError>
         ensures batch { IfOk result (λ changes. map edit_of changes.items ≡ canonical
             (units_in encoding) self.now.edited.before self.now.edited.items) }
@@ -275,8 +299,11 @@ impl<'a> Pieces<'a> {
         )
     }
 
-    /// The spans of the text as it is now: runs of the old text in order, and texts of the changes or parts of them, none cut
-    /// inside a character. None is empty, two of the old text that touch are one, and there are at most two more than one for each change.
+    /// Returns the spans of the current text: runs of the old text in order, and texts of the
+    /// changes or parts of them.
+    ///
+    /// No span is empty or cut inside a character, and two runs of the old text that touch are one.
+    /// There are at most one span and two more for each change.
     pub fn spans(&self) -> &[Span<'a>]
         ensures parts { parts_of result.now ≡ self.now.parts }
         ensures items { items_of self.now.edited.before (parts_of result.now)
@@ -290,15 +317,18 @@ impl<'a> Pieces<'a> {
         self.spans.as_slice()
     }
 
-    /// The text as it is now. Costs one copy.
+    /// Returns the current text. Fails only if it is out of memory. Costs one copy.
     pub fn text(&self) -> Result<String, AllocError>
         ensures { IfOk result (λ text. string_bytes text ≡ edited_bytes self.now.edited) }
     {
         text_of_spans(self.alloc, self.before, self.spans.as_slice(), self.len)
     }
 
-    /// The text as it is now and its lines, handed over. After one change they are made, in one copy. After more they are there already,
-    /// and what lies after the last change is moved.
+    /// Returns the current text and its lines. Fails only if it is out of memory.
+    ///
+    /// It copies the text and searches it for its lines after at most one change, after a change of
+    /// the whole text, and after `then`. Otherwise both exist already, and what lies after the last
+    /// change is moved.
     pub fn into_text(self) -> Result<(String, Lines), AllocError>
         ensures { IfOk result (λ made. (string_bytes made.0 ≡ edited_bytes self.entry.edited)
             × Indexes made.1 (string_bytes made.0)) }

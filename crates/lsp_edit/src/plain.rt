@@ -1,5 +1,6 @@
-//! The definitions as a plain program: one item for each character, and each step as the definitions say. It says what `compose`
-//! and `Pieces` say, is there to be read beside them, and is compared with them.
+//! The definitions as a plain and slow program: one item for each character, and each step as the
+//! definitions have it. Its clauses are those of `compose` and `Pieces`, with which tests compare
+//! it.
 
 ghost use Rattle.std.specs.Prelude.{◌≡◌, ◌+◌, ◌++◌, ◌≤◌, ◌<◌, ℕ, IfErr, IfOk, OnErr, OnOk, Ok, Some, true, MatchResult, IsCharBoundary, List, [], map, length, take, drop, string_bytes, string_len, sum_by, encode_utf8_all};
 ghost use Rattle.std.specs.Str.{chars};
@@ -9,12 +10,13 @@ ghost use Rattle.lsp_text.specs.Units.{units_in};
 ghost use Rattle.lsp_edit.specs.Items.{Item as SpecItem, Old as OldItem, New as NewItem, character_of as spec_character_of, plain as plain_items, text_of as spec_text_of};
 ghost use Rattle.lsp_edit.specs.Batch.{Edit, after_change, after_changes, changed_in, meaning};
 ghost use Rattle.lsp_edit.specs.Canonical.{canonical as spec_canonical, is_changed};
-ghost use Rattle.lsp_edit.specs.Compose.{then_items as spec_then_items, told_through as spec_told_through};
+ghost use Rattle.lsp_edit.specs.Compose.{then_items as spec_then_items, item_through as spec_item_through};
 ghost use Rattle.lsp_edit.specs.Edited.{Applied, Means, both_counts, edit_of, edited_bytes, edited_text};
-ghost use Rattle.lsp_edit.specs.Faults.{TellsBatchFault, TellsFault};
+ghost use Rattle.lsp_edit.specs.Faults.{IsFaultOfChanges, IsFaultOfChange};
 ghost use Rattle.lsp_edit.specs.Keeps.{Keeps};
 ghost use Rattle.lsp_edit.specs.Laws.{HasExactEnds, IsCanonical, KeepsPairs, RangesStay};
-ghost use Rattle.lsp_edit.specs.Plain.{change_at, gap_at, item_of, items_in_order};
+ghost use Rattle.lsp_edit.specs.Plain.{item_of, items_in_order};
+ghost use Rattle.lsp_edit.specs.inside.Plain.{change_at, gap_at};
 
 use crate::change::{Change, MAX_NEW_TEXT};
 use crate::composed::MAX_OLD_TEXT;
@@ -25,14 +27,14 @@ use lsp_text::{Encoding, Lines, Range};
 use std::alloc::{AllocError, Global};
 use std::marker::Model;
 
-/// A character of the text as it is now: an old one, by its index in the old text, or a new one.
+/// A character of the current text: an old one, by its index in the old text, or a new one.
 #[derive(Clone, Copy, Debug, PartialEq, Eq)]
 pub enum Item {
     Old(usize),
     New(char),
 }
 
-/// A text that changes are applied to, character by character.
+/// A text under changes, character by character.
 #[derive(Drop)]
 pub struct Plain<'a> {
     alloc: Global,
@@ -55,14 +57,21 @@ impl<'a> Model for Plain<'a> {
       changes = plain.changes;
     } };
 
-    ghost invariant = { λ plain. ArePlain plain.before.now plain.characters.items (items_in_order plain.items.items) };
+    ghost invariant = { λ plain. ArePlain plain.before.now plain.characters.items
+        (items_in_order plain.items.items) };
 }
 
 impl<'a> Plain<'a> {
-    /// A text before any change.
+    /// Makes a text before any change.
     fn start(alloc: Global, before: &'a str) -> Result<Self, AllocError>
         requires { length before.now ≤ MAX_TEXT }
-        ensures { IfOk result (λ plain. plain ≡ record { before = chars before.now; items = plain_items (chars before.now); changes = 0 }) }
+        ensures { IfOk result
+            (λ plain. plain
+            ≡ record {
+              before = chars before.now;
+              items = plain_items (chars before.now);
+              changes = 0;
+            }) }
     {
         let characters = characters(alloc, before)?;
         let items = numbered(alloc, characters.len())?;
@@ -75,7 +84,7 @@ impl<'a> Plain<'a> {
         })
     }
 
-    /// The items with those of a range replaced by new ones.
+    /// Returns the items with those of a range replaced by new ones.
     fn replaced(
         &self,
         encoding: Encoding,
@@ -83,8 +92,11 @@ impl<'a> Plain<'a> {
         text: &[char],
     ) -> Result<Vec<Item>, EditFault>
         ensures { MatchResult result
-            (λ made. changed_in (units_in encoding) self.now.before self.now.items text.now (Some range) ≡ Ok (items_in_order made.items))
-            (λ fault. TellsFault self.now.changes (changed_in (units_in encoding) self.now.before self.now.items text.now (Some range)) fault) }
+            (λ made. changed_in (units_in encoding) self.now.before self.now.items text.now
+            (Some range) ≡ Ok (items_in_order made.items))
+            (λ fault. IsFaultOfChange self.now.changes
+            (changed_in (units_in encoding) self.now.before self.now.items text.now (Some range))
+            fault) }
     {
         let now = self.text()?;
         let lines = Lines::new(self.alloc, &now)?;
@@ -94,13 +106,15 @@ impl<'a> Plain<'a> {
         Ok(put_between(self.alloc, &self.items, low, high, text)?)
     }
 
-    /// Applies a change.
+    /// Applies a change. After an error everything is unchanged.
     fn apply(&mut self, encoding: Encoding, change: &Change) -> Result<(), EditFault>
         requires { length (edited_bytes self.old) + string_len change.now.text ≤ MAX_TEXT }
-        ensures applied { OnOk result (Applied (units_in encoding) self.old (edit_of change.now) self.new) }
+        ensures applied { OnOk result
+            (Applied (units_in encoding) self.old (edit_of change.now) self.new) }
         ensures same { OnErr result (self.new ≡ self.old) }
-        ensures told { IfErr result (λ fault. TellsFault self.old.changes
-            (after_change (units_in encoding) self.old.before self.old.items (edit_of change.now)) fault) }
+        ensures error { IfErr result (λ fault. IsFaultOfChange self.old.changes
+            (after_change (units_in encoding) self.old.before self.old.items (edit_of change.now))
+            fault) }
     {
         let text = characters(self.alloc, &change.text)?;
         let items = match change.range {
@@ -112,7 +126,7 @@ impl<'a> Plain<'a> {
         Ok(())
     }
 
-    /// What two runs of changes make together, the second over the text that the first left.
+    /// Composes two runs of changes; `second` is over the text that this one leaves.
     pub fn then(&self, second: &Plain) -> Result<Self, AllocError>
         requires { second.now.before ≡ edited_text self.now }
         ensures composed { IfOk result (λ plain. plain ≡ record {
@@ -140,7 +154,7 @@ impl<'a> Plain<'a> {
         })
     }
 
-    /// The text as it is now.
+    /// Returns the current text.
     pub fn text(&self) -> Result<String, AllocError>
         ensures { IfOk result (λ text. string_bytes text ≡ edited_bytes self.now) }
     {
@@ -148,21 +162,27 @@ impl<'a> Plain<'a> {
         spelled(self.alloc, &text)
     }
 
-    /// The items.
+    /// Returns the items, one for each character of the current text.
     pub fn items(&self) -> &[Item]
         ensures { items_in_order result.now ≡ self.now.items }
     {
         &self.items
     }
 
-    /// The canonical batch of what was applied.
+    /// Returns the canonical batch of the changes.
     pub fn canonical(&self, encoding: Encoding) -> Result<Vec<Change>, AllocError>
-        ensures batch { IfOk result (λ changes. map edit_of changes.items ≡ spec_canonical (units_in encoding) self.now.before self.now.items) }
-        ensures means { meaning (units_in encoding) self.now.before (spec_canonical (units_in encoding) self.now.before self.now.items) ≡ Ok self.now.items }
-        ensures ranges { RangesStay (units_in encoding) self.now.before (plain_items self.now.before)
+        ensures batch { IfOk result
+            (λ changes. map edit_of changes.items
+            ≡ spec_canonical (units_in encoding) self.now.before self.now.items) }
+        ensures means { meaning (units_in encoding) self.now.before
+            (spec_canonical (units_in encoding) self.now.before self.now.items)
+            ≡ Ok self.now.items }
+        ensures ranges { RangesStay (units_in encoding) self.now.before
+            (plain_items self.now.before)
             (spec_canonical (units_in encoding) self.now.before self.now.items) }
         ensures pairs { KeepsPairs self.now.before self.now.items }
-        ensures law { (batch : List Edit) → meaning (units_in encoding) self.now.before batch ≡ Ok self.now.items
+        ensures law { (batch : List Edit) →
+            meaning (units_in encoding) self.now.before batch ≡ Ok self.now.items
             → IsCanonical (units_in encoding) self.now.before batch self.now.items }
     {
         let lines = Lines::new(self.alloc, self.before)?;
@@ -177,9 +197,9 @@ impl<'a> Plain<'a> {
     }
 }
 
-/// An item over a text, as one over what the items of that text are over.
-fn told_through(first: &[Item], item: Item) -> Item
-    ensures { item_of result ≡ spec_told_through (items_in_order first.now) (item_of item) }
+/// Turns an item over the text of `first` into one over what `first` is over.
+fn item_through(first: &[Item], item: Item) -> Item
+    ensures { item_of result ≡ spec_item_through (items_in_order first.now) (item_of item) }
 {
     match item {
         Item::Old(index) => {
@@ -193,18 +213,21 @@ fn told_through(first: &[Item], item: Item) -> Item
     }
 }
 
-/// Items over the text of the first, as items over what the first are over.
+/// Turns the items of `second`, over the text of `first`, into items over what `first` is over.
 fn then_items(alloc: Global, first: &[Item], second: &[Item]) -> Result<Vec<Item>, AllocError>
-    ensures { IfOk result (λ made. items_in_order made.items ≡ spec_then_items (items_in_order first.now) (items_in_order second.now)) }
+    ensures { IfOk result
+        (λ made. items_in_order made.items
+        ≡ spec_then_items (items_in_order first.now) (items_in_order second.now)) }
 {
     let mut made = Vec::new(alloc);
     for item in second {
-        made.push(told_through(first, *item))?;
+        made.push(item_through(first, *item))?;
     }
     Ok(made)
 }
 
-/// What a batch makes of a text: its changes are applied one after another.
+/// Applies the changes of a batch to a text, one after another. Reports the first change that has
+/// no result, or out of memory.
 pub fn compose<'a>(
     alloc: Global,
     before: &'a str,
@@ -214,8 +237,11 @@ pub fn compose<'a>(
     requires size { length before.now ≤ MAX_OLD_TEXT }
     requires fits { sum_by (λ change. string_len change.text) changes.now ≤ MAX_NEW_TEXT }
     ensures { MatchResult result
-        (λ plain. Means (chars before.now) (meaning (units_in encoding) (chars before.now) (map edit_of changes.now)) (length changes.now) plain)
-        (λ fault. TellsBatchFault (meaning (units_in encoding) (chars before.now) (map edit_of changes.now)) fault) }
+        (λ plain. Means (chars before.now)
+        (meaning (units_in encoding) (chars before.now) (map edit_of changes.now))
+        (length changes.now) plain)
+        (λ fault. IsFaultOfChanges
+        (meaning (units_in encoding) (chars before.now) (map edit_of changes.now)) fault) }
 {
     let mut plain = Plain::start(alloc, before)?;
     for change in changes {
@@ -224,14 +250,14 @@ pub fn compose<'a>(
     Ok(plain)
 }
 
-/// The characters of a text.
+/// Returns the characters of a text.
 fn characters(alloc: Global, text: &str) -> Result<Vec<char>, AllocError>
     ensures { IfOk result (λ characters. characters.items ≡ chars text.now) }
 {
     text.chars().collect(alloc)
 }
 
-/// Characters as a text.
+/// Returns the text of characters.
 fn spelled(alloc: Global, characters: &[char]) -> Result<String, AllocError>
     ensures { IfOk result (λ text. string_bytes text ≡ encode_utf8_all characters.now) }
 {
@@ -242,7 +268,7 @@ fn spelled(alloc: Global, characters: &[char]) -> Result<String, AllocError>
     Ok(text)
 }
 
-/// The character of an item.
+/// Returns the character of an item.
 fn character_of(old: &[char], item: Item) -> char
     ensures { result ≡ spec_character_of old.now (item_of item) }
 {
@@ -252,7 +278,7 @@ fn character_of(old: &[char], item: Item) -> char
     }
 }
 
-/// The characters of items.
+/// Returns the characters of items.
 fn text_of(alloc: Global, old: &[char], items: &[Item]) -> Result<Vec<char>, AllocError>
     ensures { IfOk result (λ text. text.items ≡ spec_text_of old.now (items_in_order items.now)) }
 {
@@ -263,9 +289,10 @@ fn text_of(alloc: Global, old: &[char], items: &[Item]) -> Result<Vec<char>, All
     Ok(text)
 }
 
-/// The items of a text before any change.
+/// Returns the items of a text before any change.
 fn numbered(alloc: Global, count: usize) -> Result<Vec<Item>, AllocError>
-    ensures { IfOk result (λ items. items_in_order items.items ≡ map OldItem (numbers_from 0 count)) }
+    ensures { IfOk result
+        (λ items. items_in_order items.items ≡ map OldItem (numbers_from 0 count)) }
 {
     let mut items = Vec::new(alloc);
     for index in 0..count {
@@ -274,9 +301,10 @@ fn numbered(alloc: Global, count: usize) -> Result<Vec<Item>, AllocError>
     Ok(items)
 }
 
-/// Puts new characters after items.
+/// Appends new characters.
 fn push_new(items: &mut Vec<Item>, text: &[char]) -> Result<(), AllocError>
-    ensures { OnOk result (items_in_order items.new.items ≡ items_in_order items.old.items ++ map NewItem text.now) }
+    ensures { OnOk result
+        (items_in_order items.new.items ≡ items_in_order items.old.items ++ map NewItem text.now) }
 {
     for character in text {
         items.push(Item::New(*character))?;
@@ -284,7 +312,7 @@ fn push_new(items: &mut Vec<Item>, text: &[char]) -> Result<(), AllocError>
     Ok(())
 }
 
-/// New characters alone.
+/// Returns the items of a new text alone.
 fn all_new(alloc: Global, text: &[char]) -> Result<Vec<Item>, AllocError>
     ensures { IfOk result (λ items. items_in_order items.items ≡ map NewItem text.now) }
 {
@@ -293,7 +321,7 @@ fn all_new(alloc: Global, text: &[char]) -> Result<Vec<Item>, AllocError>
     Ok(items)
 }
 
-/// Items with those between two indexes replaced by new characters.
+/// Returns items with those between two indexes replaced by new characters.
 fn put_between(
     alloc: Global,
     items: &[Item],
@@ -304,7 +332,8 @@ fn put_between(
     requires order { start ≤ stop }
     requires within { stop ≤ length items.now }
     ensures { IfOk result (λ made. items_in_order made.items
-        ≡ take start (items_in_order items.now) ++ (map NewItem text.now ++ drop stop (items_in_order items.now))) }
+        ≡ take start (items_in_order items.now)
+        ++ (map NewItem text.now ++ drop stop (items_in_order items.now))) }
 {
     let mut made = Vec::from_slice(alloc, &items[..start])?;
     push_new(&mut made, text)?;
@@ -312,7 +341,7 @@ fn put_between(
     Ok(made)
 }
 
-/// The index of a place: how many characters begin before it.
+/// Returns the index of a byte offset: how many characters begin before it.
 fn index_of(alloc: Global, text: &str, place: usize) -> Result<usize, AllocError>
     requires { IsCharBoundary text.now place }
     ensures { IfOk result (λ index. index ≡ length (chars (take place text.now))) }
@@ -321,7 +350,7 @@ fn index_of(alloc: Global, text: &str, place: usize) -> Result<usize, AllocError
     Ok(front.len())
 }
 
-/// The place of an index: how many bytes come before it.
+/// Returns the byte offset of an index: how many bytes come before it.
 fn place_of(alloc: Global, old: &[char], index: usize) -> Result<usize, AllocError>
     requires { index ≤ length old.now }
     ensures { IfOk result (λ place. place ≡ length (encode_utf8_all (take index old.now))) }
@@ -330,7 +359,7 @@ fn place_of(alloc: Global, old: &[char], index: usize) -> Result<usize, AllocErr
     Ok(front.len())
 }
 
-/// Puts the change of a gap after others, if the gap is changed.
+/// Appends the change of a gap, if the gap is changed.
 fn put_gap(
     changes: &mut Vec<Change>,
     before: &str,
@@ -343,7 +372,8 @@ fn put_gap(
 ) -> Result<(), AllocError>
     requires indexed { Indexes lines.now before.now }
     requires old { old.now ≡ chars before.now }
-    requires ends { is_changed (gap_at low high text.now) ≡ true → HasExactEnds (chars before.now) (gap_at low high text.now) }
+    requires ends { is_changed (gap_at low high text.now) ≡ true →
+        HasExactEnds (chars before.now) (gap_at low high text.now) }
     ensures { OnOk result (map edit_of changes.new.items ≡ map edit_of changes.old.items
         ++ change_at (units_in encoding) (chars before.now) (gap_at low high text.now)) }
 {
@@ -358,7 +388,7 @@ fn put_gap(
     Ok(())
 }
 
-/// The changes of the changed gaps, from the last to the first.
+/// Returns the changes of the changed gaps, from the last to the first.
 fn gaps_written(
     alloc: Global,
     before: &str,
@@ -370,7 +400,9 @@ fn gaps_written(
     requires indexed { Indexes lines.now before.now }
     requires old { old.now ≡ chars before.now }
     requires keeps { Keeps (chars before.now) 0 (items_in_order items.now) }
-    ensures { IfOk result (λ changes. map edit_of changes.items ≡ spec_canonical (units_in encoding) (chars before.now) (items_in_order items.now)) }
+    ensures { IfOk result
+        (λ changes. map edit_of changes.items
+        ≡ spec_canonical (units_in encoding) (chars before.now) (items_in_order items.now)) }
 {
     let mut changes = Vec::new(alloc);
     let mut low = 0;

@@ -1,4 +1,4 @@
-//! Text edits (LSP 3.17, TextEdit[]): all of them count in one old text.
+//! Text edits (LSP 3.17, TextEdit[]): the ranges of all edits count in one old text.
 
 ghost use Rattle.std.specs.Prelude.{◌≡◌, ◌⊎◌, ◌++◌, ◌∷◌, [], IfErr, IfOk, OnOk, length};
 ghost use Rattle.std.specs.Str.{chars};
@@ -10,20 +10,23 @@ ghost use Rattle.lsp_edit.specs.TextEdits.{AreApart, ArePlaced, DoOverlap, IsEdi
 
 use crate::ends::ends;
 use crate::fault::{EditFault, Side};
-use crate::span::Span;
+use crate::pieces::span::Span;
 use lsp_text::{Encoding, Lines, Range};
 use std::alloc::{AllocError, Global};
 use thiserror::Error;
 
-/// One edit of a text (LSP 3.17, TextEdit): a new text takes the place of a range. Where the range is empty, the new text is put in there.
+/// One edit of a text (LSP 3.17, TextEdit): `new_text` replaces the range. With an empty range it
+/// is an insertion.
 #[derive(Debug, PartialEq, Eq, Drop)]
 pub struct TextEdit {
     pub range: Range,
     pub new_text: String,
 }
 
-/// Why text edits mean nothing. Edits are counted from 0. The first edit with a faulty range decides: first its start, then its stop,
-/// then their order.
+/// Why text edits have no meaning.
+///
+/// Edits are counted from 0. The first edit with a faulty range decides: first by its start, then
+/// by its stop, then by their order. An overlap is reported only if no range is faulty.
 #[derive(Clone, Copy, Debug, PartialEq, Eq, Error)]
 pub enum TextEditFault {
     /// An end of the edit's range lies inside a character.
@@ -32,16 +35,17 @@ pub enum TextEditFault {
     /// The edit's range starts after its end.
     #[error("edit {edit}: the range is reversed")]
     ReversedRange { edit: usize },
-    /// The second edit starts before the first one stops. One that puts a text in at the start of another comes before it in the list.
+    /// The second edit starts before the first one stops. An insertion at the start of another edit
+    /// must come before it in the list.
     #[error("edits {first} and {second} overlap")]
     Overlap { first: usize, second: usize },
-    /// No memory was left.
+    /// Out of memory.
     #[error("out of memory")]
     NoMemory,
 }
 
 impl From<EditFault> for TextEditFault {
-    ghost from_gives = { λ fault told. told ≡ fault_of fault };
+    ghost from_gives = { λ fault error. error ≡ fault_of fault };
 
     fn from(fault: EditFault) -> TextEditFault {
         match fault {
@@ -55,14 +59,14 @@ impl From<EditFault> for TextEditFault {
 }
 
 impl From<AllocError> for TextEditFault {
-    ghost from_gives = { λ _ told. told ≡ NoMemory };
+    ghost from_gives = { λ _ error. error ≡ NoMemory };
 
     fn from(_: AllocError) -> TextEditFault {
         TextEditFault::NoMemory
     }
 }
 
-/// An edit, by its number in the list and the places of its range in the old text.
+/// An edit, with its number in the list and the byte offsets of its range in the old text.
 #[derive(Clone, Copy, Debug)]
 pub struct Placed<'a> {
     pub number: usize,
@@ -71,7 +75,7 @@ pub struct Placed<'a> {
     pub text: &'a str,
 }
 
-/// The spans that edits leave of the text that `lines` index.
+/// Returns the spans that edits leave of the text that `lines` index.
 pub fn spans_of_edits<'a>(
     alloc: Global,
     lines: &Lines,
@@ -90,7 +94,7 @@ pub fn spans_of_edits<'a>(
     spans_left(alloc, text.len(), &placed)
 }
 
-/// Where each edit lies in the text that `lines` index.
+/// Finds the byte offsets of each edit in the text that `lines` index.
 fn place_all<'a>(
     alloc: Global,
     lines: &Lines,
@@ -120,7 +124,7 @@ fn place_all<'a>(
     Ok(placed)
 }
 
-/// Puts an edit after others.
+/// Appends an edit.
 fn push_placed<'a>(placed: &mut Vec<Placed<'a>>, edit: Placed<'a>) -> Result<(), AllocError>
     ensures { OnOk result (placed.new.items ≡ placed.old.items ++ edit.entry ∷ []) }
 {
@@ -128,7 +132,7 @@ fn push_placed<'a>(placed: &mut Vec<Placed<'a>>, edit: Placed<'a>) -> Result<(),
     Ok(())
 }
 
-/// Puts edits in the order of their starts. Those with one start keep the order of the list.
+/// Sorts edits by their starts. Those with the same start keep the order of the list.
 fn put_in_order(placed: &mut Vec<Placed>) -> Result<(), AllocError>
     ensures { OnOk result (IsInOrder placed.old.items placed.new.items) }
 {
@@ -136,7 +140,8 @@ fn put_in_order(placed: &mut Vec<Placed>) -> Result<(), AllocError>
     Ok(())
 }
 
-/// The spans that edits in order leave of an old text of `len` bytes. The first two that overlap are reported.
+/// Returns the spans that edits in order leave of an old text of `len` bytes. An error reports the
+/// first two that overlap.
 fn spans_left<'a>(
     alloc: Global,
     len: usize,
@@ -165,9 +170,10 @@ fn spans_left<'a>(
     Ok(spans)
 }
 
-/// Puts the old text from one place to another after spans, if that is any.
+/// Appends the old text from one byte offset to another, if it isn't empty.
 fn push_old(spans: &mut Vec<Span>, from: usize, to: usize) -> Result<(), AllocError>
-    ensures { OnOk result (parts_of spans.new.items ≡ parts_of spans.old.items ++ old_parts from to) }
+    ensures { OnOk result
+        (parts_of spans.new.items ≡ parts_of spans.old.items ++ old_parts from to) }
 {
     if from < to {
         spans.push(Span::Old { from, to })?;
@@ -175,9 +181,10 @@ fn push_old(spans: &mut Vec<Span>, from: usize, to: usize) -> Result<(), AllocEr
     Ok(())
 }
 
-/// Puts a new text after spans, if it isn't empty.
+/// Appends a new text, if it isn't empty.
 fn push_new<'a>(spans: &mut Vec<Span<'a>>, text: &'a str) -> Result<(), AllocError>
-    ensures { OnOk result (parts_of spans.new.items ≡ parts_of spans.old.items ++ new_parts text.now) }
+    ensures { OnOk result
+        (parts_of spans.new.items ≡ parts_of spans.old.items ++ new_parts text.now) }
 {
     if !text.is_empty() {
         spans.push(Span::New(text))?;

@@ -1,4 +1,5 @@
-//! The tests of `lsp_edit`, in a crate of their own over it.
+//! The tests of `lsp_edit`. They are a crate of their own, so that `lsp_edit` isn't proved again
+//! for them.
 #![tactic(auto)]
 
 #[cfg(test)]

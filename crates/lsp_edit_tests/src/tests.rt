@@ -1,4 +1,5 @@
-//! Batches on small texts: what they leave, their canonical batches and their faults. Ranges are counted in UTF-16.
+//! Batches on small texts: the texts that they leave, their canonical batches and their faults.
+//! Ranges are counted in UTF-16.
 
 mod faults;
 mod joined_batches;
@@ -126,8 +127,9 @@ pub(super) static FAULTS: [Faulty; 5] = [
     ),
 ];
 
-/// A text, two batches, the text that they leave, the canonical batch of both together, and how many spans it has. What was put in and
-/// taken out again leaves no span, and what touches is one.
+/// A text, two batches, the text that they leave, the canonical batch of both together, and how
+/// many spans it has. What is inserted and then deleted leaves no span, and spans that touch are
+/// one.
 pub(super) type Pair = (
     &'static str,
     &'static [Edit],
@@ -191,7 +193,7 @@ pub(super) static PAIRS: [Pair; 6] = [
 /// A text and a batch, or the fault of a call.
 pub(super) type Outcome = Result<(String, Vec<Change>), EditFault>;
 
-/// Are the text and the batch these?
+/// Returns whether the text and the batch are these.
 pub(super) fn is_left(
     alloc: Global,
     outcome: Outcome,
@@ -207,7 +209,7 @@ pub(super) fn is_left(
     Ok(written.as_slice() == batch(alloc, canonical)?.as_slice())
 }
 
-/// The changes of two batches, one after the other.
+/// Returns the changes of two batches, one after the other.
 pub(super) fn joined(
     alloc: Global,
     first: &[Edit],
@@ -220,7 +222,7 @@ pub(super) fn joined(
     Ok(changes)
 }
 
-/// A text of so many times two letters.
+/// Makes a text of so many times two letters.
 pub(super) fn pairs_of_letters(alloc: Global, count: u32) -> Result<String, AllocError> {
     let mut text = String::new(alloc);
     for _ in 0..count {
@@ -229,7 +231,7 @@ pub(super) fn pairs_of_letters(alloc: Global, count: u32) -> Result<String, Allo
     Ok(text)
 }
 
-/// A batch that changes the first letter of each of so many pairs.
+/// Makes a batch that changes the first letter of each of so many pairs.
 pub(super) fn first_letters(alloc: Global, count: u32) -> Result<Vec<Change>, AllocError> {
     let mut changes = Vec::new(alloc);
     let mut character: u32 = 0;

@@ -5,12 +5,13 @@ use Rattle.std.proofs.lemmas.Bool.{cases_lt, cases_eq}
 use Rattle.std.proofs.lemmas.List.{length-append, length-take-le}
 use Rattle.lsp_frame.specs.Header.{Line, IsLine, AreLines, IsNameByte, IsValueByte, line_bytes, lines_bytes, header_of, BeginsHeader}
 use Rattle.lsp_frame.specs.Verdict.{judge}
-use Rattle.lsp_frame.specs.Frame.{Spells, HasNoFrame}
+use Rattle.lsp_frame.specs.Frame.{IsFrameOf, HasNoFrame}
 use Rattle.lsp_frame.specs.Laws.{BeginsFrame, DecisionLaw, AllFrames, AllFramesLaw}
-use Rattle.lsp_frame.specs.Progress.{IsPartOfLine, is_over, StopsHeader}
+use Rattle.lsp_frame.specs.Progress.{IsPartOfLine, is_over}
+use Rattle.lsp_frame.specs.inside.Progress.{StopsHeader}
 use Rattle.lsp_frame.specs.declared.fault.HeaderFault.{HeaderFault}
-use Rattle.lsp_frame.specs.declared.shape.Shape.{Shape}
-use Rattle.lsp_frame.specs.declared.shape.Shape.TheVariants as shape
+use Rattle.lsp_frame.specs.declared.framer.shape.Shape.{Shape}
+use Rattle.lsp_frame.specs.declared.framer.shape.Shape.TheVariants as shape
 use Rattle.lsp_frame.proofs.Lists.{All_push}
 use Rattle.lsp_frame.proofs.HeaderLemmas.{same_header, AreLines-append, lines_bytes-append, stops_behind, stops_at_start, stops_at_name, stops_at_value, stops_at_return, stops_at_last, begins_part, begins_behind, colon_part, value_part}
 use Rattle.lsp_frame.proofs.FaultLemmas.{one_front, begins_none, header_begins_none}
@@ -169,7 +170,7 @@ frame_decided max_body bytes front =
       | inr short ↦ judged short (judge max_body front.lines) refl
     ]
   where
-    same : (frame body more : List ℕ) (s : Spells max_body frame body) → bytes ≡ frame ++ more → (front.lines ≡ s.lines) × (front.rest ≡ body ++ more)
+    same : (frame body more : List ℕ) (s : IsFrameOf max_body frame body) → bytes ≡ frame ++ more → (front.lines ≡ s.lines) × (front.rest ≡ body ++ more)
     same frame body more s e =
         same_header front.lines s.lines front.rest (body ++ more) front.each s.each
         (sym front.is ∙ e ∙ ap (λ (x : List ℕ). x ++ more) s.is ∙ append_assoc (header_of s.lines) body more)
@@ -208,7 +209,7 @@ decision_law max_body bytes =
 
 -- ---- a stream
 
-frame_some : (max_body : ℕ) (frame body : List ℕ) → Spells max_body frame body → 2 ≤ length frame
+frame_some : (max_body : ℕ) (frame body : List ℕ) → IsFrameOf max_body frame body → 2 ≤ length frame
 frame_some max_body frame body s = omega (arith, ap length s.is, length-append (header_of s.lines) body, length-append (lines_bytes s.lines) (13 ∷ 10 ∷ []))
 
 first_shorter : (max_body : ℕ) (stream : List ℕ) (first : BeginsFrame max_body stream) → length first.rest + 2 ≤ length stream

@@ -5,19 +5,20 @@ use Rattle.std.proofs.lemmas.List.{length-append, length-take, take-take, nil_fr
 use Rattle.std.proofs.Math.Seq.{take-append-add}
 use Rattle.lsp_frame.specs.Header.{Line, AreLines, header_of, BeginsHeader}
 use Rattle.lsp_frame.specs.Verdict.{judge}
-use Rattle.lsp_frame.specs.Frame.{Spells, IsHopeless}
+use Rattle.lsp_frame.specs.Frame.{IsFrameOf, IsHopeless}
 use Rattle.lsp_frame.specs.Limits.{Bounds}
 use Rattle.lsp_frame.specs.Stream.{Framing, IsFrame, IsPart, HoldsOne, IsStreamFault, IsFeedFault}
 use Rattle.lsp_frame.specs.declared.fault.FrameFault.{FrameFault}
 use Rattle.lsp_frame.specs.declared.fault.FrameFault.TheVariants.{Failed}
-use Rattle.lsp_frame.specs.Faults.{IsBadHeaderAt, IsHeaderTooLongAt, IsJudgedAt, IsDecidedAt, fault_at, place_behind}
-use Rattle.lsp_frame.specs.Progress.{IsInBody, IsAtStage, IsHeaderStop, has_failed, stage_after, stopped_at}
-use Rattle.lsp_frame.specs.declared.header.Stop.{Stop}
-use Rattle.lsp_frame.specs.declared.header.Stop.TheVariants as stop
+use Rattle.lsp_frame.specs.Faults.{IsBadHeaderAt, IsHeaderTooLongAt, IsJudgedAt, IsDecidedAt, header_fault_at, place_after}
+use Rattle.lsp_frame.specs.Progress.{IsInBody, IsAtStage, has_failed}
+use Rattle.lsp_frame.specs.inside.Progress.{IsHeaderStop, stage_after, stopped_at}
+use Rattle.lsp_frame.specs.declared.framer.header.Stop.{Stop}
+use Rattle.lsp_frame.specs.declared.framer.header.Stop.TheVariants as stop
 use Rattle.lsp_frame.specs.declared.fault.HeaderFault.{HeaderFault}
 use Rattle.lsp_frame.specs.declared.fault.HeaderFault.TheVariants as header
-use Rattle.lsp_frame.specs.declared.stage.Stage.{Stage}
-use Rattle.lsp_frame.specs.declared.stage.Stage.TheVariants as stage
+use Rattle.lsp_frame.specs.declared.framer.stage.Stage.{Stage}
+use Rattle.lsp_frame.specs.declared.framer.stage.Stage.TheVariants as stage
 use Rattle.lsp_frame.proofs.HeaderLemmas.{same_header}
 use Rattle.lsp_frame.proofs.ProgressLemmas.{so_far_begins}
 
@@ -115,28 +116,28 @@ pub record SameBody (max_body : ℕ) (body spelled tail : List ℕ) (wanted : �
   pub is : body ≡ spelled ++ tail
   pub len : wanted ≡ length spelled
 
-pub same_body : (max_body : ℕ) (lines : List Line) (held body spelling spelled tail : List ℕ) (wanted : ℕ) → AreLines lines → held ≡ header_of lines ++ body → judge max_body lines ≡ Ok wanted → Spells max_body spelling spelled → held ≡ spelling ++ tail → SameBody max_body body spelled tail wanted
-same_body max_body lines held body spelling spelled tail wanted each is good s e =
+pub same_body : (max_body : ℕ) (lines : List Line) (buffered body spelling spelled tail : List ℕ) (wanted : ℕ) → AreLines lines → buffered ≡ header_of lines ++ body → judge max_body lines ≡ Ok wanted → IsFrameOf max_body spelling spelled → buffered ≡ spelling ++ tail → SameBody max_body body spelled tail wanted
+same_body max_body lines buffered body spelling spelled tail wanted each is good s e =
     let both : header_of lines ++ body ≡ header_of s.lines ++ (spelled ++ tail) = sym is ∙ e ∙ ap (λ x. x ++ tail) s.is ∙ append_assoc (header_of s.lines) spelled tail in
     let same = same_header lines s.lines body (spelled ++ tail) each s.each both in
-    let told : judge max_body lines ≡ Ok (length spelled) = ap (judge max_body) same.0 ∙ s.good in
+    let error : judge max_body lines ≡ Ok (length spelled) = ap (judge max_body) same.0 ∙ s.good in
     let l : wanted ≡ length spelled = cc in
     record { is = same.1; len = l }
 
-pub no_frame_in_header : (max_body : ℕ) (held spelling body more : List ℕ) → BeginsHeader held → Spells max_body spelling body → held ≡ spelling ++ more → ⊥
-no_frame_in_header max_body held spelling body more begins s e =
+pub no_frame_in_header : (max_body : ℕ) (buffered spelling body more : List ℕ) → BeginsHeader buffered → IsFrameOf max_body spelling body → buffered ≡ spelling ++ more → ⊥
+no_frame_in_header max_body buffered spelling body more begins s e =
     begins_none s.lines (body ++ more) s.each (subst BeginsHeader (e ∙ ap (λ x. x ++ more) s.is ∙ append_assoc (header_of s.lines) body more) begins)
 
 -- No more than one frame is held.
-pub part_one : (max_body : ℕ) (held : List ℕ) → IsPart max_body held → HoldsOne max_body held
-part_one max_body held (inl part) spelling body more s e = absurd (no_frame_in_header max_body held spelling body more part.begins s e)
-part_one max_body held (inr part) spelling body more s e =
-    let same = same_body max_body part.lines held part.body spelling body more part.wanted part.each part.is part.good s e in
+pub part_one : (max_body : ℕ) (buffered : List ℕ) → IsPart max_body buffered → HoldsOne max_body buffered
+part_one max_body buffered (inl part) spelling body more s e = absurd (no_frame_in_header max_body buffered spelling body more part.begins s e)
+part_one max_body buffered (inr part) spelling body more s e =
+    let same = same_body max_body part.lines buffered part.body spelling body more part.wanted part.each part.is part.good s e in
     nil_from_length more (omega (arith, ap length same.is, length-append body more, same.len, part.within))
 
-pub stage_part : (max_body : ℕ) (held : List ℕ) (s : Stage) → IsAtStage max_body held s → has_failed s ≡ false → IsPart max_body held
-stage_part max_body held (stage.Header header) at sound = inl (record { begins = so_far_begins max_body held header at.so_far at.line_open; short = at.short })
-stage_part max_body held (stage.Body start stop_at) at sound =
+pub stage_part : (max_body : ℕ) (buffered : List ℕ) (s : Stage) → IsAtStage max_body buffered s → has_failed s ≡ false → IsPart max_body buffered
+stage_part max_body buffered (stage.Header header) at sound = inl (record { begins = so_far_begins max_body buffered header at.so_far at.line_open; short = at.short })
+stage_part max_body buffered (stage.Body start stop_at) at sound =
     inr (record {
       lines = at.lines;
       body = at.body;
@@ -147,16 +148,16 @@ stage_part max_body held (stage.Body start stop_at) at sound =
       good = at.good;
       within = omega (arith, ap length at.is, length-append (header_of at.lines) at.body, at.starts, at.ends, at.within);
     })
-stage_part max_body held stage.Failed at sound = cc
+stage_part max_body buffered stage.Failed at sound = cc
 
 -- Where a whole frame is held, its body is all there.
-pub frame_len : (max_body : ℕ) (held : List ℕ) (start stop_at : ℕ) → IsInBody max_body held start stop_at → IsFrame max_body held → length held ≡ stop_at
-frame_len max_body held start stop_at at frame =
-    let same = same_body max_body at.lines held at.body held frame.body [] at.wanted at.each at.is at.good frame.spells (sym (append-nil held)) in
+pub frame_len : (max_body : ℕ) (buffered : List ℕ) (start stop_at : ℕ) → IsInBody max_body buffered start stop_at → IsFrame max_body buffered → length buffered ≡ stop_at
+frame_len max_body buffered start stop_at at frame =
+    let same = same_body max_body at.lines buffered at.body buffered frame.body [] at.wanted at.each at.is at.good frame.is_frame_of (sym (append-nil buffered)) in
     omega (arith, ap length same.is, length-append frame.body [], same.len, ap length at.is, length-append (header_of at.lines) at.body, at.starts, at.ends)
 
-pub no_frame_at_header : {A : Type 0} (max_body : ℕ) (held : List ℕ) → BeginsHeader held → IsFrame max_body held → A
-no_frame_at_header max_body held begins frame = absurd (no_frame_in_header max_body held held frame.body [] begins frame.spells (sym (append-nil held)))
+pub no_frame_at_header : {A : Type 0} (max_body : ℕ) (buffered : List ℕ) → BeginsHeader buffered → IsFrame max_body buffered → A
+no_frame_at_header max_body buffered begins frame = absurd (no_frame_in_header max_body buffered buffered frame.body [] begins frame.is_frame_of (sym (append-nil buffered)))
 
 pub not_failed : (s : Stage) → (s ≡ stage.Failed → ⊥) → has_failed s ≡ false
 not_failed (stage.Header header) sound = refl
@@ -164,7 +165,7 @@ not_failed (stage.Body start stop_at) sound = refl
 not_failed stage.Failed sound = absurd (sound refl)
 
 -- A fault of a header is not the one that comes after it.
-pub never_failed : (kind : HeaderFault) (place : ℕ) → fault_at kind place ≡ Failed → ⊥
+pub never_failed : (kind : HeaderFault) (place : ℕ) → header_fault_at kind place ≡ Failed → ⊥
 never_failed header.BadHeader place e = cc
 never_failed header.HeaderTooLong place e = cc
 never_failed header.MissingLength place e = cc
@@ -173,21 +174,21 @@ never_failed header.BadLength place e = cc
 never_failed header.BodyTooLong place e = cc
 never_failed header.BadCharset place e = cc
 
-pub same_framing : (place : ℕ) (held other : List ℕ) (failed other_failed : Bool) (limits : Bounds) → held ≡ other → failed ≡ other_failed → (let f : Framing = record { place = place; held = held; failed = failed; limits = limits } in f) ≡ (let f : Framing = record { place = place; held = other; failed = other_failed; limits = limits } in f)
-same_framing place held other failed other_failed limits e f =
-    ap (λ (p : List ℕ × Bool). record { place = place; held = p.0; failed = p.1; limits = limits }) (let r : (held, failed) ≡ (other, other_failed) = cc in r)
+pub same_framing : (place : ℕ) (buffered other : List ℕ) (failed other_failed : Bool) (limits : Bounds) → buffered ≡ other → failed ≡ other_failed → (let f : Framing = record { place = place; buffered = buffered; failed = failed; limits = limits } in f) ≡ (let f : Framing = record { place = place; buffered = other; failed = other_failed; limits = limits } in f)
+same_framing place buffered other failed other_failed limits e f =
+    ap (λ (p : List ℕ × Bool). record { place = place; buffered = p.0; failed = p.1; limits = limits }) (let r : (buffered, failed) ≡ (other, other_failed) = cc in r)
 
 -- A fault of the stream, from what the framer held.
-pub stream_fault : (old : Framing) (piece : List ℕ) (new : Framing) (kind : HeaderFault) (k place : ℕ) (fault : FrameFault) → old.failed ≡ false → IsDecidedAt old.limits.max_body (old.held ++ piece) k kind → place ≡ place_behind old.place k → fault ≡ fault_at kind place → new ≡ record old { failed = true } → IsStreamFault old new piece fault
+pub stream_fault : (old : Framing) (piece : List ℕ) (new : Framing) (kind : HeaderFault) (k place : ℕ) (fault : FrameFault) → old.failed ≡ false → IsDecidedAt old.limits.max_body (old.buffered ++ piece) k kind → place ≡ place_after old.place k → fault ≡ header_fault_at kind place → new ≡ record old { failed = true } → IsStreamFault old new piece fault
 stream_fault old piece new kind k place fault sound decided placed is after =
     record {
       sound = sound;
-      decided = record { kind = kind; k = k; decided = decided; is = is ∙ ap (fault_at kind) placed };
-      hopeless = decided_hopeless old.limits.max_body (old.held ++ piece) k kind decided;
+      decided = record { kind = kind; k = k; decided = decided; is = is ∙ ap (header_fault_at kind) placed };
+      hopeless = decided_hopeless old.limits.max_body (old.buffered ++ piece) k kind decided;
       after = after;
     }
 
-pub feed_fault : (old : Framing) (piece : List ℕ) (new : Framing) (kind : HeaderFault) (place : ℕ) (fault : FrameFault) → fault ≡ fault_at kind place → IsStreamFault old new piece fault → IsFeedFault old new piece fault
+pub feed_fault : (old : Framing) (piece : List ℕ) (new : Framing) (kind : HeaderFault) (place : ℕ) (fault : FrameFault) → fault ≡ header_fault_at kind place → IsStreamFault old new piece fault → IsFeedFault old new piece fault
 feed_fault old piece new header.BadHeader place fault e at = subst (IsFeedFault old new piece) (sym e) (subst (IsStreamFault old new piece) e at)
 feed_fault old piece new header.HeaderTooLong place fault e at = subst (IsFeedFault old new piece) (sym e) (subst (IsStreamFault old new piece) e at)
 feed_fault old piece new header.MissingLength place fault e at = subst (IsFeedFault old new piece) (sym e) (subst (IsStreamFault old new piece) e at)
@@ -197,45 +198,45 @@ feed_fault old piece new header.BodyTooLong place fault e at = subst (IsFeedFaul
 feed_fault old piece new header.BadCharset place fault e at = subst (IsFeedFault old new piece) (sym e) (subst (IsStreamFault old new piece) e at)
 
 -- The same from the fields.
-pub feed_fault_at : (now : Framing) (place max_body : ℕ) (held other piece : List ℕ) (was : Bool) (limits : Bounds) (why : Stop) (kind : HeaderFault) (k told : ℕ) (fault : FrameFault) → (let f : Framing = record { place = place; held = held; failed = was; limits = limits } in f) ≡ now → was ≡ false → max_body ≡ limits.max_body → IsHeaderStop max_body (held ++ piece) why → why ≡ stop.Fault kind k → told ≡ place_behind place k → fault ≡ fault_at kind told → other ≡ held → IsFeedFault now (record { place = place; held = other; failed = true; limits = limits }) piece fault
-feed_fault_at now place max_body held other piece was limits why kind k told fault is sound limit stops why_is told_is fault_is same =
-    let old : Framing = record { place = place; held = held; failed = was; limits = limits } in
-    let new : Framing = record { place = place; held = other; failed = true; limits = limits } in
-    let decided : IsDecidedAt max_body (held ++ piece) k kind = subst (IsHeaderStop max_body (held ++ piece)) why_is stops in
-    let decided_here : IsDecidedAt limits.max_body (held ++ piece) k kind = subst (λ (n : ℕ). IsDecidedAt n (held ++ piece) k kind) limit decided in
-    let after : new ≡ record old { failed = true } = same_framing place other held true true limits same refl in
-    let at : IsStreamFault old new piece fault = stream_fault old piece new kind k told fault sound decided_here told_is fault_is after in
-    subst (λ (f : Framing). IsFeedFault f new piece fault) is (feed_fault old piece new kind told fault fault_is at)
+pub feed_fault_at : (now : Framing) (place max_body : ℕ) (buffered other piece : List ℕ) (was : Bool) (limits : Bounds) (why : Stop) (kind : HeaderFault) (k error : ℕ) (fault : FrameFault) → (let f : Framing = record { place = place; buffered = buffered; failed = was; limits = limits } in f) ≡ now → was ≡ false → max_body ≡ limits.max_body → IsHeaderStop max_body (buffered ++ piece) why → why ≡ stop.Fault kind k → error ≡ place_after place k → fault ≡ header_fault_at kind error → other ≡ buffered → IsFeedFault now (record { place = place; buffered = other; failed = true; limits = limits }) piece fault
+feed_fault_at now place max_body buffered other piece was limits why kind k error fault is sound limit stops why_is told_is fault_is same =
+    let old : Framing = record { place = place; buffered = buffered; failed = was; limits = limits } in
+    let new : Framing = record { place = place; buffered = other; failed = true; limits = limits } in
+    let decided : IsDecidedAt max_body (buffered ++ piece) k kind = subst (IsHeaderStop max_body (buffered ++ piece)) why_is stops in
+    let decided_here : IsDecidedAt limits.max_body (buffered ++ piece) k kind = subst (λ (n : ℕ). IsDecidedAt n (buffered ++ piece) k kind) limit decided in
+    let after : new ≡ record old { failed = true } = same_framing place other buffered true true limits same refl in
+    let at : IsStreamFault old new piece fault = stream_fault old piece new kind k error fault sound decided_here told_is fault_is after in
+    subst (λ (f : Framing). IsFeedFault f new piece fault) is (feed_fault old piece new kind error fault fault_is at)
 
 -- Why a piece was not taken, as the stream tells it.
-pub feed_stop : (now : Framing) (place max_body : ℕ) (held other piece : List ℕ) (was next : Stage) (limits : Bounds) (why : Stop) (told : FrameFault) → (let f : Framing = record { place = place; held = held; failed = has_failed was; limits = limits } in f) ≡ now → has_failed was ≡ false → max_body ≡ limits.max_body → IsHeaderStop max_body (held ++ piece) why → told ≡ stopped_at place why → other ≡ held → next ≡ stage_after was why → IsFeedFault now (record { place = place; held = other; failed = has_failed next; limits = limits }) piece told × (told ≡ Failed → ⊥)
-feed_stop now place max_body held other piece was next limits (stop.Fault kind k) told is sound limit stops told_is same after =
-    let at = feed_fault_at now place max_body held other piece (has_failed was) limits (stop.Fault kind k) kind k (place_behind place k) told is sound limit stops refl refl told_is same in
-    (rw after at, λ e. never_failed kind (place_behind place k) (sym told_is ∙ e))
-feed_stop now place max_body held other piece was next limits stop.NoMemory told is sound limit stops told_is same after =
+pub feed_stop : (now : Framing) (place max_body : ℕ) (buffered other piece : List ℕ) (was next : Stage) (limits : Bounds) (why : Stop) (error : FrameFault) → (let f : Framing = record { place = place; buffered = buffered; failed = has_failed was; limits = limits } in f) ≡ now → has_failed was ≡ false → max_body ≡ limits.max_body → IsHeaderStop max_body (buffered ++ piece) why → error ≡ stopped_at place why → other ≡ buffered → next ≡ stage_after was why → IsFeedFault now (record { place = place; buffered = other; failed = has_failed next; limits = limits }) piece error × (error ≡ Failed → ⊥)
+feed_stop now place max_body buffered other piece was next limits (stop.Fault kind k) error is sound limit stops told_is same after =
+    let at = feed_fault_at now place max_body buffered other piece (has_failed was) limits (stop.Fault kind k) kind k (place_after place k) error is sound limit stops refl refl told_is same in
+    (rw after at, λ e. never_failed kind (place_after place k) (sym told_is ∙ e))
+feed_stop now place max_body buffered other piece was next limits stop.NoMemory error is sound limit stops told_is same after =
     let still : now.failed ≡ false = sym (ap (λ (f : Framing). f.failed) is) ∙ sound in
     (rw (told_is, same, after) (still, is), λ e. cc)
 
 -- A framer that hasn't failed holds a part of a frame, or one.
-pub framing_part : (now : Framing) (place : ℕ) (held : List ℕ) (s : Stage) (limits : Bounds) → (let f : Framing = record { place = place; held = held; failed = has_failed s; limits = limits } in f) ≡ now → IsAtStage limits.max_body held s → now.failed ≡ false → IsPart now.limits.max_body now.held
-framing_part now place held s limits is at = subst (λ (f : Framing). f.failed ≡ false → IsPart f.limits.max_body f.held) is (stage_part limits.max_body held s at)
+pub framing_part : (now : Framing) (place : ℕ) (buffered : List ℕ) (s : Stage) (limits : Bounds) → (let f : Framing = record { place = place; buffered = buffered; failed = has_failed s; limits = limits } in f) ≡ now → IsAtStage limits.max_body buffered s → now.failed ≡ false → IsPart now.limits.max_body now.buffered
+framing_part now place buffered s limits is at = subst (λ (f : Framing). f.failed ≡ false → IsPart f.limits.max_body f.buffered) is (stage_part limits.max_body buffered s at)
 
 -- A framer that holds no whole frame.
 abbrev pub HasNone : Framing → Type 0
-HasNone now = now.failed ≡ false → IsFrame now.limits.max_body now.held → ⊥
+HasNone now = now.failed ≡ false → IsFrame now.limits.max_body now.buffered → ⊥
 
-pub unfinished : (now : Framing) (place : ℕ) (held : List ℕ) (s : Stage) (limits : Bounds) (start stop_at : ℕ) → (let f : Framing = record { place = place; held = held; failed = has_failed s; limits = limits } in f) ≡ now → IsAtStage limits.max_body held s → s ≡ stage.Body start stop_at → (length held ≡ stop_at → ⊥) → HasNone now
-unfinished now place held s limits start stop_at is at body less =
-    let in_body : IsInBody limits.max_body held start stop_at = subst (IsAtStage limits.max_body held) body at in
-    subst HasNone is (λ sound frame. less (frame_len limits.max_body held start stop_at in_body frame))
+pub unfinished : (now : Framing) (place : ℕ) (buffered : List ℕ) (s : Stage) (limits : Bounds) (start stop_at : ℕ) → (let f : Framing = record { place = place; buffered = buffered; failed = has_failed s; limits = limits } in f) ≡ now → IsAtStage limits.max_body buffered s → s ≡ stage.Body start stop_at → (length buffered ≡ stop_at → ⊥) → HasNone now
+unfinished now place buffered s limits start stop_at is at body less =
+    let in_body : IsInBody limits.max_body buffered start stop_at = subst (IsAtStage limits.max_body buffered) body at in
+    subst HasNone is (λ sound frame. less (frame_len limits.max_body buffered start stop_at in_body frame))
 
-pub none_at : (max_body : ℕ) (held : List ℕ) (s : Stage) → IsAtStage max_body held s → ((start stop_at : ℕ) → s ≡ stage.Body start stop_at → ⊥) → has_failed s ≡ false → IsFrame max_body held → ⊥
-none_at max_body held (stage.Header header) at none sound frame = no_frame_at_header max_body held (so_far_begins max_body held header at.so_far at.line_open) frame
-none_at max_body held (stage.Body start stop_at) at none sound frame = none start stop_at refl
-none_at max_body held stage.Failed at none sound frame = cc
+pub none_at : (max_body : ℕ) (buffered : List ℕ) (s : Stage) → IsAtStage max_body buffered s → ((start stop_at : ℕ) → s ≡ stage.Body start stop_at → ⊥) → has_failed s ≡ false → IsFrame max_body buffered → ⊥
+none_at max_body buffered (stage.Header header) at none sound frame = no_frame_at_header max_body buffered (so_far_begins max_body buffered header at.so_far at.line_open) frame
+none_at max_body buffered (stage.Body start stop_at) at none sound frame = none start stop_at refl
+none_at max_body buffered stage.Failed at none sound frame = cc
 
-pub no_body : (now : Framing) (place : ℕ) (held : List ℕ) (s : Stage) (limits : Bounds) → (let f : Framing = record { place = place; held = held; failed = has_failed s; limits = limits } in f) ≡ now → IsAtStage limits.max_body held s → ((start stop_at : ℕ) → s ≡ stage.Body start stop_at → ⊥) → HasNone now
-no_body now place held s limits is at none = subst HasNone is (none_at limits.max_body held s at none)
+pub no_body : (now : Framing) (place : ℕ) (buffered : List ℕ) (s : Stage) (limits : Bounds) → (let f : Framing = record { place = place; buffered = buffered; failed = has_failed s; limits = limits } in f) ≡ now → IsAtStage limits.max_body buffered s → ((start stop_at : ℕ) → s ≡ stage.Body start stop_at → ⊥) → HasNone now
+no_body now place buffered s limits is at none = subst HasNone is (none_at limits.max_body buffered s at none)
 
-pub frame_of : (max_body : ℕ) (held body : List ℕ) → Spells max_body held body → IsFrame max_body held
-frame_of max_body held body s = record { body = body; spells = s }
+pub frame_of : (max_body : ℕ) (buffered body : List ℕ) → IsFrameOf max_body buffered body → IsFrame max_body buffered
+frame_of max_body buffered body s = record { body = body; is_frame_of = s }

@@ -9,12 +9,13 @@ use Rattle.lsp_frame.specs.Charset.{trimmed, has_good_charset}
 use Rattle.lsp_frame.specs.Verdict.{values_of, is_number, number, judge, judge_values, judge_single}
 use Rattle.lsp_frame.specs.Stream.{IsFrame}
 use Rattle.lsp_frame.specs.Faults.{IsJudgedAt, IsDecidedAt}
-use Rattle.lsp_frame.specs.Progress.{IsWhole, IsInBody, length_said, length_of, charset_of, notes_of, both_judged, length_judged, judge_notes}
+use Rattle.lsp_frame.specs.Progress.{IsWhole, IsInBody, length_said, length_of, charset_of, notes_of}
+use Rattle.lsp_frame.specs.inside.Progress.{both_judged, length_judged, judge_notes}
 use Rattle.lsp_frame.specs.declared.fault.HeaderFault.{HeaderFault}
 use Rattle.lsp_frame.specs.declared.fault.HeaderFault.TheVariants as header
-use Rattle.lsp_frame.specs.declared.notes.Length.TheVariants as said
-use Rattle.lsp_frame.specs.declared.notes.Charset.TheVariants as named
-use Rattle.lsp_frame.specs.declared.notes.Notes.{Notes}
+use Rattle.lsp_frame.specs.declared.framer.notes.Length.TheVariants as said
+use Rattle.lsp_frame.specs.declared.framer.notes.Charset.TheVariants as named
+use Rattle.lsp_frame.specs.declared.framer.notes.Notes.{Notes}
 
 pub or-true : (b : Bool) → (b || true) ≡ true
 or-true true = refl
@@ -112,24 +113,24 @@ judged_decided max_body bytes k header.BodyTooLong at = at
 judged_decided max_body bytes k header.BadCharset at = at
 
 -- The fault of a header that is whole.
-pub whole_fault : (max_body : ℕ) (held rest : List ℕ) (notes : Notes) (fault : HeaderFault) → IsWhole max_body held notes → Err fault ≡ judge_notes notes → IsDecidedAt max_body (held ++ rest) (length held - 1) fault
-whole_fault max_body held rest notes fault whole told =
-    let judged : judge max_body whole.lines ≡ Err fault = sym (told ∙ ap judge_notes whole.noted ∙ judge_notes_is max_body whole.lines) in
-    let some : 0 < length held = omega (arith, ap length whole.is, length-append (lines_bytes whole.lines) (13 ∷ 10 ∷ [])) in
-    let last : length held ≡ length held - 1 + 1 = omega arith in
-    judged_decided max_body (held ++ rest) (length held - 1) fault (record {
+pub whole_fault : (max_body : ℕ) (buffered rest : List ℕ) (notes : Notes) (fault : HeaderFault) → IsWhole max_body buffered notes → Err fault ≡ judge_notes notes → IsDecidedAt max_body (buffered ++ rest) (length buffered - 1) fault
+whole_fault max_body buffered rest notes fault whole error =
+    let judged : judge max_body whole.lines ≡ Err fault = sym (error ∙ ap judge_notes whole.noted ∙ judge_notes_is max_body whole.lines) in
+    let some : 0 < length buffered = omega (arith, ap length whole.is, length-append (lines_bytes whole.lines) (13 ∷ 10 ∷ [])) in
+    let last : length buffered ≡ length buffered - 1 + 1 = omega arith in
+    judged_decided max_body (buffered ++ rest) (length buffered - 1) fault (record {
       lines = whole.lines;
       each = whole.each;
-      is = take_at held rest (length held - 1 + 1) last ∙ whole.is;
-      there = omega (arith, length-append held rest);
+      is = take_at buffered rest (length buffered - 1 + 1) last ∙ whole.is;
+      there = omega (arith, length-append buffered rest);
       within = omega (arith, whole.short);
       judged = judged;
     })
 
 -- The body behind a header that is whole.
-pub whole_body : (max_body : ℕ) (held body : List ℕ) (notes : Notes) (wanted start stop_at : ℕ) → IsWhole max_body held notes → Ok wanted ≡ judge_notes notes → length body ≤ wanted → start ≡ length held → stop_at ≡ start + wanted → IsInBody max_body (held ++ body) start stop_at
-whole_body max_body held body notes wanted start stop_at whole told within starts ends =
-    let good : judge max_body whole.lines ≡ Ok wanted = sym (told ∙ ap judge_notes whole.noted ∙ judge_notes_is max_body whole.lines) in
+pub whole_body : (max_body : ℕ) (buffered body : List ℕ) (notes : Notes) (wanted start stop_at : ℕ) → IsWhole max_body buffered notes → Ok wanted ≡ judge_notes notes → length body ≤ wanted → start ≡ length buffered → stop_at ≡ start + wanted → IsInBody max_body (buffered ++ body) start stop_at
+whole_body max_body buffered body notes wanted start stop_at whole error within starts ends =
+    let good : judge max_body whole.lines ≡ Ok wanted = sym (error ∙ ap judge_notes whole.noted ∙ judge_notes_is max_body whole.lines) in
     record {
       lines = whole.lines;
       body = body;
@@ -140,18 +141,18 @@ whole_body max_body held body notes wanted start stop_at whole told within start
       short = omega (arith, starts, whole.short);
       good = good;
       ends = ends;
-      within = omega (arith, length-append held body, starts, ends);
+      within = omega (arith, length-append buffered body, starts, ends);
       small = judge_within max_body whole.lines wanted good;
     }
 
 -- A body that is all here.
-pub body_frame : (max_body : ℕ) (held : List ℕ) (start stop_at : ℕ) → IsInBody max_body held start stop_at → length held ≡ stop_at → IsFrame max_body held
-body_frame max_body held start stop_at in_body all =
+pub body_frame : (max_body : ℕ) (buffered : List ℕ) (start stop_at : ℕ) → IsInBody max_body buffered start stop_at → length buffered ≡ stop_at → IsFrame max_body buffered
+body_frame max_body buffered start stop_at in_body all =
     let len : in_body.wanted ≡ length in_body.body =
     omega (arith, ap length in_body.is, length-append (header_of in_body.lines) in_body.body, in_body.starts, in_body.ends, all) in
     record {
       body = in_body.body;
-      spells = record {
+      is_frame_of = record {
         lines = in_body.lines;
         each = in_body.each;
         is = in_body.is;
@@ -160,6 +161,6 @@ body_frame max_body held start stop_at in_body all =
       };
     }
 
-pub whole_wanted : (max_body : ℕ) (held : List ℕ) (notes : Notes) (wanted : ℕ) → IsWhole max_body held notes → Ok wanted ≡ judge_notes notes → wanted ≤ max_body
-whole_wanted max_body held notes wanted whole told =
-    judge_within max_body whole.lines wanted (sym (told ∙ ap judge_notes whole.noted ∙ judge_notes_is max_body whole.lines))
+pub whole_wanted : (max_body : ℕ) (buffered : List ℕ) (notes : Notes) (wanted : ℕ) → IsWhole max_body buffered notes → Ok wanted ≡ judge_notes notes → wanted ≤ max_body
+whole_wanted max_body buffered notes wanted whole error =
+    judge_within max_body whole.lines wanted (sym (error ∙ ap judge_notes whole.noted ∙ judge_notes_is max_body whole.lines))

@@ -3,9 +3,10 @@ use Rattle.std.proofs.Common.{◌≡◌, ◌≢◌, ℕ, ◌+◌, ◌-◌, ◌<�
 use Rattle.std.proofs.lemmas.List.{length-append}
 use Rattle.std.specs.List.{AllByRecursion}
 use Rattle.lsp_frame.specs.Header.{Line, IsLine, AreLines, IsNameByte, IsValueByte, line_bytes, lines_bytes, header_of, BeginsHeader}
-use Rattle.lsp_frame.specs.Progress.{IsPartOfLine, is_over, StopsHeader}
-use Rattle.lsp_frame.specs.declared.shape.Shape.{Shape}
-use Rattle.lsp_frame.specs.declared.shape.Shape.TheVariants as shape
+use Rattle.lsp_frame.specs.Progress.{IsPartOfLine, is_over}
+use Rattle.lsp_frame.specs.inside.Progress.{StopsHeader}
+use Rattle.lsp_frame.specs.declared.framer.shape.Shape.{Shape}
+use Rattle.lsp_frame.specs.declared.framer.shape.Shape.TheVariants as shape
 use Rattle.lsp_frame.proofs.Lists.{same_front, All_push}
 
 pub colon_not : IsNameByte 58 → ⊥

@@ -2,23 +2,23 @@
 use Rattle.std.proofs.Common.{◌≡◌, ℕ, ◌+◌, ◌<◌, [], ◌++◌, length, sym, ap, subst, append-nil, arith}
 use Rattle.std.proofs.lemmas.List.{length-append}
 use Rattle.lsp_frame.specs.Header.{header_of}
-use Rattle.lsp_frame.specs.Frame.{frame, Spells}
-use Rattle.lsp_frame.specs.Laws.{SpellingLaw, BoundLaw, FramesLaw, FaultLaw, InjectiveLaw, SameFrame}
+use Rattle.lsp_frame.specs.Frame.{frame, IsFrameOf}
+use Rattle.lsp_frame.specs.Laws.{OneFrameLaw, BoundLaw, FramesLaw, FaultLaw, InjectiveLaw, SameFrame}
 use Rattle.lsp_frame.proofs.FrameLemmas.{judge_within}
 use Rattle.lsp_frame.proofs.StreamLemmas.{Way, same_frame, same_frames, way_of, not_before, same_kind}
-use Rattle.lsp_frame.proofs.WrittenLemmas.{written_spells}
+use Rattle.lsp_frame.proofs.WrittenLemmas.{written_is_frame}
 
-pub spelling_law : SpellingLaw
-spelling_law max_body spelling more body other first second =
+pub one_frame_law : OneFrameLaw
+one_frame_law max_body spelling more body other first second =
     let same : SameFrame spelling (spelling ++ more) body other more [] =
     same_frame max_body spelling (spelling ++ more) body other more [] first second (sym (append-nil (spelling ++ more))) in
     (same.rest_is, same.body_is)
 
 pub bound_law : BoundLaw
-bound_law max_body spelling body spells =
-    let within = judge_within max_body spells.lines (length body) spells.good in
-    let short = spells.short in
-    omega (arith, ap length spells.is, length-append (header_of spells.lines) body)
+bound_law max_body spelling body is_frame_of =
+    let within = judge_within max_body is_frame_of.lines (length body) is_frame_of.good in
+    let short = is_frame_of.short in
+    omega (arith, ap length is_frame_of.is, length-append (header_of is_frame_of.lines) body)
 
 pub frames_law : FramesLaw
 frames_law max_body stream bodies others rest other first second =
@@ -29,14 +29,14 @@ fault_law max_body bytes j k fault other first second =
     let one = way_of max_body bytes j fault first in
     let two = way_of max_body bytes k other second in
     let before : j < k → ⊥ = not_before max_body bytes j k fault other one two in
-    let behind : k < j → ⊥ = not_before max_body bytes k j other fault two one in
-    let place : k ≡ j = omega (arith, before, behind) in
+    let rest_after : k < j → ⊥ = not_before max_body bytes k j other fault two one in
+    let place : k ≡ j = omega (arith, before, rest_after) in
     let here : Way max_body bytes j other = subst (λ (n : ℕ). Way max_body bytes n other) place two in
     (sym place, same_kind max_body bytes j fault other one here)
 
 pub injective_law : InjectiveLaw
 injective_law body other small small_other same =
     let limit = length body + length other in
-    let first : Spells limit (frame body) body = written_spells limit body (omega arith) small in
-    let second : Spells limit (frame other) other = written_spells limit other (omega arith) small_other in
+    let first : IsFrameOf limit (frame body) body = written_is_frame limit body (omega arith) small in
+    let second : IsFrameOf limit (frame other) other = written_is_frame limit other (omega arith) small_other in
     (same_frame limit (frame body) (frame other) body other [] [] first second (ap (λ bytes. bytes ++ []) same)).body_is

@@ -9,11 +9,11 @@ use Rattle.lsp_frame.specs.Header.{Line, IsLine, IsNameByte, line_bytes}
 use Rattle.lsp_frame.specs.Charset.{trimmed, is_text, has_good_charset}
 use Rattle.lsp_frame.specs.Verdict.{values_of, is_number, number}
 use Rattle.lsp_frame.specs.Progress.{length_said, length_noted, length_of, charset_noted, charset_of, noted, notes_of}
-use Rattle.lsp_frame.specs.declared.notes.Length.{Length}
-use Rattle.lsp_frame.specs.declared.notes.Length.TheVariants as said
-use Rattle.lsp_frame.specs.declared.notes.Charset.{Charset}
-use Rattle.lsp_frame.specs.declared.notes.Charset.TheVariants as named
-use Rattle.lsp_frame.specs.declared.notes.Notes.{Notes}
+use Rattle.lsp_frame.specs.declared.framer.notes.Length.{Length}
+use Rattle.lsp_frame.specs.declared.framer.notes.Length.TheVariants as said
+use Rattle.lsp_frame.specs.declared.framer.notes.Charset.{Charset}
+use Rattle.lsp_frame.specs.declared.framer.notes.Charset.TheVariants as named
+use Rattle.lsp_frame.specs.declared.framer.notes.Notes.{Notes}
 
 pub All_at : (P : ℕ → Type 0) (xs : List ℕ) (k d : ℕ) → AllByRecursion P xs → k < length xs → P (get_or xs k d)
 All_at P [] k d all within = absurd (omega arith)

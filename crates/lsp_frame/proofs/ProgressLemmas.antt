@@ -4,26 +4,27 @@ use Rattle.std.proofs.lemmas.List.{length-append, length-take, length-drop, drop
 use Rattle.std.proofs.Math.Seq.{take-append-add, take-add}
 use Rattle.lsp_frame.specs.Header.{Line, IsLine, line_bytes, lines_bytes, BeginsHeader}
 use Rattle.lsp_frame.specs.declared.fault.HeaderFault.{HeaderFault}
-use Rattle.lsp_frame.specs.declared.header.Stop.{Stop}
-use Rattle.lsp_frame.specs.declared.header.Stop.TheVariants as stop
-use Rattle.lsp_frame.specs.Progress.{IsPartOfLine, IsSoFar, IsBadByte, IsLineStop, IsHeaderStop, GoesOn, StopsHeader, is_over, noted}
+use Rattle.lsp_frame.specs.declared.framer.header.Stop.{Stop}
+use Rattle.lsp_frame.specs.declared.framer.header.Stop.TheVariants as stop
+use Rattle.lsp_frame.specs.Progress.{IsPartOfLine, IsSoFar, CanContinue, is_over, noted}
+use Rattle.lsp_frame.specs.inside.Progress.{IsBadByte, IsLineStop, IsHeaderStop, StopsHeader}
 use Rattle.lsp_frame.specs.Faults.{IsBadHeaderAt, IsHeaderTooLongAt, IsDecidedAt}
-use Rattle.lsp_frame.specs.declared.notes.Notes.{Notes}
-use Rattle.lsp_frame.specs.declared.header.Header.{Header}
-use Rattle.lsp_frame.specs.declared.shape.Shape.{Shape}
-use Rattle.lsp_frame.specs.declared.shape.Shape.TheVariants as shape
+use Rattle.lsp_frame.specs.declared.framer.notes.Notes.{Notes}
+use Rattle.lsp_frame.specs.declared.framer.header.Header.{Header}
+use Rattle.lsp_frame.specs.declared.framer.shape.Shape.{Shape}
+use Rattle.lsp_frame.specs.declared.framer.shape.Shape.TheVariants as shape
 use Rattle.lsp_frame.proofs.HeaderLemmas.{AreLines-append, lines_bytes-append, begins_part, begins_behind, stops_behind}
 use Rattle.lsp_frame.proofs.LineLemmas.{noted_is}
 
 -- The line that is whole becomes one of the lines.
-pub with_line_so_far : (max_body : ℕ) (held : List ℕ) (header : Header) (name value : List ℕ) (added : Notes) → IsSoFar max_body held header → header.shape ≡ shape.Whole → ((parts : Line) → IsLine parts → take (length held - header.line) (drop header.line held) ≡ line_bytes parts → (name ≡ parts.name) × (value ≡ parts.value)) → added ≡ noted max_body header.notes name value → IsSoFar max_body held (record { shape = shape.Start; line = length held; notes = added })
-with_line_so_far max_body held header name value added so_far whole split add =
+pub with_line_so_far : (max_body : ℕ) (buffered : List ℕ) (header : Header) (name value : List ℕ) (added : Notes) → IsSoFar max_body buffered header → header.shape ≡ shape.Whole → ((parts : Line) → IsLine parts → take (length buffered - header.line) (drop header.line buffered) ≡ line_bytes parts → (name ≡ parts.name) × (value ≡ parts.value)) → added ≡ noted max_body header.notes name value → IsSoFar max_body buffered (record { shape = shape.Start; line = length buffered; notes = added })
+with_line_so_far max_body buffered header name value added so_far whole split add =
     let shaped : IsPartOfLine shape.Whole so_far.part = subst (λ (s : Shape). IsPartOfLine s so_far.part) whole so_far.shaped in
     let line : Line = shaped.0 in
-    let dropped : drop header.line held ≡ so_far.part = rw (so_far.is, so_far.starts) (drop_at (lines_bytes so_far.lines) so_far.part (length (lines_bytes so_far.lines)) refl) in
-    let cut : take (length held - header.line) (drop header.line held) ≡ line_bytes line = take_rest held header.line ∙ dropped ∙ shaped.2 in
+    let dropped : drop header.line buffered ≡ so_far.part = rw (so_far.is, so_far.starts) (drop_at (lines_bytes so_far.lines) so_far.part (length (lines_bytes so_far.lines)) refl) in
+    let cut : take (length buffered - header.line) (drop header.line buffered) ≡ line_bytes line = take_rest buffered header.line ∙ dropped ∙ shaped.2 in
     let parts = split line shaped.1 cut in
-    let all : held ≡ lines_bytes (so_far.lines ++ line ∷ []) ++ [] =
+    let all : buffered ≡ lines_bytes (so_far.lines ++ line ∷ []) ++ [] =
     so_far.is ∙ ap (λ x. lines_bytes so_far.lines ++ x) shaped.2 ∙ sym (ap (λ x. x ++ []) (lines_bytes-append so_far.lines (line ∷ [])) ∙ simp (append-nil)) in
     record {
       lines = so_far.lines ++ line ∷ [];
@@ -39,15 +40,15 @@ with_line_so_far max_body held header name value added so_far whole split add =
     same_noted p q r = cc
 
 -- The byte of a window with which no header goes on.
-pub bad_byte : (max_body : ℕ) (held window : List ℕ) (header : Header) (n i at : ℕ) → IsSoFar max_body held header → n ≤ length window → i < length (take n window) → at ≡ length held + i → ((part : List ℕ) → IsPartOfLine header.shape part → GoesOn (part ++ take i (take n window))) → ((part : List ℕ) → IsPartOfLine header.shape part → StopsHeader (part ++ take (i + 1) (take n window))) → IsBadByte held window at
-bad_byte max_body held window header n i at so_far within there place goes stops =
+pub bad_byte : (max_body : ℕ) (buffered window : List ℕ) (header : Header) (n i at : ℕ) → IsSoFar max_body buffered header → n ≤ length window → i < length (take n window) → at ≡ length buffered + i → ((part : List ℕ) → IsPartOfLine header.shape part → CanContinue (part ++ take i (take n window))) → ((part : List ℕ) → IsPartOfLine header.shape part → StopsHeader (part ++ take (i + 1) (take n window))) → IsBadByte buffered window at
+bad_byte max_body buffered window header n i at so_far within there place goes stops =
     let below : i < n = omega (arith, length-take n window) in
     let g = goes so_far.part so_far.shaped in
     let begins : BeginsHeader (lines_bytes so_far.lines ++ (so_far.part ++ take i (take n window))) = begins_behind so_far.lines (so_far.part ++ take i (take n window)) so_far.each (begins_part g.shape (so_far.part ++ take i (take n window)) g.is g.open_line) in
     let stopped : StopsHeader (lines_bytes so_far.lines ++ (so_far.part ++ take (i + 1) (take n window))) = stops_behind so_far.lines (so_far.part ++ take (i + 1) (take n window)) so_far.each (stops so_far.part so_far.shaped) in
-    let first : lines_bytes so_far.lines ++ (so_far.part ++ take i (take n window)) ≡ held ++ take i window =
+    let first : lines_bytes so_far.lines ++ (so_far.part ++ take i (take n window)) ≡ buffered ++ take i window =
     sym (append_assoc (lines_bytes so_far.lines) so_far.part (take i (take n window))) ∙ rw (← so_far.is, take-take i n window (omega arith)) refl in
-    let second : lines_bytes so_far.lines ++ (so_far.part ++ take (i + 1) (take n window)) ≡ held ++ take (i + 1) window =
+    let second : lines_bytes so_far.lines ++ (so_far.part ++ take (i + 1) (take n window)) ≡ buffered ++ take (i + 1) window =
     sym (append_assoc (lines_bytes so_far.lines) so_far.part (take (i + 1) (take n window))) ∙ rw (← so_far.is, take-take (i + 1) n window (omega arith)) refl in
     record {
       i = i;
@@ -58,8 +59,8 @@ bad_byte max_body held window header n i at so_far within there place goes stops
     }
 
 -- A header that is coming in goes on.
-pub so_far_begins : (max_body : ℕ) (held : List ℕ) (header : Header) → IsSoFar max_body held header → is_over header.shape ≡ false → BeginsHeader held
-so_far_begins max_body held header so_far line_open =
+pub so_far_begins : (max_body : ℕ) (buffered : List ℕ) (header : Header) → IsSoFar max_body buffered header → is_over header.shape ≡ false → BeginsHeader buffered
+so_far_begins max_body buffered header so_far line_open =
     subst BeginsHeader (sym so_far.is) (begins_behind so_far.lines so_far.part so_far.each (begins_part header.shape so_far.part so_far.shaped line_open))
 
 pub open_shape : (s : Shape) → s ≢ shape.Whole → s ≢ shape.End → is_over s ≡ false
@@ -89,22 +90,22 @@ window_len piece window at room e =
     let l : length window ≡ length (take room (drop at piece)) = ap length whole in
     (omega (arith, l, length-take room (drop at piece)), omega (arith, l, length-take room (drop at piece), length-drop at piece))
 
-pub held_more : (old piece held window : List ℕ) (at room n : ℕ) → held ≡ old ++ take at piece → window ≡ take room (take (length piece - at) (drop at piece)) → n ≤ length window → held ++ take n window ≡ old ++ take (at + n) piece
-held_more old piece held window at room n e w within =
+pub held_more : (old piece buffered window : List ℕ) (at room n : ℕ) → buffered ≡ old ++ take at piece → window ≡ take room (take (length piece - at) (drop at piece)) → n ≤ length window → buffered ++ take n window ≡ old ++ take (at + n) piece
+held_more old piece buffered window at room n e w within =
     ap (λ x. x ++ take n window) e ∙ ap (λ x. (old ++ take at piece) ++ x) (window_take piece window at room n w within) ∙ append_assoc old (take at piece) (take n (drop at piece)) ∙ ap (λ x. old ++ x) (sym (take-add at n piece))
 
 -- The fault of a line is the header's, decided at the same byte.
-pub bad_header : (old piece held window : List ℕ) (at room place : ℕ) → at ≤ length piece → held ≡ old ++ take at piece → window ≡ take room (take (length piece - at) (drop at piece)) → length held + room ≤ 8192 → IsBadByte held window place → IsBadHeaderAt (old ++ piece) place
-bad_header old piece held window at room place within e w room_is bad =
-    let len : length held ≡ length old + at = ap length e ∙ omega (arith, length-append old (take at piece), length-take at piece) in
+pub bad_header : (old piece buffered window : List ℕ) (at room place : ℕ) → at ≤ length piece → buffered ≡ old ++ take at piece → window ≡ take room (take (length piece - at) (drop at piece)) → length buffered + room ≤ 8192 → IsBadByte buffered window place → IsBadHeaderAt (old ++ piece) place
+bad_header old piece buffered window at room place within e w room_is bad =
+    let len : length buffered ≡ length old + at = ap length e ∙ omega (arith, length-append old (take at piece), length-take at piece) in
     let at_place : place ≡ length old + (at + bad.i) = bad.place ∙ omega (arith, len) in
-    let behind : place + 1 ≡ length old + (at + (bad.i + 1)) = omega (arith, at_place) in
+    let rest_after : place + 1 ≡ length old + (at + (bad.i + 1)) = omega (arith, at_place) in
     let lens = window_len piece window at room w in
     let there : bad.i < length window = bad.there in
-    let first : take place (old ++ piece) ≡ held ++ take bad.i window =
+    let first : take place (old ++ piece) ≡ buffered ++ take bad.i window =
     ap (λ n. take n (old ++ piece)) at_place ∙ take_joined old piece at bad.i ∙ sym (ap (λ x. x ++ take bad.i window) e ∙ ap (λ x. (old ++ take at piece) ++ x) (window_take piece window at room bad.i w (omega arith))) in
-    let second : take (place + 1) (old ++ piece) ≡ held ++ take (bad.i + 1) window =
-    ap (λ n. take n (old ++ piece)) behind ∙ take_joined old piece at (bad.i + 1) ∙ sym (ap (λ x. x ++ take (bad.i + 1) window) e ∙ ap (λ x. (old ++ take at piece) ++ x) (window_take piece window at room (bad.i + 1) w (omega arith))) in
+    let second : take (place + 1) (old ++ piece) ≡ buffered ++ take (bad.i + 1) window =
+    ap (λ n. take n (old ++ piece)) rest_after ∙ take_joined old piece at (bad.i + 1) ∙ sym (ap (λ x. x ++ take (bad.i + 1) window) e ∙ ap (λ x. (old ++ take at piece) ++ x) (window_take piece window at room (bad.i + 1) w (omega arith))) in
     let stopped : StopsHeader (take (place + 1) (old ++ piece)) = subst StopsHeader (sym second) bad.stops in
     record {
       there = omega (arith, length-append old piece, at_place, lens.1);
@@ -115,30 +116,30 @@ bad_header old piece held window at room place within e w room_is bad =
     }
 
 -- A header that goes on behind its 8,192nd byte is too long.
-pub too_long : (max_body : ℕ) (old piece held : List ℕ) (header : Header) (at : ℕ) → at ≤ length piece → held ≡ old ++ take at piece → length held ≡ 8192 → IsSoFar max_body held header → is_over header.shape ≡ false → IsHeaderTooLongAt (old ++ piece) 8191
-too_long max_body old piece held header at within e len so_far line_open =
+pub too_long : (max_body : ℕ) (old piece buffered : List ℕ) (header : Header) (at : ℕ) → at ≤ length piece → buffered ≡ old ++ take at piece → length buffered ≡ 8192 → IsSoFar max_body buffered header → is_over header.shape ≡ false → IsHeaderTooLongAt (old ++ piece) 8191
+too_long max_body old piece buffered header at within e len so_far line_open =
     let total : length old + at ≡ 8192 = omega (arith, len, ap length e, length-append old (take at piece), length-take at piece) in
-    let front : take (8191 + 1) (old ++ piece) ≡ held = ap (λ n. take n (old ++ piece)) (sym total) ∙ take-append-add old piece at ∙ sym e in
+    let front : take (8191 + 1) (old ++ piece) ≡ buffered = ap (λ n. take n (old ++ piece)) (sym total) ∙ take-append-add old piece at ∙ sym e in
     record {
       there = omega (arith, length-append old piece);
       place = refl;
-      on = subst BeginsHeader (sym front) (so_far_begins max_body held header so_far line_open);
+      on = subst BeginsHeader (sym front) (so_far_begins max_body buffered header so_far line_open);
     }
 
 -- Why a line was not taken is why the header was not.
-pub header_stop : (max_body : ℕ) (old piece held window : List ℕ) (at room : ℕ) (why : Stop) → at ≤ length piece → held ≡ old ++ take at piece → window ≡ take room (take (length piece - at) (drop at piece)) → length held + room ≤ 8192 → IsLineStop held window why → IsHeaderStop max_body (old ++ piece) why
-header_stop max_body old piece held window at room (stop.Fault fault place) within e w room_is line =
-    subst (λ (f : HeaderFault). IsDecidedAt max_body (old ++ piece) place f) (sym line.0) (bad_header old piece held window at room place within e w room_is line.1)
-header_stop max_body old piece held window at room stop.NoMemory within e w room_is line = tt
+pub header_stop : (max_body : ℕ) (old piece buffered window : List ℕ) (at room : ℕ) (why : Stop) → at ≤ length piece → buffered ≡ old ++ take at piece → window ≡ take room (take (length piece - at) (drop at piece)) → length buffered + room ≤ 8192 → IsLineStop buffered window why → IsHeaderStop max_body (old ++ piece) why
+header_stop max_body old piece buffered window at room (stop.Fault fault place) within e w room_is line =
+    subst (λ (f : HeaderFault). IsDecidedAt max_body (old ++ piece) place f) (sym line.0) (bad_header old piece buffered window at room place within e w room_is line.1)
+header_stop max_body old piece buffered window at room stop.NoMemory within e w room_is line = tt
 
-pub take_short : (held window new : List ℕ) (n : ℕ) → new ≡ held ++ take n window → length held + length window ≤ 8192 → length new ≤ 8192
-take_short held window new n e short = omega (arith, ap length e, length-append held (take n window), length-take n window)
+pub take_short : (buffered window new : List ℕ) (n : ℕ) → new ≡ buffered ++ take n window → length buffered + length window ≤ 8192 → length new ≤ 8192
+take_short buffered window new n e short = omega (arith, ap length e, length-append buffered (take n window), length-take n window)
 
 -- What is taken behind the first bytes of a piece.
-pub taken_more : (old piece held new : List ℕ) (n m : ℕ) → held ≡ old ++ take n piece → new ≡ held ++ take m (take (length piece - n) (drop n piece)) → new ≡ old ++ take (n + m) piece
-taken_more old piece held new n m first second =
-    second ∙ ap (λ x. held ++ take m x) (take_rest piece n) ∙ ap (λ x. x ++ take m (drop n piece)) first ∙ append_assoc old (take n piece) (take m (drop n piece)) ∙ ap (λ x. old ++ x) (sym (take-add n m piece))
+pub taken_more : (old piece buffered new : List ℕ) (n m : ℕ) → buffered ≡ old ++ take n piece → new ≡ buffered ++ take m (take (length piece - n) (drop n piece)) → new ≡ old ++ take (n + m) piece
+taken_more old piece buffered new n m first second =
+    second ∙ ap (λ x. buffered ++ take m x) (take_rest piece n) ∙ ap (λ x. x ++ take m (drop n piece)) first ∙ append_assoc old (take n piece) (take m (drop n piece)) ∙ ap (λ x. old ++ x) (sym (take-add n m piece))
 
-pub all_of : (old piece held : List ℕ) (n : ℕ) → held ≡ old ++ take n piece → held ++ take (length piece - n) (drop n piece) ≡ old ++ piece
-all_of old piece held n first =
-    ap (λ x. held ++ x) (take_rest piece n) ∙ ap (λ x. x ++ drop n piece) first ∙ append_assoc old (take n piece) (drop n piece) ∙ ap (λ x. old ++ x) (take-append-drop n piece)
+pub all_of : (old piece buffered : List ℕ) (n : ℕ) → buffered ≡ old ++ take n piece → buffered ++ take (length piece - n) (drop n piece) ≡ old ++ piece
+all_of old piece buffered n first =
+    ap (λ x. buffered ++ x) (take_rest piece n) ∙ ap (λ x. x ++ drop n piece) first ∙ append_assoc old (take n piece) (drop n piece) ∙ ap (λ x. old ++ x) (take-append-drop n piece)

@@ -4,9 +4,10 @@ use Rattle.std.specs.Prelude.{Result, Ok, Err, OnErr, ◌⊎◌, Option, Some, N
 use Rattle.std.proofs.lemmas.List.{length-append, length-take, length-drop, take-take, take-append-le, length-replicate}
 use Rattle.lsp_frame.specs.Header.{Line, AreLines, lines_bytes, header_of, BeginsHeader, IsHeader}
 use Rattle.lsp_frame.specs.Verdict.{judge}
-use Rattle.lsp_frame.specs.Frame.{Spells, HasNoFrame}
-use Rattle.lsp_frame.specs.Faults.{IsBadHeaderAt, IsHeaderTooLongAt, IsJudgedAt, IsDecidedAt, IsDecided, fault_at, place_behind}
-use Rattle.lsp_frame.specs.Stream.{Framing, IsFrame, IsPart, IsSpelled, IsSound, IsRead, IsHolding, IsBehind, IsFaulty, IsStreamFault, IsFeedFault, given_up}
+use Rattle.lsp_frame.specs.Frame.{IsFrameOf, HasNoFrame}
+use Rattle.lsp_frame.specs.Faults.{IsBadHeaderAt, IsHeaderTooLongAt, IsJudgedAt, IsDecidedAt, IsDecided, header_fault_at, place_after}
+use Rattle.lsp_frame.specs.Stream.{Framing, IsFrame, IsPart, IsSpelled, IsSound, IsRead, IsStreamFault, IsFeedFault, given_up}
+use Rattle.lsp_frame.specs.inside.Stream.{IsHolding, HasTaken, IsFaulty}
 use Rattle.lsp_frame.specs.Laws.{SameFrame}
 use Rattle.lsp_frame.specs.declared.fault.HeaderFault.{HeaderFault}
 use Rattle.lsp_frame.specs.declared.fault.HeaderFault.TheVariants as header
@@ -36,17 +37,17 @@ same_length_front (c ∷ a) (d ∷ b) x y l e =
     (r, s.1)
 
 -- Two frames at the front of the same bytes are one: no spelling is a proper beginning of another.
-pub same_frame : (max_body : ℕ) (spelling other body other_body x y : List ℕ) → Spells max_body spelling body → Spells max_body other other_body → spelling ++ x ≡ other ++ y → SameFrame spelling other body other_body x y
+pub same_frame : (max_body : ℕ) (spelling other body other_body x y : List ℕ) → IsFrameOf max_body spelling body → IsFrameOf max_body other other_body → spelling ++ x ≡ other ++ y → SameFrame spelling other body other_body x y
 same_frame max_body spelling other body other_body x y s t e =
     let left : spelling ++ x ≡ header_of s.lines ++ (body ++ x) = ap (λ z. z ++ x) s.is ∙ append_assoc (header_of s.lines) body x in
     let right : other ++ y ≡ header_of t.lines ++ (other_body ++ y) = ap (λ z. z ++ y) t.is ∙ append_assoc (header_of t.lines) other_body y in
     let h = same_header s.lines t.lines (body ++ x) (other_body ++ y) s.each t.each (sym left ∙ e ∙ right) in
-    let told : judge max_body s.lines ≡ Ok (length other_body) = ap (judge max_body) h.0 ∙ t.good in
+    let error : judge max_body s.lines ≡ Ok (length other_body) = ap (judge max_body) h.0 ∙ t.good in
     let good : judge max_body s.lines ≡ Ok (length body) = s.good in
     let len : length body ≡ length other_body = cc in
     let b = same_length_front body other_body x y len h.1 in
     record {
-      spelling_is = s.is ∙ ap (λ ls. header_of ls ++ body) h.0 ∙ ap (λ z. header_of t.lines ++ z) b.0 ∙ sym t.is;
+      same_bytes = s.is ∙ ap (λ ls. header_of ls ++ body) h.0 ∙ ap (λ z. header_of t.lines ++ z) b.0 ∙ sym t.is;
       body_is = b.0;
       rest_is = b.1;
     }
@@ -148,84 +149,84 @@ same_fault max_body start bytes fault other a b =
     let v = way_of max_body bytes a.k a.kind a.decided in
     let w = way_of max_body bytes b.k b.kind b.decided in
     let before : a.k < b.k → ⊥ = not_before max_body bytes a.k b.k a.kind b.kind v w in
-    let behind : b.k < a.k → ⊥ = not_before max_body bytes b.k a.k b.kind a.kind w v in
-    let k : b.k ≡ a.k = omega (arith, before, behind) in
+    let rest_after : b.k < a.k → ⊥ = not_before max_body bytes b.k a.k b.kind a.kind w v in
+    let k : b.k ≡ a.k = omega (arith, before, rest_after) in
     let w_here : Way max_body bytes a.k b.kind = subst (λ (n : ℕ). Way max_body bytes n b.kind) k w in
     let kind = same_kind max_body bytes a.k a.kind b.kind v w_here in
-    a.is ∙ ap (λ z. fault_at z (place_behind start a.k)) kind ∙ ap (λ n. fault_at b.kind (place_behind start n)) (sym k) ∙ sym b.is
+    a.is ∙ ap (λ z. header_fault_at z (place_after start a.k)) kind ∙ ap (λ n. header_fault_at b.kind (place_after start n)) (sym k) ∙ sym b.is
 
 -- A stream is read in one way.
 pub same_read : (max_body : ℕ) (stream : List ℕ) (bodies others : List (List ℕ)) (fault other : Option FrameFault) → IsRead max_body stream bodies fault → IsRead max_body stream others other → (bodies ≡ others) × (fault ≡ other)
 same_read max_body stream bodies others fault other a b =
     let s = same_frames max_body stream bodies others a.rest b.rest a.frames.spelled b.frames.spelled a.frames.longest b.frames.longest in
-    let end_here = subst (λ (z : List ℕ). MatchOption other (IsSound max_body z) (IsDecided max_body (place_behind 0 (length stream - length z)) z)) (sym s.1) b.end in
+    let end_here = subst (λ (z : List ℕ). MatchOption other (IsSound max_body z) (IsDecided max_body (place_after 0 (length stream - length z)) z)) (sym s.1) b.end in
     (s.0, same_end fault other a.end end_here)
   where
-    same_end : (f g : Option FrameFault) → MatchOption f (IsSound max_body a.rest) (IsDecided max_body (place_behind 0 (length stream - length a.rest)) a.rest) → MatchOption g (IsSound max_body a.rest) (IsDecided max_body (place_behind 0 (length stream - length a.rest)) a.rest) → f ≡ g
+    same_end : (f g : Option FrameFault) → MatchOption f (IsSound max_body a.rest) (IsDecided max_body (place_after 0 (length stream - length a.rest)) a.rest) → MatchOption g (IsSound max_body a.rest) (IsDecided max_body (place_after 0 (length stream - length a.rest)) a.rest) → f ≡ g
     same_end None None p q = refl
     same_end None (Some g) p q = absurd (p q.k q.kind q.decided)
     same_end (Some f) None p q = absurd (q p.k p.kind p.decided)
-    same_end (Some f) (Some g) p q = ap Some (same_fault max_body (place_behind 0 (length stream - length a.rest)) a.rest f g p q)
+    same_end (Some f) (Some g) p q = ap Some (same_fault max_body (place_after 0 (length stream - length a.rest)) a.rest f g p q)
 
 pub no_empty_frame : (max_body : ℕ) → IsFrame max_body [] → ⊥
 no_empty_frame max_body frame =
-    omega (arith, ap length frame.spells.is, length-append (header_of frame.spells.lines) frame.body, length-append (lines_bytes frame.spells.lines) (13 ∷ 10 ∷ []))
+    omega (arith, ap length frame.is_frame_of.is, length-append (header_of frame.is_frame_of.lines) frame.body, length-append (lines_bytes frame.is_frame_of.lines) (13 ∷ 10 ∷ []))
 
 pub nothing_part : (max_body : ℕ) → IsPart max_body []
 nothing_part max_body = inl (record { begins = record { lines = []; rest = 13 ∷ 10 ∷ []; each = tt; is = refl; more = omega arith }; short = omega arith })
 
 -- A frame more, and bytes more.
-pub spelled_push : (max_body : ℕ) (stream : List ℕ) (bodies : List (List ℕ)) (held body : List ℕ) → IsSpelled max_body stream bodies held → Spells max_body held body → IsSpelled max_body stream (bodies ++ body ∷ []) []
-spelled_push max_body stream [] held body a s = (held, [], s, a ∙ sym (append-nil held), refl)
-spelled_push max_body stream (first ∷ bodies) held body a s = (a.0, a.1, a.2, a.3, spelled_push max_body a.1 bodies held body a.4 s)
+pub spelled_push : (max_body : ℕ) (stream : List ℕ) (bodies : List (List ℕ)) (buffered body : List ℕ) → IsSpelled max_body stream bodies buffered → IsFrameOf max_body buffered body → IsSpelled max_body stream (bodies ++ body ∷ []) []
+spelled_push max_body stream [] buffered body a s = (buffered, [], s, a ∙ sym (append-nil buffered), refl)
+spelled_push max_body stream (first ∷ bodies) buffered body a s = (a.0, a.1, a.2, a.3, spelled_push max_body a.1 bodies buffered body a.4 s)
 
-pub spelled_more : (max_body : ℕ) (stream : List ℕ) (bodies : List (List ℕ)) (held more : List ℕ) → IsSpelled max_body stream bodies held → IsSpelled max_body (stream ++ more) bodies (held ++ more)
-spelled_more max_body stream [] held more a = ap (λ z. z ++ more) a
-spelled_more max_body stream (first ∷ bodies) held more a =
-    (a.0, a.1 ++ more, a.2, ap (λ z. z ++ more) a.3 ∙ append_assoc a.0 a.1 more, spelled_more max_body a.1 bodies held more a.4)
+pub spelled_more : (max_body : ℕ) (stream : List ℕ) (bodies : List (List ℕ)) (buffered more : List ℕ) → IsSpelled max_body stream bodies buffered → IsSpelled max_body (stream ++ more) bodies (buffered ++ more)
+spelled_more max_body stream [] buffered more a = ap (λ z. z ++ more) a
+spelled_more max_body stream (first ∷ bodies) buffered more a =
+    (a.0, a.1 ++ more, a.2, ap (λ z. z ++ more) a.3 ∙ append_assoc a.0 a.1 more, spelled_more max_body a.1 bodies buffered more a.4)
 
-pub spelled_len : (max_body : ℕ) (stream : List ℕ) (bodies : List (List ℕ)) (held : List ℕ) → IsSpelled max_body stream bodies held → length held ≤ length stream
-spelled_len max_body stream [] held a = omega (arith, ap length a)
-spelled_len max_body stream (first ∷ bodies) held a =
-    let later = spelled_len max_body a.1 bodies held a.4 in
+pub spelled_len : (max_body : ℕ) (stream : List ℕ) (bodies : List (List ℕ)) (buffered : List ℕ) → IsSpelled max_body stream bodies buffered → length buffered ≤ length stream
+spelled_len max_body stream [] buffered a = omega (arith, ap length a)
+spelled_len max_body stream (first ∷ bodies) buffered a =
+    let later = spelled_len max_body a.1 bodies buffered a.4 in
     omega (arith, later, ap length a.3, length-append a.0 a.1)
 
 -- The place behind one more frame.
-pub place_more : (whole held place : ℕ) → held ≤ whole → place ≡ place_behind 0 (whole - held) → place_behind place held ≡ place_behind 0 (whole - 0)
-place_more whole held place less e = omega (arith, less, e)
+pub place_more : (whole buffered place : ℕ) → buffered ≤ whole → place ≡ place_after 0 (whole - buffered) → place_after place buffered ≡ place_after 0 (whole - 0)
+place_more whole buffered place less e = omega (arith, less, e)
 
 -- A framer that gave a frame up.
-pub given_none : (f n : Framing) → n ≡ given_up f → f.failed ≡ false → (IsFrame n.limits.max_body n.held → ⊥) × (n.failed ≡ false)
-given_none f n e sound = subst (λ (g : Framing). (IsFrame g.limits.max_body g.held → ⊥) × (g.failed ≡ false)) (sym e) (no_empty_frame f.limits.max_body, sound)
+pub given_none : (f n : Framing) → n ≡ given_up f → f.failed ≡ false → (IsFrame n.limits.max_body n.buffered → ⊥) × (n.failed ≡ false)
+given_none f n e sound = subst (λ (g : Framing). (IsFrame g.limits.max_body g.buffered → ⊥) × (g.failed ≡ false)) (sym e) (no_empty_frame f.limits.max_body, sound)
 
-pub given_behind : (max_body : ℕ) (stream : List ℕ) (bodies more : List (List ℕ)) (f n : Framing) (body : List ℕ) → IsHolding max_body stream bodies f → n ≡ given_up f → Spells f.limits.max_body f.held body → more ≡ bodies ++ body ∷ [] → IsBehind max_body stream more n
+pub given_behind : (max_body : ℕ) (stream : List ℕ) (bodies more : List (List ℕ)) (f n : Framing) (body : List ℕ) → IsHolding max_body stream bodies f → n ≡ given_up f → IsFrameOf f.limits.max_body f.buffered body → more ≡ bodies ++ body ∷ [] → HasTaken max_body stream more n
 given_behind max_body stream bodies more f n body at e s m =
-    let spells : Spells max_body f.held body = subst (λ (k : ℕ). Spells k f.held body) at.limit s in
-    let spelled : IsSpelled max_body stream more [] = subst (λ (b : List (List ℕ)). IsSpelled max_body stream b []) (sym m) (spelled_push max_body stream bodies f.held body at.spelled spells) in
-    let behind : IsBehind max_body stream more (given_up f) = record {
+    let is_frame_of : IsFrameOf max_body f.buffered body = subst (λ (k : ℕ). IsFrameOf k f.buffered body) at.limit s in
+    let spelled : IsSpelled max_body stream more [] = subst (λ (b : List (List ℕ)). IsSpelled max_body stream b []) (sym m) (spelled_push max_body stream bodies f.buffered body at.spelled is_frame_of) in
+    let rest_after : HasTaken max_body stream more (given_up f) = record {
       holding = record {
         spelled = spelled;
-        place = place_more (length stream) (length f.held) f.place (spelled_len max_body stream bodies f.held at.spelled) at.place;
+        place = place_more (length stream) (length f.buffered) f.place (spelled_len max_body stream bodies f.buffered at.spelled) at.place;
         sound = at.sound;
         part = nothing_part max_body;
         limit = at.limit;
       };
       none = no_empty_frame max_body;
     } in
-    subst (λ (g : Framing). IsBehind max_body stream more g) (sym e) behind
+    subst (λ (g : Framing). HasTaken max_body stream more g) (sym e) rest_after
 
 -- A framer that was fed.
-pub fed_holding : (max_body : ℕ) (stream : List ℕ) (bodies : List (List ℕ)) (f n : Framing) (more : List ℕ) → IsBehind max_body stream bodies f → n ≡ record f { held = f.held ++ more } → IsPart n.limits.max_body n.held → IsHolding max_body (stream ++ more) bodies n
+pub fed_holding : (max_body : ℕ) (stream : List ℕ) (bodies : List (List ℕ)) (f n : Framing) (more : List ℕ) → HasTaken max_body stream bodies f → n ≡ record f { buffered = f.buffered ++ more } → IsPart n.limits.max_body n.buffered → IsHolding max_body (stream ++ more) bodies n
 fed_holding max_body stream bodies f n more at e part =
-    let fed : Framing = record f { held = f.held ++ more } in
-    let part_here : IsPart f.limits.max_body (f.held ++ more) = subst (λ (g : Framing). IsPart g.limits.max_body g.held) e part in
-    let less = spelled_len max_body stream bodies f.held at.holding.spelled in
-    let same : length stream - length f.held ≡ length (stream ++ more) - length (f.held ++ more) = omega (arith, less, length-append stream more, length-append f.held more) in
-    let holding : IsHolding max_body (stream ++ more) bodies (record f { held = f.held ++ more }) = record {
-      spelled = spelled_more max_body stream bodies f.held more at.holding.spelled;
-      place = at.holding.place ∙ ap (place_behind 0) same;
+    let fed : Framing = record f { buffered = f.buffered ++ more } in
+    let part_here : IsPart f.limits.max_body (f.buffered ++ more) = subst (λ (g : Framing). IsPart g.limits.max_body g.buffered) e part in
+    let less = spelled_len max_body stream bodies f.buffered at.holding.spelled in
+    let same : length stream - length f.buffered ≡ length (stream ++ more) - length (f.buffered ++ more) = omega (arith, less, length-append stream more, length-append f.buffered more) in
+    let holding : IsHolding max_body (stream ++ more) bodies (record f { buffered = f.buffered ++ more }) = record {
+      spelled = spelled_more max_body stream bodies f.buffered more at.holding.spelled;
+      place = at.holding.place ∙ ap (place_after 0) same;
       sound = at.holding.sound;
-      part = subst (λ (k : ℕ). IsPart k (f.held ++ more)) at.holding.limit part_here;
+      part = subst (λ (k : ℕ). IsPart k (f.buffered ++ more)) at.holding.limit part_here;
       limit = at.holding.limit;
     } in
     subst (λ (g : Framing). IsHolding max_body (stream ++ more) bodies g) (sym e) holding
@@ -267,7 +268,7 @@ faulty_more max_body stream more bodies fault at =
         kind = at.decided.kind;
         k = at.decided.k;
         decided = decided_more max_body at.rest more at.decided.k at.decided.kind at.decided.decided;
-        is = at.decided.is ∙ ap (λ n. fault_at at.decided.kind (place_behind (place_behind 0 n) at.decided.k)) same;
+        is = at.decided.is ∙ ap (λ n. header_fault_at at.decided.kind (place_after (place_after 0 n) at.decided.k)) same;
       };
       hopeless = λ tail spelling body last s e. at.hopeless (more ++ tail) spelling body last s (sym (append_assoc at.rest more tail) ∙ e);
     }
@@ -284,37 +285,37 @@ faulty_read max_body stream bodies fault at =
     }
 
 -- Where a part of a frame is held no fault was decided, and no frame begins but the one that is held.
-pub part_sound : (max_body : ℕ) (held : List ℕ) → IsPart max_body held → IsSound max_body held
-part_sound max_body held (inl part) k kind at =
-    let w = way_of max_body held k kind at in
-    let within = way_within max_body held k kind w in
-    let full = ends_here max_body held k kind w (begins_front held (k + 1) part.begins) in
+pub part_sound : (max_body : ℕ) (buffered : List ℕ) → IsPart max_body buffered → IsSound max_body buffered
+part_sound max_body buffered (inl part) k kind at =
+    let w = way_of max_body buffered k kind at in
+    let within = way_within max_body buffered k kind w in
+    let full = ends_here max_body buffered k kind w (begins_front buffered (k + 1) part.begins) in
     omega (arith, within.1, full, part.short)
-part_sound max_body held (inr part) k kind at =
+part_sound max_body buffered (inr part) k kind at =
     let missing : List ℕ = replicate (part.wanted - length part.body) 0 in
     let len : part.wanted ≡ length (part.body ++ replicate (part.wanted - length part.body) 0) =
     omega (arith, length-append part.body (replicate (part.wanted - length part.body) 0), length-replicate {A = ℕ} (part.wanted - length part.body) 0, part.within) in
-    let spells : Spells max_body (held ++ replicate (part.wanted - length part.body) 0) (part.body ++ replicate (part.wanted - length part.body) 0) = record {
+    let is_frame_of : IsFrameOf max_body (buffered ++ replicate (part.wanted - length part.body) 0) (part.body ++ replicate (part.wanted - length part.body) 0) = record {
       lines = part.lines;
       each = part.each;
       is = ap (λ z. z ++ replicate (part.wanted - length part.body) 0) part.is ∙ append_assoc (header_of part.lines) part.body (replicate (part.wanted - length part.body) 0);
       short = part.short;
       good = part.good ∙ ap Ok len;
     } in
-    decided_hopeless max_body held k kind at (replicate (part.wanted - length part.body) 0) (held ++ replicate (part.wanted - length part.body) 0) (part.body ++ replicate (part.wanted - length part.body) 0) [] spells (sym (append-nil (held ++ replicate (part.wanted - length part.body) 0)))
+    decided_hopeless max_body buffered k kind at (replicate (part.wanted - length part.body) 0) (buffered ++ replicate (part.wanted - length part.body) 0) (part.body ++ replicate (part.wanted - length part.body) 0) [] is_frame_of (sym (append-nil (buffered ++ replicate (part.wanted - length part.body) 0)))
 
-pub part_longest : (max_body : ℕ) (held : List ℕ) → IsPart max_body held → (IsFrame max_body held → ⊥) → HasNoFrame max_body held
-part_longest max_body held part none spelling body more s e =
-    let nothing : more ≡ [] = part_one max_body held part spelling body more s e in
-    let all : spelling ≡ held = sym (e ∙ ap (λ z. spelling ++ z) nothing ∙ append-nil spelling) in
-    none (record { body = body; spells = subst (λ (z : List ℕ). Spells max_body z body) all s })
+pub part_longest : (max_body : ℕ) (buffered : List ℕ) → IsPart max_body buffered → (IsFrame max_body buffered → ⊥) → HasNoFrame max_body buffered
+part_longest max_body buffered part none spelling body more s e =
+    let nothing : more ≡ [] = part_one max_body buffered part spelling body more s e in
+    let all : spelling ≡ buffered = sym (e ∙ ap (λ z. spelling ++ z) nothing ∙ append-nil spelling) in
+    none (record { body = body; is_frame_of = subst (λ (z : List ℕ). IsFrameOf max_body z body) all s })
 
-pub behind_read : (max_body : ℕ) (stream : List ℕ) (bodies : List (List ℕ)) (f : Framing) → IsBehind max_body stream bodies f → IsRead max_body stream bodies None
+pub behind_read : (max_body : ℕ) (stream : List ℕ) (bodies : List (List ℕ)) (f : Framing) → HasTaken max_body stream bodies f → IsRead max_body stream bodies None
 behind_read max_body stream bodies f at =
     record {
-      rest = f.held;
-      frames = record { spelled = at.holding.spelled; longest = part_longest max_body f.held at.holding.part at.none };
-      end = part_sound max_body f.held at.holding.part;
+      rest = f.buffered;
+      frames = record { spelled = at.holding.spelled; longest = part_longest max_body f.buffered at.holding.part at.none };
+      end = part_sound max_body f.buffered at.holding.part;
     }
 
 -- The fault of a feed is the stream's, but for want of memory.
@@ -329,40 +330,40 @@ stream_fault_of f n piece (fault_of.BadCharset place) at sound some = at
 stream_fault_of f n piece fault_of.Failed at sound some = let failed : f.failed ≡ true = at.0 in cc
 stream_fault_of f n piece fault_of.NoMemory at sound some = absurd (some refl)
 
-pub fault_behind : (max_body : ℕ) (stream piece : List ℕ) (at : ℕ) (bodies : List (List ℕ)) (f n : Framing) (fault : FrameFault) → IsBehind max_body (stream ++ take at piece) bodies f → IsFeedFault f n (take (length piece - at) (drop at piece)) fault → (fault ≡ fault_of.NoMemory → ⊥) → IsFaulty max_body (stream ++ piece) bodies fault
-fault_behind max_body stream piece at bodies f n fault behind fed some =
+pub fault_behind : (max_body : ℕ) (stream piece : List ℕ) (at : ℕ) (bodies : List (List ℕ)) (f n : Framing) (fault : FrameFault) → HasTaken max_body (stream ++ take at piece) bodies f → IsFeedFault f n (take (length piece - at) (drop at piece)) fault → (fault ≡ fault_of.NoMemory → ⊥) → IsFaulty max_body (stream ++ piece) bodies fault
+fault_behind max_body stream piece at bodies f n fault rest_after fed some =
     let rest : List ℕ = take (length piece - at) (drop at piece) in
-    let why = stream_fault_of f n (take (length piece - at) (drop at piece)) fault fed behind.holding.sound some in
-    let here : IsDecidedAt max_body (f.held ++ take (length piece - at) (drop at piece)) why.decided.k why.decided.kind =
-    subst (λ (m : ℕ). IsDecidedAt m (f.held ++ take (length piece - at) (drop at piece)) why.decided.k why.decided.kind) behind.holding.limit why.decided.decided in
-    let less = spelled_len max_body (stream ++ take at piece) bodies f.held behind.holding.spelled in
-    let same : length (stream ++ take at piece) - length f.held ≡ length ((stream ++ take at piece) ++ take (length piece - at) (drop at piece)) - length (f.held ++ take (length piece - at) (drop at piece)) =
-    omega (arith, less, length-append (stream ++ take at piece) (take (length piece - at) (drop at piece)), length-append f.held (take (length piece - at) (drop at piece))) in
+    let why = stream_fault_of f n (take (length piece - at) (drop at piece)) fault fed rest_after.holding.sound some in
+    let here : IsDecidedAt max_body (f.buffered ++ take (length piece - at) (drop at piece)) why.decided.k why.decided.kind =
+    subst (λ (m : ℕ). IsDecidedAt m (f.buffered ++ take (length piece - at) (drop at piece)) why.decided.k why.decided.kind) rest_after.holding.limit why.decided.decided in
+    let less = spelled_len max_body (stream ++ take at piece) bodies f.buffered rest_after.holding.spelled in
+    let same : length (stream ++ take at piece) - length f.buffered ≡ length ((stream ++ take at piece) ++ take (length piece - at) (drop at piece)) - length (f.buffered ++ take (length piece - at) (drop at piece)) =
+    omega (arith, less, length-append (stream ++ take at piece) (take (length piece - at) (drop at piece)), length-append f.buffered (take (length piece - at) (drop at piece))) in
     let faulty : IsFaulty max_body ((stream ++ take at piece) ++ take (length piece - at) (drop at piece)) bodies fault = record {
-      rest = f.held ++ take (length piece - at) (drop at piece);
-      spelled = spelled_more max_body (stream ++ take at piece) bodies f.held (take (length piece - at) (drop at piece)) behind.holding.spelled;
+      rest = f.buffered ++ take (length piece - at) (drop at piece);
+      spelled = spelled_more max_body (stream ++ take at piece) bodies f.buffered (take (length piece - at) (drop at piece)) rest_after.holding.spelled;
       decided = record {
         kind = why.decided.kind;
         k = why.decided.k;
         decided = here;
-        is = why.decided.is ∙ ap (λ p. fault_at why.decided.kind (place_behind p why.decided.k)) (behind.holding.place ∙ ap (place_behind 0) same);
+        is = why.decided.is ∙ ap (λ p. header_fault_at why.decided.kind (place_after p why.decided.k)) (rest_after.holding.place ∙ ap (place_after 0) same);
       };
-      hopeless = decided_hopeless max_body (f.held ++ take (length piece - at) (drop at piece)) why.decided.k why.decided.kind here;
+      hopeless = decided_hopeless max_body (f.buffered ++ take (length piece - at) (drop at piece)) why.decided.k why.decided.kind here;
     } in
     subst (λ (z : List ℕ). IsFaulty max_body z bodies fault) (all_of stream piece (stream ++ take at piece) at refl) faulty
 
 -- A new framer.
-pub new_behind : (limits : Bounds) (f : Framing) → f ≡ record { place = 0; held = []; failed = false; limits = limits } → IsBehind limits.max_body [] [] f
+pub new_behind : (limits : Bounds) (f : Framing) → f ≡ record { place = 0; buffered = []; failed = false; limits = limits } → HasTaken limits.max_body [] [] f
 new_behind limits f e =
-    let fresh : Framing = record { place = 0; held = []; failed = false; limits = limits } in
-    let behind : IsBehind limits.max_body [] [] (record { place = 0; held = []; failed = false; limits = limits }) = record {
+    let fresh : Framing = record { place = 0; buffered = []; failed = false; limits = limits } in
+    let rest_after : HasTaken limits.max_body [] [] (record { place = 0; buffered = []; failed = false; limits = limits }) = record {
       holding = record { spelled = refl; place = refl; sound = refl; part = nothing_part limits.max_body; limit = refl };
       none = no_empty_frame limits.max_body;
     } in
-    subst (λ (g : Framing). IsBehind limits.max_body [] [] g) (sym e) behind
+    subst (λ (g : Framing). HasTaken limits.max_body [] [] g) (sym e) rest_after
 
-pub behind_none : (max_body : ℕ) (stream : List ℕ) (bodies : List (List ℕ)) (f : Framing) → IsBehind max_body stream bodies f → IsFrame f.limits.max_body f.held → ⊥
-behind_none max_body stream bodies f at frame = at.none (subst (λ (n : ℕ). IsFrame n f.held) at.holding.limit frame)
+pub behind_none : (max_body : ℕ) (stream : List ℕ) (bodies : List (List ℕ)) (f : Framing) → HasTaken max_body stream bodies f → IsFrame f.limits.max_body f.buffered → ⊥
+behind_none max_body stream bodies f at frame = at.none (subst (λ (n : ℕ). IsFrame n f.buffered) at.holding.limit frame)
 
 -- The pieces of a stream, one after another.
 pub joined_more : (f : Vec ℕ Global → List ℕ) (pieces : List (Vec ℕ Global)) (i : ℕ) (piece : Vec ℕ Global) → i < length pieces → piece ≡ get_or pieces i piece → flat_map f (take i pieces) ++ f piece ≡ flat_map f (take (i + 1) pieces)
@@ -380,10 +381,10 @@ piece_faulty max_body f pieces i piece now bodies fault within is e faulty =
     let all : IsFaulty max_body (flat_map f (take (i + 1) pieces) ++ flat_map f (drop (i + 1) pieces)) bodies fault = faulty_more max_body (flat_map f (take (i + 1) pieces)) (flat_map f (drop (i + 1) pieces)) bodies fault here in
     faulty_read max_body (flat_map f pieces) bodies fault (subst (λ (z : List ℕ). IsFaulty max_body z bodies fault) (joined_all f pieces (i + 1)) all)
 
-pub piece_behind : (max_body : ℕ) (f : Vec ℕ Global → List ℕ) (pieces : List (Vec ℕ Global)) (i : ℕ) (piece : Vec ℕ Global) (now : List ℕ) (bodies : List (List ℕ)) (g : Framing) → i < length pieces → piece ≡ get_or pieces i piece → now ≡ f piece → IsBehind max_body (flat_map f (take i pieces) ++ now) bodies g → IsBehind max_body (flat_map f (take (i + 1) pieces)) bodies g
-piece_behind max_body f pieces i piece now bodies g within is e behind =
+pub piece_behind : (max_body : ℕ) (f : Vec ℕ Global → List ℕ) (pieces : List (Vec ℕ Global)) (i : ℕ) (piece : Vec ℕ Global) (now : List ℕ) (bodies : List (List ℕ)) (g : Framing) → i < length pieces → piece ≡ get_or pieces i piece → now ≡ f piece → HasTaken max_body (flat_map f (take i pieces) ++ now) bodies g → HasTaken max_body (flat_map f (take (i + 1) pieces)) bodies g
+piece_behind max_body f pieces i piece now bodies g within is e rest_after =
     let joined : flat_map f (take i pieces) ++ now ≡ flat_map f (take (i + 1) pieces) = ap (λ z. flat_map f (take i pieces) ++ z) e ∙ joined_more f pieces i piece within is in
-    subst (λ (z : List ℕ). IsBehind max_body z bodies g) joined behind
+    subst (λ (z : List ℕ). HasTaken max_body z bodies g) joined rest_after
 
 -- A stream has the bytes of each of its pieces.
 pub piece_some : (f : Vec ℕ Global → List ℕ) (pieces : List (Vec ℕ Global)) (i : ℕ) (piece : Vec ℕ Global) (now : List ℕ) → i < length pieces → piece ≡ get_or pieces i piece → now ≡ f piece → 0 < length now → 0 < length (flat_map f pieces)

@@ -49,11 +49,11 @@ parameter_other part t name k r e first named answer is_not =
     ap not is_not ∙ sym (subst (λ (x : List ℕ). is_good_trimmed x ≡ true) e good)
 
 pub parameter_charset : (part t name value inner : List ℕ) (k : ℕ) (r answer : Bool) → t ≡ trimmed part → IsFirstByte (is_byte 61) t (Some k) → name ≡ trimmed (take k t) → r ≡ is_text (codes "charset") name → r ≡ true → value ≡ trimmed (take (length t - (k + 1)) (drop (k + 1) t)) → inner ≡ unquoted value → answer ≡ is_utf8_name inner → answer ≡ is_good_parameter part
-parameter_charset part t name value inner k r answer e first named asked is valued quoted told =
+parameter_charset part t name value inner k r answer e first named asked is valued quoted error =
     let charset : is_text (codes "charset") (trimmed (take k t)) ≡ true = ap (is_text (codes "charset")) (sym named) ∙ sym asked ∙ is in
     let rest : value ≡ trimmed (drop (k + 1) t) = valued ∙ ap trimmed (take_rest t (k + 1)) in
     let good : is_good_trimmed t ≡ is_utf8_name (unquoted (trimmed (drop (k + 1) t))) = good_with t k first ∙ rw charset refl in
-    told ∙ ap is_utf8_name (quoted ∙ ap unquoted rest) ∙ sym good ∙ ap is_good_trimmed e
+    error ∙ ap is_utf8_name (quoted ∙ ap unquoted rest) ∙ sym good ∙ ap is_good_trimmed e
 
 pub number_above : (digits : List ℕ) (n i most : ℕ) → fold (λ (m b : ℕ). 10 * m + (b - 48)) n (drop i digits) ≡ number digits → i < length digits → most < n * 10 + (get_or digits i 0 - 48) → most < number digits
 number_above digits n i most is within above =
@@ -84,19 +84,19 @@ rest_shorter hay k n h = omega (arith, length-take (length hay - (k + 1)) (drop 
 
 -- The answer at a part that is bad, behind good ones, and at the last part.
 pub bad_part : (hay : List ℕ) (k : ℕ) (r : Bool) → IsFirstByte (is_byte 59) hay (Some k) → r ≡ is_good_parameter (take k hay) → r ≡ false → (all : Bool) → list_all is_good_parameter (slice_split is_semicolon hay) ≡ all → false ≡ all
-bad_part hay k r first told is all e =
-    let bad : is_good_parameter (take k hay) ≡ false = sym told ∙ is in
+bad_part hay k r first error is all e =
+    let bad : is_good_parameter (take k hay) ≡ false = sym error ∙ is in
     let none : list_all is_good_parameter (slice_split is_semicolon hay) ≡ false = all_split_some hay k first ∙ rw bad refl in
     sym none ∙ e
 
 pub good_part : (hay : List ℕ) (k : ℕ) (r : Bool) → IsFirstByte (is_byte 59) hay (Some k) → r ≡ is_good_parameter (take k hay) → r ≡ true → (all : Bool) → list_all is_good_parameter (slice_split is_semicolon hay) ≡ all → list_all is_good_parameter (slice_split is_semicolon (take (length hay - (k + 1)) (drop (k + 1) hay))) ≡ all
-good_part hay k r first told is all e =
-    let good : is_good_parameter (take k hay) ≡ true = sym told ∙ is in
+good_part hay k r first error is all e =
+    let good : is_good_parameter (take k hay) ≡ true = sym error ∙ is in
     let rest : list_all is_good_parameter (slice_split is_semicolon hay) ≡ list_all is_good_parameter (slice_split is_semicolon (take (length hay - (k + 1)) (drop (k + 1) hay))) = all_split_some hay k first ∙ rw good refl in
     sym rest ∙ e
 
 pub last_part : (hay : List ℕ) (r : Bool) → IsFirstByte (is_byte 59) hay None → r ≡ is_good_parameter hay → (all : Bool) → list_all is_good_parameter (slice_split is_semicolon hay) ≡ all → r ≡ all
-last_part hay r first told all e = told ∙ sym (and-true (is_good_parameter hay)) ∙ sym (all_split_none hay first) ∙ e
+last_part hay r first error all e = error ∙ sym (and-true (is_good_parameter hay)) ∙ sym (all_split_none hay first) ∙ e
   where
     and-true : (b : Bool) → (b && true) ≡ b
     and-true true = refl

@@ -73,17 +73,17 @@ digits_front rest window digits most n e within front each =
     ap (list_all is_digit) (front ∙ sym same) ∙ each
 
 -- The parts of the header, as they are found.
-pub begins_written : (max_body : ℕ) (bytes rest digits behind : List ℕ) (len body : ℕ) → bytes ≡ codes "Content-Length: " ++ rest → rest ≡ digits ++ behind → behind ≡ codes "\r\n\r\n" ++ drop 4 behind → 0 < length digits → length digits ≤ 10 → list_all is_digit digits ≡ true → len ≡ 16 + length digits + 4 → Some body ≡ (if nat_lt max_body (number digits) then None else Some (number digits)) → BeginsWritten max_body bytes (record { len = len; body = body })
-begins_written max_body bytes rest digits behind len body named split ends some few each is_len told = record {
+pub begins_written : (max_body : ℕ) (bytes rest digits rest_after : List ℕ) (len body : ℕ) → bytes ≡ codes "Content-Length: " ++ rest → rest ≡ digits ++ rest_after → rest_after ≡ codes "\r\n\r\n" ++ drop 4 rest_after → 0 < length digits → length digits ≤ 10 → list_all is_digit digits ≡ true → len ≡ 16 + length digits + 4 → Some body ≡ (if nat_lt max_body (number digits) then None else Some (number digits)) → BeginsWritten max_body bytes (record { len = len; body = body })
+begins_written max_body bytes rest digits rest_after len body named split ends some few each is_len error = record {
   digits = digits;
-  rest = drop 4 behind;
+  rest = drop 4 rest_after;
   is = named ∙ ap (λ x. codes "Content-Length: " ++ x) (split ∙ ap (λ x. digits ++ x) ends) ∙ simp append_assoc;
   some = some;
   few = few;
   each = each;
   len = is_len ∙ omega arith;
-  body = (within_body max_body (number digits) body told).0;
-  small = (within_body max_body (number digits) body told).1;
+  body = (within_body max_body (number digits) body error).0;
+  small = (within_body max_body (number digits) body error).1;
 }
   where
     within_body : (most n got : ℕ) → Some got ≡ (if nat_lt most n then None else Some n) → (got ≡ n) × (got ≤ most)
@@ -126,8 +126,8 @@ pub written_rest : (max_body : ℕ) (bytes : List ℕ) (header : WrittenHeader) 
 written_rest max_body bytes header w = w.is ∙ simp append_assoc
 
 -- The parts that are found are those of the header.
-pub found_parts : (max_body : ℕ) (bytes rest window digits behind : List ℕ) (n : ℕ) (header : WrittenHeader) (w : BeginsWritten max_body bytes header) → bytes ≡ codes "Content-Length: " ++ rest → window ≡ take 10 rest → n ≤ length window → list_all is_digit (take n window) ≡ true → (n < length window → is_digit (get_or window n 0) ≡ false) → digits ≡ take n rest → behind ≡ drop n rest → (digits ≡ w.digits) × (behind ≡ codes "\r\n\r\n" ++ w.rest)
-found_parts max_body bytes rest window digits behind n header w named cut within found last front back =
+pub found_parts : (max_body : ℕ) (bytes rest window digits rest_after : List ℕ) (n : ℕ) (header : WrittenHeader) (w : BeginsWritten max_body bytes header) → bytes ≡ codes "Content-Length: " ++ rest → window ≡ take 10 rest → n ≤ length window → list_all is_digit (take n window) ≡ true → (n < length window → is_digit (get_or window n 0) ≡ false) → digits ≡ take n rest → rest_after ≡ drop n rest → (digits ≡ w.digits) × (rest_after ≡ codes "\r\n\r\n" ++ w.rest)
+found_parts max_body bytes rest window digits rest_after n header w named cut within found last front back =
     let is : rest ≡ w.digits ++ 13 ∷ 10 ∷ 13 ∷ 10 ∷ w.rest =
     (same_length_front (codes "Content-Length: ") (codes "Content-Length: ") rest (w.digits ++ 13 ∷ 10 ∷ 13 ∷ 10 ∷ w.rest) refl (sym named ∙ written_rest max_body bytes header w)).1 in
     let len : n ≡ length w.digits = same_len rest window w.digits (10 ∷ 13 ∷ 10 ∷ w.rest) 10 n cut is w.few w.each within found last in (
@@ -137,8 +137,8 @@ found_parts max_body bytes rest window digits behind n header w named cut within
 
 -- A length that is within the limit is not refused.
 pub within_told : (max_body : ℕ) (bytes digits : List ℕ) (header : WrittenHeader) (w : BeginsWritten max_body bytes header) → digits ≡ w.digits → None ≡ (if nat_lt max_body (number digits) then None else Some (number digits)) → ⊥
-within_told max_body bytes digits header w same told =
+within_told max_body bytes digits header w same error =
     let value : number digits ≡ header.body = ap number same ∙ sym w.body in
     let not_more : nat_lt max_body (number digits) ≡ false = le-ltb max_body (number digits) (omega (arith, value, w.small)) in
-    let found : None ≡ Some (number digits) = told ∙ rw not_more refl in
+    let found : None ≡ Some (number digits) = error ∙ rw not_more refl in
     cc

@@ -10,7 +10,7 @@ use Rattle.std.proofs.lemmas.Str.Parse.{IsNumeralModel, IsDigitsTest, FoldsDigit
 use Rattle.lsp_frame.specs.Header.{Line, IsNameByte, IsValueByte}
 use Rattle.lsp_frame.specs.Charset.{is_blank, trimmed, trimmed_start, trimmed_end}
 use Rattle.lsp_frame.specs.Verdict.{is_digit, number, judge}
-use Rattle.lsp_frame.specs.Frame.{frame, Spells}
+use Rattle.lsp_frame.specs.Frame.{frame, IsFrameOf}
 use Rattle.lsp_frame.proofs.LineLemmas.{All_at}
 
 -- a digit
@@ -95,9 +95,9 @@ written_judged max_body n within small =
     let not_more : nat_lt max_body n ≡ false = le-ltb max_body n within in
     rw (cut, some, all_digits (decimal n) all, value, not_more) refl
 
-pub written_spells : (max_body : ℕ) (body : List ℕ) → length body ≤ max_body → length body < 2 ^ 64 → Spells max_body (frame body) body
+pub written_is_frame : (max_body : ℕ) (body : List ℕ) → length body ≤ max_body → length body < 2 ^ 64 → IsFrameOf max_body (frame body) body
 unfolding frame
-written_spells max_body body within small =
+written_is_frame max_body body within small =
     let all : AreDigits (decimal (length body)) = digits_decimal numerals (length body) small in
     let len : length (decimal (length body)) ≤ 20 = length-decimal-le 20 (length body) (lit< tt) (omega arith) small in
     record {
@@ -112,8 +112,8 @@ pub frame_len : (body : List ℕ) → length body ≤ length (frame body)
 unfolding frame
 frame_len body = simp length-append (omega arith)
 
-pub ok_spells : {E : Type 0} (body : List ℕ) (r : Result (Vec ℕ Global) E) → IfOk r (λ v. v.items ≡ frame body) → IfOk r (λ v. (max_body : ℕ) → length body ≤ max_body → Spells max_body v.items body)
-ok_spells body (Ok v) e = λ max_body within.
+pub ok_is_frame : {E : Type 0} (body : List ℕ) (r : Result (Vec ℕ Global) E) → IfOk r (λ v. v.items ≡ frame body) → IfOk r (λ v. (max_body : ℕ) → length body ≤ max_body → IsFrameOf max_body v.items body)
+ok_is_frame body (Ok v) e = λ max_body within.
     let small : length body < 2 ^ 64 = omega (arith, frame_len body, ap length e, v.ok, v.small) in
-    subst (λ (bytes : List ℕ). Spells max_body bytes body) (sym e) (written_spells max_body body within small)
-ok_spells body (Err f) e = tt
+    subst (λ (bytes : List ℕ). IsFrameOf max_body bytes body) (sym e) (written_is_frame max_body body within small)
+ok_is_frame body (Err f) e = tt

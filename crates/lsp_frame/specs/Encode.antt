@@ -1,8 +1,10 @@
+-- The errors of `encode`.
 use Rattle.std.specs.Prelude.{ℕ, ◌≡◌, ◌<◌, ◌≤◌}
 use Rattle.lsp_frame.specs.declared.written.EncodeFault.{EncodeFault}
 use Rattle.lsp_frame.specs.declared.written.EncodeFault.TheVariants.{BodyTooLong, NoMemory}
 
--- why a body of so many bytes has no frame under a limit: it is longer, or it isn't and memory ran out
+-- Why a body of `len` bytes has no frame under a limit: it is longer, or it isn't and memory ran
+-- out.
 abbrev pub IsEncodeFault : ℕ → ℕ → EncodeFault → Type 0
-IsEncodeFault max_body len (BodyTooLong told) = (max_body < len) × (told ≡ len)
+IsEncodeFault max_body len (BodyTooLong error) = (max_body < len) × (error ≡ len)
 IsEncodeFault max_body len NoMemory = len ≤ max_body

@@ -1,4 +1,4 @@
--- Where a fault in a frame's header is decided.
+-- On which byte a fault of a header is decided.
 use Rattle.std.specs.Prelude.{ℕ, ◌≡◌, ◌<◌, ◌+◌, ◌-◌, ◌^◌, List, length, take, min, Err}
 use Rattle.lsp_frame.specs.Header.{Line, AreLines, header_of, IsHeader, BeginsHeader}
 use Rattle.lsp_frame.specs.Verdict.{judge}
@@ -7,7 +7,7 @@ use Rattle.lsp_frame.specs.declared.fault.HeaderFault.TheVariants as header
 use Rattle.lsp_frame.specs.declared.fault.FrameFault.{FrameFault}
 use Rattle.lsp_frame.specs.declared.fault.FrameFault.TheVariants.{BadHeader, HeaderTooLong, MissingLength, RepeatedHeader, BadLength, BodyTooLong, BadCharset}
 
--- Up to byte k some header goes on, and with it none does.
+-- The bytes before byte k begin some header, and with byte k they begin none.
 pub record IsBadHeaderAt (bytes : List ℕ) (k : ℕ) : Type 0 where
   pub there : k < length bytes
   pub within : k < 8192
@@ -15,13 +15,13 @@ pub record IsBadHeaderAt (bytes : List ℕ) (k : ℕ) : Type 0 where
   pub not_on : BeginsHeader (take (k + 1) bytes) → ⊥
   pub not_whole : IsHeader (take (k + 1) bytes) → ⊥
 
--- Byte k is the 8,192nd, and the header goes on behind it.
+-- Byte k is the 8,192nd of the header, and the header continues after it.
 pub record IsHeaderTooLongAt (bytes : List ℕ) (k : ℕ) : Type 0 where
   pub there : k < length bytes
   pub place : k + 1 ≡ 8192
   pub on : BeginsHeader (take (k + 1) bytes)
 
--- Byte k is the last of a header, and the fault is the first that is wrong with it.
+-- Byte k is the last of a header, and the fault is the first that this header has.
 pub record IsJudgedAt (max_body : ℕ) (bytes : List ℕ) (k : ℕ) (fault : HeaderFault) : Type 0 where
   pub lines : List Line
   pub each : AreLines lines
@@ -30,33 +30,35 @@ pub record IsJudgedAt (max_body : ℕ) (bytes : List ℕ) (k : ℕ) (fault : Hea
   pub within : k < 8192
   pub judged : judge max_body lines ≡ Err fault
 
--- The fault is decided at byte k of the bytes of a frame that is to come.
+-- Of a frame that begins with these bytes: the fault is decided on byte k.
 abbrev pub IsDecidedAt : ℕ → List ℕ → ℕ → HeaderFault → Type 0
 IsDecidedAt max_body bytes k header.BadHeader = IsBadHeaderAt bytes k
 IsDecidedAt max_body bytes k header.HeaderTooLong = IsHeaderTooLongAt bytes k
 IsDecidedAt max_body bytes k header.MissingLength = IsJudgedAt max_body bytes k header.MissingLength
-IsDecidedAt max_body bytes k header.RepeatedHeader = IsJudgedAt max_body bytes k header.RepeatedHeader
+IsDecidedAt max_body bytes k header.RepeatedHeader
+    = IsJudgedAt max_body bytes k header.RepeatedHeader
 IsDecidedAt max_body bytes k header.BadLength = IsJudgedAt max_body bytes k header.BadLength
 IsDecidedAt max_body bytes k header.BodyTooLong = IsJudgedAt max_body bytes k header.BodyTooLong
 IsDecidedAt max_body bytes k header.BadCharset = IsJudgedAt max_body bytes k header.BadCharset
 
--- the fault with its place in the stream
-abbrev pub fault_at : HeaderFault → ℕ → FrameFault
-fault_at header.BadHeader place = BadHeader place
-fault_at header.HeaderTooLong place = HeaderTooLong place
-fault_at header.MissingLength place = MissingLength place
-fault_at header.RepeatedHeader place = RepeatedHeader place
-fault_at header.BadLength place = BadLength place
-fault_at header.BodyTooLong place = BodyTooLong place
-fault_at header.BadCharset place = BadCharset place
+-- The fault with the offset of its byte in the stream.
+abbrev pub header_fault_at : HeaderFault → ℕ → FrameFault
+header_fault_at header.BadHeader place = BadHeader place
+header_fault_at header.HeaderTooLong place = HeaderTooLong place
+header_fault_at header.MissingLength place = MissingLength place
+header_fault_at header.RepeatedHeader place = RepeatedHeader place
+header_fault_at header.BadLength place = BadLength place
+header_fault_at header.BodyTooLong place = BodyTooLong place
+header_fault_at header.BadCharset place = BadCharset place
 
--- so many bytes behind a place; a place stays at the greatest value of a u64
-abbrev pub place_behind : ℕ → ℕ → ℕ
-place_behind place n = min (place + n) (2 ^ 64 - 1)
+-- The offset that is n bytes after another; it is at most the greatest value of a u64.
+abbrev pub place_after : ℕ → ℕ → ℕ
+place_after place n = min (place + n) (2 ^ 64 - 1)
 
--- The fault was decided on a byte of a frame that is to come, whose first byte stands at a place.
+-- The fault was decided on a byte of a frame, whose first byte has the offset `start` in the
+-- stream.
 pub record IsDecided (max_body start : ℕ) (bytes : List ℕ) (fault : FrameFault) : Type 0 where
   pub kind : HeaderFault
   pub k : ℕ
   pub decided : IsDecidedAt max_body bytes k kind
-  pub is : fault ≡ fault_at kind (place_behind start k)
+  pub is : fault ≡ header_fault_at kind (place_after start k)

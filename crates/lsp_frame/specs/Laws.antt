@@ -1,46 +1,50 @@
 -- Laws over frames, streams and faults, whatever the limit on bodies is.
 use Rattle.std.specs.Prelude.{ℕ, ◌≡◌, ◌⊎◌, ◌+◌, ◌^◌, ◌≤◌, ◌<◌, List, [], ◌++◌, length, Option}
-use Rattle.lsp_frame.specs.Frame.{frame, Spells, HasNoFrame, IsHopeless}
+use Rattle.lsp_frame.specs.Frame.{frame, IsFrameOf, HasNoFrame, IsHopeless}
 use Rattle.lsp_frame.specs.Faults.{IsDecidedAt}
 use Rattle.lsp_frame.specs.Stream.{HasFrames, IsRead}
 use Rattle.lsp_frame.specs.declared.fault.HeaderFault.{HeaderFault}
 use Rattle.lsp_frame.specs.declared.fault.FrameFault.{FrameFault}
 
--- No spelling is a proper front of another, and a spelling has one body.
-abbrev pub SpellingLaw : Type 0
-SpellingLaw =
+-- No frame is a proper prefix of another, and a frame has one body.
+abbrev pub OneFrameLaw : Type 0
+OneFrameLaw =
     (max_body : ℕ) (spelling more body other : List ℕ) →
-    Spells max_body spelling body → Spells max_body (spelling ++ more) other → (more ≡ []) × (body ≡ other)
+    IsFrameOf max_body spelling body → IsFrameOf max_body (spelling ++ more) other →
+    (more ≡ []) × (body ≡ other)
 
--- The two frames have one spelling and one body, and the same bytes stand behind them.
+-- Two frames have the same bytes and the same body, and the same bytes follow them.
 pub record SameFrame (spelling other body other_body x y : List ℕ) : Type 0 where
-  pub spelling_is : spelling ≡ other
+  pub same_bytes : spelling ≡ other
   pub body_is : body ≡ other_body
   pub rest_is : x ≡ y
 
--- Two frames at the front of the same bytes are one.
+-- The same bytes begin with at most one frame.
 abbrev pub FrontLaw : Type 0
 FrontLaw =
     (max_body : ℕ) (spelling other body other_body x y : List ℕ) →
-    Spells max_body spelling body → Spells max_body other other_body → spelling ++ x ≡ other ++ y → SameFrame spelling other body other_body x y
+    IsFrameOf max_body spelling body → IsFrameOf max_body other other_body →
+    spelling ++ x ≡ other ++ y → SameFrame spelling other body other_body x y
 
 -- A frame has at most 8,192 bytes more than the limit.
 abbrev pub BoundLaw : Type 0
-BoundLaw = (max_body : ℕ) (spelling body : List ℕ) → Spells max_body spelling body → length spelling ≤ 8192 + max_body
+BoundLaw = (max_body : ℕ) (spelling body : List ℕ) → IsFrameOf max_body spelling body →
+    length spelling ≤ 8192 + max_body
 
--- a whole frame at the beginning of these bytes, its body, and what follows it
+-- A whole frame at the beginning of these bytes, its body, and what follows it.
 pub record BeginsFrame (max_body : ℕ) (bytes : List ℕ) : Type 0 where
   pub frame : List ℕ
   pub body : List ℕ
   pub rest : List ℕ
-  pub is_frame : Spells max_body frame body
+  pub is_frame : IsFrameOf max_body frame body
   pub is : bytes ≡ frame ++ rest
 
--- A whole frame begins here, or none does: the bytes decide which.
+-- The bytes begin with a whole frame, or they begin with none.
 abbrev pub DecisionLaw : Type 0
-DecisionLaw = (max_body : ℕ) (bytes : List ℕ) → BeginsFrame max_body bytes ⊎ HasNoFrame max_body bytes
+DecisionLaw = (max_body : ℕ) (bytes : List ℕ) → BeginsFrame max_body bytes
+    ⊎ HasNoFrame max_body bytes
 
--- all frames of a stream
+-- All frames of a stream, and the rest after them.
 pub record AllFrames (max_body : ℕ) (stream : List ℕ) : Type 0 where
   pub bodies : List (List ℕ)
   pub rest : List ℕ
@@ -50,23 +54,27 @@ pub record AllFrames (max_body : ℕ) (stream : List ℕ) : Type 0 where
 abbrev pub AllFramesLaw : Type 0
 AllFramesLaw = (max_body : ℕ) (stream : List ℕ) → AllFrames max_body stream
 
--- The frames of a stream are one list, and what is left behind them is one.
+-- A stream has only one list of frames, and only one rest after them.
 abbrev pub FramesLaw : Type 0
 FramesLaw =
     (max_body : ℕ) (stream : List ℕ) (bodies others : List (List ℕ)) (rest other : List ℕ) →
-    HasFrames max_body stream bodies rest → HasFrames max_body stream others other → (bodies ≡ others) × (rest ≡ other)
+    HasFrames max_body stream bodies rest → HasFrames max_body stream others other →
+    (bodies ≡ others) × (rest ≡ other)
 
--- The same with the fault behind them, or that there is none.
+-- A stream has only one list of frames, and only one fault after them, or none.
 abbrev pub ReadingLaw : Type 0
 ReadingLaw =
-    (max_body : ℕ) (stream : List ℕ) (bodies others : List (List ℕ)) (fault other : Option FrameFault) →
-    IsRead max_body stream bodies fault → IsRead max_body stream others other → (bodies ≡ others) × (fault ≡ other)
+    (max_body : ℕ) (stream : List ℕ) (bodies others : List (List ℕ))
+    (fault other : Option FrameFault) →
+    IsRead max_body stream bodies fault → IsRead max_body stream others other →
+    (bodies ≡ others) × (fault ≡ other)
 
 -- At most one fault is decided, at one byte.
 abbrev pub FaultLaw : Type 0
 FaultLaw =
     (max_body : ℕ) (bytes : List ℕ) (j k : ℕ) (fault other : HeaderFault) →
-    IsDecidedAt max_body bytes j fault → IsDecidedAt max_body bytes k other → (j ≡ k) × (fault ≡ other)
+    IsDecidedAt max_body bytes j fault → IsDecidedAt max_body bytes k other →
+    (j ≡ k) × (fault ≡ other)
 
 -- More bytes don't change the decision.
 abbrev pub StayingLaw : Type 0
@@ -74,15 +82,18 @@ StayingLaw =
     (max_body : ℕ) (bytes more : List ℕ) (k : ℕ) (fault : HeaderFault) →
     IsDecidedAt max_body bytes k fault → IsDecidedAt max_body (bytes ++ more) k fault
 
--- Where a fault is decided no frame begins, whatever may follow.
+-- Where a fault is decided the bytes begin with no frame, whatever may follow.
 abbrev pub HopelessLaw : Type 0
 HopelessLaw =
-    (max_body : ℕ) (bytes : List ℕ) (k : ℕ) (fault : HeaderFault) → IsDecidedAt max_body bytes k fault → IsHopeless max_body bytes
+    (max_body : ℕ) (bytes : List ℕ) (k : ℕ) (fault : HeaderFault) →
+    IsDecidedAt max_body bytes k fault → IsHopeless max_body bytes
 
--- A written frame spells its body under each limit that lets the body pass.
+-- Each limit that allows the body lets a reader take its written frame.
 abbrev pub WrittenLaw : Type 0
-WrittenLaw = (max_body : ℕ) (body : List ℕ) → length body ≤ max_body → length body < 2 ^ 64 → Spells max_body (frame body) body
+WrittenLaw = (max_body : ℕ) (body : List ℕ) → length body ≤ max_body → length body < 2 ^ 64 →
+    IsFrameOf max_body (frame body) body
 
--- Two bodies with one written frame are one.
+-- Two bodies with the same written frame are the same.
 abbrev pub InjectiveLaw : Type 0
-InjectiveLaw = (body other : List ℕ) → length body < 2 ^ 64 → length other < 2 ^ 64 → frame body ≡ frame other → body ≡ other
+InjectiveLaw = (body other : List ℕ) → length body < 2 ^ 64 → length other < 2 ^ 64 →
+    frame body ≡ frame other → body ≡ other

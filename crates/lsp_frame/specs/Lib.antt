@@ -8,3 +8,4 @@ pub mod Faults
 pub mod Stream
 pub mod Progress
 pub mod Laws
+pub mod inside

@@ -1,17 +1,24 @@
+-- The four limits and their ranges.
 use Rattle.std.specs.Prelude.{ℕ, ◌≤◌, Bool, ◌||◌, nat_lt, if◌then◌else◌, Option, Some, None}
 
--- the four limits: bytes of a body, bytes of a text, open documents, changes of one message
+-- The four limits: bytes of a body, bytes of a text, open documents, changes of one message.
 pub record Bounds : Type 0 where
   pub max_body : ℕ
   pub max_text : ℕ
   pub max_docs : ℕ
   pub max_changes : ℕ
 
--- a number lies outside of a range, both of whose ends are good
+-- The limits where a user sets none: 16 MiB of a body and of a text, 1,024 documents, 65,536
+-- changes.
+abbrev pub default_limits : Bounds
+default_limits
+    = record { max_body = 16777216; max_text = 16777216; max_docs = 1024; max_changes = 65536 }
+
+-- The number is out of the range from `least` to `greatest`, both included.
 abbrev pub is_outside : ℕ → ℕ → ℕ → Bool
 is_outside least greatest n = nat_lt n least || nat_lt greatest n
 
--- the first limit that is out of its range, counted from 1
+-- The first limit that is out of its range, counted from 1.
 abbrev pub first_out_of_range : Bounds → Option ℕ
 first_out_of_range b =
     if is_outside 4096 1073741824 b.max_body then Some 1

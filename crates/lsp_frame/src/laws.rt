@@ -1,16 +1,20 @@
-//! Laws over the definitions alone, that no call of this crate makes by itself.
+//! Laws that follow from the definitions alone, for proofs over frames.
 
-ghost use Rattle.lsp_frame.specs.Laws.{SpellingLaw, FrontLaw, BoundLaw, DecisionLaw, AllFramesLaw, FramesLaw, ReadingLaw, FaultLaw, StayingLaw, HopelessLaw, WrittenLaw, InjectiveLaw};
+ghost use Rattle.lsp_frame.specs.Laws.{OneFrameLaw, FrontLaw, BoundLaw, DecisionLaw, AllFramesLaw, FramesLaw, ReadingLaw, FaultLaw, StayingLaw, HopelessLaw, WrittenLaw, InjectiveLaw};
 
-/// What holds of every frame and stream, whatever the limit on bodies is (LSP 3.17, Base Protocol).
+/// Promises what is true of every frame and stream, whatever the limit on bodies is (LSP 3.17, Base
+/// Protocol). The call itself does nothing.
 ///
-/// It does nothing. Its contract says that no frame is a proper front of another, that two frames
-/// at the front of the same bytes are one, that a frame has one body, and how long it is at most.
-/// The bytes decide whether a frame begins. A stream has exactly one list of frames, and its fault
-/// is one. A fault is decided at one byte alone, whatever follows it, and no frame begins there any
-/// more. A written frame is read as its body, and as no other.
+/// - A frame has one body. No frame is a proper prefix of another, so the same bytes begin with at
+///   most one frame.
+/// - A frame has at most 8,192 bytes more than the limit.
+/// - Bytes either begin with a whole frame or they don't. A stream has exactly one list of frames,
+///   and one fault or none after them.
+/// - A fault is decided at one byte alone, whatever follows it, and no frame begins there any more.
+/// - A written frame is read as its body, and different bodies have different frames, if they are
+///   shorter than 2^64 bytes.
 pub fn frame_laws()
-    ensures spelling { SpellingLaw }
+    ensures spelling { OneFrameLaw }
     ensures front { FrontLaw }
     ensures bound { BoundLaw }
     ensures decision { DecisionLaw }

@@ -1,23 +1,20 @@
-//! The frames of the base protocol of LSP 3.17: a header that gives a length, and a body of so many bytes.
+//! Reads and writes the frames of the base protocol of LSP 3.17: a header that states a length, and
+//! a body of so many bytes.
 //!
-//! - `limits`: how long a body, a text and a list may be, in all layers above.
-//! - `written`: the one form in which frames are written; a header in it is read at once.
-//! - `framer`: the frames of a stream that comes in pieces, over `stage`, `written`, `header`, `shape`, `notes` and `words`.
-//! - `fault`: what can be wrong with them.
-//! - `stream`: the frames of a whole stream, and that they don't depend on how it was cut.
-//! - `laws`: what holds of frames, streams and faults by their definitions.
+//! - `framer`: `Framer` takes a stream apart into its frames, in whatever pieces the stream comes.
+//!   It is built on `stage`, `written`, `header`, `shape`, `notes` and `words`.
+//! - `written`: the one form in which frames are written. A header in this form is read at once.
+//! - `limits`: how long a body, a text and a list may be, in this crate and all that use it.
+//! - `fault`: what can be wrong with a stream of frames.
+//! - `stream`: all frames of a whole stream, which don't depend on how it was cut.
+//! - `laws`: what follows from the definitions of frames, streams and faults alone.
 #![tactic(auto)]
 
 mod fault;
 mod framer;
-mod header;
 mod laws;
 mod limits;
-mod notes;
-mod shape;
-mod stage;
 mod stream;
-mod words;
 mod written;
 
 pub use fault::FrameFault;

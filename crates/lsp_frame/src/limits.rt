@@ -6,8 +6,8 @@ ghost use Rattle.lsp_frame.specs.Limits.{Bounds, first_out_of_range};
 use std::marker::Model;
 use thiserror::Error;
 
-/// How long a body and a text may be, in bytes, how many documents may be open, and how many changes one
-/// message may hold. Clauses see the four numbers.
+/// The limits on one session: bytes of a body, bytes of a text, open documents, and changes in one
+/// message. Clauses see the four numbers.
 #[derive(Clone, Copy, Debug, PartialEq, Eq)]
 pub struct Limits {
     max_body: usize,
@@ -21,19 +21,54 @@ impl Model for Limits {
 
     ghost Value = { Bounds };
 
-    ghost view = { λ l. record { max_body = l.max_body; max_text = l.max_text; max_docs = l.max_docs; max_changes = l.max_changes } };
+    ghost view = { λ l.
+        record {
+          max_body = l.max_body;
+          max_text = l.max_text;
+          max_docs = l.max_docs;
+          max_changes = l.max_changes;
+        } };
 
-    ghost invariant = { λ l. AreInRange (record { max_body = l.max_body; max_text = l.max_text; max_docs = l.max_docs; max_changes = l.max_changes }) };
+    ghost invariant = { λ l. AreInRange
+        (record {
+          max_body = l.max_body;
+          max_text = l.max_text;
+          max_docs = l.max_docs;
+          max_changes = l.max_changes;
+        }) };
 
-    ghost inverse = { λ b. record { max_body = b.max_body; max_text = b.max_text; max_docs = b.max_docs; max_changes = b.max_changes } };
+    ghost inverse = { λ b. record {
+      max_body = b.max_body;
+      max_text = b.max_text;
+      max_docs = b.max_docs;
+      max_changes = b.max_changes;
+    } };
 }
 
-/// A limit is out of its range: `which` is 1 for `max_body`, 2 for `max_text`, 3 for `max_docs` and 4 for
-/// `max_changes`, the first of them that is.
+/// A limit that is out of its range.
+///
+/// `which` is the first such limit: 1 for `max_body`, 2 for `max_text`, 3 for `max_docs`, 4 for
+/// `max_changes`.
 #[derive(Clone, Copy, Debug, PartialEq, Eq, Error)]
 #[error("limit {which} is out of range")]
 pub struct BadLimits {
     pub which: u8,
+}
+
+impl Default for Limits {
+    ghost use Rattle.lsp_frame.specs.Limits.{default_limits};
+
+    ghost is_default = { λ limits. limits ≡ default_limits };
+
+    /// 16,777,216 bytes (16 MiB) of a body, as many of a text, 1,024 documents, 65,536 changes.
+    fn default() -> Limits {
+        Limits {
+            max_body: Self::DEFAULT_BODY,
+            max_text: Self::DEFAULT_TEXT,
+            max_docs: Self::DEFAULT_DOCS,
+            max_changes: Self::DEFAULT_CHANGES,
+        }
+    }
 }
 
 impl Limits {
@@ -47,16 +82,32 @@ impl Limits {
     pub const GREATEST_DOCS: usize = 65_536;
     /// The greatest `max_changes`. The least is 1.
     pub const GREATEST_CHANGES: usize = 1_048_576;
+    /// The default `max_body`, in bytes: 16 MiB.
+    pub const DEFAULT_BODY: usize = 16_777_216;
+    /// The default `max_text`, in bytes: 16 MiB.
+    pub const DEFAULT_TEXT: usize = 16_777_216;
+    /// The default `max_docs`.
+    pub const DEFAULT_DOCS: usize = 1_024;
+    /// The default `max_changes`.
+    pub const DEFAULT_CHANGES: usize = 65_536;
 
-    /// The limits, or which of them is the first out of its range: 4,096 to 1,073,741,824 bytes of a body, up to 1,073,741,824 bytes of
-    /// a text, 1 to 65,536 documents, 1 to 1,048,576 changes.
+    /// Makes limits of these numbers, or returns the first of them that is out of its range.
+    ///
+    /// A body may have 4,096 to 1,073,741,824 bytes, a text 0 to 1,073,741,824. There may be 1 to
+    /// 65,536 documents, and 1 to 1,048,576 changes.
     pub fn new(
         max_body: usize,
         max_text: usize,
         max_docs: usize,
         max_changes: usize,
     ) -> Result<Limits, BadLimits>
-        ensures { let given : Bounds = record { max_body = max_body; max_text = max_text; max_docs = max_docs; max_changes = max_changes } in
+        ensures { let given : Bounds
+            = record {
+              max_body = max_body;
+              max_text = max_text;
+              max_docs = max_docs;
+              max_changes = max_changes;
+            } in
             MatchResult result (λ limits. (limits ≡ given) × (first_out_of_range given ≡ None))
             (λ bad. first_out_of_range given ≡ Some bad.which) }
     {
@@ -80,7 +131,7 @@ impl Limits {
         })
     }
 
-    /// The greatest length of a body, in bytes.
+    /// Returns the greatest length of a body, in bytes.
     pub fn max_body(&self) -> usize
         ensures value { result ≡ self.now.max_body }
         ensures range { (4096 ≤ result) × (result ≤ 1073741824) }
@@ -88,7 +139,7 @@ impl Limits {
         self.max_body
     }
 
-    /// The greatest length of a text, in bytes.
+    /// Returns the greatest length of a text, in bytes.
     pub fn max_text(&self) -> usize
         ensures value { result ≡ self.now.max_text }
         ensures range { result ≤ 1073741824 }
@@ -96,7 +147,7 @@ impl Limits {
         self.max_text
     }
 
-    /// The greatest number of open documents.
+    /// Returns the greatest number of open documents.
     pub fn max_docs(&self) -> usize
         ensures value { result ≡ self.now.max_docs }
         ensures range { (1 ≤ result) × (result ≤ 65536) }
@@ -104,7 +155,7 @@ impl Limits {
         self.max_docs
     }
 
-    /// The greatest number of changes in one message.
+    /// Returns the greatest number of changes in one message.
     pub fn max_changes(&self) -> usize
         ensures value { result ≡ self.now.max_changes }
         ensures range { (1 ≤ result) × (result ≤ 1048576) }

@@ -1,8 +1,9 @@
-//! The frames of a whole stream.
+//! `read_frames`, which reads all frames of a whole stream.
 
 ghost use Rattle.std.specs.Prelude.{◌≡◌, ◌≢◌, ◌<◌, ◌++◌, ℕ, List, [], Option, false, length, map, IfOk, OnOk, OnErr, MatchOption};
 ghost use Rattle.std.specs.List.{flat_map};
-ghost use Rattle.lsp_frame.specs.Stream.{IsRead, IsHolding, IsBehind, IsFaulty, IsFrame};
+ghost use Rattle.lsp_frame.specs.Stream.{IsRead, IsFrame};
+ghost use Rattle.lsp_frame.specs.inside.Stream.{IsHolding, HasTaken, IsFaulty};
 ghost use Rattle.lsp_frame.specs.declared.fault.FrameFault.{FrameFault};
 
 use crate::fault::FrameFault;
@@ -10,26 +11,30 @@ use crate::framer::Framer;
 use crate::limits::Limits;
 use std::alloc::{AllocError, Global};
 
-/// The bodies of the frames of a stream, and the fault that was found after them.
+/// The frames of a stream, and the fault that was found after them.
 #[derive(Debug, Drop)]
 pub struct Frames {
     /// The bodies, in the order of the stream.
     pub bodies: Vec<Vec<u8>>,
-    /// The fault after them. A part of a frame at the stream's end is none.
+    /// The fault after the last of them, if any. A part of a frame at the end of the stream is no
+    /// fault.
     pub fault: Option<FrameFault>,
 }
 
-/// The frames of a stream that comes in these pieces, up to a fault (LSP 3.17, Base Protocol). Fails only where memory runs out.
-/// Linear in the stream.
+/// Reads the frames of a stream that comes in these pieces, up to a fault (LSP 3.17, Base
+/// Protocol).
+///
+/// Fails only if it is out of memory. Linear in the stream.
 pub fn read_frames(alloc: Global, limits: Limits, pieces: &[Vec<u8>]) -> Result<Frames, AllocError>
-    // They are those of the pieces put together.
+    // The frames and the fault are those of the pieces put together.
     ensures read { IfOk result (λ frames.
-        IsRead limits.max_body (flat_map (λ piece. piece.items) pieces.now) (map (λ body. body.items) frames.bodies.items) frames.fault) }
-    // No others are, nor is another fault: it doesn't matter how the stream was cut.
+        IsRead limits.max_body (flat_map (λ piece. piece.items) pieces.now)
+        (map (λ body. body.items) frames.bodies.items) frames.fault) }
+    // No others are: it doesn't matter how the stream was cut.
     ensures only { IfOk result (λ frames. (bodies : List (List ℕ)) (fault : Option FrameFault) →
         IsRead limits.max_body (flat_map (λ piece. piece.items) pieces.now) bodies fault →
         (map (λ body. body.items) frames.bodies.items ≡ bodies) × (frames.fault ≡ fault)) }
-    // Memory runs out only where there is a byte to take.
+    // It can be out of memory only if the stream has a byte.
     ensures memory { OnErr result (0 < length (flat_map (λ piece. piece.items) pieces.now)) }
 {
     let mut framer = Framer::new(alloc, limits);
@@ -45,12 +50,13 @@ fn take_pieces(
     pieces: &[Vec<u8>],
     bodies: &mut Vec<Vec<u8>>,
 ) -> Result<Option<FrameFault>, AllocError>
-    requires none { IsFrame framer.old.limits.max_body framer.old.held → ⊥ }
+    requires none { IsFrame framer.old.limits.max_body framer.old.buffered → ⊥ }
     requires sound { framer.old.failed ≡ false }
     ensures read { IfOk result (λ fault. (max_body : ℕ) →
-        IsBehind max_body [] (map (λ body. body.items) bodies.old.items) framer.old →
-        IsRead max_body (flat_map (λ piece. piece.items) pieces.now) (map (λ body. body.items) bodies.new.items) fault) }
-    // Out of memory only where no fault was found, and there was a byte.
+        HasTaken max_body [] (map (λ body. body.items) bodies.old.items) framer.old →
+        IsRead max_body (flat_map (λ piece. piece.items) pieces.now)
+        (map (λ body. body.items) bodies.new.items) fault) }
+    // Out of memory means that no fault was found and that there was a byte.
     ensures memory { OnErr result (framer.new.failed ≡ false) }
     ensures some { OnErr result (0 < length (flat_map (λ piece. piece.items) pieces.now)) }
 {
@@ -62,7 +68,7 @@ fn take_pieces(
     Ok(None)
 }
 
-/// A fault of a stream; out of memory is none.
+/// Returns a fault of the stream itself; out of memory becomes an `AllocError`.
 fn fault_of_stream(fault: FrameFault) -> Result<FrameFault, AllocError>
     ensures same { IfOk result (λ found. found ≡ fault) }
     ensures of_stream { OnOk result (fault ≢ FrameFault.NoMemory) }
@@ -81,15 +87,18 @@ fn take_frames(
     piece: &[u8],
     bodies: &mut Vec<Vec<u8>>,
 ) -> Result<Option<FrameFault>, AllocError>
-    requires none { IsFrame framer.old.limits.max_body framer.old.held → ⊥ }
+    requires none { IsFrame framer.old.limits.max_body framer.old.buffered → ⊥ }
     requires sound { framer.old.failed ≡ false }
-    ensures none { IfOk result (λ fault. MatchOption fault ((IsFrame framer.new.limits.max_body framer.new.held → ⊥) × (framer.new.failed ≡ false)) (λ _. Unit {0})) }
+    ensures none { IfOk result
+        (λ fault. MatchOption fault ((IsFrame framer.new.limits.max_body framer.new.buffered → ⊥)
+        × (framer.new.failed ≡ false)) (λ _. Unit {0})) }
     ensures taken { IfOk result (λ fault. (max_body : ℕ) (stream : List ℕ) →
-        IsBehind max_body stream (map (λ body. body.items) bodies.old.items) framer.old →
+        HasTaken max_body stream (map (λ body. body.items) bodies.old.items) framer.old →
         MatchOption fault
-        (IsBehind max_body (stream ++ piece.now) (map (λ body. body.items) bodies.new.items) framer.new)
+        (HasTaken max_body (stream ++ piece.now) (map (λ body. body.items) bodies.new.items)
+        framer.new)
         (IsFaulty max_body (stream ++ piece.now) (map (λ body. body.items) bodies.new.items))) }
-    // Out of memory only where no fault was found.
+    // Out of memory means that no fault was found.
     ensures memory { OnErr result (framer.new.failed ≡ false) }
     ensures some { OnErr result (0 < length piece.now) }
 {
@@ -104,17 +113,18 @@ fn take_frames(
     Ok(None)
 }
 
-/// Gives a frame up that is whole, and keeps its body.
+/// Copies the body of a whole frame, and releases the frame. Does nothing if none is whole.
 fn take_frame(
     alloc: Global,
     framer: &mut Framer,
     bodies: &mut Vec<Vec<u8>>,
 ) -> Result<(), AllocError>
     requires sound { framer.old.failed ≡ false }
-    ensures none { IfOk result (λ _. (IsFrame framer.new.limits.max_body framer.new.held → ⊥) × (framer.new.failed ≡ false)) }
+    ensures none { IfOk result (λ _. (IsFrame framer.new.limits.max_body framer.new.buffered → ⊥)
+        × (framer.new.failed ≡ false)) }
     ensures taken { IfOk result (λ _. (max_body : ℕ) (stream : List ℕ) →
         IsHolding max_body stream (map (λ body. body.items) bodies.old.items) framer.old →
-        IsBehind max_body stream (map (λ body. body.items) bodies.new.items) framer.new) }
+        HasTaken max_body stream (map (λ body. body.items) bodies.new.items) framer.new) }
     ensures memory { OnErr result (framer.new ≡ framer.old) }
 {
     if let Some(body) = framer.body() {

@@ -1,28 +1,30 @@
-//! The one form in which frames are written, and most are read.
+//! Frames in the one form in which they are written; most that are read have it too.
 
 ghost use Rattle.std.specs.Prelude.{◌≡◌, ◌<◌, ◌≤◌, ◌^◌, ◌+◌, ◌-◌, ◌++◌, ℕ, true, false, length, take, drop, slice_index, IfOk, IfErr, OnOk, IfSome, IfNone, Err};
 ghost use Rattle.std.specs.List.{list_all};
-ghost use Rattle.lsp_frame.specs.Frame.{frame, Spells};
+ghost use Rattle.lsp_frame.specs.Frame.{frame, IsFrameOf};
 ghost use Rattle.lsp_frame.specs.Verdict.{is_digit};
 ghost use Rattle.lsp_frame.specs.Progress.{BeginsWritten};
 ghost use Rattle.lsp_frame.specs.Encode.{IsEncodeFault};
 ghost use Rattle.lsp_frame.specs.declared.written.WrittenHeader.{WrittenHeader};
 ghost use Rattle.lsp_frame.specs.declared.written.EncodeFault.TheVariants.{BodyTooLong, NoMemory};
 
-use crate::header::first;
+use crate::framer::header::first;
+use crate::framer::notes::number_within;
 use crate::limits::Limits;
-use crate::notes::number_within;
 use itoa::Buffer;
 use std::alloc::{AllocError, Global};
 use thiserror::Error;
 
-/// The frame of a body, `Content-Length: N`, an empty line and the body, with no limit on its length.
+/// Returns the frame of a body: `Content-Length: N`, an empty line and the body (LSP 3.17, Base
+/// Protocol). The body may have any length.
 ///
-/// Fails only where memory runs out. Linear in the body: its bytes are copied once.
+/// Fails only if it is out of memory. Linear in the body, which is copied once.
 pub fn frame(alloc: Global, body: &[u8]) -> Result<Vec<u8>, AllocError>
     ensures framed { IfOk result (λ bytes. bytes.items ≡ frame body.now) }
-    // Under each limit that lets the body pass it is a frame as it is read.
-    ensures spells { IfOk result (λ bytes. (max_body : ℕ) → length body.now ≤ max_body → Spells max_body bytes.items body.now) }
+    // Each limit that allows the body lets a reader take this frame.
+    ensures is_frame_of { IfOk result (λ bytes. (max_body : ℕ) → length body.now ≤ max_body →
+        IsFrameOf max_body bytes.items body.now) }
 {
     written_bytes(alloc, body)
 }
@@ -45,13 +47,14 @@ const NAME: &[u8] = b"Content-Length: ";
 
 const END: &[u8] = b"\r\n\r\n";
 
-/// The most bytes that a written header has: a length has at most 20 digits.
+/// The most bytes that a written header has: its length has at most 20 digits.
 pub const MOST_HEADER: usize = 40;
 
-/// Makes a frame of the body that a buffer has from an index on: its header is written right before it, over what is there. Returns the
-/// index where the frame begins.
+/// Makes a frame of the body that starts at index `body` of a buffer, and returns the index where
+/// the frame starts.
 ///
-/// Takes no memory, and the body isn't moved.
+/// It writes the header right before the body, over the bytes there. It takes no memory, and
+/// doesn't move the body.
 #[tactic(auto, unfolding(crate::specs::Frame::frame))]
 pub fn put_header(bytes: &mut [u8], body: usize) -> usize
     requires room { MOST_HEADER ≤ body }
@@ -68,7 +71,7 @@ pub fn put_header(bytes: &mut [u8], body: usize) -> usize
     put_before(bytes, digits, NAME)
 }
 
-/// Writes some bytes right before an index, over what is there. Returns the index where they begin.
+/// Writes bytes right before an index, over those there. Returns the index where they start.
 fn put_before(bytes: &mut [u8], index: usize, new: &[u8]) -> usize
     requires room { length new.now ≤ index }
     requires within { index ≤ length bytes.old }
@@ -85,23 +88,24 @@ fn put_before(bytes: &mut [u8], index: usize, new: &[u8]) -> usize
 /// The most digits of a length that are read at once. No limit on a body has more.
 const MOST_DIGITS: usize = 10;
 
-/// A header as it is written here: its length and that of the body after it.
+/// A header in the form that `frame` writes: its own length, and the length of the body after it.
 #[derive(Clone, Copy)]
 pub(crate) struct WrittenHeader {
     pub(crate) len: usize,
     pub(crate) body: usize,
 }
 
-/// The header with which the bytes begin, where it is written so and good. At most the 30 bytes are read that such a
-/// header may have.
+/// Returns the header with which the bytes begin, if it has this form and no fault. It reads at
+/// most the 30 bytes that such a header has.
 pub(crate) fn written_header(bytes: &[u8], max_body: usize) -> Option<WrittenHeader>
     requires { max_body < 2 ^ 32 }
     ensures some { IfSome result (BeginsWritten max_body bytes.now) }
-    ensures none { IfNone result ((header : WrittenHeader) → BeginsWritten max_body bytes.now header → ⊥) }
+    ensures none { IfNone result ((header : WrittenHeader) →
+        BeginsWritten max_body bytes.now header → ⊥) }
 {
     let rest = bytes.strip_prefix(NAME)?;
-    let (digits, behind) = rest.split_at(digits_len(first(rest, MOST_DIGITS)));
-    if digits.is_empty() || !behind.starts_with(END) {
+    let (digits, rest_after) = rest.split_at(digits_len(first(rest, MOST_DIGITS)));
+    if digits.is_empty() || !rest_after.starts_with(END) {
         return None;
     }
     let body = number_within(digits, max_body)?;
@@ -109,7 +113,7 @@ pub(crate) fn written_header(bytes: &[u8], max_body: usize) -> Option<WrittenHea
     Some(WrittenHeader { len, body })
 }
 
-/// How many digits the bytes begin with.
+/// Returns how many digits the bytes begin with.
 fn digits_len(bytes: &[u8]) -> usize
     ensures within { result ≤ length bytes.now }
     ensures digits { list_all is_digit (take result bytes.now) ≡ true }
@@ -123,12 +127,13 @@ fn digits_len(bytes: &[u8]) -> usize
     bytes.len()
 }
 
-/// Why a body has no frame.
+/// Why a body has no frame under a limit.
 #[derive(Clone, Copy, Debug, PartialEq, Eq, Error)]
 pub enum EncodeFault {
-    /// The body is longer than the limit: its length in bytes.
+    /// The body is longer than the limit; `len` is its length in bytes.
     #[error("the body has {len} bytes, more than the limit")]
     BodyTooLong { len: usize },
+    /// Out of memory.
     #[error("out of memory")]
     NoMemory,
 }
@@ -141,14 +146,16 @@ impl From<AllocError> for EncodeFault {
     }
 }
 
-/// The frame of a body that is no longer than `max_body` allows.
+/// Returns the frame of a body that is no longer than `max_body` (LSP 3.17, Base Protocol).
 ///
-/// Linear in the body.
+/// Fails if the body is longer, or if it is out of memory. Linear in the body.
 pub fn encode(alloc: Global, limits: &Limits, body: &[u8]) -> Result<Vec<u8>, EncodeFault>
     ensures framed { IfOk result (λ bytes. bytes.items ≡ frame body.now) }
-    ensures spells { IfOk result (λ bytes. Spells limits.now.max_body bytes.items body.now) }
+    ensures is_frame_of { IfOk result
+        (λ bytes. IsFrameOf limits.now.max_body bytes.items body.now) }
     ensures within { OnOk result (length body.now ≤ limits.now.max_body) }
-    ensures too_long { limits.now.max_body < length body.now → result ≡ Err (EncodeFault.BodyTooLong (length body.now)) }
+    ensures too_long { limits.now.max_body < length body.now →
+        result ≡ Err (EncodeFault.BodyTooLong (length body.now)) }
     ensures fault { IfErr result (IsEncodeFault limits.now.max_body (length body.now)) }
 {
     if body.len() > limits.max_body() {

@@ -1,4 +1,5 @@
-//! The tests of `lsp_frame`, in a crate of their own over it.
+//! The tests of `lsp_frame`. They are a crate of their own, so that `lsp_frame` isn't proved again
+//! for them.
 #![tactic(auto)]
 
 #[cfg(test)]

@@ -1,4 +1,5 @@
-//! Streams that are cut in many ways, limits at the ends of their ranges, written frames, and the text of each fault.
+//! Streams that are cut in many ways, limits at the ends of their ranges, written frames, and the
+//! text of each fault.
 
 mod faults;
 mod limits;
@@ -10,7 +11,7 @@ mod written;
 
 use lsp_frame::{BadLimits, Limits};
 
-/// Bodies of 4,096 bytes.
+/// Limits with bodies of at most 4,096 bytes.
 pub(super) fn narrow() -> Result<Limits, BadLimits> {
     Limits::new(4_096, 0, 1, 1)
 }

@@ -4,14 +4,14 @@ use Rattle.std.specs.Prelude.{◌⊎◌, nat_eq}
 use Rattle.std.specs.List.{starts_with}
 use Rattle.std.proofs.lemmas.Bool.{cases_Bool, cases_eq}
 use Rattle.std.proofs.lemmas.List.{length-append}
-use Rattle.lsp_frame.specs.Frame.{Spells, HasNoFrame}
+use Rattle.lsp_frame.specs.Frame.{IsFrameOf, HasNoFrame}
 use Rattle.lsp_frame.specs.Laws.{DecisionLaw}
-use Rattle.lsp_frame.specs.Faults.{place_behind}
+use Rattle.lsp_frame.specs.Faults.{place_after}
 use Rattle.lsp_log.specs.declared.record.Version.{Version}
 use Rattle.lsp_log.specs.declared.record.Version.TheVariants.{One, Two}
 use Rattle.lsp_log.specs.declared.record.Side.{Side}
 use Rattle.lsp_log.specs.declared.record.Side.TheVariants.{Client, Server}
-use Rattle.lsp_log.specs.Log.{Reading, Record, AreRecords, IsVersion, together, record_bytes, mark_of, line_of, is_line_due, version_line}
+use Rattle.lsp_log.specs.Log.{LogRules, Record, AreRecords, IsVersion, together, record_bytes, mark_of, line_of, is_line_due, version_line}
 use Rattle.lsp_log.specs.Laws.{AllRecords, AllRecordsLaw}
 use Rattle.lsp_log.proofs.OpeningLemmas.{starts_front, starts_known}
 use Rattle.lsp_log.proofs.SplitLemmas.{frame_len}
@@ -34,7 +34,7 @@ record NextRecord (max_body : ℕ) (version : Version) (bytes : List ℕ) : Type
   frame : List ℕ
   body : List ℕ
   more : List ℕ
-  is_frame : Spells max_body frame body
+  is_frame : IsFrameOf max_body frame body
   is : bytes ≡ mark_of version side ++ (frame ++ more)
   client : version ≡ One → side ≡ Client
 
@@ -102,7 +102,7 @@ module _ (decision : DecisionLaw) where
 
   abbrev record_of : (max_body place : ℕ) (version : Version) (due : Bool) (bytes : List ℕ) → NextRecord max_body version bytes → Record
   record_of max_body place version due bytes next =
-      record { head = record { side = next.side; place = place_behind 0 place; line_due = due }; spelling = next.frame; body = next.body }
+      record { head = record { side = next.side; place = place_after 0 place; line_due = due }; spelling = next.frame; body = next.body }
 
   shorter : (max_body : ℕ) (version : Version) (bytes : List ℕ) (next : NextRecord max_body version bytes) → suc (length next.more) ≤ length bytes
   shorter max_body version bytes next =
@@ -116,7 +116,7 @@ module _ (decision : DecisionLaw) where
         rest = others.rest;
         is = next.is ∙ sym (append_assoc (mark_of version next.side) next.frame next.more)
             ∙ ap (λ (x : List ℕ). (mark_of version next.side ++ next.frame) ++ x) others.is;
-        each = (record { spells = next.is_frame; side = next.client; placed = refl; due = refl }, others.each);
+        each = (record { is_frame_of = next.is_frame; side = next.client; placed = refl; due = refl }, others.each);
         ends = others.ends;
       }
 
@@ -133,7 +133,7 @@ module _ (decision : DecisionLaw) where
         | inr ends ↦ record { records = []; rest = bytes; is = refl; each = tt; ends = ends }
       ]
 
-  all_behind : (reading : Reading) (input : List ℕ) (version : Version) → IsVersion reading.versions version input → (reading.only_one ≡ true → version ≡ One) → (rest : List ℕ)
+  all_behind : (reading : LogRules) (input : List ℕ) (version : Version) → IsVersion reading.versions version input → (reading.only_one ≡ true → version ≡ One) → (rest : List ℕ)
       → input ≡ line_of version ++ rest → AllRecords reading input
   all_behind reading input version known accepted rest is =
       let all : AllFrom reading.max_body version (length (line_of version)) (is_line_due version []) rest
@@ -149,7 +149,7 @@ module _ (decision : DecisionLaw) where
         none = all.ends;
       }
 
-  all_of_version : (reading : Reading) (input : List ℕ) (version : Version) → IsVersion reading.versions version input → (reading.only_one ≡ true → version ≡ One) → AllRecords reading input
+  all_of_version : (reading : LogRules) (input : List ℕ) (version : Version) → IsVersion reading.versions version input → (reading.only_one ≡ true → version ≡ One) → AllRecords reading input
   all_of_version reading input One known accepted = all_behind reading input One known accepted input refl
   all_of_version reading input Two known accepted = all_behind reading input Two known accepted known.1.0 known.1.1
 

@@ -1,16 +1,16 @@
 -- What is left where no whole record is buffered.
 use Rattle.std.proofs.Common.{◌≡◌, ◌≢◌, ◌⊎◌, ℕ, List, [], ◌∷◌, ◌++◌, length, drop, Option, refl, sym, ◌∙◌, ap, subst, arith, append-nil, inl, inr}
 use Rattle.std.proofs.lemmas.List.{length-append}
-use Rattle.lsp_frame.specs.Frame.{Spells}
+use Rattle.lsp_frame.specs.Frame.{IsFrameOf}
 use Rattle.lsp_frame.specs.Stream.{IsFrame}
 use Rattle.lsp_log.specs.declared.record.Version.{Version}
 use Rattle.lsp_log.specs.declared.record.Version.TheVariants.{One, Two}
 use Rattle.lsp_log.specs.declared.record.Side.{Side}
 use Rattle.lsp_log.specs.declared.record.Side.TheVariants.{Client, Server}
 use Rattle.lsp_log.specs.declared.splitter.Splitter.{Splitter}
-use Rattle.lsp_log.specs.Log.{Reading, Record, HasNoRecord, mark_of}
-use Rattle.lsp_log.specs.Splitting.{IsReady, Stands, log_at, held_of, mark_part}
-use Rattle.lsp_log.specs.Laws.{HeldLaw, RestLaw}
+use Rattle.lsp_log.specs.Log.{LogRules, Record, HasNoRecord, mark_of}
+use Rattle.lsp_log.specs.Splitting.{IsReady, IsAfter, log_at, buffered_of, mark_part}
+use Rattle.lsp_log.specs.Laws.{BufferedLaw, RestLaw}
 use Rattle.lsp_log.proofs.SplitLemmas.{given_reads, some_side, some_or, frame_len}
 
 -- Two marks of one version have one length.
@@ -22,21 +22,21 @@ behind_mark Two Server Client a b e = ap (drop 1) e
 behind_mark Two Server Server a b e = ap (drop 1) e
 
 -- At the end of the input no whole record is held.
-no_record : (reading : Reading) (input : List ℕ) (records : List Record) (s : Splitter) → IsReady s → Stands reading input [] records s → HasNoRecord reading.max_body (log_at s records [])
-no_record reading input records s ready at other spelling body more spells e =
-    let none : IsFrame reading.max_body s.framer.held → ⊥ = λ frame. ready.none (subst (λ (m : ℕ). IsFrame m s.framer.held) (sym at.limit) frame) in
-    let plain : mark_part s.version s.side ++ s.framer.held ≡ mark_of s.version other ++ (spelling ++ more) = sym (append-nil (held_of s)) ∙ e in
+no_record : (reading : LogRules) (input : List ℕ) (records : List Record) (s : Splitter) → IsReady s → IsAfter reading input [] records s → HasNoRecord reading.max_body (log_at s records [])
+no_record reading input records s ready at other spelling body more is_frame_of e =
+    let none : IsFrame reading.max_body s.framer.buffered → ⊥ = λ frame. ready.none (subst (λ (m : ℕ). IsFrame m s.framer.buffered) (sym at.limit) frame) in
+    let plain : mark_part s.version s.side ++ s.framer.buffered ≡ mark_of s.version other ++ (spelling ++ more) = sym (append-nil (buffered_of s)) ∙ e in
     elim (some_or s.side) [
       | inl known ↦
-          let known_plain : mark_of s.version known.0 ++ s.framer.held ≡ mark_of s.version other ++ (spelling ++ more) =
-          ap (λ (o : Option Side). mark_part s.version o ++ s.framer.held) (sym known.1) ∙ plain in
-          let same : s.framer.held ≡ spelling ++ more = behind_mark s.version known.0 other s.framer.held (spelling ++ more) known_plain in
-          let nothing : more ≡ [] = at.one spelling body more spells same in
-          let all : spelling ≡ s.framer.held = sym (same ∙ ap (λ z. spelling ++ z) nothing ∙ append-nil spelling) in
-          none (record { body = body; spells = subst (λ (z : List ℕ). Spells reading.max_body z body) all spells })
+          let known_plain : mark_of s.version known.0 ++ s.framer.buffered ≡ mark_of s.version other ++ (spelling ++ more) =
+          ap (λ (o : Option Side). mark_part s.version o ++ s.framer.buffered) (sym known.1) ∙ plain in
+          let same : s.framer.buffered ≡ spelling ++ more = behind_mark s.version known.0 other s.framer.buffered (spelling ++ more) known_plain in
+          let nothing : more ≡ [] = at.one spelling body more is_frame_of same in
+          let all : spelling ≡ s.framer.buffered = sym (same ∙ ap (λ z. spelling ++ z) nothing ∙ append-nil spelling) in
+          none (record { body = body; is_frame_of = subst (λ (z : List ℕ). IsFrameOf reading.max_body z body) all is_frame_of })
       | inr unknown ↦
-          let empty : mark_part s.version s.side ++ s.framer.held ≡ [] = ap (λ (o : Option Side). mark_part s.version o ++ s.framer.held) unknown ∙ ready.fed.between unknown in
-          omega (arith, ap length plain, ap length empty, length-append (mark_of s.version other) (spelling ++ more), length-append spelling more, frame_len reading.max_body spelling body spells)
+          let empty : mark_part s.version s.side ++ s.framer.buffered ≡ [] = ap (λ (o : Option Side). mark_part s.version o ++ s.framer.buffered) unknown ∙ ready.fed.between unknown in
+          omega (arith, ap length plain, ap length empty, length-append (mark_of s.version other) (spelling ++ more), length-append spelling more, frame_len reading.max_body spelling body is_frame_of)
     ]
 
 nothing_or_some : (xs : List ℕ) → (xs ≡ []) ⊎ (xs ≢ [])
@@ -45,21 +45,21 @@ nothing_or_some (x ∷ xs) = inr (λ e. omega (arith, ap length e))
 
 pub rest_law : RestLaw
 rest_law reading input records s ready at =
-    elim (nothing_or_some (held_of s ++ [])) [
+    elim (nothing_or_some (buffered_of s ++ [])) [
       | inl nothing ↦ inl nothing
       | inr some ↦ elim (some_or s.side) [
         | inl known ↦ inr (record {
           side = known.0;
-          part = s.framer.held;
-          is = append-nil (held_of s) ∙ ap (λ (o : Option Side). mark_part s.version o ++ s.framer.held) known.1;
+          part = s.framer.buffered;
+          is = append-nil (buffered_of s) ∙ ap (λ (o : Option Side). mark_part s.version o ++ s.framer.buffered) known.1;
           begins = at.part;
           some = some;
           none = no_record reading input records s ready at;
         })
-        | inr unknown ↦ inl (append-nil (held_of s) ∙ ap (λ (o : Option Side). mark_part s.version o ++ s.framer.held) unknown ∙ ready.fed.between unknown)
+        | inr unknown ↦ inl (append-nil (buffered_of s) ∙ ap (λ (o : Option Side). mark_part s.version o ++ s.framer.buffered) unknown ∙ ready.fed.between unknown)
       ]
     ]
 
-pub held_law : HeldLaw
-held_law reading input more body records s fed spells at =
-    given_reads reading input more body records s (some_side s fed (record { body = body; spells = spells })) (subst (λ (m : ℕ). Spells m s.framer.held body) at.limit spells) at
+pub buffered_law : BufferedLaw
+buffered_law reading input more body records s fed is_frame_of at =
+    given_reads reading input more body records s (some_side s fed (record { body = body; is_frame_of = is_frame_of })) (subst (λ (m : ℕ). IsFrameOf m s.framer.buffered body) at.limit is_frame_of) at

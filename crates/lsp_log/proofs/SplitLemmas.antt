@@ -2,9 +2,9 @@
 use Rattle.std.proofs.Common.{◌≡◌, ℕ, ◌+◌, ◌-◌, ◌≤◌, ◌^◌, Bool, true, false, List, [], ◌∷◌, ◌++◌, length, take, drop, Option, Some, None, refl, sym, ◌∙◌, ap, subst, arith, append_assoc, inl, inr, ◌⊎◌}
 use Rattle.std.specs.Prelude.{min, not, is_some}
 use Rattle.std.proofs.lemmas.List.{length-append, take-append-drop}
-use Rattle.lsp_frame.specs.Frame.{Spells}
+use Rattle.lsp_frame.specs.Frame.{IsFrameOf}
 use Rattle.lsp_frame.specs.Header.{header_of, lines_bytes}
-use Rattle.lsp_frame.specs.Faults.{place_behind, IsDecided}
+use Rattle.lsp_frame.specs.Faults.{place_after, IsDecided}
 use Rattle.lsp_frame.specs.Stream.{Framing, IsFrame, IsPart, HoldsOne, IsFeedFault, IsStreamFault, given_up}
 use Rattle.lsp_stream.specs.Faults.{engine_fault}
 use Rattle.lsp_frame.specs.declared.fault.FrameFault.{FrameFault}
@@ -14,22 +14,22 @@ use Rattle.lsp_log.specs.declared.record.Version.TheVariants.{One, Two}
 use Rattle.lsp_log.specs.declared.record.Side.{Side}
 use Rattle.lsp_log.specs.declared.record.Side.TheVariants.{Client}
 use Rattle.lsp_log.specs.declared.splitter.Splitter.{Splitter}
-use Rattle.lsp_log.specs.Log.{Reading, Record, IsRecord, IsReadAs, IsMalformed, line_of, mark_of, is_line_due, together, record_bytes}
-use Rattle.lsp_log.specs.Splitting.{IsSplitterFault, IsFed, IsReady, Stands, IsSplitFault, IsSide, IsOpen, mark_part, held_of, log_at, side_of, record_at}
+use Rattle.lsp_log.specs.Log.{LogRules, Record, IsRecord, IsReadAs, IsMalformed, line_of, mark_of, is_line_due, together, record_bytes}
+use Rattle.lsp_log.specs.Splitting.{IsSplitterFault, IsFed, IsReady, IsAfter, IsSplitFault, IsSide, IsOpen, mark_part, buffered_of, log_at, side_of, record_at}
 use Rattle.lsp_log.proofs.LogLemmas.{together_push, input_len, are_push, due_now, not_due}
 
 -- Nothing is the beginning of a frame, and no frame.
 pub nothing_part : (max_body : ℕ) → IsPart max_body []
 nothing_part max_body = inl (record { begins = record { lines = []; rest = 13 ∷ 10 ∷ []; each = tt; is = refl; more = omega arith }; short = omega arith })
 
-pub frame_len : (max_body : ℕ) (spelling body : List ℕ) → Spells max_body spelling body → 2 ≤ length spelling
+pub frame_len : (max_body : ℕ) (spelling body : List ℕ) → IsFrameOf max_body spelling body → 2 ≤ length spelling
 frame_len max_body spelling body s = omega (arith, ap length s.is, length-append (header_of s.lines) body, length-append (lines_bytes s.lines) (13 ∷ 10 ∷ []))
 
 pub nothing_one : (max_body : ℕ) → HoldsOne max_body []
 nothing_one max_body spelling body more s e = absurd (omega (arith, frame_len max_body spelling body s, ap length e, length-append spelling more))
 
 pub no_empty_frame : (max_body : ℕ) → IsFrame max_body [] → ⊥
-no_empty_frame max_body frame = omega (arith, frame_len max_body [] frame.body frame.spells)
+no_empty_frame max_body frame = omega (arith, frame_len max_body [] frame.body frame.is_frame_of)
 
 -- Who wrote the record that comes in is known.
 record KnownSide (o : Option Side) : Type 0 where
@@ -48,21 +48,21 @@ pub not_none : (o : Option Side) (none : Bool) → is_some o ≡ not none → no
 not_none o none said some is = let two : false ≡ true = sym (ap is_some is) ∙ said ∙ ap not some in cc
 
 -- Bytes were taken.
-fed_bytes : (held piece : List ℕ) (k : ℕ) → (held ++ take k piece) ++ drop k piece ≡ held ++ piece
-fed_bytes held piece k = append_assoc held (take k piece) (drop k piece) ∙ ap (λ z. held ++ z) (take-append-drop k piece)
+fed_bytes : (buffered piece : List ℕ) (k : ℕ) → (buffered ++ take k piece) ++ drop k piece ≡ buffered ++ piece
+fed_bytes buffered piece k = append_assoc buffered (take k piece) (drop k piece) ∙ ap (λ z. buffered ++ z) (take-append-drop k piece)
 
-fed_held : (mark held piece : List ℕ) (k : ℕ) → (mark ++ (held ++ take k piece)) ++ drop k piece ≡ (mark ++ held) ++ piece
-fed_held mark held piece k =
-    append_assoc mark (held ++ take k piece) (drop k piece) ∙ ap (λ z. mark ++ z) (fed_bytes held piece k) ∙ sym (append_assoc mark held piece)
+fed_held : (mark buffered piece : List ℕ) (k : ℕ) → (mark ++ (buffered ++ take k piece)) ++ drop k piece ≡ (mark ++ buffered) ++ piece
+fed_held mark buffered piece k =
+    append_assoc mark (buffered ++ take k piece) (drop k piece) ∙ ap (λ z. mark ++ z) (fed_bytes buffered piece k) ∙ sym (append_assoc mark buffered piece)
 
-pub fed_stands : (reading : Reading) (input piece : List ℕ) (records : List Record) (s : Splitter) (f : Framing) (k : ℕ) → f ≡ record s.framer { held = s.framer.held ++ take k piece }
-    → IsPart f.limits.max_body f.held → HoldsOne f.limits.max_body f.held → Stands reading input piece records s → Stands reading input (drop k piece) records (record s { framer = f })
+pub fed_stands : (reading : LogRules) (input piece : List ℕ) (records : List Record) (s : Splitter) (f : Framing) (k : ℕ) → f ≡ record s.framer { buffered = s.framer.buffered ++ take k piece }
+    → IsPart f.limits.max_body f.buffered → HoldsOne f.limits.max_body f.buffered → IsAfter reading input piece records s → IsAfter reading input (drop k piece) records (record s { framer = f })
 fed_stands reading input piece records s f k e part one at =
-    let bytes = fed_bytes s.framer.held piece k in
-    let all = fed_held (mark_part s.version s.side) s.framer.held piece k in
-    let part_here : IsPart s.framer.limits.max_body (s.framer.held ++ take k piece) = subst (λ (g : Framing). IsPart g.limits.max_body g.held) e part in
-    let one_here : HoldsOne s.framer.limits.max_body (s.framer.held ++ take k piece) = subst (λ (g : Framing). HoldsOne g.limits.max_body g.held) e one in
-    let stands : Stands reading input (drop k piece) records (record s { framer = record s.framer { held = s.framer.held ++ take k piece } }) = record {
+    let bytes = fed_bytes s.framer.buffered piece k in
+    let all = fed_held (mark_part s.version s.side) s.framer.buffered piece k in
+    let part_here : IsPart s.framer.limits.max_body (s.framer.buffered ++ take k piece) = subst (λ (g : Framing). IsPart g.limits.max_body g.buffered) e part in
+    let one_here : HoldsOne s.framer.limits.max_body (s.framer.buffered ++ take k piece) = subst (λ (g : Framing). HoldsOne g.limits.max_body g.buffered) e one in
+    let is_after : IsAfter reading input (drop k piece) records (record s { framer = record s.framer { buffered = s.framer.buffered ++ take k piece } }) = record {
       reads = record {
         version = at.reads.version;
         accepted = at.reads.accepted;
@@ -70,31 +70,31 @@ fed_stands reading input piece records s f k e part one at =
         each = at.reads.each;
       };
       limit = at.limit;
-      placed = at.placed ∙ ap (λ z. place_behind 0 (length input - length z)) (sym all);
-      framed = at.framed ∙ ap (λ z. place_behind 0 (length input - length z)) (sym bytes);
-      part = subst (λ (m : ℕ). IsPart m (s.framer.held ++ take k piece)) at.limit part_here;
-      one = subst (λ (m : ℕ). HoldsOne m (s.framer.held ++ take k piece)) at.limit one_here;
+      placed = at.placed ∙ ap (λ z. place_after 0 (length input - length z)) (sym all);
+      framed = at.framed ∙ ap (λ z. place_after 0 (length input - length z)) (sym bytes);
+      part = subst (λ (m : ℕ). IsPart m (s.framer.buffered ++ take k piece)) at.limit part_here;
+      one = subst (λ (m : ℕ). HoldsOne m (s.framer.buffered ++ take k piece)) at.limit one_here;
       side = at.side;
       due = at.due;
     } in
-    subst (λ (g : Framing). Stands reading input (drop k piece) records (record s { framer = g })) (sym e) stands
+    subst (λ (g : Framing). IsAfter reading input (drop k piece) records (record s { framer = g })) (sym e) is_after
 
 -- No more of them can be taken.
-malformed : (reading : Reading) (input piece : List ℕ) (records : List Record) (s : Splitter) (side : Side) (n : Framing) (fault : FrameFault) → s.side ≡ Some side
-    → IsStreamFault s.framer n piece fault → Stands reading input piece records s → IsMalformed reading.max_body input fault (log_at s records piece)
+malformed : (reading : LogRules) (input piece : List ℕ) (records : List Record) (s : Splitter) (side : Side) (n : Framing) (fault : FrameFault) → s.side ≡ Some side
+    → IsStreamFault s.framer n piece fault → IsAfter reading input piece records s → IsMalformed reading.max_body input fault (log_at s records piece)
 malformed reading input piece records s side n fault is why at =
-    let limited : IsDecided reading.max_body s.framer.place (s.framer.held ++ piece) fault =
-    subst (λ (m : ℕ). IsDecided m s.framer.place (s.framer.held ++ piece) fault) at.limit why.decided in
+    let limited : IsDecided reading.max_body s.framer.place (s.framer.buffered ++ piece) fault =
+    subst (λ (m : ℕ). IsDecided m s.framer.place (s.framer.buffered ++ piece) fault) at.limit why.decided in
     record {
       side = side;
-      part = s.framer.held ++ piece;
-      is = ap (λ (o : Option Side). (mark_part s.version o ++ s.framer.held) ++ piece) is ∙ append_assoc (mark_of s.version side) s.framer.held piece;
-      decided = subst (λ (p : ℕ). IsDecided reading.max_body p (s.framer.held ++ piece) fault) at.framed limited;
-      hopeless = λ more spelling body tail t. why.hopeless more spelling body tail (subst (λ (m : ℕ). Spells m spelling body) (sym at.limit) t);
+      part = s.framer.buffered ++ piece;
+      is = ap (λ (o : Option Side). (mark_part s.version o ++ s.framer.buffered) ++ piece) is ∙ append_assoc (mark_of s.version side) s.framer.buffered piece;
+      decided = subst (λ (p : ℕ). IsDecided reading.max_body p (s.framer.buffered ++ piece) fault) at.framed limited;
+      hopeless = λ more spelling body tail t. why.hopeless more spelling body tail (subst (λ (m : ℕ). IsFrameOf m spelling body) (sym at.limit) t);
     }
 
-split_fault : (reading : Reading) (input piece : List ℕ) (records : List Record) (s : Splitter) (side : Side) (n : Framing) (fault : FrameFault) → s.side ≡ Some side
-    → IsFeedFault s.framer n piece fault → s.framer.failed ≡ false → Stands reading input piece records s → IsSplitFault reading.max_body input (log_at s records piece) (engine_fault fault)
+split_fault : (reading : LogRules) (input piece : List ℕ) (records : List Record) (s : Splitter) (side : Side) (n : Framing) (fault : FrameFault) → s.side ≡ Some side
+    → IsFeedFault s.framer n piece fault → s.framer.failed ≡ false → IsAfter reading input piece records s → IsSplitFault reading.max_body input (log_at s records piece) (engine_fault fault)
 split_fault reading input piece records s side n (fault_of.BadHeader place) is why sound at = malformed reading input piece records s side n (fault_of.BadHeader place) is why at
 split_fault reading input piece records s side n (fault_of.HeaderTooLong place) is why sound at = malformed reading input piece records s side n (fault_of.HeaderTooLong place) is why at
 split_fault reading input piece records s side n (fault_of.MissingLength place) is why sound at = malformed reading input piece records s side n (fault_of.MissingLength place) is why at
@@ -116,8 +116,8 @@ frame_kind (fault_of.BadCharset place) = tt
 frame_kind fault_of.Failed = tt
 frame_kind fault_of.NoMemory = tt
 
-pub feed_fault : (reading : Reading) (input piece : List ℕ) (records : List Record) (s : Splitter) (n : Framing) (fault : FrameFault) → (s.side ≡ None → ⊥)
-    → IsFeedFault s.framer n piece fault → s.framer.failed ≡ false → Stands reading input piece records s → IsSplitFault reading.max_body input (log_at s records piece) (engine_fault fault)
+pub feed_fault : (reading : LogRules) (input piece : List ℕ) (records : List Record) (s : Splitter) (n : Framing) (fault : FrameFault) → (s.side ≡ None → ⊥)
+    → IsFeedFault s.framer n piece fault → s.framer.failed ≡ false → IsAfter reading input piece records s → IsSplitFault reading.max_body input (log_at s records piece) (engine_fault fault)
 feed_fault reading input piece records s n fault some why sound at =
     let known : KnownSide s.side = known_side s.side some in
     split_fault reading input piece records s known.side n fault known.is why sound at
@@ -127,21 +127,21 @@ two_between : (version : Version) → IsSide version None → version ≡ Two
 two_between One side = absurd side
 two_between Two side = refl
 
-pub marked_stands : (reading : Reading) (input piece tail : List ℕ) (mark : ℕ) (records : List Record) (s : Splitter) (side : Side) (f : Framing) → s.side ≡ None → s.framer.held ≡ []
-    → piece ≡ mark ∷ tail → mark_of Two side ≡ mark ∷ [] → f ≡ record s.framer { place = place_behind s.framer.place 1 } → Stands reading input piece records s
-    → Stands reading input tail records (record s { framer = f; side = Some side })
+pub marked_stands : (reading : LogRules) (input piece tail : List ℕ) (mark : ℕ) (records : List Record) (s : Splitter) (side : Side) (f : Framing) → s.side ≡ None → s.framer.buffered ≡ []
+    → piece ≡ mark ∷ tail → mark_of Two side ≡ mark ∷ [] → f ≡ record s.framer { place = place_after s.framer.place 1 } → IsAfter reading input piece records s
+    → IsAfter reading input tail records (record s { framer = f; side = Some side })
 marked_stands reading input piece tail mark records s side f none nothing is said e at =
     let two : s.version ≡ Two = two_between s.version (subst (λ (o : Option Side). IsSide s.version o) none at.side) in
     let marked : mark_of s.version side ≡ mark ∷ [] = ap (λ (v : Version). mark_of v side) two ∙ said in
-    let was : held_of s ++ piece ≡ mark ∷ tail =
-    ap (λ (o : Option Side). (mark_part s.version o ++ s.framer.held) ++ piece) none ∙ ap (λ z. z ++ piece) nothing ∙ is in
-    let now : (mark_of s.version side ++ s.framer.held) ++ tail ≡ mark ∷ tail =
-    ap (λ z. (z ++ s.framer.held) ++ tail) marked ∙ ap (λ z. ((mark ∷ []) ++ z) ++ tail) nothing in
-    let all : held_of s ++ piece ≡ (mark_of s.version side ++ s.framer.held) ++ tail = was ∙ sym now in
-    let behind : s.framer.held ++ tail ≡ tail = ap (λ z. z ++ tail) nothing in
-    let before : s.framer.held ++ piece ≡ mark ∷ tail = ap (λ z. z ++ piece) nothing ∙ is in
+    let was : buffered_of s ++ piece ≡ mark ∷ tail =
+    ap (λ (o : Option Side). (mark_part s.version o ++ s.framer.buffered) ++ piece) none ∙ ap (λ z. z ++ piece) nothing ∙ is in
+    let now : (mark_of s.version side ++ s.framer.buffered) ++ tail ≡ mark ∷ tail =
+    ap (λ z. (z ++ s.framer.buffered) ++ tail) marked ∙ ap (λ z. ((mark ∷ []) ++ z) ++ tail) nothing in
+    let all : buffered_of s ++ piece ≡ (mark_of s.version side ++ s.framer.buffered) ++ tail = was ∙ sym now in
+    let rest_after : s.framer.buffered ++ tail ≡ tail = ap (λ z. z ++ tail) nothing in
+    let before : s.framer.buffered ++ piece ≡ mark ∷ tail = ap (λ z. z ++ piece) nothing ∙ is in
     let len = input_len reading input (log_at s records piece) at.reads in
-    let stands : Stands reading input tail records (record s { framer = record s.framer { place = place_behind s.framer.place 1 }; side = Some side }) = record {
+    let is_after : IsAfter reading input tail records (record s { framer = record s.framer { place = place_after s.framer.place 1 }; side = Some side }) = record {
       reads = record {
         version = at.reads.version;
         accepted = at.reads.accepted;
@@ -149,30 +149,30 @@ marked_stands reading input piece tail mark records s side f none nothing is sai
         each = at.reads.each;
       };
       limit = at.limit;
-      placed = at.placed ∙ ap (λ z. place_behind 0 (length input - length z)) all;
-      framed = omega (arith, at.framed, ap length before, ap length behind, ap length was, len);
+      placed = at.placed ∙ ap (λ z. place_after 0 (length input - length z)) all;
+      framed = omega (arith, at.framed, ap length before, ap length rest_after, ap length was, len);
       part = at.part;
       one = at.one;
       side = subst (λ (v : Version). IsSide v (Some side)) (sym two) tt;
       due = at.due;
     } in
-    subst (λ (g : Framing). Stands reading input tail records (record s { framer = g; side = Some side })) (sym e) stands
+    subst (λ (g : Framing). IsAfter reading input tail records (record s { framer = g; side = Some side })) (sym e) is_after
 
 -- A record was given up.
 one_side : (version : Version) (side : Side) → IsSide version (Some side) → version ≡ One → side ≡ Client
 one_side One side is e = is
 one_side Two side is e = let other : Two ≡ One = e in cc
 
-known_reads : (reading : Reading) (input more body : List ℕ) (records : List Record) (s : Splitter) (was : Side) → s.side ≡ Some was → Spells reading.max_body s.framer.held body
-    → Stands reading input more records s → IsReadAs reading input (record { version = s.version; records = records ++ record_at s body ∷ []; rest = more })
-known_reads reading input more body records s was is spells at =
-    let bytes : held_of s ≡ record_bytes s.version (record_at s body) =
-    ap (λ (o : Option Side). mark_part s.version o ++ s.framer.held) is ∙ ap (λ (w : Side). mark_of s.version w ++ s.framer.held) (sym (ap side_of is)) in
+known_reads : (reading : LogRules) (input more body : List ℕ) (records : List Record) (s : Splitter) (was : Side) → s.side ≡ Some was → IsFrameOf reading.max_body s.framer.buffered body
+    → IsAfter reading input more records s → IsReadAs reading input (record { version = s.version; records = records ++ record_at s body ∷ []; rest = more })
+known_reads reading input more body records s was is is_frame_of at =
+    let bytes : buffered_of s ≡ record_bytes s.version (record_at s body) =
+    ap (λ (o : Option Side). mark_part s.version o ++ s.framer.buffered) is ∙ ap (λ (w : Side). mark_of s.version w ++ s.framer.buffered) (sym (ap side_of is)) in
     let len = input_len reading input (log_at s records more) at.reads in
     let record_here : IsRecord reading.max_body s.version (length (line_of s.version) + length (together s.version records [])) (is_line_due s.version records) (record_at s body) = record {
-      spells = spells;
+      is_frame_of = is_frame_of;
       side = λ one. ap side_of is ∙ one_side s.version was (subst (λ (o : Option Side). IsSide s.version o) is at.side) one;
-      placed = at.placed ∙ ap (place_behind 0) (omega (arith, len));
+      placed = at.placed ∙ ap (place_after 0) (omega (arith, len));
       due = at.due;
     } in
     record {
@@ -184,18 +184,18 @@ known_reads reading input more body records s was is spells at =
           (subst (λ (b : Bool). IsRecord reading.max_body s.version (length (line_of s.version) + length (together s.version records [])) b (record_at s body)) (sym (due_now s.version records)) record_here);
     }
 
-given_known : (reading : Reading) (input more body : List ℕ) (records : List Record) (s : Splitter) (f : Framing) (was : Side) (side : Option Side) (mark place : ℕ) → s.side ≡ Some was
+given_known : (reading : LogRules) (input more body : List ℕ) (records : List Record) (s : Splitter) (f : Framing) (was : Side) (side : Option Side) (mark place : ℕ) → s.side ≡ Some was
     → f ≡ given_up s.framer → IsSide s.version side → mark_part s.version side ≡ [] → mark ≡ length (mark_of s.version was)
-    → place ≡ min (min (s.place + mark) (2 ^ 64 - 1) + length s.framer.held) (2 ^ 64 - 1) → Spells reading.max_body s.framer.held body → Stands reading input more records s
-    → Stands reading input more (records ++ record_at s body ∷ []) (record { framer = f; version = s.version; side = side; place = place; line_due = false })
-given_known reading input more body records s f was side mark place is e sided none marked placed spells at =
+    → place ≡ min (min (s.place + mark) (2 ^ 64 - 1) + length s.framer.buffered) (2 ^ 64 - 1) → IsFrameOf reading.max_body s.framer.buffered body → IsAfter reading input more records s
+    → IsAfter reading input more (records ++ record_at s body ∷ []) (record { framer = f; version = s.version; side = side; place = place; line_due = false })
+given_known reading input more body records s f was side mark place is e sided none marked placed is_frame_of at =
     let len = input_len reading input (log_at s records more) at.reads in
-    let held : length (held_of s) ≡ mark + length s.framer.held =
-    omega (arith, ap (λ (o : Option Side). length (mark_part s.version o ++ s.framer.held)) is, length-append (mark_of s.version was) s.framer.held, marked) in
-    let whole : length (held_of s ++ more) ≡ length (held_of s) + length more = length-append (held_of s) more in
-    let framed : length (s.framer.held ++ more) ≡ length s.framer.held + length more = length-append s.framer.held more in
-    let reads = known_reads reading input more body records s was is spells at in
-    let stands : Stands reading input more (records ++ record_at s body ∷ []) (record { framer = given_up s.framer; version = s.version; side = side; place = place; line_due = false }) = record {
+    let buffered : length (buffered_of s) ≡ mark + length s.framer.buffered =
+    omega (arith, ap (λ (o : Option Side). length (mark_part s.version o ++ s.framer.buffered)) is, length-append (mark_of s.version was) s.framer.buffered, marked) in
+    let whole : length (buffered_of s ++ more) ≡ length (buffered_of s) + length more = length-append (buffered_of s) more in
+    let framed : length (s.framer.buffered ++ more) ≡ length s.framer.buffered + length more = length-append s.framer.buffered more in
+    let reads = known_reads reading input more body records s was is is_frame_of at in
+    let is_after : IsAfter reading input more (records ++ record_at s body ∷ []) (record { framer = given_up s.framer; version = s.version; side = side; place = place; line_due = false }) = record {
       reads = record {
         version = reads.version;
         accepted = reads.accepted;
@@ -203,32 +203,32 @@ given_known reading input more body records s f was side mark place is e sided n
         each = reads.each;
       };
       limit = at.limit;
-      placed = omega (arith, placed, at.placed, len, held, whole, ap (λ z. length ((z ++ []) ++ more)) none);
-      framed = omega (arith, at.framed, len, held, whole, framed);
+      placed = omega (arith, placed, at.placed, len, buffered, whole, ap (λ z. length ((z ++ []) ++ more)) none);
+      framed = omega (arith, at.framed, len, buffered, whole, framed);
       part = nothing_part reading.max_body;
       one = nothing_one reading.max_body;
       side = sided;
       due = sym (not_due s.version records (record_at s body));
     } in
-    subst (λ (g : Framing). Stands reading input more (records ++ record_at s body ∷ []) (record { framer = g; version = s.version; side = side; place = place; line_due = false })) (sym e) stands
+    subst (λ (g : Framing). IsAfter reading input more (records ++ record_at s body ∷ []) (record { framer = g; version = s.version; side = side; place = place; line_due = false })) (sym e) is_after
 
-pub some_side : (s : Splitter) → IsFed s → IsFrame s.framer.limits.max_body s.framer.held → s.side ≡ None → ⊥
+pub some_side : (s : Splitter) → IsFed s → IsFrame s.framer.limits.max_body s.framer.buffered → s.side ≡ None → ⊥
 some_side s fed frame none = no_empty_frame s.framer.limits.max_body (subst (λ (z : List ℕ). IsFrame s.framer.limits.max_body z) (fed.between none) frame)
 
-pub given_reads : (reading : Reading) (input more body : List ℕ) (records : List Record) (s : Splitter) → (s.side ≡ None → ⊥) → Spells reading.max_body s.framer.held body
-    → Stands reading input more records s → IsReadAs reading input (record { version = s.version; records = records ++ record_at s body ∷ []; rest = more })
-given_reads reading input more body records s some spells at =
+pub given_reads : (reading : LogRules) (input more body : List ℕ) (records : List Record) (s : Splitter) → (s.side ≡ None → ⊥) → IsFrameOf reading.max_body s.framer.buffered body
+    → IsAfter reading input more records s → IsReadAs reading input (record { version = s.version; records = records ++ record_at s body ∷ []; rest = more })
+given_reads reading input more body records s some is_frame_of at =
     let known : KnownSide s.side = known_side s.side some in
-    known_reads reading input more body records s known.side known.is spells at
+    known_reads reading input more body records s known.side known.is is_frame_of at
 
-pub given_stands : (reading : Reading) (input more body : List ℕ) (records : List Record) (s : Splitter) (f : Framing) (side : Option Side) (mark place : ℕ) → (s.side ≡ None → ⊥)
+pub given_stands : (reading : LogRules) (input more body : List ℕ) (records : List Record) (s : Splitter) (f : Framing) (side : Option Side) (mark place : ℕ) → (s.side ≡ None → ⊥)
     → f ≡ given_up s.framer → IsSide s.version side → mark_part s.version side ≡ [] → ((was : Side) → mark ≡ length (mark_of s.version was))
-    → place ≡ min (min (s.place + mark) (2 ^ 64 - 1) + length s.framer.held) (2 ^ 64 - 1) → Spells reading.max_body s.framer.held body → Stands reading input more records s
-    → Stands reading input more (records ++ record_at s body ∷ [])
+    → place ≡ min (min (s.place + mark) (2 ^ 64 - 1) + length s.framer.buffered) (2 ^ 64 - 1) → IsFrameOf reading.max_body s.framer.buffered body → IsAfter reading input more records s
+    → IsAfter reading input more (records ++ record_at s body ∷ [])
     (record { framer = f; version = s.version; side = side; place = place; line_due = false })
-given_stands reading input more body records s f side mark place some e sided none marked placed spells at =
+given_stands reading input more body records s f side mark place some e sided none marked placed is_frame_of at =
     let known : KnownSide s.side = known_side s.side some in
-    given_known reading input more body records s f known.side side mark place known.is e sided none (marked known.side) placed spells at
+    given_known reading input more body records s f known.side side mark place known.is e sided none (marked known.side) placed is_frame_of at
 
 pub given_ready : (s : Splitter) (f : Framing) (side : Option Side) (place : ℕ) → f ≡ given_up s.framer → s.framer.failed ≡ false
     → IsReady (record { framer = f; version = s.version; side = side; place = place; line_due = false })
@@ -241,21 +241,21 @@ line_len One = omega arith
 line_len Two = omega arith
 
 -- A splitter at the start of a log.
-pub new_stands : (reading : Reading) (input more : List ℕ) (s : Splitter) → s.framer.held ≡ [] → s.framer.limits.max_body ≡ reading.max_body → s.framer.place ≡ place_behind 0 (length (line_of s.version))
-    → mark_part s.version s.side ≡ [] → IsSide s.version s.side → s.place ≡ length (line_of s.version) → s.line_due ≡ is_line_due s.version [] → IsOpen reading input s.version more → Stands reading input more [] s
+pub new_stands : (reading : LogRules) (input more : List ℕ) (s : Splitter) → s.framer.buffered ≡ [] → s.framer.limits.max_body ≡ reading.max_body → s.framer.place ≡ place_after 0 (length (line_of s.version))
+    → mark_part s.version s.side ≡ [] → IsSide s.version s.side → s.place ≡ length (line_of s.version) → s.line_due ≡ is_line_due s.version [] → IsOpen reading input s.version more → IsAfter reading input more [] s
 new_stands reading input more s nothing limit framed none side placed due at_start =
-    let held : held_of s ≡ [] = ap (λ z. z ++ s.framer.held) none ∙ nothing in
+    let buffered : buffered_of s ≡ [] = ap (λ z. z ++ s.framer.buffered) none ∙ nothing in
     let len : length input ≡ length (line_of s.version) + length more = omega (arith, ap length at_start.is, length-append (line_of s.version) more) in
     let line : length (line_of s.version) ≤ 18 = line_len s.version in
     record {
       reads = record {
         version = at_start.known;
         accepted = at_start.accepted;
-        is = at_start.is ∙ ap (λ z. line_of s.version ++ (z ++ more)) (sym held);
+        is = at_start.is ∙ ap (λ z. line_of s.version ++ (z ++ more)) (sym buffered);
         each = tt;
       };
       limit = limit;
-      placed = omega (arith, len, line, placed, ap (λ z. length (z ++ more)) held);
+      placed = omega (arith, len, line, placed, ap (λ z. length (z ++ more)) buffered);
       framed = omega (arith, len, line, framed, ap (λ z. length (z ++ more)) nothing);
       part = subst (λ (z : List ℕ). IsPart reading.max_body z) (sym nothing) (nothing_part reading.max_body);
       one = subst (λ (z : List ℕ). HoldsOne reading.max_body z) (sym nothing) (nothing_one reading.max_body);

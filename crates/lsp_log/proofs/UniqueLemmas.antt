@@ -1,8 +1,8 @@
 -- An input is taken apart in one way.
 use Rattle.std.proofs.Common.{◌≡◌, ◌≢◌, ℕ, ◌+◌, Bool, false, List, [], ◌∷◌, ◌++◌, length, refl, sym, ap, ◌∙◌, subst, arith, append_assoc, append-nil}
 use Rattle.std.proofs.lemmas.List.{append_cancel_left}
-use Rattle.lsp_frame.specs.Faults.{place_behind}
-use Rattle.lsp_frame.specs.Frame.{Spells}
+use Rattle.lsp_frame.specs.Faults.{place_after}
+use Rattle.lsp_frame.specs.Frame.{IsFrameOf}
 use Rattle.lsp_frame.specs.Laws.{FrontLaw, SameFrame}
 use Rattle.lsp_log.specs.declared.record.Version.{Version}
 use Rattle.lsp_log.specs.declared.record.Version.TheVariants.{One, Two}
@@ -30,7 +30,7 @@ same_mark Two Server Server a b one also e = (refl, append_cancel_left (60 ∷ [
 same_mark Two Client Server a b one also e = let byte = first_byte 62 60 a b e in absurd (omega arith)
 same_mark Two Server Client a b one also e = let byte = first_byte 60 62 a b e in absurd (omega arith)
 
-same_head : (place : ℕ) (due : Bool) (head other : Head) → head.side ≡ other.side → head.place ≡ place_behind 0 place → other.place ≡ place_behind 0 place
+same_head : (place : ℕ) (due : Bool) (head other : Head) → head.side ≡ other.side → head.place ≡ place_after 0 place → other.place ≡ place_after 0 place
     → head.line_due ≡ due → other.line_due ≡ due → head ≡ other
 same_head place due head other side c d e f = λ i. record { side = side i; place = (c ∙ sym d) i; line_due = (e ∙ sym f) i }
 
@@ -44,13 +44,13 @@ same_record front max_body version place due r q rest other is also e =
     let apart : mark_of version r.head.side ++ (r.spelling ++ rest) ≡ mark_of version q.head.side ++ (q.spelling ++ other) =
     sym (append_assoc (mark_of version r.head.side) r.spelling rest) ∙ e ∙ append_assoc (mark_of version q.head.side) q.spelling other in
     let marks = same_mark version r.head.side q.head.side (r.spelling ++ rest) (q.spelling ++ other) is.side also.side apart in
-    let frames : SameFrame r.spelling q.spelling r.body q.body rest other = front max_body r.spelling q.spelling r.body q.body rest other is.spells also.spells marks.1 in
+    let frames : SameFrame r.spelling q.spelling r.body q.body rest other = front max_body r.spelling q.spelling r.body q.body rest other is.is_frame_of also.is_frame_of marks.1 in
     let heads : r.head ≡ q.head = same_head place due r.head q.head marks.0 is.placed also.placed is.due also.due in
-    record { record_is = λ i. record { head = heads i; spelling = frames.spelling_is i; body = frames.body_is i }; rest_is = frames.rest_is }
+    record { record_is = λ i. record { head = heads i; spelling = frames.same_bytes i; body = frames.body_is i }; rest_is = frames.rest_is }
 
 -- No record begins a rest.
 abbrev pub IsEnd : ℕ → Version → List ℕ → Type 0
-IsEnd max_body version rest = (side : Side) (spelling body more : List ℕ) → Spells max_body spelling body → rest ≢ mark_of version side ++ (spelling ++ more)
+IsEnd max_body version rest = (side : Side) (spelling body more : List ℕ) → IsFrameOf max_body spelling body → rest ≢ mark_of version side ++ (spelling ++ more)
 
 -- The records of an input are the first of all its records.
 pub record AreFirst (version : Version) (rs all : List Record) (rest end : List ℕ) : Type 0 where
@@ -62,7 +62,7 @@ pub first_records : FrontLaw → (max_body : ℕ) (version : Version) (place : �
     → together version rs rest ≡ together version all end → IsEnd max_body version end → AreFirst version rs all rest end
 first_records front max_body version place due [] all rest end each also e ends = record { more = all; all_are = refl; rest_is = e }
 first_records front max_body version place due (r ∷ rs) [] rest end each also e ends =
-    absurd (ends r.head.side r.spelling r.body (together version rs rest) each.0.spells (sym e ∙ append_assoc (mark_of version r.head.side) r.spelling (together version rs rest)))
+    absurd (ends r.head.side r.spelling r.body (together version rs rest) each.0.is_frame_of (sym e ∙ append_assoc (mark_of version r.head.side) r.spelling (together version rs rest)))
 first_records front max_body version place due (r ∷ rs) (q ∷ all) rest end each also e ends =
     let same = same_record front max_body version place due r q (together version rs rest) (together version all end) each.0 also.0 e in
     let later : AreRecords max_body version (place + length (record_bytes version r)) false all =
@@ -74,11 +74,11 @@ first_records front max_body version place due (r ∷ rs) (q ∷ all) rest end e
 none_more : (max_body : ℕ) (version : Version) (place : ℕ) (due : Bool) (more : List Record) (rest end : List ℕ) → AreRecords max_body version place due more → rest ≡ together version more end → IsEnd max_body version rest → more ≡ []
 none_more max_body version place due [] rest end each is ends = refl
 none_more max_body version place due (r ∷ more) rest end each is ends =
-    absurd (ends r.head.side r.spelling r.body (together version more end) each.0.spells (is ∙ append_assoc (mark_of version r.head.side) r.spelling (together version more end)))
+    absurd (ends r.head.side r.spelling r.body (together version more end) each.0.is_frame_of (is ∙ append_assoc (mark_of version r.head.side) r.spelling (together version more end)))
 
-none_behind : (max_body : ℕ) (version : Version) (place : ℕ) (due : Bool) (rs more : List Record) (rest end : List ℕ) → AreRecords max_body version place due (rs ++ more) → rest ≡ together version more end → IsEnd max_body version rest → more ≡ []
-none_behind max_body version place due [] more rest end each is ends = none_more max_body version place due more rest end each is ends
-none_behind max_body version place due (r ∷ rs) more rest end each is ends = none_behind max_body version (place + length (record_bytes version r)) false rs more rest end each.1 is ends
+none_after : (max_body : ℕ) (version : Version) (place : ℕ) (due : Bool) (rs more : List Record) (rest end : List ℕ) → AreRecords max_body version place due (rs ++ more) → rest ≡ together version more end → IsEnd max_body version rest → more ≡ []
+none_after max_body version place due [] more rest end each is ends = none_more max_body version place due more rest end each is ends
+none_after max_body version place due (r ∷ rs) more rest end each is ends = none_after max_body version (place + length (record_bytes version r)) false rs more rest end each.1 is ends
 
 pub first_of : FrontLaw → FirstLaw
 first_of front reading input log all reads also ends = record { more = f.more; all_are = f.all_are; same = same }
@@ -104,7 +104,7 @@ first_of front reading input log all reads also ends = record { more = f.more; a
     same none =
         let all_each : AreRecords reading.max_body log.version (length (line_of log.version)) (is_line_due log.version []) (log.records ++ f.more) =
         subst (λ (rs : List Record). AreRecords reading.max_body log.version (length (line_of log.version)) (is_line_due log.version []) rs) f.all_are each in
-        let nothing : f.more ≡ [] = none_behind reading.max_body log.version (length (line_of log.version)) (is_line_due log.version []) log.records f.more log.rest all.rest all_each f.rest_is none in
+        let nothing : f.more ≡ [] = none_after reading.max_body log.version (length (line_of log.version)) (is_line_due log.version []) log.records f.more log.rest all.rest all_each f.rest_is none in
         let records : log.records ≡ all.records = sym (f.all_are ∙ ap (λ (l : List Record). log.records ++ l) nothing ∙ append-nil log.records) in
         let rest : log.rest ≡ all.rest = f.rest_is ∙ ap (λ (l : List Record). together log.version l all.rest) nothing in
         λ i. record { version = version i; records = records i; rest = rest i }

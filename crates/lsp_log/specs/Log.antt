@@ -1,8 +1,8 @@
--- A log, and the records that are whole in it.
+-- A log, and its complete records.
 use Rattle.std.specs.Prelude.{ℕ, ◌≡◌, ◌≢◌, ◌⊎◌, ◌+◌, ◌-◌, Bool, true, false, List, [], ◌∷◌, ◌++◌, length, codes}
-use Rattle.lsp_frame.specs.Frame.{Spells, IsHopeless}
+use Rattle.lsp_frame.specs.Frame.{IsFrameOf, IsHopeless}
 use Rattle.lsp_frame.specs.Stream.{IsPart}
-use Rattle.lsp_frame.specs.Faults.{IsDecided, place_behind}
+use Rattle.lsp_frame.specs.Faults.{IsDecided, place_after}
 use Rattle.lsp_frame.specs.declared.fault.FrameFault.{FrameFault}
 use Rattle.lsp_log.specs.declared.record.Version.{Version}
 use Rattle.lsp_log.specs.declared.record.Version.TheVariants.{One, Two}
@@ -10,90 +10,107 @@ use Rattle.lsp_log.specs.declared.record.Side.{Side}
 use Rattle.lsp_log.specs.declared.record.Side.TheVariants.{Client, Server}
 use Rattle.lsp_log.specs.declared.record.Head.{Head}
 
--- how an input is read: the greatest length of a body, whether a log of version 2 is looked for, and whether it is
--- refused then
-pub record Reading : Type 0 where
+-- How an input is read.
+pub record LogRules : Type 0 where
+  -- the greatest length of a body
   pub max_body : ℕ
+  -- is version 2 recognised?
   pub versions : Bool
+  -- is it refused then?
   pub only_one : Bool
 
--- the line that a log of version 2 begins with
+-- The line that a log of version 2 begins with.
 abbrev pub version_line : List ℕ
 version_line = codes "lsp-session-log 2\n"
 
--- what is in front of the records
+-- What comes before the records: the line of version 2; in version 1 nothing.
 abbrev pub line_of : Version → List ℕ
 line_of One = []
 line_of Two = version_line
 
--- The input is of this version: 2 where that is looked for and the input begins with the line, else 1.
+-- The version of an input: 2 if that is recognised and the input begins with the line, else 1.
 abbrev pub IsVersion : Bool → Version → List ℕ → Type 0
 IsVersion versions One input = versions ≡ true → (more : List ℕ) → input ≢ version_line ++ more
-IsVersion versions Two input = (versions ≡ true) × ((more : List ℕ) × (input ≡ version_line ++ more))
+IsVersion versions Two input = (versions ≡ true)
+    × ((more : List ℕ) × (input ≡ version_line ++ more))
 
--- the mark in front of a frame: `>` for one of the client's, `<` for one of the server's; version 1 has none
+-- The mark before a frame: `>` for one of the client's, `<` for one of the server's. Version 1 has
+-- none.
 abbrev pub mark_of : Version → Side → List ℕ
 mark_of One side = []
 mark_of Two Client = 62 ∷ []
 mark_of Two Server = 60 ∷ []
 
--- a record: its frame, the frame's body, and what is known beside it
+-- A record: its frame, the frame's body, and its side and byte offset.
 pub record Record : Type 0 where
+  -- its side and byte offset, and whether the log's line belongs to its output
   pub head : Head
+  -- the bytes of its frame
   pub spelling : List ℕ
+  -- the body of its frame
   pub body : List ℕ
 
--- the bytes of a record: its mark and its frame
+-- The bytes of a record: its mark and its frame.
 abbrev pub record_bytes : Version → Record → List ℕ
 record_bytes version r = mark_of version r.head.side ++ r.spelling
 
--- the records, one after another, and then the rest
+-- The records, one after another, and then the rest.
 abbrev pub together : Version → List Record → List ℕ → List ℕ
 together version [] rest = rest
 together version (r ∷ rs) rest = record_bytes version r ++ together version rs rest
 
--- Does the line of a log of version 2 belong to what comes after these records? It belongs to the first record's
+-- Does the line of version 2 belong to the output that comes next? It belongs to the first record's
 -- output, and without records to that of the end.
 abbrev pub is_line_due : Version → List Record → Bool
 is_line_due One rs = false
 is_line_due Two [] = true
 is_line_due Two (r ∷ rs) = false
 
--- a record whose first byte is at a place
-pub record IsRecord (max_body : ℕ) (version : Version) (place : ℕ) (line_due : Bool) (r : Record) : Type 0 where
-  pub spells : Spells max_body r.spelling r.body
+-- A record whose first byte is at an offset.
+pub record IsRecord (max_body : ℕ) (version : Version) (place : ℕ) (line_due : Bool)
+    (r : Record) : Type 0 where
+  pub is_frame_of : IsFrameOf max_body r.spelling r.body
   pub side : version ≡ One → r.head.side ≡ Client
-  pub placed : r.head.place ≡ place_behind 0 place
+  pub placed : r.head.place ≡ place_after 0 place
   pub due : r.head.line_due ≡ line_due
 
--- records one after another, the first at a place
+-- Records one after another, the first at an offset.
 abbrev pub AreRecords : ℕ → Version → ℕ → Bool → List Record → Type 0
 AreRecords max_body version place line_due [] = Unit {0}
 AreRecords max_body version place line_due (r ∷ rs) =
-    IsRecord max_body version place line_due r × AreRecords max_body version (place + length (record_bytes version r)) false rs
+    IsRecord max_body version place line_due r
+    × AreRecords max_body version (place + length (record_bytes version r)) false rs
 
--- an input taken apart
+-- An input taken apart: its version, its records, and what is left after them.
 pub record Log : Type 0 where
   pub version : Version
   pub records : List Record
+  -- what is left after the records
   pub rest : List ℕ
 
--- The input is the line of its version, these records, and then the rest; its version isn't refused.
-pub record IsReadAs (reading : Reading) (input : List ℕ) (log : Log) : Type 0 where
+-- The input is the line of its version, these records, and then the rest. Its version isn't
+-- refused.
+pub record IsReadAs (reading : LogRules) (input : List ℕ) (log : Log) : Type 0 where
+  -- the input is of this version
   pub version : IsVersion reading.versions log.version input
+  -- that version isn't refused
   pub accepted : reading.only_one ≡ true → log.version ≡ One
+  -- the line of the version, the records, and the rest
   pub is : input ≡ line_of log.version ++ together log.version log.records log.rest
-  pub each : AreRecords reading.max_body log.version (length (line_of log.version)) (is_line_due log.version []) log.records
+  -- each record is a frame with its mark, at its byte offset
+  pub each : AreRecords reading.max_body log.version (length (line_of log.version))
+      (is_line_due log.version []) log.records
 
--- where the rest begins
+-- The byte offset at which the rest begins.
 abbrev pub rest_at : List ℕ → Log → ℕ
 rest_at input log = length input - length log.rest
 
--- No record begins the rest: all that are whole in the input were found.
+-- No complete record begins the rest: all complete records of the input were found.
 abbrev pub HasNoRecord : ℕ → Log → Type 0
-HasNoRecord max_body log = (side : Side) (spelling body more : List ℕ) → Spells max_body spelling body → log.rest ≢ mark_of log.version side ++ (spelling ++ more)
+HasNoRecord max_body log = (side : Side) (spelling body more : List ℕ) →
+    IsFrameOf max_body spelling body → log.rest ≢ mark_of log.version side ++ (spelling ++ more)
 
--- The rest is the beginning of a record, in which no fault was decided, and no whole one.
+-- The input is cut: the rest is an incomplete record, so far without a fault.
 pub record IsCut (max_body : ℕ) (log : Log) : Type 0 where
   pub side : Side
   pub part : List ℕ
@@ -102,19 +119,21 @@ pub record IsCut (max_body : ℕ) (log : Log) : Type 0 where
   pub some : log.rest ≢ []
   pub none : HasNoRecord max_body log
 
--- The rest is nothing, or the beginning of a record in which no fault was decided.
+-- The rest is empty, or an incomplete record that is so far without a fault.
 abbrev pub IsUndecided : ℕ → Log → Type 0
 IsUndecided max_body log = (log.rest ≡ []) ⊎ IsCut max_body log
 
--- In the frame that the rest begins with a fault was decided, at its place in the input.
-pub record IsMalformed (max_body : ℕ) (input : List ℕ) (fault : FrameFault) (log : Log) : Type 0 where
+-- The rest begins with a frame that is faulty: the fault is certain, with its byte offset in the
+-- input.
+pub record IsMalformed (max_body : ℕ) (input : List ℕ) (fault : FrameFault)
+    (log : Log) : Type 0 where
   pub side : Side
   pub part : List ℕ
   pub is : log.rest ≡ mark_of log.version side ++ part
-  pub decided : IsDecided max_body (place_behind 0 (length input - length part)) part fault
+  pub decided : IsDecided max_body (place_after 0 (length input - length part)) part fault
   pub hopeless : IsHopeless max_body part
 
--- In a log of version 2 the rest begins with a byte that is no mark, at this place.
+-- In a log of version 2 the rest begins with a byte that is no mark, at this offset.
 pub record IsBadMark (input : List ℕ) (place : ℕ) (log : Log) : Type 0 where
   pub version : log.version ≡ Two
   pub byte : ℕ
@@ -122,4 +141,4 @@ pub record IsBadMark (input : List ℕ) (place : ℕ) (log : Log) : Type 0 where
   pub is : log.rest ≡ byte ∷ more
   pub not_client : byte ≢ 62
   pub not_server : byte ≢ 60
-  pub placed : place ≡ place_behind 0 (rest_at input log)
+  pub placed : place ≡ place_after 0 (rest_at input log)

@@ -1,7 +1,7 @@
--- Where a splitter is in a log.
+-- How far a splitter is in a log.
 use Rattle.std.specs.Prelude.{ℕ, ◌≡◌, ◌-◌, false, true, List, [], ◌++◌, length, Option, None, Some}
 use Rattle.lsp_frame.specs.Stream.{IsFrame, IsPart, HoldsOne}
-use Rattle.lsp_frame.specs.Faults.{place_behind}
+use Rattle.lsp_frame.specs.Faults.{place_after}
 use Rattle.lsp_log.specs.declared.record.Version.{Version}
 use Rattle.lsp_log.specs.declared.record.Version.TheVariants.{One, Two}
 use Rattle.lsp_log.specs.declared.record.Side.{Side}
@@ -10,68 +10,74 @@ use Rattle.lsp_log.specs.declared.record.Head.{Head}
 use Rattle.lsp_stream.specs.declared.fault.EngineFault.{EngineFault}
 use Rattle.lsp_stream.specs.declared.fault.EngineFault.TheVariants.{Read, Write, Frame, Truncated, BodyTooLong, NoMemory, TooManyTurns, BadLog}
 use Rattle.lsp_log.specs.declared.splitter.Splitter.{Splitter}
-use Rattle.lsp_log.specs.Log.{Reading, Record, Log, IsVersion, IsReadAs, IsMalformed, IsBadMark, line_of, mark_of, is_line_due}
+use Rattle.lsp_log.specs.Log.{LogRules, Record, Log, IsVersion, IsReadAs, IsMalformed, IsBadMark, line_of, mark_of, is_line_due}
 
--- Bytes were taken: no fault came, and while a mark is to come nothing of a frame is held.
+-- No fault came, and while a mark is to come no byte of a frame is buffered.
 pub record IsFed (s : Splitter) : Type 0 where
   pub sound : s.framer.failed ≡ false
-  pub between : s.side ≡ None → s.framer.held ≡ []
+  pub between : s.side ≡ None → s.framer.buffered ≡ []
 
--- More bytes can be taken: besides, no whole frame is held.
+-- More bytes can be taken: no fault came, and no complete frame is buffered.
 pub record IsReady (s : Splitter) : Type 0 where
   pub fed : IsFed s
-  pub none : IsFrame s.framer.limits.max_body s.framer.held → ⊥
+  pub none : IsFrame s.framer.limits.max_body s.framer.buffered → ⊥
 
--- the mark of the record that comes in, as far as it came
+-- The mark of the record that is coming in, if it has come.
 abbrev pub mark_part : Version → Option Side → List ℕ
 mark_part version None = []
 mark_part version (Some side) = mark_of version side
 
--- the bytes of the record that comes in
-abbrev pub held_of : Splitter → List ℕ
-held_of s = mark_part s.version s.side ++ s.framer.held
+-- The bytes of the record that is coming in.
+abbrev pub buffered_of : Splitter → List ℕ
+buffered_of s = mark_part s.version s.side ++ s.framer.buffered
 
--- In version 1 each record is the client's.
+-- The side may be unknown only in version 2; in version 1 each record is the client's.
 abbrev pub IsSide : Version → Option Side → Type 0
 IsSide One None = ⊥
 IsSide One (Some side) = side ≡ Client
 IsSide Two side = Unit {0}
 
--- the input at a splitter: the records that were released, the bytes that it holds, and what is still to come
+-- The input at a splitter: the records that were released, the bytes that it has buffered, and
+-- those still to come.
 abbrev pub log_at : Splitter → List Record → List ℕ → Log
-log_at s records more = record { version = s.version; records = records; rest = held_of s ++ more }
+log_at s records more
+    = record { version = s.version; records = records; rest = buffered_of s ++ more }
 
--- The input was taken up to these bytes, which are still to come, and these records were released.
-pub record Stands (reading : Reading) (input more : List ℕ) (records : List Record) (s : Splitter) : Type 0 where
+-- A splitter's state in an input: these records were released, and of the input only these bytes
+-- are still to come.
+pub record IsAfter (reading : LogRules) (input more : List ℕ) (records : List Record)
+    (s : Splitter) : Type 0 where
   pub reads : IsReadAs reading input (log_at s records more)
   pub limit : s.framer.limits.max_body ≡ reading.max_body
-  pub placed : s.place ≡ place_behind 0 (length input - length (held_of s ++ more))
-  pub framed : s.framer.place ≡ place_behind 0 (length input - length (s.framer.held ++ more))
-  pub part : IsPart reading.max_body s.framer.held
-  pub one : HoldsOne reading.max_body s.framer.held
+  pub placed : s.place ≡ place_after 0 (length input - length (buffered_of s ++ more))
+  pub framed : s.framer.place ≡ place_after 0 (length input - length (s.framer.buffered ++ more))
+  pub part : IsPart reading.max_body s.framer.buffered
+  pub one : HoldsOne reading.max_body s.framer.buffered
   pub side : IsSide s.version s.side
   pub due : s.line_due ≡ is_line_due s.version records
 
--- the input at its start: the line of its version, and then these bytes
-pub record IsOpen (reading : Reading) (input : List ℕ) (version : Version) (more : List ℕ) : Type 0 where
+-- The input at its start: the line of its version, and then these bytes.
+pub record IsOpen (reading : LogRules) (input : List ℕ) (version : Version)
+    (more : List ℕ) : Type 0 where
   pub known : IsVersion reading.versions version input
   pub accepted : reading.only_one ≡ true → version ≡ One
   pub is : input ≡ line_of version ++ more
 
--- who wrote the record that comes in
+-- Who wrote the record that is coming in.
 abbrev pub side_of : Option Side → Side
 side_of None = Client
 side_of (Some side) = side
 
--- the head of the record that comes in
+-- The side and byte offset of the record that is coming in, and whether the log's line belongs to
+-- its output.
 abbrev pub head_of : Splitter → Head
 head_of s = record { side = side_of s.side; place = s.place; line_due = s.line_due }
 
--- the record that comes in, with this body
+-- The record that is coming in, with this body.
 abbrev pub record_at : Splitter → List ℕ → Record
-record_at s body = record { head = head_of s; spelling = s.framer.held; body = body }
+record_at s body = record { head = head_of s; spelling = s.framer.buffered; body = body }
 
--- why the rest of the input is not taken
+-- Why the rest of the input isn't taken.
 abbrev pub IsSplitFault : ℕ → List ℕ → Log → EngineFault → Type 0
 IsSplitFault max_body input log Read = ⊥
 IsSplitFault max_body input log Write = ⊥
@@ -82,7 +88,7 @@ IsSplitFault max_body input log NoMemory = Unit {0}
 IsSplitFault max_body input log TooManyTurns = ⊥
 IsSplitFault max_body input log (BadLog place) = IsBadMark input place log
 
--- the faults of taking a log apart
+-- The faults of splitting: a faulty frame, out of memory, a byte that is no mark.
 abbrev pub IsSplitterFault : EngineFault → Type 0
 IsSplitterFault Read = ⊥
 IsSplitterFault Write = ⊥

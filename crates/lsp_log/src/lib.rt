@@ -1,8 +1,8 @@
-//! What a log is: its version, its records, and how it is taken apart however it comes.
+//! What a log is: its version and its records; and how it is split, in whatever pieces it comes.
 //!
-//! - `record`: the versions of a log, and what is known of a record beside its frame.
-//! - `opening`: the first bytes of an input, as many as show its version.
 //! - `splitter`: the records of a log that comes in pieces.
+//! - `record`: the versions of a log, and what is known of a record beside its frame.
+//! - `opening`: the first bytes of an input, as many as decide its version.
 //! - `laws`: what holds of every log.
 #![tactic(auto)]
 

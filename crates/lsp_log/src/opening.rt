@@ -1,9 +1,8 @@
 //! The first bytes of an input, as many as decide its version.
 
-ghost use Rattle.std.specs.Prelude.{◌≡◌, ◌≢◌, ◌<◌, ◌≤◌, ◌^◌, ◌++◌, ◌↔◌, ◌⊎◌, [], ℕ, List, true, false, IfOk, IfErr, OnOk, length, take, drop};
+ghost use Rattle.std.specs.Prelude.{◌≡◌, ◌<◌, ◌≤◌, ◌^◌, ◌++◌, ◌↔◌, [], ℕ, List, true, false, IfOk, IfErr, length, take, drop};
 ghost use Rattle.std.specs.Io.KnownBytes.{Consumes, IsAtEnd};
-ghost use Rattle.lsp_stream.specs.Ports.{Rose};
-ghost use Rattle.lsp_stream.specs.Turns.{Spends, StaysWell};
+ghost use Rattle.lsp_stream.specs.Turns.{ReadsWithin};
 ghost use Rattle.lsp_log.specs.Log.{IsVersion, line_of, version_line};
 ghost use Rattle.lsp_log.specs.Opening.{IsLineFront, IsBelowLine};
 
@@ -18,7 +17,11 @@ pub struct Opening {
     pub ended: bool,
 }
 
-/// Reads into `buf` until the version is known. Where versions are not looked for that is one read.
+/// Reads into `buf` until the version is known. Without `versions` each input is of version 1, and
+/// that is one read.
+///
+/// # Errors
+/// [`EngineFault::Read`] if a read fails, [`EngineFault::TooManyTurns`] if no turn is left for one.
 pub fn read_opening<R: Source>(
     reader: &mut R,
     buf: &mut [u8],
@@ -28,25 +31,23 @@ pub fn read_opening<R: Source>(
     requires { 18 ≤ length buf.old }
     ensures bound { IfOk result (λ opening. opening.len ≤ length buf.new) }
     ensures fits { IfOk result (λ opening. opening.len < 2 ^ 64) }
-    ensures read { IfOk result (λ opening. Consumes (R.left reader.old) (R.left reader.new) (take opening.len buf.new)) }
+    ensures read { IfOk result
+        (λ opening. Consumes (R.seen reader.old).left (R.seen reader.new).left
+        (take opening.len buf.new)) }
     ensures known { IfOk result (λ opening. (more : List ℕ) → (opening.ended ≡ true → more ≡ []) →
         IsVersion versions opening.version (take opening.len buf.new ++ more)) }
     ensures line { IfOk result (λ opening. length (line_of opening.version) ≤ opening.len) }
     ensures front { IfOk result (λ opening. take opening.len buf.new ≡
-        line_of opening.version ++ drop (length (line_of opening.version)) (take opening.len buf.new)) }
-    ensures ended { IfOk result (λ opening. R.has_ended reader.new ≡ true ↔ opening.ended ≡ true) }
-    ensures at_end { IfOk result (λ opening. opening.ended ≡ true → IsAtEnd (R.left reader.new)) }
-    ensures rose { OnOk result (Rose (R.count reader.old) (R.count reader.new)) }
-    ensures below { IfErr result (λ _. IsBelowLine versions (R.left reader.old) (R.left reader.new)) }
-    ensures fault { IfErr result (λ fault. (fault ≡ EngineFault.Read) ⊎ (fault ≡ EngineFault.TooManyTurns)) }
-    ensures failed { IfErr result (λ fault. fault ≡ EngineFault.Read →
-        (R.has_failed reader.new ≡ true) × (R.has_ended reader.new ≡ false) × Rose (R.count reader.old) (R.count reader.new)) }
-    ensures not_ended { IfErr result (λ fault. fault ≡ EngineFault.TooManyTurns →
-        R.has_ended reader.old ≡ false → R.has_ended reader.new ≡ false) }
-    ensures well { OnOk result (StaysWell (R.has_failed reader.old) (R.has_failed reader.new)) }
-    ensures told { IfErr result (λ fault. fault ≢ EngineFault.Read → StaysWell (R.has_failed reader.old) (R.has_failed reader.new)) }
-    ensures none_left { IfErr result (λ fault. fault ≡ EngineFault.TooManyTurns → turns.new.left ≡ 0) }
-    ensures spent { Spends (R.count reader.old) (R.count reader.new) turns.old.left turns.new.left }
+        line_of opening.version
+        ++ drop (length (line_of opening.version)) (take opening.len buf.new)) }
+    ensures ended { IfOk result
+        (λ opening. (R.seen reader.new).ended ≡ true ↔ opening.ended ≡ true) }
+    ensures at_end { IfOk result (λ opening. opening.ended ≡ true →
+        IsAtEnd (R.seen reader.new).left) }
+    ensures below { IfErr result
+        (λ _. IsBelowLine versions (R.seen reader.old).left (R.seen reader.new).left) }
+    ensures calls { ReadsWithin turns.old.left turns.new.left
+        (R.seen reader.old) (R.seen reader.new) result }
 {
     let mut len = 0;
     'opening: loop {

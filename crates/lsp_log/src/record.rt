@@ -1,4 +1,4 @@
-//! What a log is made of.
+//! The versions of a log, and what is known of a record beside its frame.
 
 ghost use Rattle.std.specs.Prelude.{◌≡◌, ◌≢◌, ◌∷◌, [], MatchOption};
 ghost use Rattle.lsp_log.specs.Log.{line_of, mark_of, is_line_due};
@@ -14,7 +14,7 @@ pub enum Version {
 pub const VERSION_LINE: &[u8] = b"lsp-session-log 2\n";
 
 impl Version {
-    /// What a log of this version begins with.
+    /// The bytes before the first record in a log of this version.
     pub fn line(self) -> &'static [u8]
         ensures { result.now ≡ line_of self }
     {
@@ -24,7 +24,7 @@ impl Version {
         }
     }
 
-    /// Has a log of this version a line?
+    /// Does a log of this version begin with a line?
     pub fn has_line(self) -> bool
         ensures { result ≡ is_line_due self [] }
     {
@@ -40,9 +40,10 @@ pub enum Side {
 }
 
 impl Side {
-    /// The side of a mark of version 2.
+    /// Who wrote a record with this mark of version 2. `None` if no record has it.
     pub fn of_mark(mark: u8) -> Option<Side>
-        ensures { MatchOption result ((mark ≢ 62) × (mark ≢ 60)) (λ side. mark_of Version.Two side ≡ mark ∷ []) }
+        ensures { MatchOption result ((mark ≢ 62) × (mark ≢ 60))
+            (λ side. mark_of Version.Two side ≡ mark ∷ []) }
     {
         match mark {
             b'>' => Some(Side::Client),
@@ -55,10 +56,11 @@ impl Side {
 /// What is known of a record beside its frame.
 #[derive(Clone, Copy, Debug, PartialEq, Eq)]
 pub struct Head {
-    /// In version 1 all records are the client's.
+    /// Who wrote it. In version 1 all records are the client's.
     pub side: Side,
-    /// The offset of its first byte in the input, in version 2 of its mark. It stays at the greatest value of a `u64`.
+    /// The byte offset of the record in the input: of its mark in version 2, else of its frame. It
+    /// stays at the greatest value of a `u64`.
     pub place: u64,
-    /// Is it the first of a version 2 log, to whose output the log's line belongs?
+    /// Is it the first record of a version 2 log, to whose output the log's line belongs?
     pub line_due: bool,
 }

@@ -1,35 +1,37 @@
 //! The records of a log that comes in pieces.
 
 ghost use Rattle.std.specs.Prelude.{◌≡◌, ◌↔◌, ◌<◌, ◌≤◌, ◌++◌, ◌∷◌, [], ℕ, List, None, true, false, length, drop, IfOk, IfErr, OnOk, MatchOption};
-ghost use Rattle.lsp_frame.specs.Frame.{Spells};
+ghost use Rattle.lsp_frame.specs.Frame.{IsFrameOf};
 ghost use Rattle.lsp_frame.specs.Stream.{IsFrame};
-ghost use Rattle.lsp_log.specs.Log.{Reading, Record, mark_of};
+ghost use Rattle.lsp_log.specs.Log.{LogRules, Record, mark_of};
 ghost use Rattle.lsp_log.specs.Splitting.{IsSplitterFault};
-ghost use Rattle.lsp_log.specs.Splitting.{IsReady, IsFed, Stands, IsSplitFault, IsOpen, IsSide, log_at, head_of, held_of, mark_part};
+ghost use Rattle.lsp_log.specs.Splitting.{IsReady, IsFed, IsAfter, IsSplitFault, IsOpen, IsSide, log_at, head_of, buffered_of, mark_part};
 
 use crate::record::{Head, Side, Version};
 use lsp_frame::{Framer, Limits};
 use lsp_stream::EngineFault;
 use std::alloc::Global;
 
-/// Takes a log apart into its records, in whatever pieces it comes. It begins after the line of the log's version,
-/// and holds at most one record.
+/// Splits a log into its records, in whatever pieces it comes. It begins after the line of the
+/// log's version, and buffers at most one record.
 #[derive(Drop)]
 pub struct Splitter {
     framer: Framer,
     version: Version,
-    // Who wrote the record that comes in; not known while its mark is still to come.
+    // Who wrote the record that is coming in; unknown until its mark has come.
     side: Option<Side>,
     place: u64,
     line_due: bool,
 }
 
 impl Splitter {
-    /// Behind the line of a log of this version.
+    /// Makes a splitter that is after the line of a log of this version.
     pub fn new(alloc: Global, limits: Limits, version: Version) -> Splitter
         ensures ready { IsReady result }
         ensures version { result.version ≡ version }
-        ensures stands { (reading : Reading) (input more : List ℕ) → reading.max_body ≡ limits.max_body → IsOpen reading input version more → Stands reading input more [] result }
+        ensures is_after { (reading : LogRules) (input more : List ℕ) →
+            reading.max_body ≡ limits.max_body → IsOpen reading input version more →
+            IsAfter reading input more [] result }
     {
         let place = version.line().len() as u64;
         let mut framer = Framer::new(alloc, limits);
@@ -43,19 +45,27 @@ impl Splitter {
         }
     }
 
-    /// Takes the next bytes of the log: all of them, or those up to the end of a mark or of a record. Answers how
-    /// many.
+    /// Takes the next bytes of the log: all of them, or those up to the end of a mark or of a
+    /// record. Returns how many.
+    ///
+    /// # Errors
+    /// [`EngineFault::Frame`] at a faulty frame, [`EngineFault::BadLog`] at a byte that is no mark,
+    /// [`EngineFault::NoMemory`].
     pub fn feed(&mut self, piece: &[u8]) -> Result<usize, EngineFault>
         requires { IsReady self.old }
         ensures taken { IfOk result (λ k. k ≤ length piece.now) }
         ensures some { IfOk result (λ k. 0 < length piece.now → 0 < k) }
         ensures fed { OnOk result (IsFed self.new) }
         ensures version { self.new.version ≡ self.old.version }
-        ensures stands { IfOk result (λ k. (reading : Reading) (input : List ℕ) (records : List Record) →
-            Stands reading input piece.now records self.old → Stands reading input (drop k piece.now) records self.new) }
+        ensures is_after { IfOk result
+            (λ k. (reading : LogRules) (input : List ℕ) (records : List Record) →
+            IsAfter reading input piece.now records self.old →
+            IsAfter reading input (drop k piece.now) records self.new) }
         ensures kind { IfErr result IsSplitterFault }
-        ensures fault { IfErr result (λ fault. (reading : Reading) (input : List ℕ) (records : List Record) →
-            Stands reading input piece.now records self.old → IsSplitFault reading.max_body input (log_at self.old records piece.now) fault) }
+        ensures fault { IfErr result
+            (λ fault. (reading : LogRules) (input : List ℕ) (records : List Record) →
+            IsAfter reading input piece.now records self.old →
+            IsSplitFault reading.max_body input (log_at self.old records piece.now) fault) }
     {
         if self.side.is_none() {
             return self.take_mark(piece);
@@ -74,11 +84,15 @@ impl Splitter {
         ensures some { IfOk result (λ k. 0 < length piece.now → 0 < k) }
         ensures fed { OnOk result (IsFed self.new) }
         ensures version { self.new.version ≡ self.old.version }
-        ensures stands { IfOk result (λ k. (reading : Reading) (input : List ℕ) (records : List Record) →
-            Stands reading input piece.now records self.old → Stands reading input (drop k piece.now) records self.new) }
+        ensures is_after { IfOk result
+            (λ k. (reading : LogRules) (input : List ℕ) (records : List Record) →
+            IsAfter reading input piece.now records self.old →
+            IsAfter reading input (drop k piece.now) records self.new) }
         ensures kind { IfErr result IsSplitterFault }
-        ensures fault { IfErr result (λ fault. (reading : Reading) (input : List ℕ) (records : List Record) →
-            Stands reading input piece.now records self.old → IsSplitFault reading.max_body input (log_at self.old records piece.now) fault) }
+        ensures fault { IfErr result
+            (λ fault. (reading : LogRules) (input : List ℕ) (records : List Record) →
+            IsAfter reading input piece.now records self.old →
+            IsSplitFault reading.max_body input (log_at self.old records piece.now) fault) }
     {
         let Some(mark) = piece.first() else {
             return Ok(0);
@@ -93,23 +107,31 @@ impl Splitter {
         }
     }
 
-    /// The frame of the record that is held, once it is whole: all its bytes, and its body.
+    /// The frame of the buffered record, once it is complete: all its bytes, and its body.
     pub fn frame(&self) -> Option<(&[u8], &[u8])>
         ensures { MatchOption result
-            (self.now.framer.failed ≡ false → IsFrame self.now.framer.limits.max_body self.now.framer.held → ⊥)
-            (λ frame. (frame.0.now ≡ self.now.framer.held) × Spells self.now.framer.limits.max_body self.now.framer.held frame.1.now) }
+            (self.now.framer.failed ≡ false →
+            IsFrame self.now.framer.limits.max_body self.now.framer.buffered → ⊥)
+            (λ frame. (frame.0.now ≡ self.now.framer.buffered)
+            × IsFrameOf self.now.framer.limits.max_body self.now.framer.buffered frame.1.now) }
     {
         Some((self.framer.spelling()?, self.framer.body()?))
     }
 
-    /// Gives the record up that is held. Does nothing where none is whole.
+    /// Releases the buffered record. Does nothing if none is complete.
     pub fn next(&mut self)
         requires { IsFed self.old }
         ensures ready { IsReady self.new }
         ensures version { self.new.version ≡ self.old.version }
-        ensures stands { (reading : Reading) (input more body : List ℕ) (records : List Record) →
-            Spells reading.max_body self.old.framer.held body → Stands reading input more records self.old →
-            Stands reading input more (records ++ (record { head = head_of self.old; spelling = self.old.framer.held; body = body } ∷ [])) self.new }
+        ensures is_after { (reading : LogRules) (input more body : List ℕ) (records : List Record) →
+            IsFrameOf reading.max_body self.old.framer.buffered body →
+            IsAfter reading input more records self.old →
+            IsAfter reading input more
+            (records ++ (record {
+              head = head_of self.old;
+              spelling = self.old.framer.buffered;
+              body = body;
+            } ∷ [])) self.new }
     {
         if let Some(spelling) = self.framer.spelling() {
             let len = spelling.len() as u64;
@@ -121,10 +143,10 @@ impl Splitter {
         }
     }
 
-    /// Is no byte of a record held?
+    /// Is no byte of a record buffered?
     pub fn at_rest(&self) -> bool
         requires { IsReady self.now }
-        ensures { result ≡ true ↔ held_of self.now ≡ [] }
+        ensures { result ≡ true ↔ buffered_of self.now ≡ [] }
     {
         match (self.version, self.side) {
             (Version::Two, Some(_)) => false,
@@ -132,14 +154,14 @@ impl Splitter {
         }
     }
 
-    /// Does the line of a version 2 log belong to what comes next?
+    /// Does the line of a version 2 log belong to the next output?
     pub fn line_due(&self) -> bool
         ensures { result ≡ self.now.line_due }
     {
         self.line_due
     }
 
-    /// What is known of the record that comes in beside its frame.
+    /// Returns the side and the byte offset of the record that is coming in.
     pub fn head(&self) -> Head
         ensures { result ≡ head_of self.now }
     {
@@ -162,7 +184,7 @@ fn first_side(version: Version) -> Option<Side>
     }
 }
 
-/// How long a mark is.
+/// The length of a mark.
 fn mark_len(version: Version) -> u64
     ensures { (side : Side) → result ≡ length (mark_of version side) }
 {

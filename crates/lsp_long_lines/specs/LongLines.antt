@@ -1,4 +1,4 @@
--- Which lines of a text are too long, where a character `c` has `units c` units.
+-- Which lines of a text are too long, if a character `c` has `units c` units.
 use Rattle.std.specs.Prelude.{ℕ, ◌+◌, Bool, nat_lt, List, filter}
 use Rattle.lsp_text.specs.declared.position.Position.{Position}
 use Rattle.lsp_text.specs.Positions.{exact_position}
@@ -7,7 +7,8 @@ use Rattle.lsp_text.specs.Units.{units_between}
 
 -- A line is long if its content has more than 100 units.
 abbrev pub is_long : (ℕ → ℕ) → List ℕ → ℕ → Bool
-is_long units text line = nat_lt 100 (units_between units text (line_start text line) (line_stop text line))
+is_long units text line
+    = nat_lt 100 (units_between units text (line_start text line) (line_stop text line))
 
 -- The long lines of a text, in order.
 abbrev pub long_lines : (ℕ → ℕ) → List ℕ → List ℕ

@@ -1,4 +1,4 @@
-//! The long lines of a document: what this server finds, and a server of your own wouldn't.
+//! The long lines of a document. This is the part that another server replaces by its own.
 
 ghost use Rattle.std.specs.Prelude.{◌≡◌, ◌≤◌, IfOk, IfSome, is_some, map};
 ghost use Rattle.std.specs.Str.{chars};
@@ -14,7 +14,8 @@ use std::alloc::{AllocError, Global};
 /// How many units of the session's encoding a line may have.
 const LIMIT: u32 = 100;
 
-/// What each long line has too much, in exact positions. Costs one step a line, and in UTF-16 and UTF-32 the text.
+/// Returns the range of each long line that is over the limit, in exact positions. Costs one step a
+/// line, and in UTF-16 and UTF-32 the text.
 pub fn long_lines(
     alloc: Global,
     document: &Document<'_>,
@@ -35,7 +36,7 @@ pub fn long_lines(
     Ok(ranges)
 }
 
-/// What a line has too much, up to its end; none where it isn't long.
+/// The range of a line that is over the limit, up to the line's end; `None` if the line isn't long.
 fn excess(lines: &Lines, text: &str, encoding: Encoding, line: u32) -> Option<Range>
     requires indexed { Indexes lines.now text.now }
     requires line { line ≤ line_ends (chars text.now) }
@@ -47,7 +48,7 @@ fn excess(lines: &Lines, text: &str, encoding: Encoding, line: u32) -> Option<Ra
     if stop.character <= LIMIT {
         return None;
     }
-    // The limit may lie inside a character: then that character is too much.
+    // The limit may lie inside a character: then that character is over it.
     let start = (0..=LIMIT)
         .rev()
         .map(|character| Position { line, character })

@@ -1,8 +1,10 @@
-//! A language server that marks each line of more than 100 characters: what a server over these crates looks like.
+//! A language server that marks each line of more than 100 characters: an example of a server over
+//! these crates.
 //!
-//! A `Framer` takes the bytes of standard input apart into the bodies of messages. A `Server` reads each body, keeps the open documents
-//! by it, and replies where the protocol's lifecycle wants a reply. What is left is this server's own: `answer` publishes the diagnostics
-//! of each document that was opened, changed or closed, and `long_lines` finds them in its text and kept lines.
+//! A `Framer` splits the bytes of standard input into the bodies of messages. A `Server` reads each
+//! body, keeps the open documents by it, and replies if the protocol's lifecycle wants a reply.
+//! What is left is this server's own: `answer` publishes the diagnostics of each document that was
+//! opened, changed or closed, and `long_lines` finds them.
 //!
 //! README.md says how an editor starts it.
 #![tactic(auto)]
@@ -10,30 +12,30 @@
 mod long_lines;
 
 use anyhow::Result;
-use lsp_frame::{Framer, Limits, frame};
-use lsp_server::{Answer, Config, EncodingChoice, Incoming, Server, Sync};
+use lsp_frame::{Framer, frame};
+use lsp_server::{Answer, Config, EncodingChoice, Incoming, Server};
 use lsp_text::{Encoding, Range};
 use serde_json::{Value, json};
 use std::alloc::{AllocError, Global};
 use std::io::{BufRead, BufReader, Write};
 use std::process::ExitCode;
 
-/// Serves one session. The status of the process is the one that `exit` asks for, and 1 where the input ends without it.
+/// Serves one session. The status of the process is the one that `exit` asks for, and 1 if the
+/// input ends without it.
 fn main(rt: HostRuntime) -> Result<ExitCode> {
-    // In UTF-32 a unit is a character. An editor that doesn't offer it gets UTF-16, which each of them knows.
+    // In UTF-32 a unit is a character. An editor that doesn't offer it uses UTF-16, which each of
+    // them supports.
     let prefer = Encoding::Utf32;
     let config = Config {
-        // Bytes of a message, bytes of a document, open documents, and changes in one message.
-        limits: Limits::new(16_777_216, 16_777_216, 1_024, 65_536)?,
         choice: EncodingChoice::Negotiated { prefer },
-        sync: Sync::Incremental,
+        ..Config::default()
     };
     let mut framer = Framer::new(rt.alloc(), config.limits);
     let mut server = Server::new(rt.alloc(), config);
     let mut input = BufReader::new(rt.alloc(), rt.stdin())?;
     for _ in 0..u64::MAX {
         let taken = framer.feed(input.fill_buf()?)?;
-        // Nothing is taken only where nothing is left.
+        // Nothing is taken only if nothing is left.
         if taken == 0 {
             break;
         }
@@ -48,7 +50,7 @@ fn main(rt: HostRuntime) -> Result<ExitCode> {
     Ok(ExitCode::FAILURE)
 }
 
-/// Answers one message. Returns the status of the process where that is to end.
+/// Answers one message. Returns the status of the process if it is to end.
 fn answer<W: Write>(
     alloc: Global,
     server: &mut Server,
@@ -67,7 +69,7 @@ fn answer<W: Write>(
     Ok(None)
 }
 
-/// The URI of the document that a notification opens, changes or closes; empty for any other message.
+/// The URI of the document that a notification opens, changes or closes; empty for another message.
 fn document_of(incoming: &Incoming) -> &str {
     match incoming {
         Incoming::DidOpen(Some(params)) => &params.uri,
@@ -77,7 +79,8 @@ fn document_of(incoming: &Incoming) -> &str {
     }
 }
 
-/// The frame that publishes a document's diagnostics (LSP 3.17, PublishDiagnostics Notification): none where it is closed.
+/// The frame that publishes a document's diagnostics (LSP 3.17, PublishDiagnostics Notification).
+/// There are none if the document is closed.
 fn diagnostics(alloc: Global, server: &Server, uri: &str) -> Result<Vec<u8>, AllocError> {
     let mut found = Vec::new(alloc);
     if let (Some(document), Some(encoding)) = (server.store().get(uri), server.encoding()) {

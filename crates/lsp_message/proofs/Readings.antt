@@ -15,7 +15,8 @@ use Rattle.lsp_message.specs.declared.message.ReadFault.TheVariants.{NotJson, No
 use Rattle.lsp_message.specs.Message.{Reading, message_of, not_json, message, reading}
 use Rattle.serde_json.specs.Errors.{IsMemory}
 use Rattle.serde_json.specs.declared.error.Error.{Error}
-use Rattle.lsp_message.specs.Seen.{message_view, IsReadFault, IsFaultOf, Answers}
+use Rattle.lsp_message.specs.Seen.{message_view, IsReadFault, IsFaultOf}
+use Rattle.lsp_message.specs.inside.Seen.{Answers}
 
 -- a body whose bytes are a value is read as what that value is
 pub reading_of_value : (body : List ℕ) (d : Data) → IsUtf8 body → read body ≡ Some d → reading body ≡ message_of d

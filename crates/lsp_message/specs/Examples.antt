@@ -1,36 +1,47 @@
--- Bodies, and what the definitions read them as.
+-- What the definitions read on a table of bodies.
 use Rattle.std.specs.Prelude.{ℕ, ◌≡◌, pos, negsuc, List, Option, Some, None, option_and_then, codes}
 use Rattle.serde_json.specs.Data.{null, number, unsigned, negative}
 use Rattle.lsp_message.specs.Message.{whole, given, failed, request, response, not_json, not_a_message, message, value_of, reading}
 use Rattle.lsp_message.specs.Params.{EditData, version_in, coordinate_in, edit_in}
 
--- the change that a text is
+-- The change that a body of JSON is.
 abbrev pub edit_read : List ℕ → Option EditData
 edit_read body = option_and_then edit_in (value_of body)
 
+-- The rows of the table.
 pub record HoldsOnExamples : Type 0 where
-  -- neither a call nor an answer
-  pub an_id_alone : reading (codes "{\"id\":1,\"jsonrpc\":\"2.0\"}") ≡ not_a_message (Some (whole (pos 1)))
+  -- neither a call nor a response
+  pub an_id_alone : reading (codes "{\"id\":1,\"jsonrpc\":\"2.0\"}")
+      ≡ not_a_message (Some (whole (pos 1)))
   pub a_result_alone : reading (codes "{\"jsonrpc\":\"2.0\",\"result\":1}") ≡ not_a_message None
-  pub a_method_of_no_text : reading (codes "{\"id\":5,\"jsonrpc\":\"2.0\",\"method\":1}") ≡ not_a_message (Some (whole (pos 5)))
-  -- answers
+  pub a_method_of_no_text : reading (codes "{\"id\":5,\"jsonrpc\":\"2.0\",\"method\":1}")
+      ≡ not_a_message (Some (whole (pos 5)))
+  -- responses
   pub a_null_error :
-      reading (codes "{\"error\":null,\"id\":1,\"jsonrpc\":\"2.0\",\"result\":null}") ≡ message (response (Some (whole (pos 1))) (given null))
+      reading (codes "{\"error\":null,\"id\":1,\"jsonrpc\":\"2.0\",\"result\":null}")
+      ≡ message (response (Some (whole (pos 1))) (given null))
   pub an_error_and_a_result :
-      reading (codes "{\"error\":{},\"id\":1,\"jsonrpc\":\"2.0\",\"result\":1}") ≡ message (response (Some (whole (pos 1))) failed)
-  pub an_error_without_id : reading (codes "{\"error\":{},\"id\":null,\"jsonrpc\":\"2.0\"}") ≡ message (response None failed)
+      reading (codes "{\"error\":{},\"id\":1,\"jsonrpc\":\"2.0\",\"result\":1}")
+      ≡ message (response (Some (whole (pos 1))) failed)
+  pub an_error_without_id : reading (codes "{\"error\":{},\"id\":null,\"jsonrpc\":\"2.0\"}")
+      ≡ message (response None failed)
   -- the greatest id
   pub the_greatest_id :
       reading (codes "{\"id\":9223372036854775807,\"jsonrpc\":\"2.0\",\"method\":\"x\"}")
       ≡ message (request (whole (pos 9223372036854775807)) (codes "x") None)
-  pub an_id_above : reading (codes "{\"id\":9223372036854775808,\"jsonrpc\":\"2.0\",\"method\":\"x\"}") ≡ not_a_message None
+  pub an_id_above : reading
+      (codes "{\"id\":9223372036854775808,\"jsonrpc\":\"2.0\",\"method\":\"x\"}")
+      ≡ not_a_message None
   pub a_cut_body : reading (codes "{\"id\":1,") ≡ not_json
-  -- the greatest version and character, and a line below the first
-  pub the_greatest_version : version_in (Some (number (unsigned 2147483647))) ≡ Some (pos 2147483647)
+  -- the greatest version and character, and a line below zero
+  pub the_greatest_version : version_in (Some (number (unsigned 2147483647)))
+      ≡ Some (pos 2147483647)
   pub a_version_above : version_in (Some (number (unsigned 2147483648))) ≡ None
   pub the_greatest_character : coordinate_in (Some (number (unsigned 4294967295))) ≡ Some 4294967295
   pub a_character_above : coordinate_in (Some (number (unsigned 4294967296))) ≡ None
   pub a_line_below : coordinate_in (Some (number (negative (negsuc 0)))) ≡ None
   -- the whole text, and a member that is ignored
-  pub a_null_range : edit_read (codes "{\"range\":null,\"text\":\"a\"}") ≡ Some (record { range = None; text = codes "a" })
-  pub a_range_length : edit_read (codes "{\"rangeLength\":\"x\",\"text\":\"a\"}") ≡ Some (record { range = None; text = codes "a" })
+  pub a_null_range : edit_read (codes "{\"range\":null,\"text\":\"a\"}")
+      ≡ Some (record { range = None; text = codes "a" })
+  pub a_range_length : edit_read (codes "{\"rangeLength\":\"x\",\"text\":\"a\"}")
+      ≡ Some (record { range = None; text = codes "a" })

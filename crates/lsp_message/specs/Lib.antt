@@ -7,4 +7,4 @@ pub mod Sent
 pub mod Seen
 pub mod MessageLaws
 pub mod Examples
-pub mod Tokens
+pub mod inside

@@ -1,5 +1,5 @@
--- What the types of `src/` are in the definitions.
-use Rattle.std.specs.Prelude.{◌≡◌, ◌≢◌, ◌<◌, ℕ, ℤ, List, length, slice_index, map, option_map, string_bytes, Result, Ok, Err}
+-- The types of `src/` as the definitions see them: `x_view` is the data of an `x`.
+use Rattle.std.specs.Prelude.{◌≡◌, ◌≢◌, ◌<◌, ℕ, ℤ, List, length, slice_index, map, option_map, string_bytes}
 use Rattle.serde_json.specs.Errors.{IsMemory}
 use Rattle.serde_json.specs.View.{view}
 use Rattle.serde_json.specs.declared.error.Error.{Error}
@@ -21,38 +21,60 @@ use Rattle.lsp_message.specs.Message as spec
 use Rattle.lsp_message.specs.Outgoing as out
 use Rattle.lsp_message.specs.Params.{OpenData, EditData, ChangeData, CloseData}
 
+-- An id, with its text as bytes.
 abbrev pub id_view : Id → spec.IdData
 id_view (Whole n) = spec.whole n
 id_view (Text s) = spec.text (string_bytes s)
 
+-- The outcome of a request, with its result as JSON data.
 abbrev pub outcome_view : Outcome → spec.OutcomeData
 outcome_view (Given v) = spec.given (view v)
 outcome_view Failed = spec.failed
 
+-- A message, with its params as JSON data.
 abbrev pub message_view : Message → spec.MessageData
-message_view (Request id method params) = spec.request (id_view id) (string_bytes method) (option_map view params)
-message_view (Notification method params) = spec.notification (string_bytes method) (option_map view params)
+message_view (Request id method params)
+    = spec.request (id_view id) (string_bytes method) (option_map view params)
+message_view (Notification method params)
+    = spec.notification (string_bytes method) (option_map view params)
 message_view (Response id outcome) = spec.response (option_map id_view id) (outcome_view outcome)
 
+-- The params of a `textDocument/didOpen`, with their texts as bytes.
 abbrev pub open_view : OpenParams → OpenData
-open_view p = record { uri = string_bytes p.uri; language = string_bytes p.language; version = p.version; text = string_bytes p.text }
+open_view p = record {
+  uri = string_bytes p.uri;
+  language = string_bytes p.language;
+  version = p.version;
+  text = string_bytes p.text;
+}
 
+-- A change, with its text as bytes.
 abbrev pub edit_view : Change → EditData
 edit_view c = record { range = c.range; text = string_bytes c.text }
 
+-- The params of a `textDocument/didChange`, with their texts as bytes.
 abbrev pub change_view : ChangeParams → ChangeData
-change_view p = record { uri = string_bytes p.uri; version = p.version; changes = map edit_view p.changes.items }
+change_view p
+    = record {
+      uri = string_bytes p.uri;
+      version = p.version;
+      changes = map edit_view p.changes.items;
+    }
 
--- The parameters of a change of a document, and its message.
+-- The params of a `textDocument/didChange`, by its URI, version and changes.
 abbrev pub change_data : List ℕ → ℤ → List Change → ChangeData
-change_data uri version changes = record { uri = uri; version = version; changes = map edit_view changes }
+change_data uri version changes
+    = record { uri = uri; version = version; changes = map edit_view changes }
 
+-- The message `textDocument/didChange`, by its URI, version and changes.
 abbrev pub change_message : List ℕ → ℤ → List Change → out.OutgoingData
 change_message uri version changes = out.did_change (change_data uri version changes)
 
+-- The params of a `textDocument/didClose`, with the URI as bytes.
 abbrev pub close_view : CloseParams → CloseData
 close_view p = record { uri = string_bytes p.uri }
 
+-- A message that is written, with its texts as bytes.
 abbrev pub outgoing_view : Outgoing → out.OutgoingData
 outgoing_view (Initialize offers) = out.initialize offers
 outgoing_view Initialized = out.initialized
@@ -65,20 +87,14 @@ outgoing_view (InitializeResult id encoding kind) = out.initialize_result (id_vi
 outgoing_view (ShutdownResult id) = out.shutdown_result (id_view id)
 outgoing_view (ErrorReply id error) = out.error_reply (option_map id_view id) error
 
--- When each fault of reading comes. A body whose first byte is that of a byte order mark takes no memory.
+-- Which fault reading a body reports. Out of memory comes only for a body that isn't empty and
+-- doesn't begin as a byte order mark does.
 abbrev pub IsReadFault : List ℕ → ReadFault → Type 0
 IsReadFault body NotJson = spec.reading body ≡ spec.not_json
 IsReadFault body (NotAMessage id) = spec.reading body ≡ spec.not_a_message (option_map id_view id)
 IsReadFault body NoMemory = (0 < length body) × (slice_index body 0 ≢ 239)
 
--- what the private parts of reading answer: exactly the reading that the definition gives
-abbrev pub Answers : Result Message ReadFault → spec.Reading → Type 0
-Answers (Ok m) reading = reading ≡ spec.message (message_view m)
-Answers (Err NotJson) reading = ⊥
-Answers (Err (NotAMessage id)) reading = reading ≡ spec.not_a_message (option_map id_view id)
-Answers (Err NoMemory) reading = ⊥
-
--- which fault an error of `serde_json` makes
+-- Which fault an error of `serde_json` becomes.
 abbrev pub IsFaultOf : Error → ReadFault → Type 0
 IsFaultOf error NotJson = ¬ IsMemory error
 IsFaultOf error (NotAMessage id) = ⊥

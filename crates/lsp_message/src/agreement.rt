@@ -13,24 +13,25 @@ use lsp_text::Encoding;
 use serde_json::{Map, Value};
 use std::alloc::Global;
 
-/// The encodings that a client offers (LSP 3.17, `general.positionEncodings`). UTF-16 is always among them.
+/// The encodings that a client offers (LSP 3.17, `general.positionEncodings`). UTF-16 is always one
+/// of them.
 #[derive(Clone, Copy, Debug, PartialEq, Eq, Hash)]
 pub struct Offers {
-    /// `utf-8` is among the names.
+    /// The client names `utf-8`.
     pub utf8: bool,
-    /// `utf-32` is among the names.
+    /// The client names `utf-32`.
     pub utf32: bool,
 }
 
 impl Offers {
-    /// UTF-16, and what is chosen here.
+    /// Returns the offer of UTF-16 and of the encodings that are chosen here.
     pub const fn new(utf8: bool, utf32: bool) -> Self
         ensures { result ≡ record { utf8 = utf8; utf32 = utf32 } }
     {
         Offers { utf8, utf32 }
     }
 
-    /// Whether this encoding is offered. UTF-16 always is.
+    /// Returns whether this encoding is offered. UTF-16 always is.
     pub const fn includes(self, encoding: Encoding) -> bool
         ensures { result ≡ is_offered self encoding }
     {
@@ -42,19 +43,19 @@ impl Offers {
     }
 }
 
-/// How a server wants to be notified of changes (LSP 3.17, TextDocumentSyncKind).
+/// How a server wants to be notified of changes (LSP 3.17, `TextDocumentSyncKind`).
 #[derive(Clone, Copy, Debug, PartialEq, Eq, Hash)]
 pub enum SyncKind {
     /// Not at all; the protocol's `None`.
     Off,
-    /// By the whole text.
+    /// With the whole text.
     Full,
-    /// By changed ranges.
+    /// With the changed ranges.
     Incremental,
 }
 
 impl SyncKind {
-    /// The protocol's number.
+    /// Returns the protocol's number.
     pub const fn number(self) -> u32
         ensures { result ≡ kind_number self }
     {
@@ -66,28 +67,35 @@ impl SyncKind {
     }
 }
 
-/// What a server's result of `initialize` announces (LSP 3.17, ServerCapabilities: `positionEncoding`, `textDocumentSync`).
+/// What a server announces in its result of `initialize` (LSP 3.17, `ServerCapabilities`:
+/// `positionEncoding`, `textDocumentSync`).
 #[derive(Clone, Copy, Debug, PartialEq, Eq, Hash)]
 pub struct Announced {
     /// The server wants to be notified of documents that open and close.
     pub open_close: bool,
     pub kind: SyncKind,
-    /// UTF-16 where none is named, and `None` where the name is unknown.
+    /// UTF-16 where the result names none; `None` where the name is unknown.
     pub encoding: Option<Encoding>,
 }
 
-/// Reads the params of an `initialize`. Takes no memory: the allocator is there so that all five calls look alike.
+/// Reads the encodings that a client offers, from the params of an `initialize` (LSP 3.17,
+/// `InitializeParams`).
 ///
-/// Refused are params that are no object, a step on the way to the names that is there and no object, and names that are no list of
-/// strings. Linear in the number of encodings that are named.
+/// Fails where the params, `capabilities` or `general` are no object, or `positionEncodings` is no
+/// list of strings. A member that is missing or null offers UTF-16 alone. Takes no memory: the
+/// allocator is there so that all five calls look alike. Linear in the number of names.
 pub fn params_initialize(_alloc: Global, params: Option<Value>) -> Result<Offers, ParamsFault>
     ensures ok { IfOk result (λ offers. offers_of (option_map view params) ≡ Some offers) }
-    ensures err { IfErr result (λ e. (e ≡ InvalidParams) × (offers_of (option_map view params) ≡ None)) }
+    ensures err { IfErr result
+        (λ e. (e ≡ InvalidParams) × (offers_of (option_map view params) ≡ None)) }
 {
     offers_of(params.as_ref()).ok_or(ParamsFault::InvalidParams)
 }
 
-/// Reads the result of an `initialize`. Takes no memory. Refused is a result without capabilities, and a member of the wrong type.
+/// Reads what a server announces, from its result of `initialize` (LSP 3.17, `InitializeResult`).
+///
+/// Fails where `capabilities` is missing, or a member has the wrong type or an unknown number.
+/// Takes no memory.
 pub fn result_initialize(_alloc: Global, value: Value) -> Result<Announced, ParamsFault>
     ensures ok { IfOk result (λ announced. announced_of (view value) ≡ Some announced) }
     ensures err { IfErr result (λ e. (e ≡ InvalidParams) × (announced_of (view value) ≡ None)) }
@@ -140,7 +148,8 @@ fn offers_by_encodings(value: Option<&Value>) -> Option<Offers>
     offers_named(value?.as_array()?)
 }
 
-/// The offers of a list of names, of which unknown ones are skipped; none if one of them is no string.
+/// Returns the offers that a list of names makes; `None` if an item is no string. Unknown names are
+/// skipped.
 fn offers_named(names: &Vec<Value>) -> Option<Offers>
     ensures { result ≡ option_map offers_named (texts_in (items_view names.now.items)) }
 {
@@ -222,7 +231,7 @@ fn open_close_of(value: Option<&Value>) -> Option<bool>
     value?.as_bool()
 }
 
-/// The encoding that a server chose: `Some(None)` where its name is unknown.
+/// Returns the encoding that a server announces: `Some(None)` where its name is unknown.
 fn encoding_of(value: Option<&Value>) -> Option<Option<Encoding>>
     ensures { result ≡ encoding_of (option_map (λ v. view v.now) value.entry) }
 {

@@ -1,13 +1,12 @@
-//! Messages of the Language Server Protocol 3.17: from a body to a message and its typed parameters, and from a message to its one text.
+//! JSON-RPC messages of the Language Server Protocol 3.17: reads a body as a message with typed
+//! parameters, and writes a message as its canonical body.
 //!
 //! - `message`: which message a body is.
 //! - `params`: the typed parameters of the document messages.
 //! - `agreement`: what a client offers and what a server announces.
 //! - `outgoing`: the messages that are written, and the errors of replies.
-//! - `writer`: the one text of each of them, written a token at a time.
-//! - `members`: the members of an object, taken out of it one by one.
-//! - `outgoing`: the messages that are written, and the errors of replies.
-//! - `writer`: their JSON values, and their one text.
+//! - `writer`: the canonical body of each of them.
+//! - `members`: the members of a JSON object, moved out of it.
 //! - `laws`: what holds of bodies and messages by their definitions.
 #![tactic(auto)]
 

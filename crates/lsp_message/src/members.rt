@@ -1,4 +1,4 @@
-//! The members of a JSON object, taken out of it one by one, so that no text is copied.
+//! The members of a JSON object, moved out of it one by one, so that no text is copied.
 
 ghost use Rattle.std.specs.Prelude.{◌≡◌, ℕ, List, false, option_map, string_bytes};
 ghost use Rattle.std.specs.Str.{bytes_eq};
@@ -8,16 +8,18 @@ ghost use Rattle.lsp_message.specs.Values.{member_at, text_in, members_in, items
 
 use serde_json::{Map, Value};
 
-/// Takes the member of this name out of an object, if it is there. The others stay.
+/// Takes the member of this name out of an object, if there is one. The other members stay.
 pub(crate) fn take(members: &mut Map<String, Value>, name: &str) -> Option<Value>
-    ensures value { option_map view result ≡ get_member name.now (members_view members.old.entries) }
+    ensures value { option_map view result
+        ≡ get_member name.now (members_view members.old.entries) }
     ensures others { (q : List ℕ) → bytes_eq name.now q ≡ false
-        → get_member q (members_view members.new.entries) ≡ get_member q (members_view members.old.entries) }
+        → get_member q (members_view members.new.entries)
+        ≡ get_member q (members_view members.old.entries) }
 {
     members.remove(name)
 }
 
-/// The text of what may be a string, moved out of it.
+/// Returns the text of a string; `None` for any other value.
 pub(crate) fn text(value: Option<Value>) -> Option<String>
     ensures { option_map string_bytes result ≡ text_in (option_map view value) }
 {
@@ -27,7 +29,7 @@ pub(crate) fn text(value: Option<Value>) -> Option<String>
     }
 }
 
-/// The members of what may be an object, moved out of it.
+/// Returns the members of an object; `None` for any other value.
 pub(crate) fn object(value: Option<Value>) -> Option<Map<String, Value>>
     ensures { option_map (λ m. members_view m.entries) result ≡ members_in (option_map view value) }
 {
@@ -37,7 +39,7 @@ pub(crate) fn object(value: Option<Value>) -> Option<Map<String, Value>>
     }
 }
 
-/// The items of what may be an array, moved out of it.
+/// Returns the items of an array; `None` for any other value.
 pub(crate) fn array(value: Option<Value>) -> Option<Vec<Value>>
     ensures { option_map (λ v. items_view v.items) result ≡ items_in (option_map view value) }
 {
@@ -47,14 +49,14 @@ pub(crate) fn array(value: Option<Value>) -> Option<Vec<Value>>
     }
 }
 
-/// The member of this name of what may be an object, moved out of it.
+/// Returns the member of this name, moved out of an object; `None` for any other value.
 pub(crate) fn member(value: Option<Value>, name: &str) -> Option<Value>
     ensures { option_map view result ≡ member_at name.now (option_map view value) }
 {
     take(&mut object(value)?, name)
 }
 
-/// The member of this name of an object.
+/// Returns a reference to the member of this name.
 pub(crate) fn find<'v>(members: &'v Map<String, Value>, name: &str) -> Option<&'v Value>
     ensures { option_map (λ v. view v.now) result
         ≡ get_member name.now (members_view members.now.entries) }

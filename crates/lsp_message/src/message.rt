@@ -4,7 +4,8 @@ ghost use Rattle.std.specs.Prelude.{◌≡◌, ◌↔◌, Some, IfOk, IfErr, IsE
 ghost use Rattle.serde_json.specs.Find.{get_member};
 ghost use Rattle.serde_json.specs.View.{view, members_view};
 ghost use Rattle.lsp_message.specs.Message.{reading, message, id_in, id_found, call_of, answer_of, outcome_of, message_by, message_of, is_version_two};
-ghost use Rattle.lsp_message.specs.Seen.{id_view, message_view, IsReadFault, IsFaultOf, Answers};
+ghost use Rattle.lsp_message.specs.Seen.{id_view, message_view, IsReadFault, IsFaultOf};
+ghost use Rattle.lsp_message.specs.inside.Seen.{Answers};
 
 use crate::members::take;
 use serde_json::{Map, Value};
@@ -14,25 +15,25 @@ use thiserror::Error;
 /// The id of a request, which its response repeats.
 #[derive(Debug, PartialEq, Eq, Drop)]
 pub enum Id {
-    /// A whole number that 64 bits with a sign hold, written without a fraction and an exponent.
+    /// A number in the range of `i64`, written without a fraction and an exponent.
     Whole(i64),
     /// A string, which may be empty.
     Text(String),
 }
 
-/// How a request went: the value of a response's `result`, or that it has an `error`.
+/// The outcome of a request: its response's `result`, or that the response has an `error`.
 #[derive(Debug, PartialEq, Drop)]
 pub enum Outcome {
     /// The result, which may be null.
     Given(Value),
-    /// An error that isn't null. What it says is not kept.
+    /// An error that isn't null. Its code and its text are not kept.
     Failed,
 }
 
-/// A message of JSON-RPC 2.0. `params` is the member's value, whatever it is.
+/// A message of JSON-RPC 2.0. `params` is the member's value, of any type.
 #[derive(Debug, PartialEq, Drop)]
 pub enum Message {
-    /// A call with an id, which is owed a response.
+    /// A call with an id, which a response answers.
     Request {
         id: Id,
         method: String,
@@ -43,7 +44,7 @@ pub enum Message {
         method: String,
         params: Option<Value>,
     },
-    /// An answer to a request. The id is `None` where the member is null.
+    /// A response to a request. The id is `None` where the member is null.
     Response {
         id: Option<Id>,
         outcome: Outcome,
@@ -53,13 +54,14 @@ pub enum Message {
 /// Why a body was not read as a message.
 #[derive(Debug, PartialEq, Eq, Drop, Error)]
 pub enum ReadFault {
-    /// The bytes are no UTF-8, or not one JSON value, or nest deeper than 127 arrays and objects, or hold a number that no float holds.
+    /// The bytes are not UTF-8 or not one JSON value, nest deeper than 127 arrays and objects, or
+    /// contain a number too large for `f64`.
     #[error("the body is no JSON")]
     NotJson,
     /// The body is JSON and no message. The id is the one that a reply may name, if there is one.
     #[error("the body is no message")]
     NotAMessage { id: Option<Id> },
-    /// Memory ran out. It says nothing of the body.
+    /// Out of memory; nothing is known of the body.
     #[error("out of memory")]
     NoMemory,
 }
@@ -78,9 +80,12 @@ impl From<serde_json::Error> for ReadFault {
     }
 }
 
-/// Reads a body: the message that it is, or why it is none (LSP 3.17, Base Protocol, Content Part).
+/// Reads a body as a message (LSP 3.17, Base Protocol, Content Part).
 ///
-/// One parse, linear in the body; texts are moved out of what was parsed. A byte order mark is refused before any memory is taken.
+/// Fails with [`ReadFault::NotJson`] or [`ReadFault::NotAMessage`] as the body is, and with
+/// [`ReadFault::NoMemory`] where memory runs out. [`ReadFault::NoMemory`] never comes for an empty
+/// body or one with a byte order mark. One parse, linear in the body; texts are moved out of what
+/// was parsed.
 pub fn read(alloc: Global, body: &[u8]) -> Result<Message, ReadFault>
     ensures ok { IfOk result (λ m. reading body.now ≡ message (message_view m)) }
     ensures err { IfErr result (IsReadFault body.now) }
@@ -91,14 +96,15 @@ pub fn read(alloc: Global, body: &[u8]) -> Result<Message, ReadFault>
     message_from(Value::from_slice(alloc, body))
 }
 
-/// Whether a body begins as a byte order mark does. No JSON does.
+/// Returns whether a body begins with the first byte of a byte order mark. No JSON does.
 fn begins_with_mark(body: &[u8]) -> bool
     ensures { IsTrue result ↔ (slice_index body.now 0 ≡ 239) }
 {
     body.first() == Some(&0xEF)
 }
 
-/// The message that a value is, or why a body that was parsed so is none. Out of memory only where parsing was.
+/// Reads a parsed value as a message, or converts the error of its parse. Only the parse runs out
+/// of memory.
 fn message_from(parsed: Result<Value, serde_json::Error>) -> Result<Message, ReadFault>
     ensures { MatchResult parsed
         (λ value. Answers result (message_of (view value)))
@@ -116,7 +122,7 @@ fn message_of(value: Value) -> Result<Message, ReadFault>
     }
 }
 
-/// The members of an object that make it a message.
+/// The members of an object that decide which message it is.
 #[derive(Drop)]
 struct Members {
     version: Option<Value>,
@@ -129,12 +135,18 @@ struct Members {
 
 impl Members {
     fn of(mut members: Map<String, Value>) -> Self
-        ensures version { option_map view result.version ≡ get_member (codes "jsonrpc") (members_view members.entries) }
-        ensures method { option_map view result.method ≡ get_member (codes "method") (members_view members.entries) }
-        ensures id { option_map view result.id ≡ get_member (codes "id") (members_view members.entries) }
-        ensures params { option_map view result.params ≡ get_member (codes "params") (members_view members.entries) }
-        ensures error { option_map view result.error ≡ get_member (codes "error") (members_view members.entries) }
-        ensures outcome { option_map view result.outcome ≡ get_member (codes "result") (members_view members.entries) }
+        ensures version { option_map view result.version
+            ≡ get_member (codes "jsonrpc") (members_view members.entries) }
+        ensures method { option_map view result.method
+            ≡ get_member (codes "method") (members_view members.entries) }
+        ensures id { option_map view result.id
+            ≡ get_member (codes "id") (members_view members.entries) }
+        ensures params { option_map view result.params
+            ≡ get_member (codes "params") (members_view members.entries) }
+        ensures error { option_map view result.error
+            ≡ get_member (codes "error") (members_view members.entries) }
+        ensures outcome { option_map view result.outcome
+            ≡ get_member (codes "result") (members_view members.entries) }
     {
         let version = take(&mut members, "jsonrpc");
         let method = take(&mut members, "method");
@@ -155,8 +167,10 @@ impl Members {
 
 fn message_by(members: Members) -> Result<Message, ReadFault>
     ensures { Answers result
-        (message_by (option_map view members.version) (option_map view members.method) (option_map view members.id)
-        (option_map view members.params) (option_map view members.error) (option_map view members.outcome)) }
+        (message_by (option_map view members.version) (option_map view members.method)
+        (option_map view members.id)
+        (option_map view members.params) (option_map view members.error)
+        (option_map view members.outcome)) }
 {
     let Members {
         version,
@@ -202,7 +216,8 @@ fn id_found(id: Option<Value>) -> Option<Id>
 }
 
 fn call_of(id: Option<Value>, method: String, params: Option<Value>) -> Result<Message, ReadFault>
-    ensures { Answers result (call_of (option_map view id) (string_bytes method) (option_map view params)) }
+    ensures { Answers result
+        (call_of (option_map view id) (string_bytes method) (option_map view params)) }
 {
     let Some(id) = id else {
         return Ok(Message::Notification { method, params });
@@ -218,7 +233,8 @@ fn answer_of(
     error: Option<Value>,
     outcome: Option<Value>,
 ) -> Result<Message, ReadFault>
-    ensures { Answers result (answer_of (option_map view id) (option_map view error) (option_map view outcome)) }
+    ensures { Answers result
+        (answer_of (option_map view id) (option_map view error) (option_map view outcome)) }
 {
     let Some(id) = id else {
         return Err(ReadFault::NotAMessage { id: None });
@@ -237,7 +253,8 @@ fn outcome_of(
     error: Option<Value>,
     outcome: Option<Value>,
 ) -> Result<Message, ReadFault>
-    ensures { Answers result (outcome_of (option_map id_view id) (option_map view error) (option_map view outcome)) }
+    ensures { Answers result
+        (outcome_of (option_map id_view id) (option_map view error) (option_map view outcome)) }
 {
     if error.is_some_and(|error| !error.is_null()) {
         return Ok(Message::Response {

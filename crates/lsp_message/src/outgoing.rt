@@ -8,10 +8,11 @@ use crate::message::Id;
 use crate::params::{ChangeParams, CloseParams, OpenParams};
 use lsp_text::Encoding;
 
-/// A message of a client (the first seven), or a server's reply. A client's requests have the ids 1 (initialize) and 2 (shutdown).
+/// A client's message, or a server's reply. The ids of a client's requests are 1 (`initialize`) and
+/// 2 (`shutdown`).
 #[derive(Debug, PartialEq, Eq, Drop)]
 pub enum Outgoing {
-    /// The request `initialize`, with id 1 and the encodings that are offered.
+    /// The request `initialize`, with id 1 and the encodings that the client offers.
     Initialize(Offers),
     /// The notification `initialized`.
     Initialized,
@@ -25,40 +26,40 @@ pub enum Outgoing {
     Shutdown,
     /// The notification `exit`.
     Exit,
-    /// The answer to `initialize`: the encoding that was chosen, and how changes are to be sent.
+    /// The response to `initialize`: the chosen encoding, and how changes are to be sent.
     InitializeResult {
         id: Id,
         encoding: Encoding,
         kind: SyncKind,
     },
-    /// The answer to `shutdown`: null.
+    /// The response to `shutdown`: null.
     ShutdownResult {
         id: Id,
     },
-    /// The answer to what is refused. Names no id where none was found.
+    /// The error response to what is refused. Its id is null where none was found.
     ErrorReply {
         id: Option<Id>,
         error: ErrorCode,
     },
 }
 
-/// Why a request is refused (LSP 3.17, ErrorCodes).
+/// Why a request is refused (LSP 3.17, `ErrorCodes`).
 #[derive(Clone, Copy, Debug, PartialEq, Eq, Hash)]
 pub enum ErrorCode {
     /// The body is no JSON.
     ParseError,
-    /// The body is no message, or the request may not come now.
+    /// The body is no message, or the request is not allowed in this phase.
     InvalidRequest,
-    /// The request has no method that is known.
+    /// The method of the request is unknown.
     MethodNotFound,
-    /// The params of the request are not those of its method.
+    /// The params of the request don't fit its method.
     InvalidParams,
     /// A request came before `initialize`.
     ServerNotInitialized,
 }
 
 impl ErrorCode {
-    /// The protocol's number.
+    /// Returns the protocol's number.
     pub fn code(self) -> i32
         ensures { result ≡ code_of self }
     {
@@ -71,7 +72,7 @@ impl ErrorCode {
         }
     }
 
-    /// What a reply says beside the number.
+    /// Returns the `message` of the error response.
     pub fn text(self) -> &'static str
         ensures { result.now ≡ error_text_of self }
     {

@@ -1,11 +1,13 @@
-//! The typed parameters of the three document messages (LSP 3.17, DidOpen, DidChange, DidClose Text Document Notification).
+//! The typed parameters of the three document messages (LSP 3.17, DidOpen, DidChange and DidClose
+//! Text Document Notification).
 
 ghost use Rattle.std.specs.Prelude.{◌≡◌, ◌<◌, ◌≤◌, [], None, Some, IfOk, IfErr, IsSome, map, option_map, is_some, codes, Err, vec_len, vec_capacity};
 ghost use Rattle.std.specs.List.{list_all};
 ghost use Rattle.serde_json.specs.View.{view, items_view, members_view};
 ghost use Rattle.serde_json.specs.Find.{get};
 ghost use Rattle.lsp_message.specs.declared.params.ParamsFault.TheVariants.{InvalidParams, NoMemory};
-ghost use Rattle.lsp_message.specs.Params.{open_of, change_of, close_of, open_by, edit_in, edits_in, document_in, document_and_changes, change_by, version_in, coordinate_in, position_in, range_in, range_of, TakesMemoryBy, TakesMemory};
+ghost use Rattle.lsp_message.specs.Params.{open_of, change_of, close_of, open_by, edit_in, edits_in, document_in, document_and_changes, change_by, version_in, coordinate_in, position_in, range_in, range_of, TakesMemory};
+ghost use Rattle.lsp_message.specs.inside.Params.{TakesMemoryBy};
 ghost use Rattle.lsp_message.specs.Values.{text_in};
 ghost use Rattle.lsp_message.specs.Seen.{open_view, change_view, close_view, edit_view};
 
@@ -28,7 +30,8 @@ pub struct OpenParams {
     pub text: String,
 }
 
-/// The params of a `textDocument/didChange`. The changes apply in order, each to the text that the one before left.
+/// The params of a `textDocument/didChange`. The changes apply in order, each to the text after the
+/// one before it.
 #[derive(Debug, PartialEq, Eq, Drop)]
 pub struct ChangeParams {
     /// The document's URI, as it was sent.
@@ -45,13 +48,13 @@ pub struct CloseParams {
     pub uri: String,
 }
 
-/// Why parameters or a result were not read.
+/// Why the params of a call, or a result, are refused.
 #[derive(Clone, Copy, Debug, PartialEq, Eq, Error)]
 pub enum ParamsFault {
     /// A member is missing, has the wrong type, or is a number out of range.
     #[error("invalid params")]
     InvalidParams,
-    /// Memory ran out. Only the list of changes takes some.
+    /// Out of memory. Only the list of changes takes memory.
     #[error("out of memory")]
     NoMemory,
 }
@@ -72,34 +75,40 @@ impl<T: Drop> From<AllocFailed<T>> for ParamsFault {
     }
 }
 
-/// Reads the params of a `textDocument/didOpen`. The texts are moved out of them; nothing is copied. Takes no memory: the allocator is
-/// there so that all five calls look alike.
+/// Reads the params of a `textDocument/didOpen` (LSP 3.17, DidOpenTextDocumentParams).
 ///
-/// Refused is a member that is missing, has the wrong type or is out of range; one that isn't named is ignored.
+/// Fails where a member is missing, has the wrong type or is out of range; members that aren't
+/// named are ignored. The texts are moved out of the params. It takes no memory: the allocator is
+/// there so that all five calls look alike.
 pub fn params_open(_alloc: Global, params: Option<Value>) -> Result<OpenParams, ParamsFault>
     ensures ok { IfOk result (λ p. open_of (option_map view params) ≡ Some (open_view p)) }
-    ensures err { IfErr result (λ e. (e ≡ InvalidParams) × (open_of (option_map view params) ≡ None)) }
+    ensures err { IfErr result
+        (λ e. (e ≡ InvalidParams) × (open_of (option_map view params) ≡ None)) }
 {
     open_in(params).ok_or(ParamsFault::InvalidParams)
 }
 
-/// Reads the params of a `textDocument/didChange`. The texts are moved out of them; nothing is copied.
+/// Reads the params of a `textDocument/didChange` (LSP 3.17, DidChangeTextDocumentParams).
 ///
-/// Refused as at `params_open`. Memory is taken for the list of changes alone, once all of them are found good. Linear in
-/// the number of changes.
+/// Refuses what `params_open` refuses. Memory is taken for the list of changes alone, once all of
+/// them are valid. The texts are moved out of the params. Linear in the number of changes.
 pub fn params_change(alloc: Global, params: Option<Value>) -> Result<ChangeParams, ParamsFault>
     ensures ok { IfOk result (λ p. change_of (option_map view params) ≡ Some (change_view p)) }
-    ensures invalid { result ≡ Err ParamsFault.InvalidParams → change_of (option_map view params) ≡ None }
+    ensures invalid { result ≡ Err ParamsFault.InvalidParams →
+        change_of (option_map view params) ≡ None }
     ensures memory { result ≡ Err ParamsFault.NoMemory → TakesMemory (option_map view params) }
 {
     let (document, changes) = document_and_changes(params).ok_or(ParamsFault::InvalidParams)?;
     change_by(alloc, document, changes)
 }
 
-/// Reads the params of a `textDocument/didClose`. The URI is moved out of them. Takes no memory. Refused as at `params_open`.
+/// Reads the params of a `textDocument/didClose` (LSP 3.17, DidCloseTextDocumentParams).
+///
+/// Refuses what `params_open` refuses. The URI is moved out of the params; it takes no memory.
 pub fn params_close(_alloc: Global, params: Option<Value>) -> Result<CloseParams, ParamsFault>
     ensures ok { IfOk result (λ p. close_of (option_map view params) ≡ Some (close_view p)) }
-    ensures err { IfErr result (λ e. (e ≡ InvalidParams) × (close_of (option_map view params) ≡ None)) }
+    ensures err { IfErr result
+        (λ e. (e ≡ InvalidParams) × (close_of (option_map view params) ≡ None)) }
 {
     close_in(params).ok_or(ParamsFault::InvalidParams)
 }
@@ -118,9 +127,10 @@ fn close_in(params: Option<Value>) -> Option<CloseParams>
     Some(CloseParams { uri })
 }
 
-/// The members of the object that names the document.
+/// Returns the members of `textDocument`.
 fn document_in(params: Option<Value>) -> Option<Map<String, Value>>
-    ensures { option_map (λ m. members_view m.entries) result ≡ document_in (option_map view params) }
+    ensures { option_map (λ m. members_view m.entries) result
+        ≡ document_in (option_map view params) }
 {
     object(member(params, "textDocument"))
 }
@@ -169,7 +179,7 @@ fn range_in(value: &Value) -> Option<Range>
     Some(Range { start, stop })
 }
 
-/// The range of a change: `Some(None)` where it has none and means the whole text.
+/// Reads the range of a change: `Some(None)` where it is missing or null and means the whole text.
 fn range_of(value: Option<&Value>) -> Option<Option<Range>>
     ensures { result ≡ range_of (option_map (λ v. view v.now) value.entry) }
 {
@@ -191,7 +201,7 @@ fn edit_in(value: Value) -> Option<Change>
     Some(Change { range, text })
 }
 
-/// Whether a value is a change. It is only read.
+/// Returns whether a value is a change, without moving anything out of it.
 fn is_edit(value: &Value) -> bool
     ensures { result ≡ is_some (edit_in (view value.now)) }
 {
@@ -218,7 +228,9 @@ fn change_by(
     mut document: Map<String, Value>,
     changes: Vec<Value>,
 ) -> Result<ChangeParams, ParamsFault>
-    ensures ok { IfOk result (λ p. change_by (members_view document.entries) (items_view changes.items) ≡ Some (change_view p)) }
+    ensures ok { IfOk result
+        (λ p. change_by (members_view document.entries) (items_view changes.items)
+        ≡ Some (change_view p)) }
     ensures invalid { result ≡ Err ParamsFault.InvalidParams
         → change_by (members_view document.entries) (items_view changes.items) ≡ None }
     ensures memory { result ≡ Err ParamsFault.NoMemory
@@ -234,7 +246,7 @@ fn change_by(
     })
 }
 
-/// The members of the object that names the document, and the changes that are still to be read.
+/// Returns the members of `textDocument` and the items of `contentChanges`.
 fn document_and_changes(params: Option<Value>) -> Option<(Map<String, Value>, Vec<Value>)>
     ensures { option_map (λ p. (members_view p.0.entries, items_view p.1.items)) result
         ≡ document_and_changes (option_map view params) }
@@ -245,11 +257,13 @@ fn document_and_changes(params: Option<Value>) -> Option<(Map<String, Value>, Ve
     Some((document, changes))
 }
 
-/// The changes that values are. They are read before memory is taken.
+/// Reads values as changes. It refuses them before it takes memory.
 #[tactic(auto, using(crate::proofs::Memory::edits_there))]
 fn edits_in(alloc: Global, values: Vec<Value>) -> Result<Vec<Change>, ParamsFault>
-    ensures ok { IfOk result (λ changes. edits_in (items_view values.items) ≡ Some (map edit_view changes.items)) }
-    ensures invalid { result ≡ Err ParamsFault.InvalidParams → edits_in (items_view values.items) ≡ None }
+    ensures ok { IfOk result
+        (λ changes. edits_in (items_view values.items) ≡ Some (map edit_view changes.items)) }
+    ensures invalid { result ≡ Err ParamsFault.InvalidParams →
+        edits_in (items_view values.items) ≡ None }
     ensures memory { result ≡ Err ParamsFault.NoMemory → 0 < vec_len values }
     ensures good { result ≡ Err ParamsFault.NoMemory → IsSome (edits_in (items_view values.items)) }
 {
@@ -260,7 +274,8 @@ fn edits_in(alloc: Global, values: Vec<Value>) -> Result<Vec<Change>, ParamsFaul
     edits_into(changes, values).ok_or(ParamsFault::InvalidParams)
 }
 
-/// Puts changes into an empty list that has room for them; none where one is faulty. Takes no memory.
+/// Appends the changes to an empty list with room for them; `None` where one is not a change. Takes
+/// no memory.
 fn edits_into(mut changes: Vec<Change>, values: Vec<Value>) -> Option<Vec<Change>>
     requires empty { changes.items ≡ [] }
     requires room { vec_len values ≤ vec_capacity changes }

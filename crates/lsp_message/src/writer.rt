@@ -1,4 +1,4 @@
-//! The one text of each message, written a token at a time.
+//! The canonical body of each message, written a token at a time.
 
 ghost use Rattle.std.specs.Prelude.{◌≡◌, ◌∷◌, ◌++◌, [], IfOk, OnErr, OnOk, map, option_map, string_bytes, codes, decimal};
 ghost use Rattle.std.specs.Fmt.{signed_decimal};
@@ -8,7 +8,7 @@ ghost use Rattle.serde_json.specs.View.{items_of};
 ghost use Rattle.lsp_message.specs.Outgoing as spec;
 ghost use Rattle.lsp_message.specs.Sent.{IsProper, IsReadAsSent, IsReadBack};
 ghost use Rattle.lsp_message.specs.Seen.{id_view, open_view, edit_view, change_data, change_message, close_view, outgoing_view};
-ghost use Rattle.lsp_message.specs.Tokens.{Appends, tokens_of, version_tokens, offer_tokens, range_tokens};
+ghost use Rattle.lsp_message.specs.inside.Tokens.{Appends, tokens_of, version_tokens, offer_tokens, range_tokens};
 
 use crate::agreement::{Offers, SyncKind};
 use crate::message::Id;
@@ -23,14 +23,15 @@ use std::mem;
 /// Most messages fit into this many bytes.
 const USUAL_LENGTH: usize = 256;
 
-/// The body of a message: its compact JSON text, members in the order of their names' bytes.
+/// Writes the body of a message: compact JSON, with members in the order of their names' bytes.
 ///
-/// Fails only where memory runs out. Linear in the body; no text is copied but into it. The other end reads the body as the same
-/// message, and its typed parameters or result as those that were written; no other message has the same body.
+/// Fails only where memory runs out. The receiver reads the body as the same message, and its
+/// parameters or result as those that were written. No other message has the same body. Linear in
+/// the body; texts are copied only into it.
 pub fn write(alloc: Global, message: &Outgoing) -> Result<Vec<u8>, AllocError>
     ensures body { IfOk result (λ body. body.items ≡ spec.body_of (outgoing_view message.now)) }
 
-    // What holds of a body, for every message whose numbers are in their ranges and whose texts are UTF-8.
+    // What holds of a body, for each message with numbers in their ranges and texts in UTF-8.
     ensures read_as { (m : spec.OutgoingData) → IsProper m → IsReadAsSent m }
     ensures read_back { (m : spec.OutgoingData) → IsProper m → IsReadBack m }
     ensures unique { (m n : spec.OutgoingData) → IsProper m → IsProper n
@@ -41,10 +42,10 @@ pub fn write(alloc: Global, message: &Outgoing) -> Result<Vec<u8>, AllocError>
     Ok(writer.into_inner())
 }
 
-/// Appends the body of a `textDocument/didChange`, as [`write`] makes it, whose URI and changes are borrowed.
+/// Appends the body of a `textDocument/didChange`, whose URI and changes are borrowed.
 ///
-/// Fails only where memory runs out, and then the bytes stay as they were. Linear in the body; no text is copied but into it. What holds
-/// of a body that [`write`] makes holds of this one.
+/// Fails only where memory runs out, and then the bytes are unchanged. What holds of a body of
+/// [`write`] holds of this one. Linear in the body; texts are copied only into it.
 pub fn push_change(
     bytes: &mut Vec<u8>,
     uri: &str,
@@ -71,7 +72,8 @@ pub fn push_change(
 }
 
 fn write_message(writer: &mut Writer, message: &Outgoing) -> Result<(), AllocError>
-    ensures { OnOk result (Appends writer.old writer.new (tokens_of (spec.value_of (outgoing_view message.now)))) }
+    ensures { OnOk result
+        (Appends writer.old writer.new (tokens_of (spec.value_of (outgoing_view message.now)))) }
 {
     match message {
         Outgoing::Initialize(offers) => write_initialize(writer, *offers),
@@ -92,7 +94,8 @@ fn write_message(writer: &mut Writer, message: &Outgoing) -> Result<(), AllocErr
 }
 
 fn write_initialize(writer: &mut Writer, offers: Offers) -> Result<(), AllocError>
-    ensures { OnOk result (Appends writer.old writer.new (tokens_of (spec.value_of (spec.initialize offers)))) }
+    ensures { OnOk result
+        (Appends writer.old writer.new (tokens_of (spec.value_of (spec.initialize offers)))) }
 {
     writer.begin_object()?;
     number_member(writer, "id", 1)?;
@@ -103,7 +106,8 @@ fn write_initialize(writer: &mut Writer, offers: Offers) -> Result<(), AllocErro
 }
 
 fn write_initialized(writer: &mut Writer) -> Result<(), AllocError>
-    ensures { OnOk result (Appends writer.old writer.new (tokens_of (spec.value_of spec.initialized))) }
+    ensures { OnOk result
+        (Appends writer.old writer.new (tokens_of (spec.value_of spec.initialized))) }
 {
     writer.begin_object()?;
     call_members(writer, "initialized")?;
@@ -114,7 +118,9 @@ fn write_initialized(writer: &mut Writer) -> Result<(), AllocError>
 }
 
 fn write_open(writer: &mut Writer, params: &OpenParams) -> Result<(), AllocError>
-    ensures { OnOk result (Appends writer.old writer.new (tokens_of (spec.value_of (spec.did_open (open_view params.now))))) }
+    ensures { OnOk result
+        (Appends writer.old writer.new
+        (tokens_of (spec.value_of (spec.did_open (open_view params.now))))) }
 {
     writer.begin_object()?;
     call_members(writer, "textDocument/didOpen")?;
@@ -141,7 +147,9 @@ fn write_change(
 }
 
 fn write_close(writer: &mut Writer, params: &CloseParams) -> Result<(), AllocError>
-    ensures { OnOk result (Appends writer.old writer.new (tokens_of (spec.value_of (spec.did_close (close_view params.now))))) }
+    ensures { OnOk result
+        (Appends writer.old writer.new
+        (tokens_of (spec.value_of (spec.did_close (close_view params.now))))) }
 {
     writer.begin_object()?;
     call_members(writer, "textDocument/didClose")?;
@@ -151,7 +159,8 @@ fn write_close(writer: &mut Writer, params: &CloseParams) -> Result<(), AllocErr
 }
 
 fn write_shutdown(writer: &mut Writer) -> Result<(), AllocError>
-    ensures { OnOk result (Appends writer.old writer.new (tokens_of (spec.value_of spec.shutdown))) }
+    ensures { OnOk result
+        (Appends writer.old writer.new (tokens_of (spec.value_of spec.shutdown))) }
 {
     writer.begin_object()?;
     number_member(writer, "id", 2)?;
@@ -225,7 +234,8 @@ fn error_value(writer: &mut Writer, error: ErrorCode) -> Result<(), AllocError>
 }
 
 fn write_id(writer: &mut Writer, id: &Id) -> Result<(), AllocError>
-    ensures { OnOk result (Appends writer.old writer.new (tokens_of (spec.id_value (id_view id.now)))) }
+    ensures { OnOk result
+        (Appends writer.old writer.new (tokens_of (spec.id_value (id_view id.now)))) }
 {
     match id {
         Id::Whole(number) => writer.i64(*number),
@@ -234,7 +244,8 @@ fn write_id(writer: &mut Writer, id: &Id) -> Result<(), AllocError>
 }
 
 fn write_id_or_null(writer: &mut Writer, id: &Option<Id>) -> Result<(), AllocError>
-    ensures { OnOk result (Appends writer.old writer.new (tokens_of (spec.id_or_null (option_map id_view id.now)))) }
+    ensures { OnOk result
+        (Appends writer.old writer.new (tokens_of (spec.id_or_null (option_map id_view id.now)))) }
 {
     match id {
         Some(id) => write_id(writer, id),
@@ -242,7 +253,7 @@ fn write_id_or_null(writer: &mut Writer, id: &Option<Id>) -> Result<(), AllocErr
     }
 }
 
-/// The members that begin each call but for its id.
+/// Writes the first members of each call, apart from its id.
 fn call_members(writer: &mut Writer, method: &str) -> Result<(), AllocError>
     ensures tokens { OnOk result (Appends writer.old writer.new
         (version_tokens ++ token.key (codes "method") ∷ token.string method.now ∷ [])) }
@@ -253,7 +264,8 @@ fn call_members(writer: &mut Writer, method: &str) -> Result<(), AllocError>
 }
 
 fn text_member(writer: &mut Writer, name: &str, text: &str) -> Result<(), AllocError>
-    ensures tokens { OnOk result (Appends writer.old writer.new (token.key name.now ∷ token.string text.now ∷ [])) }
+    ensures tokens { OnOk result
+        (Appends writer.old writer.new (token.key name.now ∷ token.string text.now ∷ [])) }
     ensures before { writer.new.before ≡ writer.old.before }
 {
     writer.key(name)?;
@@ -261,7 +273,8 @@ fn text_member(writer: &mut Writer, name: &str, text: &str) -> Result<(), AllocE
 }
 
 fn number_member(writer: &mut Writer, name: &str, number: u32) -> Result<(), AllocError>
-    ensures tokens { OnOk result (Appends writer.old writer.new (token.key name.now ∷ token.number (decimal number) ∷ [])) }
+    ensures tokens { OnOk result
+        (Appends writer.old writer.new (token.key name.now ∷ token.number (decimal number) ∷ [])) }
     ensures before { writer.new.before ≡ writer.old.before }
 {
     writer.key(name)?;
@@ -278,7 +291,8 @@ fn integer_member(writer: &mut Writer, name: &str, number: i32) -> Result<(), Al
 }
 
 fn initialize_params(writer: &mut Writer, offers: Offers) -> Result<(), AllocError>
-    ensures { OnOk result (Appends writer.old writer.new (tokens_of (spec.initialize_params offers))) }
+    ensures { OnOk result
+        (Appends writer.old writer.new (tokens_of (spec.initialize_params offers))) }
 {
     writer.begin_object()?;
     writer.key("capabilities")?;
@@ -291,7 +305,8 @@ fn initialize_params(writer: &mut Writer, offers: Offers) -> Result<(), AllocErr
 }
 
 fn capabilities_value(writer: &mut Writer, offers: Offers) -> Result<(), AllocError>
-    ensures { OnOk result (Appends writer.old writer.new (tokens_of (spec.capabilities_value offers))) }
+    ensures { OnOk result
+        (Appends writer.old writer.new (tokens_of (spec.capabilities_value offers))) }
 {
     writer.begin_object()?;
     writer.key("general")?;
@@ -309,7 +324,8 @@ fn general_value(writer: &mut Writer, offers: Offers) -> Result<(), AllocError>
 }
 
 fn names_value(writer: &mut Writer, offers: Offers) -> Result<(), AllocError>
-    ensures { OnOk result (Appends writer.old writer.new (tokens_of (array (items_of (spec.names_of offers))))) }
+    ensures { OnOk result
+        (Appends writer.old writer.new (tokens_of (array (items_of (spec.names_of offers))))) }
 {
     writer.begin_array()?;
     write_offer(writer, offers, Encoding::Utf8)?;
@@ -328,7 +344,8 @@ fn write_offer(writer: &mut Writer, offers: Offers, encoding: Encoding) -> Resul
 }
 
 fn open_params(writer: &mut Writer, params: &OpenParams) -> Result<(), AllocError>
-    ensures { OnOk result (Appends writer.old writer.new (tokens_of (spec.open_params (open_view params.now)))) }
+    ensures { OnOk result
+        (Appends writer.old writer.new (tokens_of (spec.open_params (open_view params.now)))) }
 {
     writer.begin_object()?;
     writer.key("textDocument")?;
@@ -337,7 +354,8 @@ fn open_params(writer: &mut Writer, params: &OpenParams) -> Result<(), AllocErro
 }
 
 fn opened_document(writer: &mut Writer, params: &OpenParams) -> Result<(), AllocError>
-    ensures { OnOk result (Appends writer.old writer.new (tokens_of (spec.opened_document (open_view params.now)))) }
+    ensures { OnOk result
+        (Appends writer.old writer.new (tokens_of (spec.opened_document (open_view params.now)))) }
 {
     writer.begin_object()?;
     text_member(writer, "languageId", params.language.as_str())?;
@@ -366,7 +384,8 @@ fn change_params(
 }
 
 fn versioned_document(writer: &mut Writer, uri: &str, version: i32) -> Result<(), AllocError>
-    ensures tokens { OnOk result (Appends writer.old writer.new (tokens_of (spec.versioned_document uri.now version))) }
+    ensures tokens { OnOk result
+        (Appends writer.old writer.new (tokens_of (spec.versioned_document uri.now version))) }
     ensures before { writer.new.before ≡ writer.old.before }
 {
     writer.begin_object()?;
@@ -376,7 +395,8 @@ fn versioned_document(writer: &mut Writer, uri: &str, version: i32) -> Result<()
 }
 
 fn close_params(writer: &mut Writer, params: &CloseParams) -> Result<(), AllocError>
-    ensures { OnOk result (Appends writer.old writer.new (tokens_of (spec.close_params (close_view params.now)))) }
+    ensures { OnOk result
+        (Appends writer.old writer.new (tokens_of (spec.close_params (close_view params.now)))) }
 {
     writer.begin_object()?;
     writer.key("textDocument")?;
@@ -385,7 +405,8 @@ fn close_params(writer: &mut Writer, params: &CloseParams) -> Result<(), AllocEr
 }
 
 fn closed_document(writer: &mut Writer, uri: &str) -> Result<(), AllocError>
-    ensures { OnOk result (Appends writer.old writer.new (tokens_of (spec.closed_document uri.now))) }
+    ensures { OnOk result
+        (Appends writer.old writer.new (tokens_of (spec.closed_document uri.now))) }
 {
     writer.begin_object()?;
     text_member(writer, "uri", uri)?;
@@ -405,7 +426,8 @@ fn edits_value(writer: &mut Writer, changes: &[Change]) -> Result<(), AllocError
 }
 
 fn edit_value(writer: &mut Writer, change: &Change) -> Result<(), AllocError>
-    ensures tokens { OnOk result (Appends writer.old writer.new (tokens_of (spec.edit_value (edit_view change.now)))) }
+    ensures tokens { OnOk result
+        (Appends writer.old writer.new (tokens_of (spec.edit_value (edit_view change.now)))) }
     ensures before { writer.new.before ≡ writer.old.before }
 {
     writer.begin_object()?;
@@ -426,7 +448,8 @@ fn range_member(writer: &mut Writer, range: Option<Range>) -> Result<(), AllocEr
 }
 
 fn range_value(writer: &mut Writer, range: Range) -> Result<(), AllocError>
-    ensures tokens { OnOk result (Appends writer.old writer.new (tokens_of (spec.range_value range))) }
+    ensures tokens { OnOk result
+        (Appends writer.old writer.new (tokens_of (spec.range_value range))) }
     ensures before { writer.new.before ≡ writer.old.before }
 {
     writer.begin_object()?;
@@ -438,7 +461,8 @@ fn range_value(writer: &mut Writer, range: Range) -> Result<(), AllocError>
 }
 
 fn position_value(writer: &mut Writer, position: Position) -> Result<(), AllocError>
-    ensures tokens { OnOk result (Appends writer.old writer.new (tokens_of (spec.position_value position))) }
+    ensures tokens { OnOk result
+        (Appends writer.old writer.new (tokens_of (spec.position_value position))) }
     ensures before { writer.new.before ≡ writer.old.before }
 {
     writer.begin_object()?;
@@ -452,7 +476,8 @@ fn initialize_value(
     encoding: Encoding,
     kind: SyncKind,
 ) -> Result<(), AllocError>
-    ensures { OnOk result (Appends writer.old writer.new (tokens_of (spec.initialize_value encoding kind))) }
+    ensures { OnOk result
+        (Appends writer.old writer.new (tokens_of (spec.initialize_value encoding kind))) }
 {
     writer.begin_object()?;
     writer.key("capabilities")?;
@@ -465,7 +490,8 @@ fn announced_value(
     encoding: Encoding,
     kind: SyncKind,
 ) -> Result<(), AllocError>
-    ensures { OnOk result (Appends writer.old writer.new (tokens_of (spec.announced_value encoding kind))) }
+    ensures { OnOk result
+        (Appends writer.old writer.new (tokens_of (spec.announced_value encoding kind))) }
 {
     writer.begin_object()?;
     text_member(writer, "positionEncoding", encoding.name())?;

@@ -1,4 +1,4 @@
-//! Tables of bodies, parameters and written texts, and the messages that they are made of.
+//! Tables of bodies, params and written texts, and the messages for them.
 
 mod agreement;
 mod bodies;
@@ -37,7 +37,7 @@ pub(super) fn opened(alloc: Global) -> Result<OpenParams, AllocError> {
     })
 }
 
-/// A change to version 2, of a range of line 0 or of the whole text.
+/// Returns a change to version 2, of a range of line 0 or of the whole text.
 pub(super) fn changed(
     alloc: Global,
     range: Option<(u32, u32)>,

@@ -165,7 +165,7 @@ module _ (setting : Setting) (sound : IsSound setting) (w : World) where
   shutdown_arrives : AtShape setting w (closing []) → Arrives setting w (lifecycle outgoing.shutdown) []
   shutdown_arrives at =
       let e : waiting_out w ≡ lifecycle outgoing.shutdown ∷ [] = at.there in
-      let step_is : Step = server.goes (server_of setting w) Down (answer.reply last_result) in
+      let step_is : Step = server.step_to (server_of setting w) Down (answer.reply last_result) in
       let given : step_on (server_of setting w) (incoming_of (lifecycle outgoing.shutdown)) ≡ step_is = ap (λ (p : Phase). step_in p (server_of setting w) (incoming_of (lifecycle outgoing.shutdown))) at.server_is in
       record {
         step_is = step_is;
@@ -180,7 +180,7 @@ module _ (setting : Setting) (sound : IsSound setting) (w : World) where
   exit_arrives : AtShape setting w leaving → Arrives setting w (lifecycle outgoing.exit) []
   exit_arrives at =
       let e : waiting_out w ≡ lifecycle outgoing.exit ∷ [] = at.there in
-      let step_is : Step = server.goes (server_of setting w) Ended (answer.exits 0) in
+      let step_is : Step = server.step_to (server_of setting w) Ended (answer.exits 0) in
       let given : step_on (server_of setting w) (incoming_of (lifecycle outgoing.exit)) ≡ step_is = ap (λ (p : Phase). step_in p (server_of setting w) (incoming_of (lifecycle outgoing.exit))) at.server_is in
       record {
         step_is = step_is;

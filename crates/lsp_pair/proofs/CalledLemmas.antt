@@ -16,7 +16,7 @@ use Rattle.lsp_pair.specs.declared.event.Happened.TheVariants.{Sent, Refused}
 use Rattle.lsp_pair.specs.World.{EventData, calls, to_server, to_client, call_sent, call_refused}
 use Rattle.lsp_pair.specs.Pair.{IsCallStep, IsStep}
 use Rattle.lsp_pair.specs.Seen.{event_view, happened_view, frames}
-use Rattle.lsp_pair.specs.Inside.{IsCall, HoldsOnCall, both_ends}
+use Rattle.lsp_pair.specs.inside.Ends.{IsCall, HoldsOnCall, both_ends}
 
 pub is_call : (e : Event) → (e ≡ ToServer → ⊥) → (e ≡ ToClient → ⊥) → IsCall (event_view e)
 is_call Start p q = tt

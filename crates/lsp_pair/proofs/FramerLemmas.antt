@@ -2,9 +2,9 @@
 use Rattle.std.proofs.Common.{ℕ, zero, suc, ◌≡◌, get_or, ◌≤◌, ◌<◌, List, [], ◌∷◌, length, take, drop, refl, sym, ap, subst, arith, ⊎_elim}
 use Rattle.std.proofs.lemmas.Bool.{cases_lt}
 use Rattle.std.proofs.lemmas.List.{take-append-drop, length-drop}
-use Rattle.lsp_frame.specs.Frame.{Spells}
+use Rattle.lsp_frame.specs.Frame.{IsFrameOf}
 use Rattle.lsp_frame.specs.Stream.{IsFrame}
-use Rattle.lsp_frame.proofs.LawLemmas.{spelling_law}
+use Rattle.lsp_frame.proofs.LawLemmas.{one_frame_law}
 
 take_whole : {X : Type 0} (k : ℕ) (xs : List X) → length xs ≤ k → take k xs ≡ xs
 take_whole zero [] h = refl
@@ -23,7 +23,7 @@ whole_taken max_body bytes k whole within stops =
     (λ (less : k < length bytes).
     let front : IsFrame max_body (take k bytes) = stops less in
     let nothing : drop k bytes ≡ [] =
-    (spelling_law max_body (take k bytes) (drop k bytes) front.body whole.body front.spells (subst (λ (b : List ℕ). Spells max_body b whole.body) (sym (take-append-drop k bytes)) whole.spells)).0 in
+    (one_frame_law max_body (take k bytes) (drop k bytes) front.body whole.body front.is_frame_of (subst (λ (b : List ℕ). IsFrameOf max_body b whole.body) (sym (take-append-drop k bytes)) whole.is_frame_of)).0 in
     absurd (omega (arith, less, length-drop k bytes, ap length nothing)))
     (λ (all : length bytes ≤ k). take_whole k bytes all)
     (cases_lt k (length bytes))

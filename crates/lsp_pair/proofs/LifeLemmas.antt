@@ -3,9 +3,9 @@ use Rattle.std.proofs.Common.{ℕ, ◌≡◌, ◌≤◌, Bool, true, false, List
 use Rattle.std.proofs.lemmas.List.{append-nil}
 use Rattle.json.specs.Print.{escape_byte}
 use Rattle.std.specs.Fmt.{digits}
-use Rattle.lsp_frame.specs.Frame.{frame, Spells}
-use Rattle.lsp_frame.proofs.LawLemmas.{spelling_law}
-use Rattle.lsp_frame.proofs.WrittenLemmas.{written_spells}
+use Rattle.lsp_frame.specs.Frame.{frame, IsFrameOf}
+use Rattle.lsp_frame.proofs.LawLemmas.{one_frame_law}
+use Rattle.lsp_frame.proofs.WrittenLemmas.{written_is_frame}
 use Rattle.lsp_text.specs.declared.encoding.Encoding.{Encoding}
 use Rattle.lsp_text.specs.declared.encoding.Encoding.TheVariants.{Utf8, Utf16, Utf32}
 use Rattle.lsp_message.specs.declared.agreement.Offers.{Offers}
@@ -62,8 +62,8 @@ short_last = let e : length (body_of last_result) ≡ 38 = refl in omega (arith,
 -- ---- frames
 
 -- A written frame within the limit has one body, its own.
-pub one_body : (max_body : ℕ) (bytes body other : List ℕ) → bytes ≡ frame body → length body ≤ max_body → max_body ≤ 1073741824 → Spells max_body bytes other → other ≡ body
-one_body max_body bytes body other is short small spells =
-    let own : Spells max_body (frame body) body = written_spells max_body body short (omega (arith, short, small)) in
-    let here : Spells max_body (frame body ++ []) other = subst (λ (b : List ℕ). Spells max_body b other) (is ∙ sym (append-nil (frame body))) spells in
-    sym (spelling_law max_body (frame body) [] body other own here).1
+pub one_body : (max_body : ℕ) (bytes body other : List ℕ) → bytes ≡ frame body → length body ≤ max_body → max_body ≤ 1073741824 → IsFrameOf max_body bytes other → other ≡ body
+one_body max_body bytes body other is short small is_frame_of =
+    let own : IsFrameOf max_body (frame body) body = written_is_frame max_body body short (omega (arith, short, small)) in
+    let here : IsFrameOf max_body (frame body ++ []) other = subst (λ (b : List ℕ). IsFrameOf max_body b other) (is ∙ sym (append-nil (frame body))) is_frame_of in
+    sym (one_frame_law max_body (frame body) [] body other own here).1

@@ -1,8 +1,8 @@
 -- What a reached pair has in its queues.
 use Rattle.std.proofs.Common.{ℕ, ◌≡◌, ◌≢◌, true, List, [], ◌∷◌, map, Result, Ok, Err, IfOk, OnErr, sym, ap, ◌∙◌, subst, arith}
-use Rattle.lsp_frame.specs.Frame.{Spells}
+use Rattle.lsp_frame.specs.Frame.{IsFrameOf}
 use Rattle.lsp_frame.specs.Stream.{IsFrame}
-use Rattle.lsp_frame.proofs.WrittenLemmas.{written_spells}
+use Rattle.lsp_frame.proofs.WrittenLemmas.{written_is_frame}
 use Rattle.lsp_message.specs.Outgoing as outgoing
 use Rattle.lsp_message.specs.Outgoing.{OutgoingData, body_of}
 use Rattle.lsp_server.specs.declared.phase.Phase.{Phase}
@@ -13,11 +13,11 @@ use Rattle.lsp_client.specs.Step as client
 use Rattle.lsp_server.specs.Step.{Step, step_in, step_on}
 use Rattle.lsp_client.specs.Step.{is_listening}
 use Rattle.lsp_pair.specs.World.{Setting, ClientMessage, commands, lifecycle, World, EventData, HappenedData, server_did, without_reply, incoming_of, server_of, world_of, IsProperEvent}
-use Rattle.lsp_pair.specs.Inside.{both_ends}
+use Rattle.lsp_pair.specs.inside.Ends.{both_ends}
 use Rattle.lsp_pair.specs.Pair.{PairData, message_frame, frames_from, IsSound, waiting_out, waiting_back, IsAt, IsReached, IsStep}
 use Rattle.lsp_pair.specs.Usual.{IsUsual}
 use Rattle.lsp_pair.specs.At.{IsStepAt}
-use Rattle.lsp_pair.specs.Inside.{HoldsOfFirst}
+use Rattle.lsp_pair.specs.inside.Ends.{HoldsOfFirst}
 use Rattle.lsp_pair.proofs.Shapes.{the_kind, WorldSound}
 use Rattle.lsp_pair.proofs.ArriveLemmas.{Arrives, Arrivals, body_on}
 use Rattle.lsp_pair.proofs.ReturnLemmas.{Returning}
@@ -52,10 +52,10 @@ module _ (setting : Setting) (sound : IsSound setting) (w : World) (ok : WorldSo
       let great = sound.great.greatest_body in (
         record {
           body = body_on (the_kind setting) (server_of setting w).table said;
-          spells =
-              subst (λ (b : List ℕ). Spells setting.config.limits.max_body b (body_on (the_kind setting) (server_of setting w).table said))
+          is_frame_of =
+              subst (λ (b : List ℕ). IsFrameOf setting.config.limits.max_body b (body_on (the_kind setting) (server_of setting w).table said))
               (sym (frame_on (the_kind setting) (server_of setting w).table said))
-              (written_spells setting.config.limits.max_body (body_on (the_kind setting) (server_of setting w).table said) (omega (arith, a.short, within)) (omega (arith, a.short, within, great)));
+              (written_is_frame setting.config.limits.max_body (body_on (the_kind setting) (server_of setting w).table said) (omega (arith, a.short, within)) (omega (arith, a.short, within, great)));
         },
         not_ended said rest a,
       )
@@ -64,7 +64,7 @@ module _ (setting : Setting) (sound : IsSound setting) (w : World) (ok : WorldSo
   first_heard [] r = tt
   first_heard (m ∷ rest) r =
       let small = sound.ranges.greatest_body in
-      (record { body = body_of m; spells = written_spells setting.limits.max_body (body_of m) r.short (omega (arith, r.short, small)) }, r.listening)
+      (record { body = body_of m; is_frame_of = written_is_frame setting.limits.max_body (body_of m) r.short (omega (arith, r.short, small)) }, r.listening)
 
 pub reached_serves : (pair : PairData) → IsReached pair → HoldsOfFirst pair.to_server (λ first. IsFrame pair.server.config.limits.max_body first × (pair.server.phase ≢ Ended))
 reached_serves pair r =

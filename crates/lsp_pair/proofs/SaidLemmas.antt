@@ -29,17 +29,17 @@ use Rattle.lsp_server.specs.declared.phase.Phase.{Phase}
 use Rattle.lsp_server.specs.declared.phase.Phase.TheVariants.{Running}
 use Rattle.lsp_server.specs.Answer as answer
 use Rattle.lsp_server.specs.Incoming as incoming
-use Rattle.lsp_server.specs.Step.{State, Step, edit_of, obeyed, obeys, step_on, step, step_in, encoding_of}
+use Rattle.lsp_server.specs.Step.{State, Step, edit_from_data, obeyed, obeys, step_on, step, step_in, encoding_of}
 use Rattle.lsp_client.specs.Step.{sent_batch, sent_body, order_refusal}
 use Rattle.lsp_pair.specs.World.{commands, incoming_of, IsProperEntry, IsProperEdits}
 
 -- ---- a batch is read back as it was written
 
-pub edits_back : (batch : List Edit) → AreTexts batch → map edit_of (map written_edit batch) ≡ batch
+pub edits_back : (batch : List Edit) → AreTexts batch → map edit_from_data (map written_edit batch) ≡ batch
 edits_back [] texts = refl
 edits_back (change ∷ batch) texts =
     let text : chars (encode_utf8_all change.text) ≡ change.text = chars-encodes change.text texts.0 in
-    let same : edit_of (written_edit change) ≡ change = λ i. record { range = change.range; text = text i } in
+    let same : edit_from_data (written_edit change) ≡ change = λ i. record { range = change.range; text = text i } in
     rw (same, edits_back batch texts.1) refl
 
 -- ---- commands as the types hold them
@@ -158,7 +158,7 @@ obeys_done s command may = ap (λ (r : Option Refusal). obeyed s (unless_refused
 run_open : (s : State) (p : OpenData) → s.phase ≡ Running → step_on s (incoming.did_open (Some p)) ≡ obeys s (opens (record { uri = p.uri; language = p.language; version = p.version; text = p.text }))
 run_open s p running = ap (λ (phase : Phase). step_in phase s (incoming.did_open (Some p))) running
 
-run_change : (s : State) (p : ChangeData) → s.phase ≡ Running → step_on s (incoming.did_change (Some p)) ≡ obeys s (changes p.uri p.version (encoding_of s) (map edit_of p.changes))
+run_change : (s : State) (p : ChangeData) → s.phase ≡ Running → step_on s (incoming.did_change (Some p)) ≡ obeys s (changes p.uri p.version (encoding_of s) (map edit_from_data p.changes))
 run_change s p running = ap (λ (phase : Phase). step_in phase s (incoming.did_change (Some p))) running
 
 run_close : (s : State) (p : CloseData) → s.phase ≡ Running → step_on s (incoming.did_close (Some p)) ≡ obeys s (closes p.uri)

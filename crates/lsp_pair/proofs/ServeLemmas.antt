@@ -2,7 +2,7 @@
 use Rattle.std.proofs.Common.{ℕ, ◌≡◌, ◌<◌, Bool, true, false, List, [], ◌∷◌, ◌++◌, length, map, get_or, Option, Vec, refl, sym, ap, ◌∙◌, subst, arith}
 use Rattle.std.specs.declared.alloc.Global.{Global}
 use Rattle.lsp_frame.specs.Limits.{Bounds}
-use Rattle.lsp_frame.specs.Frame.{Spells}
+use Rattle.lsp_frame.specs.Frame.{IsFrameOf}
 use Rattle.lsp_message.specs.Message.{reading}
 use Rattle.lsp_message.specs.Outgoing.{OutgoingData}
 use Rattle.lsp_message.specs.declared.outgoing.ErrorCode.{ErrorCode}
@@ -14,7 +14,7 @@ use Rattle.lsp_client.specs.Seen as seen
 use Rattle.lsp_pair.specs.World.{to_server, to_client, server_did, client_heard, without_reply, replies_in, without_message, messages_in}
 use Rattle.lsp_pair.specs.Pair.{message_frame, IsStep}
 use Rattle.lsp_pair.specs.Seen.{frames}
-use Rattle.lsp_pair.specs.Inside.{HoldsOfFirst, without_frame, frames_in_answer, without_bytes, frames_in_delivery}
+use Rattle.lsp_pair.specs.inside.Ends.{HoldsOfFirst, without_frame, frames_in_answer, without_bytes, frames_in_delivery}
 
 did_same : (a : AnswerData OutgoingData) → without_frame (as_sent a) ≡ without_reply a
 did_same (answer.reply m) = refl
@@ -40,14 +40,14 @@ first_there P (x ∷ xs) first some is holds = subst (λ (v : Vec ℕ Global). P
 
 pub serve_is : (c : client.State) (s new : server.State) (limits : Bounds) (items rest : List (Vec ℕ Global)) (back next : List (List ℕ)) (first : Vec ℕ Global) (body buffered : List ℕ)
     (given : AnswerData Sent) (result : AnswerData (Option ErrorCode))
-    → items ≡ first ∷ rest → Spells limits.max_body buffered body → buffered ≡ first.items → limits ≡ s.config.limits
+    → items ≡ first ∷ rest → IsFrameOf limits.max_body buffered body → buffered ≡ first.items → limits ≡ s.config.limits
     → given ≡ as_sent (server.step s (reading body)).answer → new ≡ (server.step s (reading body)).state
     → result ≡ without_frame given → next ≡ back ++ frames_in_answer given
     → IsStep (record { client = c; server = s; to_server = frames items; to_client = back }) to_server (server_did result) (record { client = c; server = new; to_server = frames rest; to_client = next })
-serve_is c s new limits items rest back next first body buffered given result out spells is same answers state did pushed =
+serve_is c s new limits items rest back next first body buffered given result out is_frame_of is same answers state did pushed =
     rw out (record {
       body = body;
-      framed = subst (λ (l : Bounds). Spells l.max_body first.items body) same (subst (λ (b : List ℕ). Spells limits.max_body b body) is spells);
+      framed = subst (λ (l : Bounds). IsFrameOf l.max_body first.items body) same (subst (λ (b : List ℕ). IsFrameOf limits.max_body b body) is is_frame_of);
       happens = ap server_did (did ∙ (ap without_frame answers ∙ did_same (server.step s (reading body)).answer));
       leaves = λ i. record {
         client = c;
@@ -78,15 +78,15 @@ listening false e s body given new h = absurd h
 
 pub hear_is : (s : server.State) (c new : client.State) (limits : Bounds) (items rest : List (Vec ℕ Global)) (there next : List (List ℕ)) (first : Vec ℕ Global) (body buffered : List ℕ)
     (given : client.DeliveredData (List ℕ)) (result : client.DeliveredData (Unit {0}))
-    → items ≡ first ∷ rest → Spells limits.max_body buffered body → buffered ≡ first.items → limits ≡ c.limits → client.is_listening c.phase ≡ true
+    → items ≡ first ∷ rest → IsFrameOf limits.max_body buffered body → buffered ≡ first.items → limits ≡ c.limits → client.is_listening c.phase ≡ true
     → seen.IsDelivered (client.delivery_result c (reading body)) given new
     → result ≡ without_bytes given → next ≡ there ++ frames_in_delivery given
     → IsStep (record { client = c; server = s; to_server = there; to_client = frames items }) to_client (client_heard result) (record { client = new; server = s; to_server = next; to_client = frames rest })
-hear_is s c new limits items rest there next first body buffered given result out spells is same is_listening hears did pushed =
+hear_is s c new limits items rest there next first body buffered given result out is_frame_of is same is_listening hears did pushed =
     let h = listening (client.is_listening c.phase) is_listening c body given new hears in
     rw out (record {
       body = body;
-      framed = subst (λ (l : Bounds). Spells l.max_body first.items body) same (subst (λ (b : List ℕ). Spells limits.max_body b body) is spells);
+      framed = subst (λ (l : Bounds). IsFrameOf l.max_body first.items body) same (subst (λ (b : List ℕ). IsFrameOf limits.max_body b body) is is_frame_of);
       is_listening = is_listening;
       happens = ap client_heard (did ∙ (ap without_bytes h.0 ∙ heard_same (client.delivery_of c (reading body)).delivered));
       leaves = λ i. record {

@@ -4,4 +4,4 @@ pub mod Usual
 pub mod At
 pub mod Documents
 pub mod Seen
-pub mod Inside
+pub mod inside

@@ -1,6 +1,7 @@
--- Both ends of a session and the frames between them, and when a pair is at the world of a list of events.
+-- Both ends of a session and the frames between them, and when a pair is at the world of a list of
+-- events.
 use Rattle.std.specs.Prelude.{ℕ, ◌≡◌, Bool, true, false, nat_le, ◌&&◌, List, [], ◌∷◌, ◌++◌, drop, map, Result, Ok, Err}
-use Rattle.lsp_frame.specs.Frame.{frame, Spells}
+use Rattle.lsp_frame.specs.Frame.{frame, IsFrameOf}
 use Rattle.lsp_frame.specs.Limits.{Bounds, AreInRange}
 use Rattle.lsp_text.specs.declared.encoding.Encoding.TheVariants.{Utf8, Utf16, Utf32}
 use Rattle.lsp_message.specs.declared.agreement.SyncKind.{SyncKind}
@@ -16,7 +17,7 @@ use Rattle.lsp_client.specs.Seen.{fault_of}
 use Rattle.lsp_client.specs.Step as client
 use Rattle.lsp_pair.specs.World.{Setting, ClientMessage, commands, lifecycle, World, client_of, server_of, EventData, calls, to_server, to_client, HappenedData, call_sent, call_refused, nothing, server_did, client_heard, without_reply, replies_in, without_message, messages_in, AreProperEvents, world_of}
 
--- both ends, and the frames on the way to each, oldest first
+-- Both ends, and the frames on the way to each, oldest first.
 pub record PairData : Type 0 where
   pub client : client.State
   pub server : server.State
@@ -35,12 +36,14 @@ new_pair setting =
 
 -- ---- one step, on the pair's own ends
 
+-- The frame of a message.
 abbrev pub message_frame : OutgoingData → List ℕ
 message_frame m = frame (body_of m)
 
--- A client's call: the frame of an accepted one goes last into the queue to the server, and a refused
--- one changes nothing.
-abbrev pub IsCallStep : PairData → Result client.Sending client.Refusal → HappenedData → PairData → Type 0
+-- A call of the client. The frame of an accepted call comes last in the queue to the server, and a
+-- refused one changes nothing.
+abbrev pub IsCallStep : PairData → Result client.Sending client.Refusal → HappenedData → PairData →
+    Type 0
 IsCallStep old (Ok sending) happened new =
     (happened ≡ call_sent)
     × (new ≡ record old {
@@ -50,26 +53,27 @@ IsCallStep old (Ok sending) happened new =
 IsCallStep old (Err refusal) happened new =
     (happened ≡ call_refused (fault_of refusal)) × (new ≡ old)
 
--- The server takes the first frame of its queue, and its reply goes last into the other.
+-- The server handles the first frame of its queue, and its reply comes last in the other.
 pub record IsServerStep (old : PairData) (first : List ℕ) (rest : List (List ℕ))
     (happened : HappenedData) (new : PairData) : Type 0 where
   pub body : List ℕ
-  pub framed : Spells old.server.config.limits.max_body first body
+  pub framed : IsFrameOf old.server.config.limits.max_body first body
   pub happens :
       happened ≡ server_did (without_reply (server.step old.server (reading body)).answer)
   pub leaves : new ≡ record old {
     server = (server.step old.server (reading body)).state;
     to_server = rest;
     to_client =
-        old.to_client ++ map message_frame (replies_in (server.step old.server (reading body)).answer);
+        old.to_client
+        ++ map message_frame (replies_in (server.step old.server (reading body)).answer);
   }
 
--- The client, which listens, takes the first frame of its queue, and what it sends goes last into the
+-- The client, which listens, handles the first frame of its queue. What it sends comes last in the
 -- other.
 pub record IsClientStep (old : PairData) (first : List ℕ) (rest : List (List ℕ))
     (happened : HappenedData) (new : PairData) : Type 0 where
   pub body : List ℕ
-  pub framed : Spells old.client.limits.max_body first body
+  pub framed : IsFrameOf old.client.limits.max_body first body
   pub is_listening : client.is_listening old.client.phase ≡ true
   pub happens :
       happened
@@ -83,12 +87,13 @@ pub record IsClientStep (old : PairData) (first : List ℕ) (rest : List (List �
   }
 
 -- A delivery from a queue; where it is empty nothing changes.
-abbrev pub IsDeliveryStep : (List ℕ → List (List ℕ) → Type 0) → PairData → List (List ℕ) → HappenedData
+abbrev pub IsDeliveryStep : (List ℕ → List (List ℕ) → Type 0) → PairData → List (List ℕ) →
+    HappenedData
     → PairData → Type 0
 IsDeliveryStep taken old [] happened new = (happened ≡ nothing) × (new ≡ old)
 IsDeliveryStep taken old (first ∷ rest) happened new = taken first rest
 
--- One step of a pair: what happens, and what the pair is then.
+-- One step of a pair: what happens, and the pair after it.
 abbrev pub IsStep : PairData → EventData → HappenedData → PairData → Type 0
 IsStep old (calls call) happened new =
     IsCallStep old (client.call_result old.client call) happened new
@@ -124,10 +129,11 @@ frames_from kind table [] = []
 frames_from kind table (sent ∷ rest) =
     frame_of kind table sent ∷ frames_from kind (table_with table sent) rest
 
--- the messages that wait for the server, and for the client
+-- The messages that wait for the server.
 abbrev pub waiting_out : World → List ClientMessage
 waiting_out w = drop w.out_delivered w.out
 
+-- The messages that wait for the client.
 abbrev pub waiting_back : World → List OutgoingData
 waiting_back w = drop w.back_delivered w.back
 
@@ -147,28 +153,29 @@ pub record IsAt (setting : Setting) (pair : PairData) (events : List EventData) 
   pub proper : AreProperEvents events
   pub is : pair ≡ pair_of setting (world_of setting events)
 
--- ---- which settings a pair takes
+-- ---- which settings a pair accepts
 
--- A client counts in UTF-16 where nothing else was agreed on, so a server must admit it.
+-- A server of this choice can choose UTF-16, which a client uses where nothing else was agreed on.
 abbrev pub is_utf16 : EncodingChoice → Bool
 is_utf16 (Fixed Utf8) = false
 is_utf16 (Fixed Utf16) = true
 is_utf16 (Fixed Utf32) = false
 is_utf16 (Negotiated prefer) = true
 
+-- Each of the limits is at most the other's.
 abbrev pub are_within : Bounds → Bounds → Bool
 are_within small great =
     nat_le small.max_body great.max_body && nat_le small.max_text great.max_text
     && nat_le small.max_docs great.max_docs && nat_le small.max_changes great.max_changes
 
--- A setting that a pair takes.
+-- A setting that a pair accepts.
 pub record IsSound (setting : Setting) : Type 0 where
   pub ranges : AreInRange setting.limits
   pub great : AreInRange setting.config.limits
   pub within : AreWithin setting.limits setting.config.limits
   pub choice : is_utf16 setting.config.choice ≡ true
 
--- A pair that comes from a new one by steps: it is at the world of some list of events.
+-- A pair that comes from a new one by steps. It is at the world of some list of events.
 pub record IsReached (pair : PairData) : Type 0 where
   pub setting : Setting
   pub sound : IsSound setting

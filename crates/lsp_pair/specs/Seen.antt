@@ -1,4 +1,4 @@
--- What the types of `src/` are in the definitions.
+-- The types of `src/` as the definitions see them: `x_view` is the data of an `x`.
 use Rattle.std.specs.Prelude.{ℕ, List, map, string_bytes}
 use Rattle.std.specs.declared.alloc.Global.{Global}
 use Rattle.std.specs.Prelude.{Vec}
@@ -18,17 +18,27 @@ use Rattle.lsp_pair.specs.declared.event.Heard.{Heard}
 use Rattle.lsp_pair.specs.declared.event.Heard.TheVariants as heard
 use Rattle.lsp_pair.specs.World.{EventData, calls, to_server, to_client, HappenedData, call_sent, call_refused, nothing, server_did, client_heard}
 
+-- An event, with its texts as bytes.
 abbrev pub event_view : Event → EventData
 event_view Start = calls client.starts
 event_view (Open uri language version text) =
-    calls (client.orders (client.opens (record { uri = string_bytes uri; language = string_bytes language; version = version; text = string_bytes text })))
-event_view (Edit uri version changes) = calls (client.orders (client.edits (string_bytes uri) version (map edit_of changes.items)))
+    calls (client.orders
+    (client.opens
+    (record {
+      uri = string_bytes uri;
+      language = string_bytes language;
+      version = version;
+      text = string_bytes text;
+    })))
+event_view (Edit uri version changes)
+    = calls (client.orders (client.edits (string_bytes uri) version (map edit_of changes.items)))
 event_view (Close uri) = calls (client.orders (client.closes (string_bytes uri)))
 event_view Shutdown = calls client.shuts_down
 event_view Exit = calls client.exits
 event_view ToServer = to_server
 event_view ToClient = to_client
 
+-- An answer of the server without its frame.
 abbrev pub did_view : Did → AnswerData (Option ErrorCode)
 did_view (done.Reply code) = answer.reply code
 did_view done.Changed = answer.changed
@@ -37,12 +47,14 @@ did_view done.Ignored = answer.ignored
 did_view (done.Refused refusal) = answer.refused refusal
 did_view (done.Exit status) = answer.exits status
 
+-- The result of a delivery without its frame.
 abbrev pub heard_view : Heard → client.DeliveredData (Unit {0})
 heard_view heard.Send = client.sends tt
 heard_view heard.Noted = client.noted
 heard_view heard.Ignored = client.ignored
 heard_view (heard.BadServer reason) = client.bad_server reason
 
+-- What happened, without frames.
 abbrev pub happened_view : Happened → HappenedData
 happened_view Sent = call_sent
 happened_view (Refused fault) = call_refused fault
@@ -50,6 +62,6 @@ happened_view (Server d) = server_did (did_view d)
 happened_view (Client h) = client_heard (heard_view h)
 happened_view Nothing = nothing
 
--- the frames in a queue
+-- The frames of a queue, as bytes.
 abbrev pub frames : List (Vec ℕ Global) → List (List ℕ)
 frames queue = map (λ f. f.items) queue

@@ -1,4 +1,4 @@
--- What the deliveries of a pair answer, and what both ends agree on.
+-- What happens in the deliveries of a pair, and what both ends agree on.
 use Rattle.std.specs.Prelude.{◌≡◌, Bool, true, false, slice_get, MatchOption, Some, None, ⊤}
 use Rattle.lsp_message.specs.Outgoing as outgoing
 use Rattle.lsp_message.specs.Outgoing.{OutgoingData}
@@ -11,8 +11,8 @@ use Rattle.lsp_client.specs.Step as client
 use Rattle.lsp_pair.specs.World.{Setting, ClientMessage, commands, lifecycle, World, EventData, calls, to_server, to_client, HappenedData, nothing, server_did, client_heard}
 use Rattle.lsp_pair.specs.Pair.{PairData}
 
--- The server answers `initialize` and `shutdown` by their results, ignores `initialized`, makes each
--- document command, and ends at `exit` with status 0.
+-- The server answers `initialize` and `shutdown` with their results, ignores `initialized`, accepts
+-- each document command, and ends at `exit` with status 0.
 abbrev pub IsUsual : ClientMessage → HappenedData → Type 0
 IsUsual (commands command) happened = happened ≡ server_did answer.changed
 IsUsual (lifecycle (outgoing.initialize offers)) happened =
@@ -22,14 +22,15 @@ IsUsual (lifecycle outgoing.shutdown) happened = happened ≡ server_did (answer
 IsUsual (lifecycle outgoing.exit) happened = happened ≡ server_did (answer.exits 0)
 IsUsual (lifecycle m) happened = ⊥
 
--- The client answers the result of `initialize` by `initialized`, and notes that of `shutdown`.
+-- The client sends `initialized` after the result of `initialize`, and notes that of `shutdown`.
 abbrev pub IsUsualBack : OutgoingData → HappenedData → Type 0
 IsUsualBack (outgoing.initialize_result id encoding kind) happened =
     happened ≡ client_heard (client.sends tt)
 IsUsualBack (outgoing.shutdown_result id) happened = happened ≡ client_heard client.noted
 IsUsualBack m happened = ⊥
 
--- What a delivery answers is usual for the first message that waits; where none does, nothing happens.
+-- What happens in a delivery is usual for the first message that waits. Where none waits, nothing
+-- happens.
 abbrev pub IsUsualTurn : World → EventData → HappenedData → Type 0
 IsUsualTurn w (calls call) happened = ⊤
 IsUsualTurn w to_server happened =
@@ -39,7 +40,7 @@ IsUsualTurn w to_client happened =
     MatchOption (slice_get w.back w.back_delivered) (happened ≡ nothing)
     (λ m. IsUsualBack m happened)
 
--- what both ends agree on
+-- What both ends agree on.
 abbrev pub agreed_of : Setting → Agreed
 agreed_of setting =
     record {
@@ -47,6 +48,7 @@ agreed_of setting =
       kind = kind_of setting.config.sync;
     }
 
+-- The phases of the client from Ready on.
 abbrev pub has_agreed : Phase → Bool
 has_agreed New = false
 has_agreed Asked = false
@@ -56,7 +58,7 @@ has_agreed Closed = true
 has_agreed Done = true
 has_agreed (Failed reason) = false
 
--- From Ready on both ends count in the encoding that was chosen.
+-- From Ready on both ends use the encoding that was chosen.
 pub record HaveOneEncoding (setting : Setting) (pair : PairData) : Type 0 where
   pub client : has_agreed pair.client.phase ≡ true → pair.client.agreed ≡ Some (agreed_of setting)
   pub server :

@@ -1,5 +1,5 @@
--- The world of a list of events: what the two ends of a session sent, how much of it was delivered, and
--- what each end has then. There are no bytes here, and one function gives the documents of both ends.
+-- The world of a list of events: what both ends sent, how much of it was delivered, and the state
+-- of each end then. It has no bytes, and one function defines the documents of both ends.
 use Rattle.std.specs.Prelude.{ℕ, ℤ, ◌+◌, List, [], ◌∷◌, ◌++◌, take, map, slice_get, FitsSigned, IsUtf8, Option, Some, None, Result, Ok, Err, ⊤}
 use Rattle.std.specs.Int.{w32}
 use Rattle.lsp_frame.specs.Limits.{Bounds}
@@ -29,26 +29,26 @@ use Rattle.lsp_client.specs.Seen.{fault_of}
 use Rattle.lsp_client.specs.Step as client
 use Rattle.lsp_client.specs.Step.{Call, starts, shuts_down, exits, orders, Order, DeliveredData}
 
--- how both ends are set up
+-- The configuration of both ends.
 pub record Setting : Type 0 where
   pub limits : Bounds
   pub offers : Offers
   pub config : Config
 
--- What the client sends: a document command, with the batch that the caller gave, or a message of the
--- session's lifecycle.
+-- A message of the client: a document command, with the batch that the caller passed, or a message
+-- of the session's lifecycle.
 pub data ClientMessage : Type 0 where
   commands : Command → ClientMessage
   lifecycle : OutgoingData → ClientMessage
 
--- the document commands among messages
+-- The document commands among messages.
 abbrev pub commands_in : List ClientMessage → List Command
 commands_in [] = []
 commands_in (commands command ∷ sent) = command ∷ commands_in sent
 commands_in (lifecycle m ∷ sent) = commands_in sent
 
--- What the client sent, oldest first, and how many of it were delivered; what the server sent,
--- likewise; and the phase and the agreement of each end.
+-- What the client sent, oldest first, and how many of it were delivered; the same for the server.
+-- Then the phase and the agreement of each end.
 pub record World : Type 0 where
   pub out : List ClientMessage
   pub out_delivered : ℕ
@@ -59,7 +59,7 @@ pub record World : Type 0 where
   pub server_phase : server_phase.Phase
   pub encoding : Option Encoding
 
--- before the first event
+-- The world before the first event.
 abbrev pub beginning : World
 beginning =
     record {
@@ -73,7 +73,7 @@ beginning =
       encoding = None;
     }
 
--- The client has the table of the commands that it sent.
+-- The client of a world. Its table is that of the commands that it sent.
 abbrev pub client_of : Setting → World → client.State
 client_of setting w =
     record {
@@ -84,7 +84,7 @@ client_of setting w =
       table = table_of (commands_in w.out);
     }
 
--- The server has the table of those that were delivered.
+-- The server of a world. Its table is that of the commands that were delivered.
 abbrev pub server_of : Setting → World → server.State
 server_of setting w =
     record {
@@ -96,18 +96,19 @@ server_of setting w =
 
 -- ---- events
 
+-- What may happen: a call of the client, or the delivery of the first message for an end.
 pub data EventData : Type 0 where
   calls : Call → EventData
   to_server to_client : EventData
 
--- What happens: a client's call is accepted or refused, an end handles a message, or none waits.
+-- What happens: the client accepts or refuses a call, an end handles a message, or none waits.
 pub data HappenedData : Type 0 where
   call_sent nothing : HappenedData
   call_refused : ClientFault → HappenedData
   server_did : AnswerData (Option ErrorCode) → HappenedData
   client_heard : DeliveredData (Unit {0}) → HappenedData
 
--- an answer of the server, and the message in it
+-- An answer of the server without its message.
 abbrev pub without_reply : AnswerData OutgoingData → AnswerData (Option ErrorCode)
 without_reply (answer.reply m) = answer.reply (code_of m)
 without_reply answer.changed = answer.changed
@@ -117,27 +118,29 @@ without_reply answer.already_ended = answer.already_ended
 without_reply (answer.refused refusal) = answer.refused refusal
 without_reply (answer.exits status) = answer.exits status
 
+-- The message of a reply.
 abbrev pub replies_in : AnswerData OutgoingData → List OutgoingData
 replies_in (answer.reply m) = m ∷ []
 replies_in a = []
 
--- what a delivery is to the client, and the message in it
+-- The result of a delivery without its message.
 abbrev pub without_message : DeliveredData OutgoingData → DeliveredData (Unit {0})
 without_message (client.sends m) = client.sends tt
 without_message client.noted = client.noted
 without_message client.ignored = client.ignored
 without_message (client.bad_server reason) = client.bad_server reason
 
+-- The message that a client sends.
 abbrev pub messages_in : DeliveredData OutgoingData → List OutgoingData
 messages_in (client.sends m) = m ∷ []
 messages_in d = []
 
--- what happens, and the world then
+-- What happens, and the world after it.
 pub record Turn : Type 0 where
   pub happened : HappenedData
   pub world : World
 
--- An accepted call's message goes last into `out`; a refused call changes nothing.
+-- The message of an accepted call comes last in `out`; a refused call changes nothing.
 abbrev pub turn_of_call : World → ClientMessage → Result client.Sending client.Refusal → Turn
 turn_of_call w sent (Ok sending) =
     record {
@@ -151,23 +154,24 @@ turn_of_call w sent (Ok sending) =
 turn_of_call w sent (Err refusal) =
     record { happened = call_refused (fault_of refusal); world = w }
 
--- what an accepted call sends
+-- The message of an accepted call, by the call and what was sent.
 abbrev pub message_by : client.State → Call → OutgoingData → ClientMessage
 message_by s (orders order) m =
     commands (client.command_of (client.agreement s).encoding order)
 message_by s call m = lifecycle m
 
+-- What an accepted call sends. (A refused one sends nothing; this is then any message.)
 abbrev pub message_in : Result client.Sending client.Refusal → OutgoingData
 message_in (Ok sending) = sending.message
 message_in (Err refusal) = outgoing.exit
 
--- A call is the client's step on what the client is in this world.
+-- A call is a step of the client of this world.
 abbrev pub call_event : Setting → World → Call → Turn
 call_event setting w call =
     let result = client.call_result (client_of setting w) call in
     turn_of_call w (message_by (client_of setting w) call (message_in result)) result
 
--- What a message of the client's is to a server.
+-- What a message of the client asks of a server.
 abbrev pub incoming_of : ClientMessage → IncomingData
 incoming_of (commands (opens entry)) =
     incoming.did_open (Some (record {
@@ -185,7 +189,7 @@ incoming_of (commands (changes uri version encoding batch)) =
 incoming_of (commands (closes uri)) = incoming.did_close (Some (record { uri = uri }))
 incoming_of (lifecycle m) = incoming.incoming_of (message (sent m))
 
--- One more message of `out` is delivered, and a reply goes last into `back`.
+-- One more message of `out` is delivered, and a reply comes last in `back`.
 abbrev pub turn_of_step : World → server.Step → Turn
 turn_of_step w step =
     record {
@@ -198,13 +202,13 @@ turn_of_step w step =
       };
     }
 
--- The first message that waits for the server is the server's step on what it is in this world.
+-- The server of this world handles the first message that waits for it.
 abbrev pub to_server_event : Setting → World → Option ClientMessage → Turn
 to_server_event setting w None = record { happened = nothing; world = w }
 to_server_event setting w (Some sent) =
     turn_of_step w (server.step_on (server_of setting w) (incoming_of sent))
 
--- One more message of `back` is delivered, and what the client sends goes last into `out`.
+-- One more message of `back` is delivered, and what the client sends comes last in `out`.
 abbrev pub turn_of_delivery : World → client.Delivery → Turn
 turn_of_delivery w delivery =
     record {
@@ -217,12 +221,13 @@ turn_of_delivery w delivery =
       };
     }
 
+-- The turn of a delivery, or of its refusal, which changes nothing.
 abbrev pub turn_of_result : World → Result client.Delivery client.Refusal → Turn
 turn_of_result w (Ok delivery) = turn_of_delivery w delivery
 turn_of_result w (Err refusal) =
     record { happened = call_refused (fault_of refusal); world = w }
 
--- The first message that waits for the client is the client's step on what it is in this world.
+-- The client of this world handles the first message that waits for it.
 abbrev pub to_client_event : Setting → World → Option OutgoingData → Turn
 to_client_event setting w None = record { happened = nothing; world = w }
 to_client_event setting w (Some m) =
@@ -234,6 +239,7 @@ turn setting w (calls call) = call_event setting w call
 turn setting w to_server = to_server_event setting w (slice_get w.out w.out_delivered)
 turn setting w to_client = to_client_event setting w (slice_get w.back w.back_delivered)
 
+-- The world after a list of events, from a world.
 abbrev pub world_from : Setting → World → List EventData → World
 world_from setting w [] = w
 world_from setting w (event ∷ events) = world_from setting (turn setting w event).world events
@@ -242,28 +248,33 @@ world_from setting w (event ∷ events) = world_from setting (turn setting w eve
 abbrev pub world_of : Setting → List EventData → World
 world_of setting events = world_from setting beginning events
 
--- ---- events as their types have them: versions in 32 bits, texts in UTF-8
+-- ---- events as their types contain them: versions in 32 bits, texts in UTF-8
 
+-- The version is in the range of `i32`, and the texts are UTF-8.
 pub record IsProperEntry (entry : Entry) : Type 0 where
   pub uri : IsUtf8 entry.uri
   pub language : IsUtf8 entry.language
   pub version : FitsSigned w32 entry.version
   pub text : IsUtf8 entry.text
 
+-- The version is in the range of `i32`, the URI is UTF-8, and the texts are lists of scalar values.
 pub record IsProperEdits (uri : List ℕ) (version : ℤ) (batch : List Edit) : Type 0 where
   pub name : IsUtf8 uri
   pub fits : FitsSigned w32 version
   pub texts : AreTexts batch
 
+-- An order has such numbers and texts.
 abbrev pub IsProperOrder : Order → Type 0
 IsProperOrder (client.opens entry) = IsProperEntry entry
 IsProperOrder (client.edits uri version batch) = IsProperEdits uri version batch
 IsProperOrder (client.closes uri) = IsUtf8 uri
 
+-- An event has such numbers and texts.
 abbrev pub IsProperEvent : EventData → Type 0
 IsProperEvent (calls (orders order)) = IsProperOrder order
 IsProperEvent event = ⊤
 
+-- All events have such numbers and texts.
 abbrev pub AreProperEvents : List EventData → Type 0
 AreProperEvents [] = ⊤
 AreProperEvents (event ∷ events) = IsProperEvent event × AreProperEvents events

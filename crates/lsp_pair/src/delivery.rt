@@ -1,4 +1,4 @@
-//! An end takes the first frame of its queue.
+//! An end handles the first frame of its queue.
 
 ghost use Rattle.std.specs.Prelude.{◌≡◌, ◌≢◌, ◌<◌, ◌++◌, true, false, IfOk, OnErr};
 ghost use Rattle.std.specs.VecDeque.{deque_len, deque_capacity};
@@ -9,7 +9,7 @@ ghost use Rattle.lsp_server.specs.declared.phase.Phase.TheVariants.{Ended};
 ghost use Rattle.lsp_server.specs.Seen.{answer_view};
 ghost use Rattle.lsp_server.specs.Step as server;
 ghost use Rattle.lsp_pair.specs.World.{to_server, to_client};
-ghost use Rattle.lsp_pair.specs.Inside.{HoldsOfFirst, both_ends, without_frame, frames_in_answer, without_bytes, frames_in_delivery};
+ghost use Rattle.lsp_pair.specs.inside.Ends.{HoldsOfFirst, both_ends, without_frame, frames_in_answer, without_bytes, frames_in_delivery};
 ghost use Rattle.lsp_pair.specs.Pair.{IsStep};
 ghost use Rattle.lsp_pair.specs.Seen.{happened_view, did_view, heard_view, frames};
 
@@ -20,11 +20,11 @@ use lsp_server::{Answer, Server};
 use std::alloc::{AllocError, Global};
 use std::collections::VecDeque;
 
-/// A framer with the limits of the end that takes the frame, and in it a whole frame.
+/// Returns a framer with these limits, with this whole frame buffered.
 fn framer_of(alloc: Global, limits: Limits, bytes: &[u8]) -> Result<Framer, AllocError>
     requires { IsFrame limits.max_body bytes.now }
     ensures { IfOk result (λ framer.
-        (framer.held ≡ bytes.now) × (framer.failed ≡ false) × (framer.limits ≡ limits)) }
+        (framer.buffered ≡ bytes.now) × (framer.failed ≡ false) × (framer.limits ≡ limits)) }
 {
     let mut framer = Framer::new(alloc, limits);
     match framer.feed(bytes) {
@@ -33,7 +33,7 @@ fn framer_of(alloc: Global, limits: Limits, bytes: &[u8]) -> Result<Framer, Allo
     }
 }
 
-/// The server takes the first frame that waits for it. Room for its reply is made first.
+/// Passes the first frame for the server to it. It reserves room for the reply first.
 pub(crate) fn serve_first(
     alloc: Global,
     server: &mut Server,
@@ -67,7 +67,7 @@ pub(crate) fn serve_first(
     Ok(Happened::Server(push_reply(replies, answer)))
 }
 
-/// The frame of a reply goes last into a queue with room.
+/// Appends the frame of a reply to a queue with room.
 fn push_reply(replies: &mut VecDeque<Vec<u8>>, answer: Answer) -> Did
     requires { deque_len replies.old < deque_capacity replies.old }
     ensures did { did_view result ≡ without_frame (answer_view answer) }
@@ -87,7 +87,7 @@ fn push_reply(replies: &mut VecDeque<Vec<u8>>, answer: Answer) -> Did
     }
 }
 
-/// The client takes the first frame that waits for it. Room for what it sends is made first.
+/// Passes the first frame for the client to it. It reserves room for the client's message first.
 pub(crate) fn hear_first(
     alloc: Global,
     client: &mut Client,
@@ -121,7 +121,7 @@ pub(crate) fn hear_first(
     Ok(Happened::Client(push_sent(sent, delivered)))
 }
 
-/// The frame that the client sends goes last into a queue with room.
+/// Appends the frame that the client sends to a queue with room.
 fn push_sent(sent: &mut VecDeque<Vec<u8>>, delivered: Delivered) -> Heard
     requires { deque_len sent.old < deque_capacity sent.old }
     ensures heard { heard_view result ≡ without_bytes (delivered_view delivered) }

@@ -5,7 +5,7 @@ use lsp_edit::Change;
 use lsp_message::ErrorCode;
 use lsp_server::Refusal;
 
-/// What may happen: a call of the client, or the delivery of the first frame that waits for an end.
+/// What may happen: a call of the client, or the delivery of the first frame of a queue.
 #[derive(Debug, Drop)]
 pub enum Event {
     /// [`Client::start`](lsp_client::Client::start).
@@ -31,28 +31,29 @@ pub enum Event {
     Shutdown,
     /// [`Client::exit`](lsp_client::Client::exit).
     Exit,
-    /// The first frame that waits for the server is delivered.
+    /// The first frame for the server is delivered.
     ToServer,
-    /// The first frame that waits for the client is delivered.
+    /// The first frame for the client is delivered.
     ToClient,
 }
 
 /// What happened.
 #[derive(Clone, Copy, Debug, PartialEq, Eq)]
 pub enum Happened {
-    /// The client's call was accepted, and its frame waits for the server.
+    /// The client accepted the call, and its frame waits for the server.
     Sent,
-    /// The client's call was refused.
+    /// The client refused the call.
     Refused(ClientFault),
     /// What the server answered to a message.
     Server(Did),
-    /// What the client made of a message.
+    /// What the client did with a message.
     Client(Heard),
     /// No message waited.
     Nothing,
 }
 
-/// An answer of the server ([`Answer`](lsp_server::Answer)) without its frame, which waits for the client.
+/// An answer of the server ([`Answer`](lsp_server::Answer)) without its frame, which waits for the
+/// client.
 #[derive(Clone, Copy, Debug, PartialEq, Eq)]
 pub enum Did {
     Reply(Option<ErrorCode>),
@@ -63,7 +64,8 @@ pub enum Did {
     Exit(u8),
 }
 
-/// What the client made of a message ([`Delivered`](lsp_client::Delivered)), without its frame, which waits for the server.
+/// What the client did with a message ([`Delivered`](lsp_client::Delivered)), without its frame,
+/// which waits for the server.
 #[derive(Clone, Copy, Debug, PartialEq, Eq)]
 pub enum Heard {
     Send,

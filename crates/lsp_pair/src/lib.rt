@@ -1,8 +1,10 @@
-//! Both ends of a session of the Language Server Protocol 3.17, and the frames on the way between them.
+//! Both ends of a session of the Language Server Protocol 3.17, and the frames on the way between
+//! them.
 //!
-//! A [`Pair`] is a client, a server, and a queue of frames to each. It takes one [`Event`] at a time: a call of the client, or the delivery
-//! of the first frame of a queue. Its contract is the promise of this project: after every list of calls and deliveries the server has the
-//! texts and versions that the client had when it sent the last delivered message.
+//! A [`Pair`] is a client, a server, and a queue of frames to each. It takes one [`Event`] at a
+//! time: a call of the client, or the delivery of the first frame of a queue. Its contract is the
+//! promise of this project. After every list of calls and deliveries the server has the texts and
+//! versions that the client had when it sent the last delivered message.
 //!
 //! ```text
 //! let mut pair = Pair::new(alloc, limits, offers, config)?;
@@ -15,8 +17,8 @@
 //! - `pair`: the two ends, and one step of them.
 //! - `run`: many steps.
 //! - `event`: what may happen, and what happened.
-//! - `delivery`: an end takes the first frame of its queue.
-//! - `setting`: which ends fit together.
+//! - `setting`: which configurations of the two ends fit together.
+//! - `delivery`: an end handles the first frame of its queue.
 #![tactic(auto)]
 
 mod delivery;
@@ -24,8 +26,6 @@ mod event;
 mod pair;
 mod run;
 mod setting;
-#[cfg(test)]
-mod tests;
 
 pub use event::{Did, Event, Happened, Heard};
 pub use pair::Pair;

@@ -6,7 +6,7 @@ ghost use Rattle.lsp_client.specs.declared.fault.ClientFault.TheVariants.{NoMemo
 ghost use Rattle.lsp_client.specs.Seen.{IsSent, IsFaultOf};
 ghost use Rattle.lsp_client.specs.Step.{call_result};
 ghost use Rattle.lsp_pair.specs.World.{Setting, EventData, IsProperEvent};
-ghost use Rattle.lsp_pair.specs.Inside.{IsCall, HoldsOnCall};
+ghost use Rattle.lsp_pair.specs.inside.Ends.{IsCall, HoldsOnCall};
 ghost use Rattle.lsp_pair.specs.Pair.{new_pair, IsSound, IsAt, IsStep, is_utf16, are_within};
 ghost use Rattle.lsp_pair.specs.At.{IsStepAt};
 ghost use Rattle.lsp_pair.specs.Documents.{HaveDocuments};
@@ -23,8 +23,9 @@ use std::alloc::{AllocError, Global};
 use std::collections::VecDeque;
 use std::marker::Model;
 
-/// Both ends of a session, and the frames on the way to each, oldest first. Clauses see the ends and the frames. Each pair is at the world
-/// of a list of events: it comes from a new one by steps.
+/// Both ends of a session, and the frames on the way to each, oldest first. Clauses see the ends
+/// and the frames. Each pair is at the world of some list of events, since it comes from a new one
+/// by steps.
 #[derive(Drop)]
 pub struct Pair {
     alloc: Global,
@@ -56,7 +57,10 @@ impl Model for Pair {
 }
 
 impl Pair {
-    /// Two new ends, with nothing on the way. Refuses [`PairFault::NotUtf16`], then [`PairFault::LimitsTooSmall`]. Takes no memory.
+    /// Returns two new ends, with no frame on the way.
+    ///
+    /// Refuses with [`PairFault::NotUtf16`], then with [`PairFault::LimitsTooSmall`]. Takes no
+    /// memory.
     pub fn new(
         alloc: Global,
         limits: Limits,
@@ -65,7 +69,7 @@ impl Pair {
     ) -> Result<Pair, PairFault>
         ensures new { IfOk result (λ pair.
             pair ≡ new_pair (record { limits = limits; offers = offers; config = config })) }
-        // It is at the world of no events.
+        // The pair is at the world of no events.
         ensures at { IfOk result (λ pair.
             IsAt (record { limits = limits; offers = offers; config = config }) pair []) }
         ensures sound { OnOk result
@@ -91,40 +95,44 @@ impl Pair {
         })
     }
 
-    /// The client's end.
+    /// Returns a reference to the client.
     pub fn client(&self) -> &Client
         ensures { result.now ≡ self.now.client }
     {
         &self.client
     }
 
-    /// The server's end.
+    /// Returns a reference to the server.
     pub fn server(&self) -> &Server
         ensures { result.now ≡ self.now.server }
     {
         &self.server
     }
 
-    /// How many messages wait for the server, and for the client.
+    /// Returns the number of messages that wait for the server, and for the client.
     pub fn waiting(&self) -> (usize, usize)
         ensures { result ≡ (length self.now.to_server, length self.now.to_client) }
     {
         (self.to_server.len(), self.to_client.len())
     }
 
-    /// One step: a call of the client, or the delivery of the first frame that waits for an end. What an end sends goes last into its
-    /// queue. After [`AllocError`] the pair is as it was, the frame is still first, and the same step can be made again. Costs what the
-    /// client's call costs, or the server's or the client's step on the message, and a copy of its frame; a queue gives its first frame
-    /// in constant time.
+    /// Makes one step: a call of the client, or the delivery of the first frame of a queue. What an
+    /// end sends is appended to the other's queue.
+    ///
+    /// After [`AllocError`] the pair is unchanged, with the frame still first, and a caller can
+    /// repeat the same step. Costs what the client's call costs, or what the message costs the end
+    /// that handles it, and a copy of its frame. Taking the first frame of a queue costs constant
+    /// time.
     pub fn step(&mut self, event: &Event) -> Result<Happened, AllocError>
         ensures step { IfOk result (λ happened.
             IsStep self.old (event_view event.now) (happened_view happened) self.new) }
         ensures unchanged { OnErr result (self.new ≡ self.old) }
-        // From the world of a list of events it leads to the world of the list with this one added.
+        // A pair at the world of a list of events is afterwards at the world of the list with this
+        // one added.
         ensures at { IfOk result (λ happened. (setting : Setting) (events : List EventData)
             → IsSound setting → IsAt setting self.old events
             → IsStepAt setting events (event_view event.now) (happened_view happened) self.new) }
-        // Each end has the documents of the commands that it should have.
+        // Each end has the documents of its commands.
         ensures documents { OnOk result ((setting : Setting) (events : List EventData)
             → IsSound setting → IsAt setting self.old events
             → HaveDocuments setting (events ++ event_view event.now ∷ []) self.new) }
@@ -152,7 +160,7 @@ impl Pair {
     }
 }
 
-/// Makes the call that an event is.
+/// Makes the call of an event.
 fn call(alloc: Global, client: &mut Client, event: &Event) -> Result<Vec<u8>, ClientFault>
     requires { IsCall (event_view event.now) }
     ensures ok { IfOk result (λ bytes. HoldsOnCall (event_view event.now)
@@ -181,7 +189,7 @@ fn call(alloc: Global, client: &mut Client, event: &Event) -> Result<Vec<u8>, Cl
     }
 }
 
-/// The frame of an accepted call goes last into a queue with room.
+/// Appends the frame of an accepted call to a queue with room.
 fn push_call(
     queue: &mut VecDeque<Vec<u8>>,
     sent: Result<Vec<u8>, ClientFault>,
@@ -203,7 +211,8 @@ fn push_call(
     }
 }
 
-/// The numbers of an event are in their ranges, and its texts are UTF-8.
+/// Does nothing: its contract states that an event's numbers are in their ranges, and its texts
+/// UTF-8.
 fn known_event(event: &Event)
     ensures { IsProperEvent (event_view event.now) }
 {

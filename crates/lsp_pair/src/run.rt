@@ -9,27 +9,30 @@ ghost use Rattle.lsp_pair.specs.Seen.{event_view};
 use crate::event::Event;
 use crate::pair::Pair;
 
-/// How far a run came.
+/// The progress of a run.
 #[derive(Clone, Copy, Debug, PartialEq, Eq)]
 pub struct Ran {
-    /// How many events were made.
+    /// The number of events whose step succeeded.
     pub stepped: usize,
-    /// Whether the next one ran out of memory.
+    /// Whether the next step ran out of memory.
     pub out_of_memory: bool,
 }
 
-/// Makes the steps of events in order ([`Pair::step`]), until one runs out of memory. The pair is then as the steps before left it, and the
-/// rest of the events can be run again. Costs what the steps cost.
+/// Runs the steps of events in order ([`Pair::step`]), until one runs out of memory.
+///
+/// The pair is then as after the steps before it, and a caller can run the rest of the events.
+/// Costs what the steps cost.
 pub fn run_pair(pair: &mut Pair, events: &[Event]) -> Ran
     ensures within { result.stepped ≤ length events.now }
     ensures all { (IsTrue result.out_of_memory) ↔ (result.stepped < length events.now) }
-    // It makes the steps of the first `stepped` events, and no other.
+    // The run consists of the steps of the first `stepped` events, and no other.
     ensures steps { IsRun pair.old (take result.stepped (map event_view events.now)) pair.new }
-    // From the world of a list of events it leads to the world of the list with these added.
+    // A pair at the world of a list of events is afterwards at the world of the list with these
+    // added.
     ensures at { (setting : Setting) (before : List EventData) → IsSound setting
         → IsAt setting pair.old before
         → IsAt setting pair.new (before ++ take result.stepped (map event_view events.now)) }
-    // Each end has the documents of the commands that it should have.
+    // Each end has the documents of its commands.
     ensures documents { (setting : Setting) (before : List EventData) → IsSound setting
         → IsAt setting pair.old before → HaveDocuments setting
         (before ++ take result.stepped (map event_view events.now)) pair.new }

@@ -1,4 +1,4 @@
-//! Which ends fit together.
+//! Which configurations of the two ends fit together.
 
 ghost use Rattle.std.specs.Prelude.{◌≡◌};
 ghost use Rattle.lsp_frame.specs.Limits.{AreInRange};
@@ -9,7 +9,7 @@ use lsp_server::EncodingChoice;
 use lsp_text::Encoding;
 use thiserror::Error;
 
-/// Why two ends don't fit together.
+/// Why the configurations of two ends don't fit together.
 #[derive(Clone, Copy, Debug, PartialEq, Eq, Error)]
 pub enum PairFault {
     /// Q1: the server's encoding is fixed, and is not UTF-16.
@@ -20,7 +20,7 @@ pub enum PairFault {
     LimitsTooSmall,
 }
 
-/// Does a server of this choice admit UTF-16?
+/// Returns whether a server of this choice can choose UTF-16.
 pub(crate) fn is_utf16(choice: EncodingChoice) -> bool
     ensures { result ≡ is_utf16 choice }
 {
@@ -30,7 +30,7 @@ pub(crate) fn is_utf16(choice: EncodingChoice) -> bool
     }
 }
 
-/// Is each of the limits at most the other's?
+/// Returns whether each of the limits is at most the other's.
 pub(crate) fn are_within(small: &Limits, great: &Limits) -> bool
     ensures { result ≡ are_within small.now great.now }
 {
@@ -40,7 +40,7 @@ pub(crate) fn are_within(small: &Limits, great: &Limits) -> bool
         && small.max_changes() <= great.max_changes()
 }
 
-/// Limits are in their ranges.
+/// Does nothing: its contract states that limits are in their ranges.
 pub(crate) fn known_limits(limits: &Limits)
     ensures { AreInRange limits.now }
 {

@@ -1,4 +1,4 @@
--- What a body asks of a server (LSP 3.17, Lifecycle Messages, Text Document Synchronization). Of the
+-- What a body asks of a server (LSP 3.17, Lifecycle Messages, Text Document Synchronization). Of
 -- other requests and notifications the method is kept, and of a response its id.
 use Rattle.std.specs.Prelude.{ℕ, List, Option, codes, if◌then◌else◌}
 use Rattle.std.specs.Str.{bytes_eq}
@@ -9,7 +9,7 @@ use Rattle.lsp_message.specs.Message.{IdData, MessageData, Reading}
 use Rattle.lsp_message.specs.Message as read
 use Rattle.lsp_message.specs.Params.{OpenData, ChangeData, CloseData, open_of, change_of, close_of}
 
--- Parameters that are not as the protocol wants them are none.
+-- What a body asks. Params that don't fit their method are none.
 pub data IncomingData : Type 0 where
   not_json : IncomingData
   not_a_message : Option IdData → IncomingData
@@ -23,14 +23,14 @@ pub data IncomingData : Type 0 where
   did_close : Option CloseData → IncomingData
   other_notification : List ℕ → IncomingData
 
--- A method is known by its name and by whether it is a request: a request named `exit` is like any
--- other.
+-- What a request asks, by its method. A request `exit` is another request.
 abbrev pub request_of : IdData → List ℕ → Option Data → IncomingData
 request_of id method params =
     if bytes_eq method (codes "initialize") then initialize id (offers_of params)
     else if bytes_eq method (codes "shutdown") then shutdown id
     else other_request id method
 
+-- What a notification asks, by its method.
 abbrev pub notification_of : List ℕ → Option Data → IncomingData
 notification_of method params =
     if bytes_eq method (codes "exit") then exit

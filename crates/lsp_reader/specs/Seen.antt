@@ -1,10 +1,11 @@
--- What the type of `src/incoming.rt` is in the definitions.
+-- The type `Incoming` as the definitions see it.
 use Rattle.std.specs.Prelude.{option_map, string_bytes}
 use Rattle.lsp_message.specs.Seen.{id_view, open_view, change_view, close_view}
 use Rattle.lsp_reader.specs.declared.incoming.Incoming.{Incoming}
 use Rattle.lsp_reader.specs.declared.incoming.Incoming.TheVariants.{NotJson, NotAMessage, Response, Initialize, Shutdown, OtherRequest, Exit, DidOpen, DidChange, DidClose, OtherNotification}
 use Rattle.lsp_reader.specs.Incoming as spec
 
+-- What a body asks, with its texts as bytes.
 abbrev pub incoming_view : Incoming → spec.IncomingData
 incoming_view NotJson = spec.not_json
 incoming_view (NotAMessage id) = spec.not_a_message (option_map id_view id)

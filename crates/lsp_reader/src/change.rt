@@ -1,4 +1,4 @@
-//! One change of a text.
+//! One change of a `textDocument/didChange`.
 
 ghost use Rattle.std.specs.Prelude.{◌≡◌, ◌<◌, length, option_map, Some, None, Err, IfOk, OnOk, OnErr};
 ghost use Rattle.serde_json.specs.Data.{Data, object, Members, no_members, put};
@@ -25,7 +25,7 @@ pub(crate) struct ChangeMembers<'a> {
 }
 
 impl<'a> ChangeMembers<'a> {
-    /// Reads the member of this name; of one that comes again the last counts.
+    /// Reads the member of this name. The last of several members of one name counts.
     #[inline(always)]
     fn read_member(
         &mut self,
@@ -63,7 +63,7 @@ impl<'a> ChangeMembers<'a> {
     }
 }
 
-/// Reads the rest of an object whose brace was read.
+/// Reads the rest of an object, after its brace.
 fn read_change_members<'a>(
     reader: &mut Reader<'a>,
     depth: usize,
@@ -85,7 +85,7 @@ fn read_change_members<'a>(
     Ok(found)
 }
 
-/// Reads a value that may be a change.
+/// Reads a value as a change; `None` where it is none.
 pub(crate) fn read_change(
     alloc: Global,
     reader: &mut Reader<'_>,

@@ -1,4 +1,4 @@
-//! The changes of a message, read into the list at once.
+//! The changes of a `textDocument/didChange`, read directly into their list.
 
 ghost use Rattle.std.specs.Prelude.{◌≡◌, ◌≤◌, ◌<◌, length, map, option_map, option_and_then, Some, None, Err, IfOk, OnOk, OnErr};
 ghost use Rattle.serde_json.specs.Data.{Data, Items};
@@ -15,7 +15,7 @@ use json::{Reader, Token};
 use lsp_edit::Change;
 use std::alloc::Global;
 
-/// Reads the bracket of an array, or passes over another value: whether it is an array.
+/// Reads the bracket of an array, or skips another value. Returns whether the value is an array.
 #[inline(always)]
 fn open_array(reader: &mut Reader<'_>, depth: usize) -> Result<bool, NotJson>
     ensures ok { IfOk result (λ o. IsArrayOpening o depth reader.old reader.new) }
@@ -32,7 +32,7 @@ fn open_array(reader: &mut Reader<'_>, depth: usize) -> Result<bool, NotJson>
     }
 }
 
-/// Reads the rest of an array whose bracket was read: `None` where one of its items is no change.
+/// Reads the rest of an array, after its bracket; `None` where an item is no change.
 fn read_items(
     alloc: Global,
     reader: &mut Reader<'_>,
@@ -60,7 +60,7 @@ fn read_items(
     }
 }
 
-/// Reads a value that may be an array of changes.
+/// Reads a value as an array of changes; `None` where it is none.
 pub(crate) fn read_changes(
     alloc: Global,
     reader: &mut Reader<'_>,

@@ -1,4 +1,4 @@
-//! The object that names a document.
+//! The object `textDocument`, which names a document.
 
 ghost use Rattle.std.specs.Prelude.{◌≡◌, ◌<◌, length, option_map, Some, None, IfOk, OnOk, OnErr};
 ghost use Rattle.serde_json.specs.Data.{Data, Members, no_members, put};
@@ -15,7 +15,7 @@ use json::Reader;
 use lsp_message::{CloseParams, OpenParams};
 use std::alloc::{AllocError, Global};
 
-/// What is kept of the members of the object that names a document.
+/// What is kept of the members of `textDocument`.
 #[derive(Clone, Copy, Drop)]
 pub(crate) struct DocumentMembers<'a> {
     pub(crate) uri: Scalar<'a>,
@@ -25,7 +25,7 @@ pub(crate) struct DocumentMembers<'a> {
 }
 
 impl<'a> DocumentMembers<'a> {
-    /// Reads the member of this name; of one that comes again the last counts.
+    /// Reads the member of this name. The last of several members of one name counts.
     #[inline(always)]
     fn read_member(
         &mut self,
@@ -49,7 +49,8 @@ impl<'a> DocumentMembers<'a> {
         Ok(())
     }
 
-    /// The parameters of a `didOpen` of this document.
+    /// Returns the params of a `textDocument/didOpen` of this document; `None` where a member
+    /// doesn't fit.
     pub(crate) fn open(self, alloc: Global) -> Result<Option<OpenParams>, AllocError>
         ensures { IfOk result (λ r. (ms : Members) → IsDocumentOf self.entry ms
             → option_map open_view r ≡ open_by ms) }
@@ -77,7 +78,8 @@ impl<'a> DocumentMembers<'a> {
         }))
     }
 
-    /// The parameters of a `didClose` of this document.
+    /// Returns the params of a `textDocument/didClose` of this document; `None` where a member
+    /// doesn't fit.
     pub(crate) fn close(self, alloc: Global) -> Result<Option<CloseParams>, AllocError>
         ensures { IfOk result (λ r. (ms : Members) → IsDocumentOf self.entry ms
             → option_map close_view r ≡ close_by ms) }
@@ -90,7 +92,7 @@ impl<'a> DocumentMembers<'a> {
     }
 }
 
-/// Reads the rest of an object whose brace was read.
+/// Reads the rest of an object, after its brace.
 fn read_document_members<'a>(
     reader: &mut Reader<'a>,
     depth: usize,
@@ -114,7 +116,7 @@ fn read_document_members<'a>(
     Ok(found)
 }
 
-/// Reads a value that may be an object.
+/// Reads a value as an object that names a document; `None` where it is no object.
 pub(crate) fn read_document<'a>(
     reader: &mut Reader<'a>,
     depth: usize,

@@ -1,4 +1,4 @@
-//! Why reading stopped.
+//! Why reading a text stops.
 
 ghost use Rattle.std.specs.Prelude.{◌≡◌};
 ghost use Rattle.lsp_reader.specs.declared.fault.Fault.TheVariants as fault;
@@ -7,10 +7,10 @@ use crate::skip::NotJson;
 use json::Invalid;
 use std::alloc::{AllocError, AllocFailed};
 
-/// Why reading stopped.
+/// Why reading a text stops.
 #[derive(Clone, Copy, Debug, Drop, PartialEq, Eq)]
 pub(crate) enum Fault {
-    /// The text is no JSON, nests too deep, or has a number out of range.
+    /// The text is no JSON, nests too deep, or has a number that is too large.
     NotJson,
     /// Out of memory; nothing is known of the text.
     NoMemory,

@@ -21,14 +21,14 @@ use lsp_message::{
 use serde_json::Value;
 use std::alloc::{AllocError, Global};
 
-/// Arrays and objects nest at most so deep, as in `serde_json`.
+/// The greatest depth of arrays and objects, as in `serde_json`.
 const MAX_DEPTH: usize = 127;
 
-/// The longest body that is read with the caller's scratch.
+/// The greatest length of a body that is read with the caller's scratch.
 const MAX_KEPT: usize = 65_536;
 
-/// What a body asks of a server, its parameters read (LSP 3.17, Base Protocol). Parameters that are
-/// not as the protocol wants them are `None`.
+/// What a body asks of a server, its params read (LSP 3.17, Base Protocol). Params that don't fit
+/// their method are `None`.
 ///
 /// The params of other requests and notifications, and the result of a response, are read by
 /// `lsp_message::read` of the same body.
@@ -36,15 +36,15 @@ const MAX_KEPT: usize = 65_536;
 pub enum Incoming {
     /// The body is no JSON.
     NotJson,
-    /// The body is JSON and no message. The id is the one that a reply may name.
+    /// The body is JSON and no message. The id is the one that a reply may name, if there is one.
     NotAMessage { id: Option<Id> },
-    /// The response to a request of the server's; the id is `None` where the member is null.
+    /// The response to a request of the server. The id is `None` where the member is null.
     Response { id: Option<Id> },
     /// `initialize`, with the encodings that the client offers.
     Initialize { id: Id, offers: Option<Offers> },
     /// `shutdown`.
     Shutdown { id: Id },
-    /// Any other request: `exit` as a request too, and the document messages as requests.
+    /// Any other request. A request `exit` is one, and a document message as a request.
     OtherRequest { id: Id, method: String },
     /// `exit`.
     Exit,
@@ -59,10 +59,10 @@ pub enum Incoming {
 }
 
 impl Incoming {
-    /// Reads a body. Fails only where memory runs out.
+    /// Reads what a body asks. Fails only where memory runs out.
     ///
-    /// One pass, linear in the body. Beside what it returns it takes a scratch: 16 KB and the body's
-    /// length. Where many bodies are read, keep one and call [`Incoming::read_with`].
+    /// One pass, linear in the body. Beside the memory of its result it takes a scratch: 16 KB and
+    /// the body's length. To read many bodies, keep one scratch and call [`Incoming::read_with`].
     #[inline(never)]
     pub fn read(alloc: Global, body: &[u8]) -> Result<Incoming, AllocError>
         ensures { IfOk result (λ m. incoming_view m ≡ incoming_of (reading body.now)) }
@@ -71,7 +71,8 @@ impl Incoming {
         read_body(alloc, body, &mut scratch)
     }
 
-    /// Reads a body, as [`Incoming::read`], with a scratch that is kept from body to body.
+    /// Reads what a body asks, as [`Incoming::read`], with a scratch that is kept from body to
+    /// body.
     ///
     /// A body of more than 64 KB is read with a scratch of its own, so at most 80 KB are kept.
     pub fn read_with(
@@ -87,9 +88,10 @@ impl Incoming {
         read_body(alloc, body, scratch)
     }
 
-    /// What a message asks, for one who has read it. Fails only where memory runs out.
+    /// Returns what a message asks, for a caller who has read it. Fails only where memory runs out.
     ///
-    /// Linear in the number of changes of a `didChange`; texts are moved out of the message.
+    /// Linear in the number of changes of a `textDocument/didChange`; texts are moved out of the
+    /// message.
     pub fn of(alloc: Global, message: Message) -> Result<Incoming, AllocError>
         ensures { IfOk result (λ m. incoming_view m ≡ incoming_by (message_view message)) }
     {

@@ -1,6 +1,6 @@
 //! Reads what a body asks of a language server, in one pass over the tokens of its JSON.
 //!
-//! No tree is built: the members that the protocol names are kept, and all else is passed over. The
+//! No tree is built: the members that the protocol names are kept, and all others are skipped. The
 //! result is what `lsp_message` defines for the value that `serde_json` reads, for each body.
 //!
 //! ```text
@@ -18,8 +18,9 @@
 //!   protocol, each with the members that are kept of it.
 //! - `scalar`: a member of which a text or a whole number is kept.
 //! - `number`: which numbers are in range.
-//! - `opening`: the first token of an object; `skip`: values that are passed over.
-//! - `fault`: why reading stopped.
+//! - `opening`: the first token of an object.
+//! - `skip`: values that are skipped.
+//! - `fault`: why reading stops.
 #![tactic(auto)]
 
 mod change;

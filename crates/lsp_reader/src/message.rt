@@ -1,4 +1,4 @@
-//! The members of a message, and what it asks by them.
+//! The members of a message, and what the message asks by them.
 
 ghost use Rattle.std.specs.Prelude.{◌≡◌, ◌<◌, length, option_map, Option, Some, None, Err, IfOk, IfSome, OnOk, OnErr};
 ghost use Rattle.serde_json.specs.Data.{Data, Members, no_members, put};
@@ -31,7 +31,7 @@ pub(crate) struct MessageMembers<'a> {
 }
 
 impl<'a> MessageMembers<'a> {
-    /// Reads the member of this name; of one that comes again the last counts.
+    /// Reads the member of this name. The last of several members of one name counts.
     #[inline(always)]
     fn read_member(
         &mut self,
@@ -58,7 +58,7 @@ impl<'a> MessageMembers<'a> {
         Ok(())
     }
 
-    /// What the message asks; `None` where its parameters have to be read as a tree.
+    /// Returns what the message asks; `None` where its params have to be read as a tree.
     pub(crate) fn incoming(self, alloc: Global) -> Result<Option<Incoming>, AllocError>
         ensures { IfOk result (λ r. IfSome r (λ m. (ms : Members) → IsMessageOf self.entry ms
             → incoming_view m ≡ incoming_of (message_of_members ms))) }
@@ -78,7 +78,7 @@ impl<'a> MessageMembers<'a> {
     }
 }
 
-/// Reads the rest of an object whose brace was read.
+/// Reads the rest of an object, after its brace.
 pub(crate) fn read_message_members<'a>(
     alloc: Global,
     reader: &mut Reader<'a>,
@@ -108,7 +108,7 @@ pub(crate) fn read_message_members<'a>(
     Ok(found)
 }
 
-/// What a call asks: a notification has no member `id`.
+/// Returns what a call asks. A notification has no member `id`.
 fn call(
     alloc: Global,
     id: Scalar<'_>,
@@ -128,7 +128,7 @@ fn call(
     }
 }
 
-/// What a request asks; `None` for `initialize`, whose offers are read from a tree.
+/// Returns what a request asks; `None` for `initialize`, whose offers are read from a tree.
 fn request(alloc: Global, id: Id, method: &str) -> Result<Option<Incoming>, AllocError>
     ensures { IfOk result (λ r. IfSome r (λ m. (v : Option Data)
         → incoming_view m ≡ request_of (id_view id) method.now v)) }
@@ -162,7 +162,7 @@ fn notification(
     }
 }
 
-/// What a message without a method asks, by the id that it names.
+/// Returns what a message without a method asks, by the id that it names.
 fn response(
     alloc: Global,
     id: Scalar<'_>,
@@ -186,7 +186,7 @@ fn response(
     }
 }
 
-/// A response has an error that isn't null, or a result.
+/// Returns a response where there is an error that isn't null, or a result.
 fn response_with(id: Option<Id>, error: Scalar<'_>, outcome: Scalar<'_>) -> Incoming
     ensures { (e : Option Data) (o : Option Data)
         → scalar_view error.entry ≡ scalar_in e → scalar_view outcome.entry ≡ scalar_in o

@@ -7,22 +7,22 @@ ghost use Rattle.lsp_reader.specs.inside.Scalars.{number_kind, number_view};
 
 use fast_float::Numeral;
 
-/// A number below it has room for one more digit in 64 bits.
+/// A number below this has room for one more digit in 64 bits.
 const ROOM: u64 = 1_000_000_000_000_000_000;
 
 /// A number, as far as the protocol needs it.
 #[derive(Clone, Copy, Drop)]
 pub(crate) enum Number {
-    /// A whole number from 0, without a sign, that 64 bits hold.
+    /// A whole number in the range of `u64`, without a sign.
     Natural(u64),
-    /// A whole number below 0 that 64 bits hold.
+    /// A whole number below 0, in the range of `i64`.
     Negative(i64),
-    /// Any other number that a float holds.
+    /// Any other number that isn't too large for `f64`.
     Float,
 }
 
 impl Number {
-    /// The number that a token writes; `None` where it is too large for a float.
+    /// Reads the number of a token; `None` where it is too large for `f64`.
     #[inline(always)]
     pub(crate) fn parse(text: &str) -> Option<Number>
         ensures { option_map number_view result ≡ option_map number_kind (number_of text.now) }
@@ -79,7 +79,7 @@ impl Number {
     }
 }
 
-/// The number that a few digits write; `None` where they are more than 19, or not digits alone.
+/// Reads up to 19 digits as a number; `None` for any other text.
 #[inline(always)]
 fn short_natural(bytes: &[u8]) -> Option<u64>
     ensures { IfSome result (λ n. number_of bytes.now ≡ Some (unsigned n)) }
@@ -95,7 +95,7 @@ fn short_natural(bytes: &[u8]) -> Option<u64>
     if bytes.is_empty() { None } else { Some(value) }
 }
 
-/// What follows a minus sign; `None` where there is none.
+/// Returns the bytes after a minus sign; `None` where there is none.
 #[inline(always)]
 fn after_minus(bytes: &[u8]) -> Option<&[u8]>
     ensures { MatchOption result ((slice_index bytes.now 0 == 45) ≡ false)

@@ -10,15 +10,15 @@ use json::{Reader, Token};
 /// What a value is.
 #[derive(Clone, Copy, Drop)]
 pub(crate) enum Opening {
-    /// An object, of which the brace was read.
+    /// An object, whose brace is read.
     Object,
     /// Null.
     Null,
-    /// Another value, which was passed over.
+    /// Another value, which is skipped.
     Other,
 }
 
-/// Reads the brace of an object, or passes over another value.
+/// Reads the brace of an object, or skips another value.
 #[inline(always)]
 pub(crate) fn open_object(reader: &mut Reader<'_>, depth: usize) -> Result<Opening, NotJson>
     ensures ok { IfOk result (λ o. IsOpening o depth reader.old reader.new) }

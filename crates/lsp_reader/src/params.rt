@@ -1,4 +1,4 @@
-//! The parameters of a message, as far as the document messages need them.
+//! The params of a message, as far as the document messages need them.
 
 ghost use Rattle.std.specs.Prelude.{◌≡◌, ◌<◌, length, option_map, Option, Some, None, Err, IfOk, OnOk, OnErr};
 ghost use Rattle.serde_json.specs.Data.{Data, object, Members, no_members, put};
@@ -17,8 +17,8 @@ use lsp_edit::Change;
 use lsp_message::{ChangeParams, CloseParams, OpenParams};
 use std::alloc::{AllocError, Global};
 
-/// What is kept of the parameters of a message. They are read without the method, which may come
-/// after them.
+/// What is kept of the params of a message. They are read without the method, which may come after
+/// them.
 #[derive(Drop)]
 pub(crate) struct ParamsMembers<'a> {
     pub(crate) document: Option<DocumentMembers<'a>>,
@@ -27,7 +27,7 @@ pub(crate) struct ParamsMembers<'a> {
 }
 
 impl<'a> ParamsMembers<'a> {
-    /// Reads the member of this name; of one that comes again the last counts.
+    /// Reads the member of this name. The last of several members of one name counts.
     #[inline(always)]
     fn read_member(
         &mut self,
@@ -50,7 +50,7 @@ impl<'a> ParamsMembers<'a> {
         Ok(())
     }
 
-    /// The parameters of a `didOpen`.
+    /// Returns the params of a `textDocument/didOpen`; `None` where they don't fit.
     pub(crate) fn open(self, alloc: Global) -> Result<Option<OpenParams>, AllocError>
         ensures { IfOk result (λ r. (v : Option Data) → IsParamsOf self.entry v
             → option_map open_view r ≡ open_of v) }
@@ -61,7 +61,7 @@ impl<'a> ParamsMembers<'a> {
         }
     }
 
-    /// The parameters of a `didClose`.
+    /// Returns the params of a `textDocument/didClose`; `None` where they don't fit.
     pub(crate) fn close(self, alloc: Global) -> Result<Option<CloseParams>, AllocError>
         ensures { IfOk result (λ r. (v : Option Data) → IsParamsOf self.entry v
             → option_map close_view r ≡ close_of v) }
@@ -72,7 +72,7 @@ impl<'a> ParamsMembers<'a> {
         }
     }
 
-    /// The parameters of a `didChange`.
+    /// Returns the params of a `textDocument/didChange`; `None` where they don't fit.
     pub(crate) fn change(self, alloc: Global) -> Result<Option<ChangeParams>, AllocError>
         ensures { IfOk result (λ r. (v : Option Data) → IsParamsOf self.entry v
             → option_map change_view r ≡ change_of v) }
@@ -98,7 +98,7 @@ impl<'a> ParamsMembers<'a> {
     }
 }
 
-/// Reads the rest of an object whose brace was read.
+/// Reads the rest of an object, after its brace.
 fn read_params_members<'a>(
     alloc: Global,
     reader: &mut Reader<'a>,

@@ -20,7 +20,7 @@ pub(crate) struct PositionMembers<'a> {
 }
 
 impl<'a> PositionMembers<'a> {
-    /// Reads the member of this name; of one that comes again the last counts.
+    /// Reads the member of this name. The last of several members of one name counts.
     #[inline(always)]
     fn read_member(
         &mut self,
@@ -53,7 +53,7 @@ impl<'a> PositionMembers<'a> {
     }
 }
 
-/// Reads the rest of an object whose brace was read.
+/// Reads the rest of an object, after its brace.
 fn read_position_members<'a>(
     reader: &mut Reader<'a>,
     depth: usize,
@@ -75,7 +75,7 @@ fn read_position_members<'a>(
     Ok(found)
 }
 
-/// Reads a value that may be a position.
+/// Reads a value as a position; `None` where it is none.
 pub(crate) fn read_position(
     reader: &mut Reader<'_>,
     depth: usize,

@@ -20,7 +20,7 @@ pub(crate) struct RangeMembers {
 }
 
 impl RangeMembers {
-    /// Reads the member of this name; of one that comes again the last counts.
+    /// Reads the member of this name. The last of several members of one name counts.
     #[inline(always)]
     fn read_member(
         &mut self,
@@ -52,7 +52,7 @@ impl RangeMembers {
     }
 }
 
-/// Reads the rest of an object whose brace was read.
+/// Reads the rest of an object, after its brace.
 fn read_range_members(reader: &mut Reader<'_>, depth: usize) -> Result<RangeMembers, NotJson>
     ensures ok { IfOk result (λ found. (ms : Members)
         × (members_at depth (length reader.old) no_members reader.old ≡ Some (ms, reader.new))
@@ -71,7 +71,8 @@ fn read_range_members(reader: &mut Reader<'_>, depth: usize) -> Result<RangeMemb
     Ok(found)
 }
 
-/// Reads a value that may be a range: `Some(None)` where it is null, which means the whole text.
+/// Reads a value as a range: `Some(None)` where it is null, which means the whole text; `None`
+/// where it is neither.
 pub(crate) fn read_range(
     reader: &mut Reader<'_>,
     depth: usize,

@@ -66,7 +66,7 @@ impl<'a> Scalar<'a> {
         }
     }
 
-    /// The whole number that 64 bits with a sign hold.
+    /// Returns a whole number in the range of `i64`.
     fn whole(self) -> Option<i64>
         ensures { result ≡ scalar_whole (scalar_view self.entry) }
     {
@@ -83,7 +83,7 @@ impl<'a> Scalar<'a> {
         i32::try_from(self.whole()?).ok()
     }
 
-    /// A line or a character.
+    /// Returns a line or a character.
     #[inline(always)]
     pub(crate) fn coordinate(self) -> Option<u32>
         ensures { result ≡ scalar_coordinate (scalar_view self.entry) }
@@ -103,7 +103,7 @@ impl<'a> Scalar<'a> {
         }
     }
 
-    /// Whether it is the version of JSON-RPC.
+    /// Returns whether it names version 2.0 of JSON-RPC.
     pub(crate) fn is_two(self) -> bool
         ensures { result ≡ is_scalar_two (scalar_view self.entry) }
     {

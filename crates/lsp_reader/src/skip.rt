@@ -1,4 +1,4 @@
-//! Values that are passed over. They too decide whether the text is JSON: by grammar, depth and
+//! Values that are skipped. They too decide whether the text is JSON: by grammar, depth and
 //! numbers.
 
 ghost use Rattle.std.specs.Prelude.{◌≡◌, ◌<◌, ◌∷◌, length, Some, None, OnOk, OnErr};
@@ -9,7 +9,7 @@ ghost use Rattle.lsp_reader.specs.inside.Reading.{value_at, items_at, members_at
 use crate::number::Number;
 use json::{Invalid, Reader, Token};
 
-/// The text is no JSON, nests too deep, or has a number out of range.
+/// The text is no JSON, nests too deep, or has a number that is too large.
 #[derive(Clone, Copy, Debug, Drop, PartialEq, Eq)]
 pub(crate) struct NotJson;
 
@@ -19,7 +19,7 @@ impl From<Invalid> for NotJson {
     }
 }
 
-/// Passes over a value whose arrays and objects nest at most `depth` deep.
+/// Skips a value whose arrays and objects nest at most `depth` deep.
 #[cycle(skip)]
 #[inline(always)]
 pub(crate) fn skip_value(reader: &mut Reader<'_>, depth: usize) -> Result<(), NotJson>
@@ -31,7 +31,7 @@ pub(crate) fn skip_value(reader: &mut Reader<'_>, depth: usize) -> Result<(), No
     skip_value_from(reader, token, depth)
 }
 
-/// [`skip_value`], of a value whose first token was read.
+/// Skips a value as [`skip_value`] does, after its first token.
 #[cycle(skip)]
 #[inline(always)]
 pub(crate) fn skip_value_from<'a>(
@@ -69,7 +69,7 @@ pub(crate) fn skip_value_from<'a>(
     }
 }
 
-/// Passes over the rest of an array whose bracket was read.
+/// Skips the rest of an array, after its bracket.
 #[cycle(skip)]
 #[inline(never)]
 fn skip_items(reader: &mut Reader<'_>, depth: usize) -> Result<(), NotJson>
@@ -84,7 +84,7 @@ fn skip_items(reader: &mut Reader<'_>, depth: usize) -> Result<(), NotJson>
     Ok(())
 }
 
-/// Passes over the rest of an object whose brace was read.
+/// Skips the rest of an object, after its brace.
 #[cycle(skip)]
 #[inline(never)]
 fn skip_members(reader: &mut Reader<'_>, depth: usize) -> Result<(), NotJson>

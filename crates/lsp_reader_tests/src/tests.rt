@@ -1,4 +1,4 @@
-//! Bodies at the edges with what they ask, and bodies that are read both by their tokens and by a tree.
+//! Unusual bodies with what they ask, and bodies that are read both by their tokens and by a tree.
 
 mod bodies;
 mod both_ways;
@@ -9,7 +9,7 @@ use lsp_message::{ReadFault, read};
 use lsp_reader::{Incoming, Scratch};
 use std::alloc::{AllocError, Global};
 
-/// What a body asks, read by a tree of JSON.
+/// Returns what a body asks, read by a tree of JSON.
 pub(super) fn by_tree(alloc: Global, body: &[u8]) -> Result<Incoming, AllocError> {
     match read(alloc, body) {
         Ok(message) => Incoming::of(alloc, message),
@@ -19,7 +19,7 @@ pub(super) fn by_tree(alloc: Global, body: &[u8]) -> Result<Incoming, AllocError
     }
 }
 
-/// Is a body read alike by its tokens and by a tree?
+/// Returns whether a body is read alike by its tokens and by a tree.
 pub(super) fn is_same(
     alloc: Global,
     body: &[u8],

@@ -19,7 +19,7 @@ use Rattle.lsp_message.specs.Message.{IdData, whole, text, Reading, MessageData,
 use Rattle.lsp_message.specs.Params.{OpenData, EditData, ChangeData, open_of, open_by, change_of, change_by, document_in, document_and_changes, edit_by, edit_in, edits_in, range_of, version_in, within_version}
 use Rattle.lsp_message.specs.Sent.{IsProperId}
 use Rattle.lsp_server.specs.Incoming.{IncomingData, not_json, not_a_message, response, initialize, shutdown, other_request, exit, did_open, did_change, did_close, other_notification, incoming_by, incoming_of}
-use Rattle.lsp_server.specs.Step.{edit_of}
+use Rattle.lsp_server.specs.Step.{edit_from_data}
 use Rattle.lsp_store.specs.Message.{AreTexts}
 use Rattle.lsp_replay.proofs.ReadLemmas.{OnSome, on_then, NumFits, IsHeld, ItemsAreHeld, MembersAreHeld, read_held}
 
@@ -31,47 +31,47 @@ held_ordered Equal a b c p q r = q
 held_ordered Greater a b c p q r = r
 
 held_member : (name : List ℕ) (ms : Members) → MembersAreHeld ms → OnSome IsHeld (get_member name ms)
-held_member name no_members held = tt
-held_member name (member l e ms) held =
-    held_ordered (slice_cmp nat_cmp name l) (get_member name ms) (Some e) (get_member name ms) (held_member name ms held.1) held.0 (held_member name ms held.1)
+held_member name no_members received = tt
+held_member name (member l e ms) received =
+    held_ordered (slice_cmp nat_cmp name l) (get_member name ms) (Some e) (get_member name ms) (held_member name ms received.1) received.0 (held_member name ms received.1)
 
 held_get : (name : List ℕ) (d : Data) → IsHeld d → OnSome IsHeld (get name d)
-held_get name null held = tt
-held_get name (boolean b) held = tt
-held_get name (number n) held = tt
-held_get name (string s) held = tt
-held_get name (array ds) held = tt
-held_get name (object ms) held = held_member name ms held
+held_get name null received = tt
+held_get name (boolean b) received = tt
+held_get name (number n) received = tt
+held_get name (string s) received = tt
+held_get name (array ds) received = tt
+held_get name (object ms) received = held_member name ms received
 
 held_at : (name : List ℕ) (found : Option Data) → OnSome IsHeld found → OnSome IsHeld (member_at name found)
-held_at name found held = on_then IsHeld IsHeld (get name) (λ d h. held_get name d h) found held
+held_at name found received = on_then IsHeld IsHeld (get name) (λ d h. held_get name d h) found received
 
 text_held : (d : Data) → IsHeld d → OnSome IsUtf8 (as_str d)
-text_held null held = tt
-text_held (boolean b) held = tt
-text_held (number n) held = tt
-text_held (string s) held = held
-text_held (array ds) held = tt
-text_held (object ms) held = tt
+text_held null received = tt
+text_held (boolean b) received = tt
+text_held (number n) received = tt
+text_held (string s) received = received
+text_held (array ds) received = tt
+text_held (object ms) received = tt
 
 held_text : (found : Option Data) → OnSome IsHeld found → OnSome IsUtf8 (text_in found)
-held_text found held = on_then IsHeld IsUtf8 as_str text_held found held
+held_text found received = on_then IsHeld IsUtf8 as_str text_held found received
 
 object_held : (d : Data) → IsHeld d → OnSome MembersAreHeld (as_object d)
-object_held null held = tt
-object_held (boolean b) held = tt
-object_held (number n) held = tt
-object_held (string s) held = tt
-object_held (array ds) held = tt
-object_held (object ms) held = held
+object_held null received = tt
+object_held (boolean b) received = tt
+object_held (number n) received = tt
+object_held (string s) received = tt
+object_held (array ds) received = tt
+object_held (object ms) received = received
 
 array_held : (d : Data) → IsHeld d → OnSome ItemsAreHeld (as_array d)
-array_held null held = tt
-array_held (boolean b) held = tt
-array_held (number n) held = tt
-array_held (string s) held = tt
-array_held (array ds) held = held
-array_held (object ms) held = tt
+array_held null received = tt
+array_held (boolean b) received = tt
+array_held (number n) received = tt
+array_held (string s) received = tt
+array_held (array ds) received = received
+array_held (object ms) received = tt
 
 -- ---- ids
 
@@ -85,12 +85,12 @@ id_number (negative z) fits = fits
 id_number (float x) fits = tt
 
 pub id_held : (d : Data) → IsHeld d → OnSome IsProperId (id_in d)
-id_held null held = tt
-id_held (boolean b) held = tt
-id_held (number n) held = id_number n held
-id_held (string s) held = held
-id_held (array ds) held = tt
-id_held (object ms) held = tt
+id_held null received = tt
+id_held (boolean b) received = tt
+id_held (number n) received = id_number n received
+id_held (string s) received = received
+id_held (array ds) received = tt
+id_held (object ms) received = tt
 
 -- ---- messages
 
@@ -128,25 +128,25 @@ answer_proper (Some id) error result =
     (found_or (λ i. ⊤) (λ i. outcome_of (Some i) error result) (id_in id) (msg.not_a_message None) (λ i h. outcome_proper (Some i) error result) (any (id_in id)) tt)
 
 call_proper : (id : Option Data) (method : List ℕ) (params : Option Data) → OnSome IsHeld id → OnSome IsHeld params → IsProperReading (call_of id method params)
-call_proper None method params is held = held
-call_proper (Some id) method params is held =
-    found_or IsProperId (λ i. msg.message (msg.request i method params)) (id_in id) (msg.not_a_message None) (λ i p. (p, held)) (id_held id is) tt
+call_proper None method params is received = received
+call_proper (Some id) method params is received =
+    found_or IsProperId (λ i. msg.message (msg.request i method params)) (id_in id) (msg.not_a_message None) (λ i p. (p, received)) (id_held id is) tt
 
 with_proper : (method id params error result : Option Data) → OnSome IsHeld id → OnSome IsHeld params → IsProperReading (message_with method id params error result)
-with_proper None id params error result is held = answer_proper id error result
-with_proper (Some method) id params error result is held =
-    found_or (λ m. ⊤) (λ m. call_of id m params) (text_in (Some method)) (msg.not_a_message (msg.id_found id)) (λ m h. call_proper id m params is held) (any (text_in (Some method))) tt
+with_proper None id params error result is received = answer_proper id error result
+with_proper (Some method) id params error result is received =
+    found_or (λ m. ⊤) (λ m. call_of id m params) (text_in (Some method)) (msg.not_a_message (msg.id_found id)) (λ m h. call_proper id m params is received) (any (text_in (Some method))) tt
 
 by_proper : (version method id params error result : Option Data) → OnSome IsHeld id → OnSome IsHeld params → IsProperReading (message_by version method id params error result)
-by_proper version method id params error result is held =
-    either (is_version_two version) (message_with method id params error result) (msg.not_a_message (msg.id_found id)) (with_proper method id params error result is held) tt
+by_proper version method id params error result is received =
+    either (is_version_two version) (message_with method id params error result) (msg.not_a_message (msg.id_found id)) (with_proper method id params error result is received) tt
 
 value_proper : (d : Data) → IsHeld d → IsProperReading (message_of d)
-value_proper d held =
+value_proper d received =
     found_or MembersAreHeld msg.message_of_members (as_object d) (msg.not_a_message None)
     (λ ms h. by_proper (get_member (codes "jsonrpc") ms) (get_member (codes "method") ms) (get_member (codes "id") ms) (get_member (codes "params") ms) (get_member (codes "error") ms) (get_member (codes "result") ms)
     (held_member (codes "id") ms h) (held_member (codes "params") ms h))
-    (object_held d held) tt
+    (object_held d received) tt
 
 value_held : (body : List ℕ) → OnSome IsHeld (value_of body)
 value_held body = by (is_utf8 body) refl
@@ -167,26 +167,26 @@ reading_proper body = found_or IsHeld message_of (value_of body) msg.not_json va
 pub record IsProperAsked (p : ChangeData) : Type 0 where
   pub uri : IsUtf8 p.uri
   pub version : FitsSigned w32 p.version
-  pub texts : AreTexts (map edit_of p.changes)
+  pub texts : AreTexts (map edit_from_data p.changes)
 
 abbrev pub IsTextOpened : OpenData → Type 0
 IsTextOpened p = IsUtf8 p.text
 
 document_held : (params : Option Data) → OnSome IsHeld params → OnSome MembersAreHeld (document_in params)
-document_held params held = on_then IsHeld MembersAreHeld as_object object_held (member_at (codes "textDocument") params) (held_at (codes "textDocument") params held)
+document_held params received = on_then IsHeld MembersAreHeld as_object object_held (member_at (codes "textDocument") params) (held_at (codes "textDocument") params received)
 
 open_held : (ms : Members) → MembersAreHeld ms → OnSome IsTextOpened (open_by ms)
-open_held ms held =
+open_held ms received =
     on_then (λ uri. ⊤) IsTextOpened _
     (λ uri h. on_then (λ language. ⊤) IsTextOpened _
     (λ language i. on_then (λ version. ⊤) IsTextOpened _
-    (λ version j. on_then IsUtf8 IsTextOpened _ (λ t u. u) (text_in (get_member (codes "text") ms)) (held_text (get_member (codes "text") ms) (held_member (codes "text") ms held)))
+    (λ version j. on_then IsUtf8 IsTextOpened _ (λ t u. u) (text_in (get_member (codes "text") ms)) (held_text (get_member (codes "text") ms) (held_member (codes "text") ms received)))
     (version_in (get_member (codes "version") ms)) (any (version_in (get_member (codes "version") ms))))
     (text_in (get_member (codes "languageId") ms)) (any (text_in (get_member (codes "languageId") ms))))
     (text_in (get_member (codes "uri") ms)) (any (text_in (get_member (codes "uri") ms)))
 
 opened_held : (params : Option Data) → OnSome IsHeld params → OnSome IsTextOpened (open_of params)
-opened_held params held = on_then MembersAreHeld IsTextOpened open_by open_held (document_in params) (document_held params held)
+opened_held params received = on_then MembersAreHeld IsTextOpened open_by open_held (document_in params) (document_held params received)
 
 abbrev IsEditHeld : EditData → Type 0
 IsEditHeld e = IsUtf8 e.text
@@ -196,21 +196,21 @@ AreEditsHeld [] = ⊤
 AreEditsHeld (e ∷ es) = IsEditHeld e × AreEditsHeld es
 
 edit_held : (d : Data) → IsHeld d → OnSome IsEditHeld (edit_in d)
-edit_held d held =
+edit_held d received =
     on_then MembersAreHeld IsEditHeld edit_by
     (λ ms h. on_then IsUtf8 IsEditHeld _
     (λ t u. on_then (λ range. ⊤) IsEditHeld _ (λ range i. u) (range_of (get_member (codes "range") ms)) (any (range_of (get_member (codes "range") ms))))
     (text_in (get_member (codes "text") ms)) (held_text (get_member (codes "text") ms) (held_member (codes "text") ms h)))
-    (as_object d) (object_held d held)
+    (as_object d) (object_held d received)
 
 edits_held : (ds : Items) → ItemsAreHeld ds → OnSome AreEditsHeld (edits_in ds)
-edits_held no_items held = tt
-edits_held (item d ds) held =
-    on_then IsEditHeld AreEditsHeld _ (λ e u. on_then AreEditsHeld AreEditsHeld _ (λ es us. (u, us)) (edits_in ds) (edits_held ds held.1)) (edit_in d) (edit_held d held.0)
+edits_held no_items received = tt
+edits_held (item d ds) received =
+    on_then IsEditHeld AreEditsHeld _ (λ e u. on_then AreEditsHeld AreEditsHeld _ (λ es us. (u, us)) (edits_in ds) (edits_held ds received.1)) (edit_in d) (edit_held d received.0)
 
-texts_of_edits : (es : List EditData) → AreEditsHeld es → AreTexts (map edit_of es)
-texts_of_edits [] held = tt
-texts_of_edits (e ∷ es) held = (scalars-chars e.text held.0, texts_of_edits es held.1)
+texts_of_edits : (es : List EditData) → AreEditsHeld es → AreTexts (map edit_from_data es)
+texts_of_edits [] received = tt
+texts_of_edits (e ∷ es) received = (scalars-chars e.text received.0, texts_of_edits es received.1)
 
 within_fits : (z : ℤ) → OnSome (FitsSigned w32) (within_version z)
 within_fits (pos n) = cond_both (int_lt (pos n) (negsuc 2147483647) || int_lt (pos 2147483647) (pos n)) None (Some (pos n)) (OnSome (FitsSigned w32)) (λ e. tt) (λ e. record { sfits = grind (arith, nat_tests) })
@@ -220,25 +220,25 @@ version_fits : (found : Option Data) → OnSome (FitsSigned w32) (version_in fou
 version_fits found = on_then (λ z. ⊤) (FitsSigned w32) within_version (λ z h. within_fits z) (whole_in found) (any (whole_in found))
 
 change_held : (ms : Members) (ds : Items) → MembersAreHeld ms → ItemsAreHeld ds → OnSome IsProperAsked (change_by ms ds)
-change_held ms ds held also =
+change_held ms ds received also =
     on_then IsUtf8 IsProperAsked _
     (λ uri u. on_then (FitsSigned w32) IsProperAsked _
     (λ version fits. on_then AreEditsHeld IsProperAsked _ (λ es us. record { uri = u; version = fits; texts = texts_of_edits es us }) (edits_in ds) (edits_held ds also))
     (version_in (get_member (codes "version") ms)) (version_fits (get_member (codes "version") ms)))
-    (text_in (get_member (codes "uri") ms)) (held_text (get_member (codes "uri") ms) (held_member (codes "uri") ms held))
+    (text_in (get_member (codes "uri") ms)) (held_text (get_member (codes "uri") ms) (held_member (codes "uri") ms received))
 
 abbrev AreBothHeld : Members × Items → Type 0
 AreBothHeld p = MembersAreHeld p.0 × ItemsAreHeld p.1
 
 both_held : (params : Option Data) → OnSome IsHeld params → OnSome AreBothHeld (document_and_changes params)
-both_held params held =
+both_held params received =
     on_then MembersAreHeld AreBothHeld _
     (λ ms h. on_then ItemsAreHeld AreBothHeld _ (λ ds i. (h, i)) (items_in (member_at (codes "contentChanges") params))
-    (on_then IsHeld ItemsAreHeld as_array array_held (member_at (codes "contentChanges") params) (held_at (codes "contentChanges") params held)))
-    (document_in params) (document_held params held)
+    (on_then IsHeld ItemsAreHeld as_array array_held (member_at (codes "contentChanges") params) (held_at (codes "contentChanges") params received)))
+    (document_in params) (document_held params received)
 
 changed_held : (params : Option Data) → OnSome IsHeld params → OnSome IsProperAsked (change_of params)
-changed_held params held = on_then AreBothHeld IsProperAsked (λ p. change_by p.0 p.1) (λ p h. change_held p.0 p.1 h.0 h.1) (document_and_changes params) (both_held params held)
+changed_held params received = on_then AreBothHeld IsProperAsked (λ p. change_by p.0 p.1) (λ p h. change_held p.0 p.1 h.0 h.1) (document_and_changes params) (both_held params received)
 
 -- ---- what is asked
 

@@ -16,15 +16,15 @@ use Rattle.lsp_message.specs.Message.{reading}
 use Rattle.lsp_message.specs.Params.{ChangeData}
 use Rattle.lsp_message.proofs.ReadBack.{reading-body_of, is_read_back, body_of-unique}
 use Rattle.lsp_store.specs.Table.{Entry, bytes_after, entry_at, entry_refusal, meant_text}
-use Rattle.lsp_store.specs.Message.{AreTexts, IsReadAs, written_edit, change_body, canonical_batch, canonical_body}
+use Rattle.lsp_store.specs.Message.{AreTexts, IsReadAgain, written_edit, change_body, canonical_batch, canonical_body}
 use Rattle.lsp_store.specs.Squash.{SquashData, items_meant}
 use Rattle.lsp_store.proofs.MessageLemmas.{is_read}
 use Rattle.lsp_store.proofs.ScalarLemmas.{canonical_texts}
 use Rattle.lsp_store.proofs.SquashLemmas.{squash_accepted}
 use Rattle.lsp_server.specs.Incoming.{incoming_of, did_change}
-use Rattle.lsp_server.specs.Step.{State, edit_of, encoding_of}
-use Rattle.lsp_replay.specs.Engines.{normal_body}
-use Rattle.lsp_replay.specs.Joining.{refusal_of, server_after}
+use Rattle.lsp_server.specs.Step.{State, edit_from_data, encoding_of}
+use Rattle.lsp_replay.specs.Engines.{canonical_change_body}
+use Rattle.lsp_replay.specs.inside.Joining.{refusal_of, server_after}
 use Rattle.lsp_replay.specs.Squashed.{joined_by}
 use Rattle.lsp_replay.proofs.PutLemmas.{put, change_puts}
 use Rattle.lsp_replay.proofs.SettledLemmas.{asks_back, edits_back}
@@ -33,7 +33,7 @@ use Rattle.lsp_replay.proofs.SettledLemmas.{asks_back, edits_back}
 pub record IsProperAt (t : State) (uri : List ℕ) (version : ℤ) (entry : Entry) (batch : List Edit) (items : List Item) : Type 0 where
   pub found : entry_at t.table uri ≡ Some entry
   pub utf8 : IsUtf8 entry.text
-  pub held : length entry.text ≤ t.config.limits.max_text
+  pub received : length entry.text ≤ t.config.limits.max_text
   pub uri_utf8 : IsUtf8 uri
   pub version_fits : FitsSigned w32 version
   pub means : meaning (units_in (encoding_of t)) (chars entry.text) batch ≡ Ok items
@@ -53,7 +53,7 @@ pub record IsCanonicalChange (t : State) (uri : List ℕ) (version : ℤ) (entry
   pub asks : incoming_of (reading (change_body uri version (canonical_at t entry items))) ≡ did_change (Some (canonical_change t uri version entry items))
   pub may : refusal_of t (canonical_change t uri version entry items) ≡ None
   pub leaves : server_after t (canonical_change t uri version entry items) ≡ record t { table = put t.table uri version (bytes_after entry.text items) }
-  pub own : normal_body t (canonical_change t uri version entry items) ≡ change_body uri version (canonical_at t entry items)
+  pub own : canonical_change_body t (canonical_change t uri version entry items) ≡ change_body uri version (canonical_at t entry items)
   pub joins : (squash : SquashData) → squash.encoding ≡ encoding_of t → text_of (chars squash.text) squash.items ≡ chars entry.text
       → joined_by (canonical_change t uri version entry items) squash ≡ record squash { items = then_items squash.items items; version = version }
 
@@ -76,13 +76,13 @@ module _ (t : State) (uri : List ℕ) (version : ℤ) (entry : Entry) (batch : L
   same_batch : canonical_batch (units_in (encoding_of t)) t.table uri (canonical_at t entry items) ≡ canonical_at t entry items
   same_batch = rw (at.found, law.means) refl
 
-  read : IsReadAs uri version (canonical_at t entry items)
+  read : IsReadAgain uri version (canonical_at t entry items)
   read =
-      subst (IsReadAs uri version) same_batch
-      (is_read t.config.limits (encoding_of t) t.table uri version entry at.found laws at.uri_utf8 at.version_fits at.utf8 (omega (arith, at.held, ranges.greatest_text)) body_of-unique
+      subst (IsReadAgain uri version) same_batch
+      (is_read t.config.limits (encoding_of t) t.table uri version entry at.found laws at.uri_utf8 at.version_fits at.utf8 (omega (arith, at.received, ranges.greatest_text)) body_of-unique
       (canonical_at t entry items) all_texts accepted reading-body_of is_read_back)
 
-  back : map edit_of (map written_edit (canonical_at t entry items)) ≡ canonical_at t entry items
+  back : map edit_from_data (map written_edit (canonical_at t entry items)) ≡ canonical_at t entry items
   back = edits_back (canonical_at t entry items) all_texts
 
   may_on : refusal_of t (canonical_change t uri version entry items) ≡ None
@@ -91,11 +91,11 @@ module _ (t : State) (uri : List ℕ) (version : ℤ) (entry : Entry) (batch : L
   leaves_on : server_after t (canonical_change t uri version entry items) ≡ record t { table = put t.table uri version (bytes_after entry.text items) }
   leaves_on =
       ap (λ (table : List Entry). record t { table = table })
-      (change_puts (units_in (encoding_of t)) t.table uri version (map edit_of (map written_edit (canonical_at t entry items))) entry at.found
+      (change_puts (units_in (encoding_of t)) t.table uri version (map edit_from_data (map written_edit (canonical_at t entry items))) entry at.found
       ∙ ap (λ (b : List Edit). put t.table uri version (meant_text entry.text (meaning (units_in (encoding_of t)) (chars entry.text) b))) back
       ∙ ap (λ m. put t.table uri version (meant_text entry.text m)) law.means)
 
-  own_on : normal_body t (canonical_change t uri version entry items) ≡ change_body uri version (canonical_at t entry items)
+  own_on : canonical_change_body t (canonical_change t uri version entry items) ≡ change_body uri version (canonical_at t entry items)
   own_on = ap (canonical_body (units_in (encoding_of t)) t.table uri version) back ∙ ap (change_body uri version) same_batch
 
   joins_on : (squash : SquashData) → squash.encoding ≡ encoding_of t → text_of (chars squash.text) squash.items ≡ chars entry.text

@@ -15,23 +15,23 @@ use Rattle.lsp_log.specs.Log.{Record}
 use Rattle.lsp_stream.specs.declared.fault.EngineFault.TheVariants.{BadLog, BodyTooLong}
 use Rattle.lsp_stream.specs.Ports.{one_more}
 use Rattle.lsp_frame.specs.Frame.{frame}
-use Rattle.lsp_replay.specs.Engines.{change_in, normal_if, normal_body}
-use Rattle.lsp_replay.specs.Joining.{refusal_of, server_after}
+use Rattle.lsp_replay.specs.Engines.{change_in, canonical_if, canonical_change_body}
+use Rattle.lsp_replay.specs.inside.Joining.{refusal_of, server_after}
 use Rattle.lsp_replay.specs.Session.{Session, Verdict, answered, recorded, bad, Judged, judge, judge_from, judge_incoming, counted, versioned}
-use Rattle.lsp_replay.specs.Squashed.{Run, faulty, change_gives, step_if}
+use Rattle.lsp_replay.specs.Squashed.{Run, faulty, change_output, step_if}
 use Rattle.lsp_replay.proofs.AskedLemmas.{IsProperAsked, IsProperIncoming, asked_proper}
 use Rattle.lsp_replay.proofs.JoiningLemmas.{running_accepted}
 use Rattle.lsp_replay.proofs.JudgeLemmas.{asks_change}
-use Rattle.lsp_replay.proofs.NormalLemmas.{accepted, heard_has_none, same_server}
+use Rattle.lsp_replay.proofs.CanonicalLogLemmas.{accepted, heard_has_none, same_server}
 use Rattle.lsp_replay.proofs.NumberedLemmas.{IsAlike, numbered}
 
 -- ---- a record that doesn't end the run is an accepted change within the limit, or is written as it is
 
 abbrev pub IsOtherKind : State → Option ChangeData → Verdict → Type 0
-IsOtherKind server change verdict = (verdict ≢ bad) × (normal_if server change verdict ≡ None)
+IsOtherKind server change verdict = (verdict ≢ bad) × (canonical_if server change verdict ≡ None)
 
 abbrev pub IsChangeKind : State → Option ChangeData → Verdict → Type 0
-IsChangeKind server change verdict = (p : ChangeData) × (change ≡ Some p) × (verdict ≡ answered changed) × (length (normal_body server p) ≤ server.config.limits.max_body)
+IsChangeKind server change verdict = (p : ChangeData) × (change ≡ Some p) × (verdict ≡ answered changed) × (length (canonical_change_body server p) ≤ server.config.limits.max_body)
 
 abbrev IsKind : State → Option ChangeData → Verdict → Type 0
 IsKind server change verdict = IsOtherKind server change verdict ⊎ IsChangeKind server change verdict
@@ -55,9 +55,9 @@ kind_of server r front run (Some p) (answered already_ended) e = inl (not_bad al
 kind_of server r front run (Some p) (answered (refused why)) e = inl (not_bad (refused why), refl)
 kind_of server r front run (Some p) (answered (exits status)) e = inl (not_bad (exits status), refl)
 kind_of server r front run (Some p) (answered changed) e =
-    inr (p, refl, refl, ltb-false server.config.limits.max_body (length (normal_body server p)) (short (nat_lt server.config.limits.max_body (length (normal_body server p))) e))
+    inr (p, refl, refl, ltb-false server.config.limits.max_body (length (canonical_change_body server p)) (short (nat_lt server.config.limits.max_body (length (canonical_change_body server p))) e))
   where
-    short : (over : Bool) → (if over then faulty (BodyTooLong r.head.place) else change_gives server p front (front ++ frame (normal_body server p)) run).end ≡ None → over ≡ false
+    short : (over : Bool) → (if over then faulty (BodyTooLong r.head.place) else change_output server p front (front ++ frame (canonical_change_body server p)) run).end ≡ None → over ≡ false
     short true f = absurd (let wrong : Some (Err (BodyTooLong r.head.place)) ≡ None = f in cc)
     short false f = refl
 
@@ -98,7 +98,7 @@ module _ (s : Session) (p : ChangeData) where
 
 -- what it is that a record is accepted for
 pub was_accepted : (s : Session) (r : Record) (p : ChangeData) → change_in (incoming_of (reading r.body)) ≡ Some p → (judge s r).verdict ≡ answered changed → IsAccepted s r p
-was_accepted s r p is told = by r.head.side refl
+was_accepted s r p is error = by r.head.side refl
   where
     at : Session
     at = versioned s r.head.line_due
@@ -108,12 +108,12 @@ was_accepted s r p is told = by r.head.side refl
 
     by : (side : Side) → r.head.side ≡ side → IsAccepted s r p
     by Server server =
-        let heard = ap (λ side. (judge_from at side r.body).verdict) (sym server) ∙ told in
-        let none : normal_if s.server (Some p) (answered changed) ≡ None = ap (normal_if s.server (Some p)) (sym heard) ∙ heard_has_none s.server (Some p) at at.expected r.body in
-        absurd (let wrong : Some (normal_body s.server p) ≡ None = none in cc)
+        let heard = ap (λ side. (judge_from at side r.body).verdict) (sym server) ∙ error in
+        let none : canonical_if s.server (Some p) (answered changed) ≡ None = ap (canonical_if s.server (Some p)) (sym heard) ∙ heard_has_none s.server (Some p) at at.expected r.body in
+        absurd (let wrong : Some (canonical_change_body s.server p) ≡ None = none in cc)
     by Client client =
         let told_here : (judge_incoming at (did_change (Some p))).verdict ≡ answered changed =
-        ap (λ x. (judge_incoming at x).verdict) (sym asks) ∙ ap (λ side. (judge_from at side r.body).verdict) (sym client) ∙ told in
+        ap (λ x. (judge_incoming at x).verdict) (sym asks) ∙ ap (λ side. (judge_from at side r.body).verdict) (sym client) ∙ error in
         let where_it_runs = runs at p at.server.phase refl at.expected refl told_here in
         record {
           side = client;
@@ -128,7 +128,7 @@ proper_change r p asks = subst IsProperIncoming asks (asked_proper r.body)
 
 -- What becomes of it.
 pub record IsDone (s : Session) (r : Record) (p : ChangeData) : Type 0 where
-  pub told : (judge s r).verdict ≡ answered changed
+  pub error : (judge s r).verdict ≡ answered changed
   pub leaves : IsAlike (session_after s r.head.line_due p) (judge s r).session
 
 done_session : (at : Session) (p : ChangeData) → at.server.phase ≡ Running → at.expected ≡ None → refusal_of at.server p ≡ None
@@ -137,7 +137,7 @@ done_session at p running waits may = rw (running, waits, may) refl
 
 pub is_done : (s : Session) (r : Record) (p : ChangeData) → IsAccepted s r p → IsDone s r p
 is_done s r p a = record {
-  told = ap (λ (j : Judged). j.verdict) here ∙ running_accepted at p running waits may;
+  error = ap (λ (j : Judged). j.verdict) here ∙ running_accepted at p running waits may;
   leaves = (
     one_more at.records,
     one_more at.messages,

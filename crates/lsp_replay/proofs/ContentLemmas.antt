@@ -40,22 +40,22 @@ ascii_utf8 : (x : ℕ) → x < 128 → IsUtf8 (x ∷ [])
 ascii_utf8 x small = subst IsUtf8 (encode_ascii x small) (IsUtf8-encode x (low_scalar x (omega arith)))
 
 -- text that is there is UTF-8, behind some bytes
-abbrev pub GoodBehind : List ℕ → Option (List ℕ) → Type 0
-GoodBehind front None = ⊤
-GoodBehind front (Some s) = IsUtf8 (front ++ s)
+abbrev pub GoodAfter : List ℕ → Option (List ℕ) → Type 0
+GoodAfter front None = ⊤
+GoodAfter front (Some s) = IsUtf8 (front ++ s)
 
 abbrev pub GoodText : Option (List ℕ) → Type 0
-GoodText found = GoodBehind [] found
+GoodText found = GoodAfter [] found
 
-good_prepend : (front bytes : List ℕ) → IsUtf8 (front ++ bytes) → (rest : Option (List ℕ)) → GoodText rest → GoodBehind front (prepend bytes rest)
+good_prepend : (front bytes : List ℕ) → IsUtf8 (front ++ bytes) → (rest : Option (List ℕ)) → GoodText rest → GoodAfter front (prepend bytes rest)
 good_prepend front bytes u None good = tt
 good_prepend front bytes u (Some s) good = subst IsUtf8 (append_assoc front bytes s) (IsUtf8-append (front ++ bytes) s u good)
 
-good_more : (front : List ℕ) (x : ℕ) (rest : Option (List ℕ)) → GoodBehind (front ++ x ∷ []) rest → GoodBehind front (prepend (x ∷ []) rest)
+good_more : (front : List ℕ) (x : ℕ) (rest : Option (List ℕ)) → GoodAfter (front ++ x ∷ []) rest → GoodAfter front (prepend (x ∷ []) rest)
 good_more front x None good = tt
 good_more front x (Some s) good = subst IsUtf8 (append_assoc front (x ∷ []) s) good
 
-good_behind : (front : List ℕ) → IsUtf8 front → (rest : Option (List ℕ)) → GoodText rest → GoodBehind front rest
+good_behind : (front : List ℕ) → IsUtf8 front → (rest : Option (List ℕ)) → GoodText rest → GoodAfter front rest
 good_behind front u None good = tt
 good_behind front u (Some s) good = IsUtf8-append front s u good
 
@@ -126,7 +126,7 @@ pair_scalar high low h l =
 -- ---- the content, in at most so many bytes
 
 abbrev GoodUpTo : ℕ → Type 0
-GoodUpTo n = (xs front : List ℕ) → length xs < n → IsUtf8 (front ++ xs) → GoodBehind front (content plain xs)
+GoodUpTo n = (xs front : List ℕ) → length xs < n → IsUtf8 (front ++ xs) → GoodAfter front (content plain xs)
 
 module _ (n : ℕ) (shorter : GoodUpTo n) where
   encoded : (u : ℕ) (zs : List ℕ) → scalar u ≡ true → length zs < n → IsUtf8 zs → GoodText (prepend (encode_utf8 u) (content plain zs))
@@ -195,13 +195,13 @@ module _ (n : ℕ) (shorter : GoodUpTo n) where
   unfolding content
   good_next [] front small text = tt
   good_next (x ∷ ys) front small text =
-      cond_both (x == 34) (Some []) _ (GoodBehind front)
+      cond_both (x == 34) (Some []) _ (GoodAfter front)
       (λ e. let quote : x ≡ 34 = eqb-true x 34 e in subst IsUtf8 (sym (append-nil front)) (before_ascii front x ys (omega arith) text))
-      (λ _. cond_both (x == 92) (content after_backslash ys) _ (GoodBehind front)
+      (λ _. cond_both (x == 92) (content after_backslash ys) _ (GoodAfter front)
       (λ e.
       let slash : x ≡ 92 = eqb-true x 92 e in
       good_behind front (before_ascii front x ys (omega arith) text) (content after_backslash ys) (good_backslash ys (omega arith) (behind_ascii front x ys (omega arith) text)))
-      (λ _. cond_both (nat_lt x 32) None (prepend (x ∷ []) (content plain ys)) (GoodBehind front) (λ _. tt)
+      (λ _. cond_both (nat_lt x 32) None (prepend (x ∷ []) (content plain ys)) (GoodAfter front) (λ _. tt)
       (λ _. good_more front x (content plain ys) (shorter ys (front ++ x ∷ []) (omega arith) (subst IsUtf8 (sym (append_assoc front (x ∷ []) ys)) text)))))
 
 good_up_to : (n : ℕ) → GoodUpTo n

@@ -101,8 +101,8 @@ next_of s server answer = record s {
   refusals = count_if (is_refused answer) s.refusals;
 }
 
-abbrev pub behind : Session → ℕ → State → AnswerData Sent → Option IdData → Session
-behind s n server answer expected = record {
+abbrev pub rest_after : Session → ℕ → State → AnswerData Sent → Option IdData → Session
+rest_after s n server answer expected = record {
   server = server;
   version = Two;
   expected = expected;
@@ -112,11 +112,11 @@ behind s n server answer expected = record {
 }
 
 abbrev pub FollowsStep : Session → ℕ → Phase → State → IncomingData → Type 0
-FollowsStep s n phase server m = Follows (behind s n (step_in phase server m).state (as_sent (step_in phase server m).answer) (waits phase m)) (step_in phase server m).answer
+FollowsStep s n phase server m = Follows (rest_after s n (step_in phase server m).state (as_sent (step_in phase server m).answer) (waits phase m)) (step_in phase server m).answer
 
 begun : (s : Session) (n : ℕ) (server : State) (id : IdData) (offers : Offers) → IsProperId id → FollowsStep s n New server (initialize id (Some offers))
 begun s n server id offers proper =
-    hears_result (behind s n (begins server id offers).state (as_sent (begins server id offers).answer) (Some id)) id (chosen server.config.choice offers) (kind_of server.config.sync) proper
+    hears_result (rest_after s n (begins server id offers).state (as_sent (begins server id offers).answer) (Some id)) id (chosen server.config.choice offers) (kind_of server.config.sync) proper
 
 pub follows_step : (s : Session) (n : ℕ) (phase : Phase) (server : State) (m : IncomingData) → IsProperIncoming m → FollowsStep s n phase server m
 follows_step s n New server (initialize id (Some offers)) proper = begun s n server id offers proper
@@ -131,8 +131,8 @@ follows_step s n New server (did_open params) proper = refl
 follows_step s n New server (did_change params) proper = refl
 follows_step s n New server (did_close params) proper = refl
 follows_step s n New server (other_notification method) proper = refl
-follows_step s n Running server m proper = follows_none (behind s n (step_in Running server m).state (as_sent (step_in Running server m).answer) None) (step_in Running server m).answer refl
-follows_step s n Down server m proper = follows_none (behind s n (step_in Down server m).state (as_sent (step_in Down server m).answer) None) (step_in Down server m).answer refl
+follows_step s n Running server m proper = follows_none (rest_after s n (step_in Running server m).state (as_sent (step_in Running server m).answer) None) (step_in Running server m).answer refl
+follows_step s n Down server m proper = follows_none (rest_after s n (step_in Down server m).state (as_sent (step_in Down server m).answer) None) (step_in Down server m).answer refl
 follows_step s n Ended server m proper = refl
 
 -- ---- a client's record is judged alike in both logs

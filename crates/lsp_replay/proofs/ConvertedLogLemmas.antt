@@ -2,10 +2,10 @@
 use Rattle.std.proofs.Common.{◌≡◌, ℕ, ◌+◌, ◌<◌, ◌≤◌, Bool, true, false, List, [], ◌∷◌, ◌++◌, length, Option, Some, None, refl, sym, ap, ◌∙◌, subst, arith, append_assoc, append-nil, codes, ◌==◌}
 use Rattle.std.specs.Prelude.{if◌then◌else◌, Err}
 use Rattle.std.proofs.lemmas.Bool.{ne_eqb}
-use Rattle.lsp_frame.specs.Faults.{place_behind}
+use Rattle.lsp_frame.specs.Faults.{place_after}
 use Rattle.lsp_frame.specs.Frame.{frame}
 use Rattle.lsp_frame.specs.Limits.{Bounds, AreInRange}
-use Rattle.lsp_frame.proofs.WrittenLemmas.{written_spells}
+use Rattle.lsp_frame.proofs.WrittenLemmas.{written_is_frame}
 use Rattle.lsp_message.specs.Message.{IdData, reading}
 use Rattle.lsp_message.specs.Outgoing.{OutgoingData, body_of}
 use Rattle.lsp_server.specs.Answer.{AnswerData, Sent, reply, changed, dropped, ignored, already_ended, refused, exits, as_sent, sent}
@@ -17,13 +17,13 @@ use Rattle.lsp_log.specs.declared.record.Version.TheVariants.{One, Two}
 use Rattle.lsp_log.specs.declared.record.Side.TheVariants.{Client, Server}
 use Rattle.lsp_stream.specs.Ports.{one_more}
 use Rattle.lsp_log.specs.Log.{Record, IsRecord, AreRecords, together, record_bytes, line_of, version_line, is_line_due}
-use Rattle.lsp_replay.specs.Course.{Course, written_first}
+use Rattle.lsp_replay.specs.RunOutput.{RunOutput, written_first}
 use Rattle.lsp_replay.specs.Session.{Session, Verdict, answered, recorded, bad, Judged, judged, judge, judge_from, judge_incoming, counted, versioned, opened}
-use Rattle.lsp_replay.specs.Engines.{Gives, gives, unless_bad, course_in, replaying, converting, line_if, line_before, reply_record, log_config, converted}
+use Rattle.lsp_replay.specs.Engines.{RecordOutput, writes, unless_bad, run_output_in, replaying, converting, line_if, line_before, reply_record, log_config, converted}
 use Rattle.lsp_replay.specs.Laws.{IsReplyWithin, AreRepliesWithin, ConvertedLaw, all_of}
 use Rattle.lsp_replay.proofs.AskedLemmas.{asked_proper}
-use Rattle.lsp_replay.proofs.NormalisedLemmas.{course_of, went_on, Passes, passes}
-use Rattle.lsp_replay.proofs.ConvertedLemmas.{twin, versioned_twin, IsGood, Follows, next_of, behind, waits, follows_step, judged_one, judged_two}
+use Rattle.lsp_replay.proofs.NormalisedLemmas.{command_output, went_on, Passes, passes}
+use Rattle.lsp_replay.proofs.ConvertedLemmas.{twin, versioned_twin, IsGood, Follows, next_of, rest_after, waits, follows_step, judged_one, judged_two}
 
 -- what stands in front of the first record
 abbrev front_if : Bool → List Record → List ℕ
@@ -58,15 +58,15 @@ some_records n = omega arith
 -- ---- the records of the log of version 2
 
 client_at : ℕ → Bool → Record → Record
-client_at at due r = record { head = record { side = Client; place = place_behind 0 at; line_due = due }; spelling = r.spelling; body = r.body }
+client_at at due r = record { head = record { side = Client; place = place_after 0 at; line_due = due }; spelling = r.spelling; body = r.body }
 
 server_at : ℕ → OutgoingData → Record
-server_at at m = record { head = record { side = Server; place = place_behind 0 at; line_due = false }; spelling = frame (body_of m); body = body_of m }
+server_at at m = record { head = record { side = Server; place = place_after 0 at; line_due = false }; spelling = frame (body_of m); body = body_of m }
 
 five : (a b c d e : List ℕ) → (((a ++ b) ++ c) ++ d) ++ e ≡ a ++ ((b ++ c) ++ (d ++ e))
 five a b c d e = append_assoc ((a ++ b) ++ c) d e ∙ ap (λ z. z ++ (d ++ e)) (append_assoc a b c) ∙ append_assoc a (b ++ c) (d ++ e)
 
-good_gives : (r : Record) (verdict : Verdict) (g : Gives) → (unless_bad r verdict g).end ≡ None → IsGood verdict
+good_gives : (r : Record) (verdict : Verdict) (g : RecordOutput) → (unless_bad r verdict g).end ≡ None → IsGood verdict
 good_gives r (answered answer) g e = tt
 good_gives r recorded g e = tt
 good_gives r bad g e = let wrong : Some (Err (BadLog r.head.place)) ≡ None = e in absurd (cc)
@@ -79,42 +79,42 @@ module _ (limits : Bounds) (ranges : AreInRange limits) where
   record AreConverted (at : ℕ) (due : Bool) (s t : Session) (rs : List Record) : Type 0 where
     qs : List Record
     are : AreRecords limits.max_body Two at due qs
-    out : (course_in converting s rs).out ≡ front_if due rs ++ together Two qs []
-    same : course_in replaying t qs ≡ course_in replaying s rs
+    out : (run_output_in converting s rs).out ≡ front_if due rs ++ together Two qs []
+    same : run_output_in replaying t qs ≡ run_output_in replaying s rs
 
   module _ (at before : ℕ) (due : Bool) (s t : Session) (n : ℕ) (r : Record) (rs : List Record) (is : IsRecord limits.max_body One before false r) (counts : Counts due s.records) where
     first_is : IsRecord limits.max_body Two at due (client_at at due r)
     unfolding client_at
-    first_is = record { spells = is.spells; side = λ e. refl; placed = refl; due = refl }
+    first_is = record { is_frame_of = is.is_frame_of; side = λ e. refl; placed = refl; due = refl }
 
     plain : (server : State) (answer : AnswerData Sent) (e : Option IdData) → reply_record (answered answer) ≡ [] → judge s r ≡ judged (answered answer) (next_of s server answer)
-        → judge t (client_at at due r) ≡ judged (answered answer) (behind s n server answer e) → e ≡ None
+        → judge t (client_at at due r) ≡ judged (answered answer) (rest_after s n server answer e) → e ≡ None
         → ((later m : ℕ) → AreConverted later false (next_of s server answer) (twin (next_of s server answer) Two m) rs) → AreConverted at due s t (r ∷ rs)
     unfolding client_at
     plain server answer e no_reply one two none more =
         let q = client_at at due r in
         let m = more (at + length (record_bytes Two q)) (one_more n) in
-        let told : course_in replaying s (r ∷ rs) ≡ written_first [] (course_in replaying (next_of s server answer) rs) = course_of replaying s r rs (judged (answered answer) (next_of s server answer)) [] one refl in
-        let wrote : course_in converting s (r ∷ rs) ≡ written_first (line_before s ++ codes ">" ++ r.spelling ++ reply_record (answered answer)) (course_in converting (next_of s server answer) rs) =
-        course_of converting s r rs (judged (answered answer) (next_of s server answer)) (line_before s ++ codes ">" ++ r.spelling ++ reply_record (answered answer)) one refl in
+        let error : run_output_in replaying s (r ∷ rs) ≡ written_first [] (run_output_in replaying (next_of s server answer) rs) = command_output replaying s r rs (judged (answered answer) (next_of s server answer)) [] one refl in
+        let wrote : run_output_in converting s (r ∷ rs) ≡ written_first (line_before s ++ codes ">" ++ r.spelling ++ reply_record (answered answer)) (run_output_in converting (next_of s server answer) rs) =
+        command_output converting s r rs (judged (answered answer) (next_of s server answer)) (line_before s ++ codes ">" ++ r.spelling ++ reply_record (answered answer)) one refl in
         record {
           qs = q ∷ m.qs;
           are = (first_is, m.are);
           out =
-              ap (λ (c : Course). c.out) wrote
+              ap (λ (c : RunOutput). c.out) wrote
               ∙ ap (λ z. (line_before s ++ codes ">" ++ r.spelling ++ reply_record (answered answer)) ++ z) (m.out ∙ ap (λ z. z ++ together Two m.qs []) (front_none rs))
               ∙ ap (λ z. (line_before s ++ codes ">" ++ r.spelling ++ z) ++ together Two m.qs []) no_reply
               ∙ ap (λ z. (z ++ codes ">" ++ r.spelling ++ []) ++ together Two m.qs []) (line_is due s.records counts)
               ∙ five (line_if due) (codes ">") r.spelling [] (together Two m.qs []);
           same =
-              course_of replaying t q m.qs (judged (answered answer) (behind s n server answer e)) [] two refl
-              ∙ ap (λ x. written_first [] (course_in replaying (behind s n server answer x) m.qs)) none
-              ∙ ap (written_first []) m.same ∙ sym told;
+              command_output replaying t q m.qs (judged (answered answer) (rest_after s n server answer e)) [] two refl
+              ∙ ap (λ x. written_first [] (run_output_in replaying (rest_after s n server answer x) m.qs)) none
+              ∙ ap (written_first []) m.same ∙ sym error;
         }
 
     replied : (server : State) (o : OutgoingData) (e : Option IdData) → length (body_of o) ≤ limits.max_body
         → judge s r ≡ judged (answered (reply (sent o))) (next_of s server (reply (sent o)))
-        → judge t (client_at at due r) ≡ judged (answered (reply (sent o))) (behind s n server (reply (sent o)) e) → Follows (behind s n server (reply (sent o)) e) (reply o)
+        → judge t (client_at at due r) ≡ judged (answered (reply (sent o))) (rest_after s n server (reply (sent o)) e) → Follows (rest_after s n server (reply (sent o)) e) (reply o)
         → ((later m : ℕ) → AreConverted later false (next_of s server (reply (sent o))) (twin (next_of s server (reply (sent o))) Two m) rs) → AreConverted at due s t (r ∷ rs)
     unfolding client_at server_at
     replied server o e fits one two follows more =
@@ -123,17 +123,17 @@ module _ (limits : Bounds) (ranges : AreInRange limits) where
         let answer = reply (sent o) in
         let p = server_at place o in
         let m = more (place + length (record_bytes Two p)) (one_more (one_more n)) in
-        let told : course_in replaying s (r ∷ rs) ≡ written_first [] (course_in replaying (next_of s server answer) rs) = course_of replaying s r rs (judged (answered answer) (next_of s server answer)) [] one refl in
-        let wrote : course_in converting s (r ∷ rs) ≡ written_first (line_before s ++ codes ">" ++ r.spelling ++ (codes "<" ++ frame (body_of o))) (course_in converting (next_of s server answer) rs) =
-        course_of converting s r rs (judged (answered answer) (next_of s server answer)) (line_before s ++ codes ">" ++ r.spelling ++ (codes "<" ++ frame (body_of o))) one refl in
-        let heard : judge (behind s n server answer e) p ≡ judged recorded (twin (next_of s server answer) Two (one_more (one_more n))) = ap counted follows in
+        let error : run_output_in replaying s (r ∷ rs) ≡ written_first [] (run_output_in replaying (next_of s server answer) rs) = command_output replaying s r rs (judged (answered answer) (next_of s server answer)) [] one refl in
+        let wrote : run_output_in converting s (r ∷ rs) ≡ written_first (line_before s ++ codes ">" ++ r.spelling ++ (codes "<" ++ frame (body_of o))) (run_output_in converting (next_of s server answer) rs) =
+        command_output converting s r rs (judged (answered answer) (next_of s server answer)) (line_before s ++ codes ">" ++ r.spelling ++ (codes "<" ++ frame (body_of o))) one refl in
+        let heard : judge (rest_after s n server answer e) p ≡ judged recorded (twin (next_of s server answer) Two (one_more (one_more n))) = ap counted follows in
         record {
           qs = q ∷ p ∷ m.qs;
           are = (
             first_is,
             (
               record {
-                spells = written_spells limits.max_body (body_of o) fits (omega (arith, fits, ranges.greatest_body));
+                is_frame_of = written_is_frame limits.max_body (body_of o) fits (omega (arith, fits, ranges.greatest_body));
                 side = λ x. refl_or_not x;
                 placed = refl;
                 due = refl;
@@ -142,14 +142,14 @@ module _ (limits : Bounds) (ranges : AreInRange limits) where
             ),
           );
           out =
-              ap (λ (c : Course). c.out) wrote
+              ap (λ (c : RunOutput). c.out) wrote
               ∙ ap (λ z. (line_before s ++ codes ">" ++ r.spelling ++ (codes "<" ++ frame (body_of o))) ++ z) (m.out ∙ ap (λ z. z ++ together Two m.qs []) (front_none rs))
               ∙ ap (λ z. (z ++ codes ">" ++ r.spelling ++ (codes "<" ++ frame (body_of o))) ++ together Two m.qs []) (line_is due s.records counts)
               ∙ five (line_if due) (codes ">") r.spelling (codes "<" ++ frame (body_of o)) (together Two m.qs []);
           same =
-              course_of replaying t q (p ∷ m.qs) (judged (answered answer) (behind s n server answer e)) [] two refl
-              ∙ ap (written_first []) (course_of replaying (behind s n server answer e) p m.qs (judged recorded (twin (next_of s server answer) Two (one_more (one_more n)))) [] heard refl)
-              ∙ ap (written_first []) m.same ∙ sym told;
+              command_output replaying t q (p ∷ m.qs) (judged (answered answer) (rest_after s n server answer e)) [] two refl
+              ∙ ap (written_first []) (command_output replaying (rest_after s n server answer e) p m.qs (judged recorded (twin (next_of s server answer) Two (one_more (one_more n)))) [] heard refl)
+              ∙ ap (written_first []) m.same ∙ sym error;
         }
       where
         refl_or_not : Two ≡ One → Server ≡ Client
@@ -157,7 +157,7 @@ module _ (limits : Bounds) (ranges : AreInRange limits) where
 
     extend : (server : State) (answer : AnswerData OutgoingData) (e : Option IdData) → IsReplyWithin limits.max_body (answered (as_sent answer))
         → judge s r ≡ judged (answered (as_sent answer)) (next_of s server (as_sent answer))
-        → judge t (client_at at due r) ≡ judged (answered (as_sent answer)) (behind s n server (as_sent answer) e) → Follows (behind s n server (as_sent answer) e) answer
+        → judge t (client_at at due r) ≡ judged (answered (as_sent answer)) (rest_after s n server (as_sent answer) e) → Follows (rest_after s n server (as_sent answer) e) answer
         → ((later m : ℕ) → AreConverted later false (next_of s server (as_sent answer)) (twin (next_of s server (as_sent answer)) Two m) rs) → AreConverted at due s t (r ∷ rs)
     extend server (reply o) e short one two follows more = replied server o e (short (body_of o) refl) one two follows more
     extend server changed e short one two follows more = plain server changed e refl one two follows more
@@ -168,45 +168,45 @@ module _ (limits : Bounds) (ranges : AreInRange limits) where
     extend server (exits status) e short one two follows more = plain server (exits status) e refl one two follows more
 
   converted_log : (at before : ℕ) (due : Bool) (s : Session) (version : Version) (n : ℕ) (rs : List Record) → s.version ≡ One → s.expected ≡ None → (due ≡ false → version ≡ Two) → Counts due s.records
-      → AreRecords limits.max_body One before false rs → (course_in converting s rs).stop ≡ None → AreRepliesWithin limits.max_body s rs → AreConverted at due s (twin s version n) rs
+      → AreRecords limits.max_body One before false rs → (run_output_in converting s rs).stop ≡ None → AreRepliesWithin limits.max_body s rs → AreConverted at due s (twin s version n) rs
   unfolding client_at
-  converted_log at before due s version n [] one none told counts each goes short = record { qs = []; are = tt; out = refl; same = refl }
-  converted_log at before due s version n (r ∷ rs) one none told counts each goes short =
+  converted_log at before due s version n [] one none error counts each goes short = record { qs = []; are = tt; out = refl; same = refl }
+  converted_log at before due s version n (r ∷ rs) one none error counts each goes short =
       let m = incoming_of (reading r.body) in
       let step = step_on s.server m in
-      let g = gives (line_before s ++ codes ">" ++ r.spelling ++ reply_record (judge s r).verdict) in
-      let on = went_on (unless_bad r (judge s r).verdict g).out (unless_bad r (judge s r).verdict g).end (course_in converting (judge s r).session rs) goes in
+      let g = writes (line_before s ++ codes ">" ++ r.spelling ++ reply_record (judge s r).verdict) in
+      let on = went_on (unless_bad r (judge s r).verdict g).out (unless_bad r (judge s r).verdict g).end (run_output_in converting (judge s r).session rs) goes in
       let client = judged_client s r each.0.due (each.0.side refl) in
       let good : IsGood (judge_incoming s m).verdict = subst IsGood (ap (λ (j : Judged). j.verdict) client) (good_gives r (judge s r).verdict g on.0) in
       let here : judge s r ≡ judged (answered (as_sent step.answer)) (next_of s step.state (as_sent step.answer)) = client ∙ ap counted (judged_one s n m one none good) in
-      let there : judge (twin s version n) (client_at at due r) ≡ judged (answered (as_sent step.answer)) (behind s n step.state (as_sent step.answer) (waits s.server.phase m)) =
-      ap (λ (u : Session). counted (judge_incoming u m)) (versioned_twin s version n due told) ∙ ap counted (judged_two s n m one none good) in
+      let there : judge (twin s version n) (client_at at due r) ≡ judged (answered (as_sent step.answer)) (rest_after s n step.state (as_sent step.answer) (waits s.server.phase m)) =
+      ap (λ (u : Session). counted (judge_incoming u m)) (versioned_twin s version n due error) ∙ ap counted (judged_two s n m one none good) in
       let next : (judge s r).session ≡ next_of s step.state (as_sent step.answer) = ap (λ (j : Judged). j.session) here in
       extend at before due s (twin s version n) n r rs each.0 counts step.state step.answer (waits s.server.phase m)
       (subst (IsReplyWithin limits.max_body) (ap (λ (j : Judged). j.verdict) here) short.0) here there (follows_step s n s.server.phase s.server m (asked_proper r.body))
       (λ later k. converted_log later (before + length (record_bytes One r)) false (next_of s step.state (as_sent step.answer)) Two k rs one refl (λ e. refl) (some_records s.records) each.1
-      (subst (λ (u : Session). (course_in converting u rs).stop ≡ None) next on.1) (subst (λ (u : Session). AreRepliesWithin limits.max_body u rs) next short.1))
+      (subst (λ (u : Session). (run_output_in converting u rs).stop ≡ None) next on.1) (subst (λ (u : Session). AreRepliesWithin limits.max_body u rs) next short.1))
 
 -- ---- the end
 
 record IsTold (due : Bool) (s : Session) (rs : List Record) : Type 0 where
-  to_end : (course_in replaying s rs).stop ≡ None
-  outcome : (course_in converting s rs).outcome ≡ (course_in replaying s rs).outcome
-  last : (b : Bool) → (course_in converting s rs).last b ≡ last_if due rs
+  to_end : (run_output_in replaying s rs).stop ≡ None
+  outcome : (run_output_in converting s rs).outcome ≡ (run_output_in replaying s rs).outcome
+  last : (b : Bool) → (run_output_in converting s rs).last b ≡ last_if due rs
 
-told_log : (due : Bool) (s : Session) (rs : List Record) → Counts due s.records → (course_in converting s rs).stop ≡ None → IsTold due s rs
+told_log : (due : Bool) (s : Session) (rs : List Record) → Counts due s.records → (run_output_in converting s rs).stop ≡ None → IsTold due s rs
 told_log due s [] counts goes = record { to_end = refl; outcome = refl; last = λ b. line_is due s.records counts }
 told_log due s (r ∷ rs) counts goes =
     let out = line_before s ++ codes ">" ++ r.spelling ++ reply_record (judge s r).verdict in
-    let on = went_on (unless_bad r (judge s r).verdict (gives out)).out (unless_bad r (judge s r).verdict (gives out)).end (course_in converting (judge s r).session rs) goes in
-    let passing : Passes (judge s r).verdict = passes (judge s r).verdict r (gives out) on.0 in
-    let first : course_in converting s (r ∷ rs) ≡ written_first out (course_in converting (judge s r).session rs) = course_of converting s r rs (judge s r) out refl (passing r (gives out)) in
-    let told : course_in replaying s (r ∷ rs) ≡ written_first [] (course_in replaying (judge s r).session rs) = course_of replaying s r rs (judge s r) [] refl (passing r (gives [])) in
+    let on = went_on (unless_bad r (judge s r).verdict (writes out)).out (unless_bad r (judge s r).verdict (writes out)).end (run_output_in converting (judge s r).session rs) goes in
+    let passing : Passes (judge s r).verdict = passes (judge s r).verdict r (writes out) on.0 in
+    let first : run_output_in converting s (r ∷ rs) ≡ written_first out (run_output_in converting (judge s r).session rs) = command_output converting s r rs (judge s r) out refl (passing r (writes out)) in
+    let error : run_output_in replaying s (r ∷ rs) ≡ written_first [] (run_output_in replaying (judge s r).session rs) = command_output replaying s r rs (judge s r) [] refl (passing r (writes [])) in
     let more : IsTold false (judge s r).session rs = told_log false (judge s r).session rs (some_records _) on.1 in
     record {
-      to_end = ap (λ (c : Course). c.stop) told ∙ more.to_end;
-      outcome = ap (λ (c : Course). c.outcome) first ∙ more.outcome ∙ sym (ap (λ (c : Course). c.outcome) told);
-      last = λ b. ap (λ (c : Course). c.last b) first ∙ more.last b ∙ last_none rs;
+      to_end = ap (λ (c : RunOutput). c.stop) error ∙ more.to_end;
+      outcome = ap (λ (c : RunOutput). c.outcome) first ∙ more.outcome ∙ sym (ap (λ (c : RunOutput). c.outcome) error);
+      last = λ b. ap (λ (c : RunOutput). c.last b) first ∙ more.last b ∙ last_none rs;
     }
 
 all_two : (rs : List Record) (out last bytes : List ℕ) → out ≡ front_if true rs ++ bytes → last ≡ last_if true rs → (rs ≡ [] → bytes ≡ []) → out ++ last ≡ version_line ++ bytes
@@ -221,8 +221,8 @@ none_out limits ranges at due s t (r ∷ rs) w e = absurd (let lengths = ap leng
 pub converted_law : ConvertedLaw
 converted_law settings ranges input log reads whole goes = record {
   outcome = facts.outcome;
-  tells = λ short.
-      let w = made short in
+  reports = λ short.
+      let w = buffer short in
       let is : all_of (converted settings) log ≡ version_line ++ together Two w.qs [] =
       all_two log.records (converted settings log.records).out ((converted settings log.records).last (is_line_due log.version log.records)) (together Two w.qs []) w.out (facts.last (is_line_due log.version log.records))
       (none_out settings.limits ranges (length version_line) true s s log.records w) in
@@ -230,7 +230,7 @@ converted_law settings ranges input log reads whole goes = record {
         log = record { version = Two; records = w.qs; rest = [] };
         reads = record { version = (refl, (together Two w.qs [], is)); accepted = λ e. absurd (let wrong : false ≡ true = e in cc); is = is; each = w.are };
         whole = refl;
-        to_end = ap (λ (c : Course). c.stop) w.same ∙ facts.to_end;
+        to_end = ap (λ (c : RunOutput). c.stop) w.same ∙ facts.to_end;
         alike = w.same;
       };
 }
@@ -244,5 +244,5 @@ converted_law settings ranges input log reads whole goes = record {
     each : AreRecords settings.limits.max_body One 0 false log.records
     each = subst (λ (v : Version). AreRecords settings.limits.max_body v (length (line_of v)) (is_line_due v []) log.records) (reads.accepted refl) reads.each
 
-    made : AreRepliesWithin settings.limits.max_body s log.records → AreConverted settings.limits ranges (length version_line) true s s log.records
-    made short = converted_log settings.limits ranges (length version_line) 0 true s One 0 log.records refl refl (λ e. absurd (let wrong : true ≡ false = e in cc)) refl each goes short
+    buffer : AreRepliesWithin settings.limits.max_body s log.records → AreConverted settings.limits ranges (length version_line) true s s log.records
+    buffer short = converted_log settings.limits ranges (length version_line) 0 true s One 0 log.records refl refl (λ e. absurd (let wrong : true ≡ false = e in cc)) refl each goes short

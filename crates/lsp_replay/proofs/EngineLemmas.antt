@@ -5,7 +5,7 @@ use Rattle.std.proofs.lemmas.Slice.{between_to_end}
 use Rattle.std.specs.Prelude.{◌⊎◌, MatchOption, OnOk, OnErr, IfOk, IfErr}
 use Rattle.std.specs.Io.KnownBytes.{Appends}
 use Rattle.std.proofs.KnownBytes.{Appends-trans, Appends-nil}
-use Rattle.lsp_frame.specs.Frame.{Spells}
+use Rattle.lsp_frame.specs.Frame.{IsFrameOf}
 use Rattle.lsp_frame.specs.Header.{header_of, lines_bytes}
 use Rattle.lsp_replay.specs.declared.outcome.Outcome.{Outcome}
 use Rattle.lsp_stream.specs.declared.fault.EngineFault.{EngineFault}
@@ -13,169 +13,171 @@ use Rattle.lsp_stream.specs.declared.fault.EngineFault.TheVariants.{Read, Write,
 use Rattle.lsp_log.specs.declared.record.Head.{Head}
 use Rattle.lsp_log.specs.declared.splitter.Splitter.{Splitter}
 use Rattle.lsp_stream.specs.Turns.{AppendsFront, AppendsShort}
-use Rattle.lsp_log.specs.Log.{Reading, Record, Log, IsReadAs, HasNoRecord, IsCut, IsUndecided, mark_of, is_line_due}
-use Rattle.lsp_log.specs.Splitting.{IsFed, IsReady, Stands, IsSplitFault, log_at, head_of, held_of, record_at}
+use Rattle.lsp_log.specs.Log.{LogRules, Record, Log, IsReadAs, HasNoRecord, IsCut, IsUndecided, mark_of, is_line_due}
+use Rattle.lsp_log.specs.Splitting.{IsFed, IsReady, IsAfter, IsSplitFault, log_at, head_of, buffered_of, record_at}
 use Rattle.lsp_log.specs.Opening.{IsUnfinished}
-use Rattle.lsp_log.specs.Laws.{HeldLaw, RestLaw}
-use Rattle.lsp_replay.specs.Course.{Course, written_first, after, stopped}
-use Rattle.lsp_replay.specs.Engine.{Stopped, Reached, Broken, RanOut, AtEnd, BrokenAtEnd, RanOutAtEnd, IsPieceFault, last_of}
-use Rattle.lsp_replay.specs.Progress.{GoesOn, Ends, IsHandled, IsHandleFault, IsLastFault, IsEndFault, Went}
+use Rattle.lsp_log.specs.Laws.{BufferedLaw, RestLaw}
+use Rattle.lsp_replay.specs.RunOutput.{RunOutput, written_first, stopped}
+use Rattle.lsp_replay.specs.inside.RunOutput.{after}
+use Rattle.lsp_replay.specs.Engine.{Stopped, Reached, Broken, RanOut, AtEnd, BrokenAtEnd, RanOutAtEnd, last_of}
+use Rattle.lsp_replay.specs.inside.Engine.{IsPieceFault}
+use Rattle.lsp_replay.specs.inside.Progress.{Continues, Ends, IsHandled, IsHandleFault, IsLastFault, IsEndFault, IsProgress}
 
 -- Without more records nothing more is written, and the run goes on.
-pub record IsQuiet (now : List Record → Course) : Type 0 where
+pub record IsQuiet (now : List Record → RunOutput) : Type 0 where
   pub silent : (now []).out ≡ []
   pub unstopped : (now []).stop ≡ None
 
-module _ (reading : Reading) (course : List Record → Course) (held : Option (List ℕ)) (input : List ℕ) where
+module _ (reading : LogRules) (run_output : List Record → RunOutput) (received : Option (List ℕ)) (input : List ℕ) where
   -- the course of the records that were handled, and of more
-  written_again : (a b : List ℕ) (c : Course) → written_first a (written_first b c) ≡ written_first (a ++ b) c
+  written_again : (a b : List ℕ) (c : RunOutput) → written_first a (written_first b c) ≡ written_first (a ++ b) c
   written_again a b c = ap (λ z. record c { out = z }) (sym (append_assoc a b c.out))
 
-  pub went_on : (more : List ℕ) (s n : Splitter) (now new : List Record → Course) (held_now held_new : Option (List ℕ)) (r : Record) (w : Went reading course held input more s now held_now)
-      → Stands reading input more (w.records ++ r ∷ []) n → GoesOn now new held_now held_new r → Went reading course held input more n new held_new
-  went_on more s n now new held_now held_new r w stands on = record {
+  pub went_on : (more : List ℕ) (s n : Splitter) (now new : List Record → RunOutput) (received_now received_new : Option (List ℕ)) (r : Record) (w : IsProgress reading run_output received input more s now received_now)
+      → IsAfter reading input more (w.records ++ r ∷ []) n → Continues now new received_now received_new r → IsProgress reading run_output received input more n new received_new
+  went_on more s n now new received_now received_new r w is_after on = record {
     records = w.records ++ r ∷ [];
-    stands = stands;
+    is_after = is_after;
     out = w.out ++ on.out;
-    courses = λ others. ap course (append_assoc w.records (r ∷ []) others) ∙ w.courses (r ∷ others) ∙ ap (written_first w.out) (on.course others) ∙ written_again w.out on.out (new others);
-    wrote = Appends-trans held held_now held_new w.out on.out w.wrote on.wrote;
+    courses = λ others. ap run_output (append_assoc w.records (r ∷ []) others) ∙ w.courses (r ∷ others) ∙ ap (written_first w.out) (on.run_output others) ∙ written_again w.out on.out (new others);
+    wrote = Appends-trans received received_now received_new w.out on.out w.wrote on.wrote;
   }
 
-  pub went_to_end : (log : Log) (more : List ℕ) (s : Splitter) (now : List Record → Course) (held_now held_new : Option (List ℕ)) (r : Record) (answer : Result Outcome EngineFault) (w : Went reading course held input more s now held_now)
-      → IsReadAs reading input log → log.records ≡ w.records ++ r ∷ [] → Ends now held_now held_new r answer → Stopped reading course input held held_new answer
-  went_to_end log more s now held_now held_new r answer w reads is ends =
-      let whole : course log.records ≡ written_first w.out (stopped ends.out answer) = ap course is ∙ w.courses (r ∷ []) ∙ ap (written_first w.out) (ends.course []) in
+  pub went_to_end : (log : Log) (more : List ℕ) (s : Splitter) (now : List Record → RunOutput) (received_now received_new : Option (List ℕ)) (r : Record) (answer : Result Outcome EngineFault) (w : IsProgress reading run_output received input more s now received_now)
+      → IsReadAs reading input log → log.records ≡ w.records ++ r ∷ [] → Ends now received_now received_new r answer → Stopped reading run_output input received received_new answer
+  went_to_end log more s now received_now received_new r answer w reads is ends =
+      let whole : run_output log.records ≡ written_first w.out (stopped ends.out answer) = ap run_output is ∙ w.courses (r ∷ []) ∙ ap (written_first w.out) (ends.run_output []) in
       record {
         log = log;
         reads = reads;
-        stops = ap (λ (c : Course). c.stop) whole;
-        wrote = subst (λ (z : List ℕ). Appends held held_new z) (sym (ap (λ (c : Course). c.out) whole)) (Appends-trans held held_now held_new w.out ends.out w.wrote ends.wrote);
+        stops = ap (λ (c : RunOutput). c.stop) whole;
+        wrote = subst (λ (z : List ℕ). Appends received received_new z) (sym (ap (λ (c : RunOutput). c.out) whole)) (Appends-trans received received_now received_new w.out ends.out w.wrote ends.wrote);
       }
 
   -- nothing was written since
-  pub went_so_far : (more : List ℕ) (s : Splitter) (now : List Record → Course) (held_now held_new : Option (List ℕ)) (IsRest : Log → Type 0) (w : Went reading course held input more s now held_now)
-      → IsQuiet now → Appends held_now held_new [] → IsRest (log_at s w.records more) → Reached reading course input held held_new IsRest
-  went_so_far more s now held_now held_new IsRest w quiet nothing rest =
-      let whole : course w.records ≡ written_first w.out (now []) = ap course (sym (append-nil w.records)) ∙ w.courses [] in
-      let out : (course w.records).out ≡ w.out ++ [] = ap (λ (c : Course). c.out) whole ∙ ap (λ z. w.out ++ z) quiet.silent in
+  pub went_so_far : (more : List ℕ) (s : Splitter) (now : List Record → RunOutput) (received_now received_new : Option (List ℕ)) (IsRest : Log → Type 0) (w : IsProgress reading run_output received input more s now received_now)
+      → IsQuiet now → Appends received_now received_new [] → IsRest (log_at s w.records more) → Reached reading run_output input received received_new IsRest
+  went_so_far more s now received_now received_new IsRest w quiet nothing rest =
+      let whole : run_output w.records ≡ written_first w.out (now []) = ap run_output (sym (append-nil w.records)) ∙ w.courses [] in
+      let out : (run_output w.records).out ≡ w.out ++ [] = ap (λ (c : RunOutput). c.out) whole ∙ ap (λ z. w.out ++ z) quiet.silent in
       record {
         log = log_at s w.records more;
-        reads = w.stands.reads;
+        reads = w.is_after.reads;
         rest = rest;
-        goes_on = ap (λ (c : Course). c.stop) whole ∙ quiet.unstopped;
-        wrote = subst (λ (z : List ℕ). Appends held held_new z) (sym out) (Appends-trans held held_now held_new w.out [] w.wrote nothing);
+        continues = ap (λ (c : RunOutput). c.stop) whole ∙ quiet.unstopped;
+        wrote = subst (λ (z : List ℕ). Appends received received_new z) (sym out) (Appends-trans received received_now received_new w.out [] w.wrote nothing);
       }
 
-  broken_at : (log : Log) (more : List ℕ) (s : Splitter) (now : List Record → Course) (held_now held_new : Option (List ℕ)) (r : Record) (w : Went reading course held input more s now held_now)
-      → IsReadAs reading input log → log.records ≡ w.records ++ r ∷ [] → AppendsFront held_now held_new (now (r ∷ [])).out → Broken reading course input held held_new
-  broken_at log more s now held_now held_new r w reads is cut =
-      let whole : course log.records ≡ written_first w.out (now (r ∷ [])) = ap course is ∙ w.courses (r ∷ []) in
+  broken_at : (log : Log) (more : List ℕ) (s : Splitter) (now : List Record → RunOutput) (received_now received_new : Option (List ℕ)) (r : Record) (w : IsProgress reading run_output received input more s now received_now)
+      → IsReadAs reading input log → log.records ≡ w.records ++ r ∷ [] → AppendsFront received_now received_new (now (r ∷ [])).out → Broken reading run_output input received received_new
+  broken_at log more s now received_now received_new r w reads is cut =
+      let whole : run_output log.records ≡ written_first w.out (now (r ∷ [])) = ap run_output is ∙ w.courses (r ∷ []) in
       record {
         log = log;
         reads = reads;
-        wrote = (w.out ++ cut.0, cut.1, ap (λ (c : Course). c.out) whole ∙ ap (λ z. w.out ++ z) cut.2 ∙ sym (append_assoc w.out cut.0 cut.1), Appends-trans held held_now held_new w.out cut.0 w.wrote cut.3);
+        wrote = (w.out ++ cut.0, cut.1, ap (λ (c : RunOutput). c.out) whole ∙ ap (λ z. w.out ++ z) cut.2 ∙ sym (append_assoc w.out cut.0 cut.1), Appends-trans received received_now received_new w.out cut.0 w.wrote cut.3);
       }
 
-  short_at : (unflushed : Bool) (log : Log) (more : List ℕ) (s : Splitter) (now : List Record → Course) (held_now held_new : Option (List ℕ)) (r : Record) (w : Went reading course held input more s now held_now)
-      → IsReadAs reading input log → log.records ≡ w.records ++ r ∷ [] → AppendsShort unflushed held_now held_new (now (r ∷ [])).out → RanOut reading course unflushed input held held_new
-  short_at unflushed log more s now held_now held_new r w reads is cut =
-      let whole : course log.records ≡ written_first w.out (now (r ∷ [])) = ap course is ∙ w.courses (r ∷ []) in
+  short_at : (unflushed : Bool) (log : Log) (more : List ℕ) (s : Splitter) (now : List Record → RunOutput) (received_now received_new : Option (List ℕ)) (r : Record) (w : IsProgress reading run_output received input more s now received_now)
+      → IsReadAs reading input log → log.records ≡ w.records ++ r ∷ [] → AppendsShort unflushed received_now received_new (now (r ∷ [])).out → RanOut reading run_output unflushed input received received_new
+  short_at unflushed log more s now received_now received_new r w reads is cut =
+      let whole : run_output log.records ≡ written_first w.out (now (r ∷ [])) = ap run_output is ∙ w.courses (r ∷ []) in
       record {
         log = log;
         reads = reads;
-        wrote = (w.out ++ cut.0, cut.1, ap (λ (c : Course). c.out) whole ∙ ap (λ z. w.out ++ z) cut.2 ∙ sym (append_assoc w.out cut.0 cut.1), Appends-trans held held_now held_new w.out cut.0 w.wrote cut.3, cut.4);
+        wrote = (w.out ++ cut.0, cut.1, ap (λ (c : RunOutput). c.out) whole ∙ ap (λ z. w.out ++ z) cut.2 ∙ sym (append_assoc w.out cut.0 cut.1), Appends-trans received received_now received_new w.out cut.0 w.wrote cut.3, cut.4);
       }
 
   -- a fault at a record
-  pub record_fault : (unflushed : Bool) (log : Log) (more : List ℕ) (s : Splitter) (now : List Record → Course) (held_now held_new : Option (List ℕ)) (r : Record) (fault : EngineFault) (w : Went reading course held input more s now held_now)
-      → IsReadAs reading input log → log.records ≡ w.records ++ r ∷ [] → IsQuiet now → IsHandleFault now unflushed held_now held_new r fault → IsPieceFault reading course unflushed input held held_new fault
-  record_fault unflushed log more s now held_now held_new r Read w reads is quiet why = absurd why
-  record_fault unflushed log more s now held_now held_new r Write w reads is quiet why = broken_at log more s now held_now held_new r w reads is why
-  record_fault unflushed log more s now held_now held_new r (Frame fault) w reads is quiet why = absurd why
-  record_fault unflushed log more s now held_now held_new r (Truncated place) w reads is quiet why = absurd why
-  record_fault unflushed log more s now held_now held_new r (BodyTooLong place) w reads is quiet why = went_to_end log more s now held_now held_new r (Err (BodyTooLong place)) w reads is why
-  record_fault unflushed log more s now held_now held_new r NoMemory w reads is quiet why = went_so_far more s now held_now held_new (λ _. Unit {0}) w quiet why tt
-  record_fault unflushed log more s now held_now held_new r TooManyTurns w reads is quiet why = short_at unflushed log more s now held_now held_new r w reads is why
-  record_fault unflushed log more s now held_now held_new r (BadLog place) w reads is quiet why = inl (went_to_end log more s now held_now held_new r (Err (BadLog place)) w reads is why)
+  pub record_fault : (unflushed : Bool) (log : Log) (more : List ℕ) (s : Splitter) (now : List Record → RunOutput) (received_now received_new : Option (List ℕ)) (r : Record) (fault : EngineFault) (w : IsProgress reading run_output received input more s now received_now)
+      → IsReadAs reading input log → log.records ≡ w.records ++ r ∷ [] → IsQuiet now → IsHandleFault now unflushed received_now received_new r fault → IsPieceFault reading run_output unflushed input received received_new fault
+  record_fault unflushed log more s now received_now received_new r Read w reads is quiet why = absurd why
+  record_fault unflushed log more s now received_now received_new r Write w reads is quiet why = broken_at log more s now received_now received_new r w reads is why
+  record_fault unflushed log more s now received_now received_new r (Frame fault) w reads is quiet why = absurd why
+  record_fault unflushed log more s now received_now received_new r (Truncated place) w reads is quiet why = absurd why
+  record_fault unflushed log more s now received_now received_new r (BodyTooLong place) w reads is quiet why = went_to_end log more s now received_now received_new r (Err (BodyTooLong place)) w reads is why
+  record_fault unflushed log more s now received_now received_new r NoMemory w reads is quiet why = went_so_far more s now received_now received_new (λ _. Unit {0}) w quiet why tt
+  record_fault unflushed log more s now received_now received_new r TooManyTurns w reads is quiet why = short_at unflushed log more s now received_now received_new r w reads is why
+  record_fault unflushed log more s now received_now received_new r (BadLog place) w reads is quiet why = inl (went_to_end log more s now received_now received_new r (Err (BadLog place)) w reads is why)
 
   -- a fault in front of the next record
-  pub split_faults : (unflushed : Bool) (more : List ℕ) (s : Splitter) (now : List Record → Course) (held_now held_new : Option (List ℕ)) (fault : EngineFault) (w : Went reading course held input more s now held_now)
-      → IsQuiet now → Appends held_now held_new [] → IsSplitFault reading.max_body input (log_at s w.records more) fault → IsPieceFault reading course unflushed input held held_new fault
-  split_faults unflushed more s now held_now held_new Read w quiet nothing why = absurd why
-  split_faults unflushed more s now held_now held_new Write w quiet nothing why = absurd why
-  split_faults unflushed more s now held_now held_new (Frame fault) w quiet nothing why = went_so_far more s now held_now held_new _ w quiet nothing why
-  split_faults unflushed more s now held_now held_new (Truncated place) w quiet nothing why = absurd why
-  split_faults unflushed more s now held_now held_new (BodyTooLong place) w quiet nothing why = absurd why
-  split_faults unflushed more s now held_now held_new NoMemory w quiet nothing why = went_so_far more s now held_now held_new (λ _. Unit {0}) w quiet nothing tt
-  split_faults unflushed more s now held_now held_new TooManyTurns w quiet nothing why = absurd why
-  split_faults unflushed more s now held_now held_new (BadLog place) w quiet nothing why = inr (went_so_far more s now held_now held_new _ w quiet nothing why)
+  pub split_faults : (unflushed : Bool) (more : List ℕ) (s : Splitter) (now : List Record → RunOutput) (received_now received_new : Option (List ℕ)) (fault : EngineFault) (w : IsProgress reading run_output received input more s now received_now)
+      → IsQuiet now → Appends received_now received_new [] → IsSplitFault reading.max_body input (log_at s w.records more) fault → IsPieceFault reading run_output unflushed input received received_new fault
+  split_faults unflushed more s now received_now received_new Read w quiet nothing why = absurd why
+  split_faults unflushed more s now received_now received_new Write w quiet nothing why = absurd why
+  split_faults unflushed more s now received_now received_new (Frame fault) w quiet nothing why = went_so_far more s now received_now received_new _ w quiet nothing why
+  split_faults unflushed more s now received_now received_new (Truncated place) w quiet nothing why = absurd why
+  split_faults unflushed more s now received_now received_new (BodyTooLong place) w quiet nothing why = absurd why
+  split_faults unflushed more s now received_now received_new NoMemory w quiet nothing why = went_so_far more s now received_now received_new (λ _. Unit {0}) w quiet nothing tt
+  split_faults unflushed more s now received_now received_new TooManyTurns w quiet nothing why = absurd why
+  split_faults unflushed more s now received_now received_new (BadLog place) w quiet nothing why = inr (went_so_far more s now received_now received_new _ w quiet nothing why)
 
   -- The record that is held was handled.
-  held_record : (s : Splitter) (head : Head) (spelling body : List ℕ) → head ≡ head_of s → spelling ≡ s.framer.held → record_at s body ≡ (record { head = head; spelling = spelling; body = body })
-  held_record s head spelling body e f = ap (λ (h : Head). record { head = h; spelling = s.framer.held; body = body }) (sym e) ∙ ap (λ z. record { head = head; spelling = z; body = body }) (sym f)
+  held_record : (s : Splitter) (head : Head) (spelling body : List ℕ) → head ≡ head_of s → spelling ≡ s.framer.buffered → record_at s body ≡ (record { head = head; spelling = spelling; body = body })
+  held_record s head spelling body e f = ap (λ (h : Head). record { head = h; spelling = s.framer.buffered; body = body }) (sym e) ∙ ap (λ z. record { head = head; spelling = z; body = body }) (sym f)
 
-  spells_here : (more : List ℕ) (s : Splitter) (now : List Record → Course) (held_now : Option (List ℕ)) (body : List ℕ) → Went reading course held input more s now held_now
-      → Spells s.framer.limits.max_body s.framer.held body → Spells reading.max_body s.framer.held body
-  spells_here more s now held_now body w spells = subst (λ (m : ℕ). Spells m s.framer.held body) w.stands.limit spells
+  is_frame_here : (more : List ℕ) (s : Splitter) (now : List Record → RunOutput) (received_now : Option (List ℕ)) (body : List ℕ) → IsProgress reading run_output received input more s now received_now
+      → IsFrameOf s.framer.limits.max_body s.framer.buffered body → IsFrameOf reading.max_body s.framer.buffered body
+  is_frame_here more s now received_now body w is_frame_of = subst (λ (m : ℕ). IsFrameOf m s.framer.buffered body) w.is_after.limit is_frame_of
 
-  pub taken_fault : (unflushed : Bool) → HeldLaw → (more : List ℕ) (s : Splitter) (now : List Record → Course) (held_now held_new : Option (List ℕ)) (head : Head) (spelling body : List ℕ) (fault : EngineFault) → IsFed s
-      → head ≡ head_of s → spelling ≡ s.framer.held → Spells s.framer.limits.max_body s.framer.held body → IsQuiet now
-      → IsHandleFault now unflushed held_now held_new (record { head = head; spelling = spelling; body = body }) fault
-      → Went reading course held input more s now held_now → IsPieceFault reading course unflushed input held held_new fault
-  taken_fault unflushed held_law more s now held_now held_new head spelling body fault fed e f spells quiet why w =
-      let reads = held_law reading input more body w.records s fed spells w.stands in
-      record_fault unflushed (record { version = s.version; records = w.records ++ record_at s body ∷ []; rest = more }) more s now held_now held_new (record_at s body) fault w reads refl quiet
-      (subst (λ (r : Record). IsHandleFault now unflushed held_now held_new r fault) (sym (held_record s head spelling body e f)) why)
+  pub taken_fault : (unflushed : Bool) → BufferedLaw → (more : List ℕ) (s : Splitter) (now : List Record → RunOutput) (received_now received_new : Option (List ℕ)) (head : Head) (spelling body : List ℕ) (fault : EngineFault) → IsFed s
+      → head ≡ head_of s → spelling ≡ s.framer.buffered → IsFrameOf s.framer.limits.max_body s.framer.buffered body → IsQuiet now
+      → IsHandleFault now unflushed received_now received_new (record { head = head; spelling = spelling; body = body }) fault
+      → IsProgress reading run_output received input more s now received_now → IsPieceFault reading run_output unflushed input received received_new fault
+  taken_fault unflushed buffered_law more s now received_now received_new head spelling body fault fed e f is_frame_of quiet why w =
+      let reads = buffered_law reading input more body w.records s fed is_frame_of w.is_after in
+      record_fault unflushed (record { version = s.version; records = w.records ++ record_at s body ∷ []; rest = more }) more s now received_now received_new (record_at s body) fault w reads refl quiet
+      (subst (λ (r : Record). IsHandleFault now unflushed received_now received_new r fault) (sym (held_record s head spelling body e f)) why)
 
-  handled_went : (more : List ℕ) (s n : Splitter) (now new : List Record → Course) (held_now held_new : Option (List ℕ)) (r : Record) (answer : Option Outcome) (w : Went reading course held input more s now held_now)
-      → Stands reading input more (w.records ++ r ∷ []) n → IsHandled now new held_now held_new r answer
-      → MatchOption answer (Went reading course held input more n new held_new) (λ outcome. Stopped reading course input held held_new (Ok outcome))
-  handled_went more s n now new held_now held_new r None w stands handled = went_on more s n now new held_now held_new r w stands handled
-  handled_went more s n now new held_now held_new r (Some outcome) w stands handled =
-      went_to_end (log_at n (w.records ++ r ∷ []) more) more s now held_now held_new r (Ok outcome) w stands.reads refl handled
+  handled_went : (more : List ℕ) (s n : Splitter) (now new : List Record → RunOutput) (received_now received_new : Option (List ℕ)) (r : Record) (answer : Option Outcome) (w : IsProgress reading run_output received input more s now received_now)
+      → IsAfter reading input more (w.records ++ r ∷ []) n → IsHandled now new received_now received_new r answer
+      → MatchOption answer (IsProgress reading run_output received input more n new received_new) (λ outcome. Stopped reading run_output input received received_new (Ok outcome))
+  handled_went more s n now new received_now received_new r None w is_after handled = went_on more s n now new received_now received_new r w is_after handled
+  handled_went more s n now new received_now received_new r (Some outcome) w is_after handled =
+      went_to_end (log_at n (w.records ++ r ∷ []) more) more s now received_now received_new r (Ok outcome) w is_after.reads refl handled
 
-  pub taken_went : (more : List ℕ) (s n : Splitter) (now new : List Record → Course) (held_now held_new : Option (List ℕ)) (head : Head) (spelling body : List ℕ) (answer : Option Outcome)
-      → head ≡ head_of s → spelling ≡ s.framer.held → Spells s.framer.limits.max_body s.framer.held body
-      → ((records : List Record) → Spells reading.max_body s.framer.held body → Stands reading input more records s → Stands reading input more (records ++ record_at s body ∷ []) n)
-      → IsHandled now new held_now held_new (record { head = head; spelling = spelling; body = body }) answer
-      → Went reading course held input more s now held_now
-      → MatchOption answer (Went reading course held input more n new held_new) (λ outcome. Stopped reading course input held held_new (Ok outcome))
-  taken_went more s n now new held_now held_new head spelling body answer e f spells next handled w =
-      handled_went more s n now new held_now held_new (record_at s body) answer w (next w.records (spells_here more s now held_now body w spells) w.stands)
-      (subst (λ (r : Record). IsHandled now new held_now held_new r answer) (sym (held_record s head spelling body e f)) handled)
+  pub taken_went : (more : List ℕ) (s n : Splitter) (now new : List Record → RunOutput) (received_now received_new : Option (List ℕ)) (head : Head) (spelling body : List ℕ) (answer : Option Outcome)
+      → head ≡ head_of s → spelling ≡ s.framer.buffered → IsFrameOf s.framer.limits.max_body s.framer.buffered body
+      → ((records : List Record) → IsFrameOf reading.max_body s.framer.buffered body → IsAfter reading input more records s → IsAfter reading input more (records ++ record_at s body ∷ []) n)
+      → IsHandled now new received_now received_new (record { head = head; spelling = spelling; body = body }) answer
+      → IsProgress reading run_output received input more s now received_now
+      → MatchOption answer (IsProgress reading run_output received input more n new received_new) (λ outcome. Stopped reading run_output input received received_new (Ok outcome))
+  taken_went more s n now new received_now received_new head spelling body answer e f is_frame_of next handled w =
+      handled_went more s n now new received_now received_new (record_at s body) answer w (next w.records (is_frame_here more s now received_now body w is_frame_of) w.is_after)
+      (subst (λ (r : Record). IsHandled now new received_now received_new r answer) (sym (held_record s head spelling body e f)) handled)
 
   -- The bytes of a piece were taken.
-  pub went_fed : (piece bytes : List ℕ) (at k : ℕ) (s n : Splitter) (now : List Record → Course) (held_now : Option (List ℕ)) → at ≤ length piece → bytes ≡ take (length piece - at) (drop at piece)
-      → ((records : List Record) → Stands reading input bytes records s → Stands reading input (drop k bytes) records n)
-      → Went reading course held input (drop at piece) s now held_now → Went reading course held input (drop (at + k) piece) n now held_now
-  went_fed piece bytes at k s n now held_now within is fed w =
+  pub went_fed : (piece bytes : List ℕ) (at k : ℕ) (s n : Splitter) (now : List Record → RunOutput) (received_now : Option (List ℕ)) → at ≤ length piece → bytes ≡ take (length piece - at) (drop at piece)
+      → ((records : List Record) → IsAfter reading input bytes records s → IsAfter reading input (drop k bytes) records n)
+      → IsProgress reading run_output received input (drop at piece) s now received_now → IsProgress reading run_output received input (drop (at + k) piece) n now received_now
+  went_fed piece bytes at k s n now received_now within is fed w =
       let all : bytes ≡ drop at piece = is ∙ between_to_end piece at (length piece) (omega arith) in
-      let stands : Stands reading input (drop k bytes) w.records n = fed w.records (subst (λ (z : List ℕ). Stands reading input z w.records s) (sym all) w.stands) in
+      let is_after : IsAfter reading input (drop k bytes) w.records n = fed w.records (subst (λ (z : List ℕ). IsAfter reading input z w.records s) (sym all) w.is_after) in
       let rest : drop k bytes ≡ drop (at + k) piece = ap (drop k) all ∙ drop-drop k at piece in
       record {
         records = w.records;
-        stands = subst (λ (z : List ℕ). Stands reading input z w.records n) rest stands;
+        is_after = subst (λ (z : List ℕ). IsAfter reading input z w.records n) rest is_after;
         out = w.out;
         courses = w.courses;
         wrote = w.wrote;
       }
 
-  pub fed_fault : (unflushed : Bool) (piece bytes : List ℕ) (at : ℕ) (s : Splitter) (now : List Record → Course) (held_now held_new : Option (List ℕ)) (fault : EngineFault) → at ≤ length piece → bytes ≡ take (length piece - at) (drop at piece)
-      → ((records : List Record) → Stands reading input bytes records s → IsSplitFault reading.max_body input (log_at s records bytes) fault) → IsQuiet now → Appends held_now held_new []
-      → Went reading course held input (drop at piece) s now held_now → IsPieceFault reading course unflushed input held held_new fault
-  fed_fault unflushed piece bytes at s now held_now held_new fault within is fed quiet nothing w =
+  pub fed_fault : (unflushed : Bool) (piece bytes : List ℕ) (at : ℕ) (s : Splitter) (now : List Record → RunOutput) (received_now received_new : Option (List ℕ)) (fault : EngineFault) → at ≤ length piece → bytes ≡ take (length piece - at) (drop at piece)
+      → ((records : List Record) → IsAfter reading input bytes records s → IsSplitFault reading.max_body input (log_at s records bytes) fault) → IsQuiet now → Appends received_now received_new []
+      → IsProgress reading run_output received input (drop at piece) s now received_now → IsPieceFault reading run_output unflushed input received received_new fault
+  fed_fault unflushed piece bytes at s now received_now received_new fault within is fed quiet nothing w =
       let all : bytes ≡ drop at piece = is ∙ between_to_end piece at (length piece) (omega arith) in
-      let here : Went reading course held input bytes s now held_now = subst (λ (z : List ℕ). Went reading course held input z s now held_now) (sym all) w in
-      split_faults unflushed bytes s now held_now held_new fault here quiet nothing (fed here.records here.stands)
+      let here : IsProgress reading run_output received input bytes s now received_now = subst (λ (z : List ℕ). IsProgress reading run_output received input z s now received_now) (sym all) w in
+      split_faults unflushed bytes s now received_now received_new fault here quiet nothing (fed here.records here.is_after)
 
 -- ---- rests that no record begins
 
-frame_len : (max_body : ℕ) (spelling body : List ℕ) → Spells max_body spelling body → 2 ≤ length spelling
+frame_len : (max_body : ℕ) (spelling body : List ℕ) → IsFrameOf max_body spelling body → 2 ≤ length spelling
 frame_len max_body spelling body s = omega (arith, ap length s.is, length-append (header_of s.lines) body, length-append (lines_bytes s.lines) (13 ∷ 10 ∷ []))
 
 pub empty_rest : (max_body : ℕ) (log : Log) → log.rest ≡ [] → HasNoRecord max_body log
-empty_rest max_body log nothing side spelling body more spells e =
-    absurd (omega (arith, ap length nothing, ap length e, length-append (mark_of log.version side) (spelling ++ more), length-append spelling more, frame_len max_body spelling body spells))
+empty_rest max_body log nothing side spelling body more is_frame_of e =
+    absurd (omega (arith, ap length nothing, ap length e, length-append (mark_of log.version side) (spelling ++ more), length-append spelling more, frame_len max_body spelling body is_frame_of))
 
 pub no_record : (max_body : ℕ) (log : Log) → IsUndecided max_body log → HasNoRecord max_body log
 no_record max_body log (inl nothing) = empty_rest max_body log nothing
@@ -185,80 +187,80 @@ cut_only : (max_body : ℕ) (log : Log) → IsUndecided max_body log → (log.re
 cut_only max_body log (inl nothing) some = absurd (some nothing)
 cut_only max_body log (inr cut) some = cut
 
-module _ (reading : Reading) (course : List Record → Course) (held : Option (List ℕ)) (input : List ℕ) where
-  pub went_cut : RestLaw → (s : Splitter) (now : List Record → Course) (held_now : Option (List ℕ)) → IsReady s → IsQuiet now → (held_of s ≡ [] → ⊥)
-      → Went reading course held input [] s now held_now → Reached reading course input held held_now (IsCut reading.max_body)
-  went_cut rest_law s now held_now ready quiet some w =
-      went_so_far reading course held input [] s now held_now held_now (IsCut reading.max_body) w quiet (Appends-nil held_now)
-      (cut_only reading.max_body (log_at s w.records []) (rest_law reading input w.records s ready w.stands) (λ nothing. some (sym (append-nil (held_of s)) ∙ nothing)))
+module _ (reading : LogRules) (run_output : List Record → RunOutput) (received : Option (List ℕ)) (input : List ℕ) where
+  pub went_cut : RestLaw → (s : Splitter) (now : List Record → RunOutput) (received_now : Option (List ℕ)) → IsReady s → IsQuiet now → (buffered_of s ≡ [] → ⊥)
+      → IsProgress reading run_output received input [] s now received_now → Reached reading run_output input received received_now (IsCut reading.max_body)
+  went_cut rest_law s now received_now ready quiet some w =
+      went_so_far reading run_output received input [] s now received_now received_now (IsCut reading.max_body) w quiet (Appends-nil received_now)
+      (cut_only reading.max_body (log_at s w.records []) (rest_law reading input w.records s ready w.is_after) (λ nothing. some (sym (append-nil (buffered_of s)) ∙ nothing)))
 
-  pub went_read : RestLaw → (s : Splitter) (now : List Record → Course) (held_now : Option (List ℕ)) → IsReady s → IsQuiet now
-      → Went reading course held input [] s now held_now → Reached reading course input held held_now (IsUnfinished reading input)
-  went_read rest_law s now held_now ready quiet w =
-      let undecided = rest_law reading input w.records s ready w.stands in
-      went_so_far reading course held input [] s now held_now held_now (IsUnfinished reading input) w quiet (Appends-nil held_now)
+  pub went_read : RestLaw → (s : Splitter) (now : List Record → RunOutput) (received_now : Option (List ℕ)) → IsReady s → IsQuiet now
+      → IsProgress reading run_output received input [] s now received_now → Reached reading run_output input received received_now (IsUnfinished reading input)
+  went_read rest_law s now received_now ready quiet w =
+      let undecided = rest_law reading input w.records s ready w.is_after in
+      went_so_far reading run_output received input [] s now received_now received_now (IsUnfinished reading input) w quiet (Appends-nil received_now)
       (record { none = no_record reading.max_body (log_at s w.records []) undecided; undecided = inl undecided })
 
   -- what the course of the records says of the end
-  went_whole : (s : Splitter) (now : List Record → Course) (held_now : Option (List ℕ)) (w : Went reading course held input [] s now held_now) → course w.records ≡ written_first w.out (now [])
-  went_whole s now held_now w = ap course (sym (append-nil w.records)) ∙ w.courses []
+  went_whole : (s : Splitter) (now : List Record → RunOutput) (received_now : Option (List ℕ)) (w : IsProgress reading run_output received input [] s now received_now) → run_output w.records ≡ written_first w.out (now [])
+  went_whole s now received_now w = ap run_output (sym (append-nil w.records)) ∙ w.courses []
 
-  went_last : (s : Splitter) (now : List Record → Course) (held_now : Option (List ℕ)) (w : Went reading course held input [] s now held_now)
-      → last_of course (log_at s w.records []) ≡ (now []).last s.line_due
-  went_last s now held_now w = ap (λ (c : Course). c.last (is_line_due s.version w.records)) (went_whole s now held_now w) ∙ ap (now []).last (sym w.stands.due)
+  went_last : (s : Splitter) (now : List Record → RunOutput) (received_now : Option (List ℕ)) (w : IsProgress reading run_output received input [] s now received_now)
+      → last_of run_output (log_at s w.records []) ≡ (now []).last s.line_due
+  went_last s now received_now w = ap (λ (c : RunOutput). c.last (is_line_due s.version w.records)) (went_whole s now received_now w) ∙ ap (now []).last (sym w.is_after.due)
 
-  went_out : (s : Splitter) (now : List Record → Course) (held_now : Option (List ℕ)) → IsQuiet now → (w : Went reading course held input [] s now held_now) → (course w.records).out ≡ w.out
-  went_out s now held_now quiet w = ap (λ (c : Course). c.out) (went_whole s now held_now w) ∙ ap (λ z. w.out ++ z) quiet.silent ∙ append-nil w.out
+  went_out : (s : Splitter) (now : List Record → RunOutput) (received_now : Option (List ℕ)) → IsQuiet now → (w : IsProgress reading run_output received input [] s now received_now) → (run_output w.records).out ≡ w.out
+  went_out s now received_now quiet w = ap (λ (c : RunOutput). c.out) (went_whole s now received_now w) ∙ ap (λ z. w.out ++ z) quiet.silent ∙ append-nil w.out
 
-  pub went_at_end : (s : Splitter) (now : List Record → Course) (held_now held_new : Option (List ℕ)) (outcome : Outcome) → IsQuiet now → held_of s ≡ []
-      → Appends held_now held_new ((now []).last s.line_due) → outcome ≡ (now []).outcome → Went reading course held input [] s now held_now → AtEnd reading course input held held_new outcome
-  went_at_end s now held_now held_new outcome quiet nothing wrote told w = record {
+  pub went_at_end : (s : Splitter) (now : List Record → RunOutput) (received_now received_new : Option (List ℕ)) (outcome : Outcome) → IsQuiet now → buffered_of s ≡ []
+      → Appends received_now received_new ((now []).last s.line_due) → outcome ≡ (now []).outcome → IsProgress reading run_output received input [] s now received_now → AtEnd reading run_output input received received_new outcome
+  went_at_end s now received_now received_new outcome quiet nothing wrote error w = record {
     log = log_at s w.records [];
-    reads = w.stands.reads;
-    whole = append-nil (held_of s) ∙ nothing;
-    goes_on = ap (λ (c : Course). c.stop) (went_whole s now held_now w) ∙ quiet.unstopped;
-    tells = told ∙ sym (ap (λ (c : Course). c.outcome) (went_whole s now held_now w));
-    wrote = subst (λ (z : List ℕ). Appends held held_new z)
-        (ap (λ z. z ++ (now []).last s.line_due) (sym (went_out s now held_now quiet w)) ∙ ap (λ z. (course w.records).out ++ z) (sym (went_last s now held_now w)))
-        (Appends-trans held held_now held_new w.out ((now []).last s.line_due) w.wrote wrote);
+    reads = w.is_after.reads;
+    whole = append-nil (buffered_of s) ∙ nothing;
+    continues = ap (λ (c : RunOutput). c.stop) (went_whole s now received_now w) ∙ quiet.unstopped;
+    reports = error ∙ sym (ap (λ (c : RunOutput). c.outcome) (went_whole s now received_now w));
+    wrote = subst (λ (z : List ℕ). Appends received received_new z)
+        (ap (λ z. z ++ (now []).last s.line_due) (sym (went_out s now received_now quiet w)) ∙ ap (λ z. (run_output w.records).out ++ z) (sym (went_last s now received_now w)))
+        (Appends-trans received received_now received_new w.out ((now []).last s.line_due) w.wrote wrote);
   }
 
-  broken_last : (s : Splitter) (now : List Record → Course) (held_now held_new : Option (List ℕ)) → IsQuiet now → held_of s ≡ []
-      → AppendsFront held_now held_new ((now []).last s.line_due) → Went reading course held input [] s now held_now → BrokenAtEnd reading course input held held_new
-  broken_last s now held_now held_new quiet nothing cut w = record {
+  broken_last : (s : Splitter) (now : List Record → RunOutput) (received_now received_new : Option (List ℕ)) → IsQuiet now → buffered_of s ≡ []
+      → AppendsFront received_now received_new ((now []).last s.line_due) → IsProgress reading run_output received input [] s now received_now → BrokenAtEnd reading run_output input received received_new
+  broken_last s now received_now received_new quiet nothing cut w = record {
     log = log_at s w.records [];
-    reads = w.stands.reads;
-    whole = append-nil (held_of s) ∙ nothing;
-    goes_on = ap (λ (c : Course). c.stop) (went_whole s now held_now w) ∙ quiet.unstopped;
+    reads = w.is_after.reads;
+    whole = append-nil (buffered_of s) ∙ nothing;
+    continues = ap (λ (c : RunOutput). c.stop) (went_whole s now received_now w) ∙ quiet.unstopped;
     first = cut.0;
     others = cut.1;
-    is = went_last s now held_now w ∙ cut.2;
-    wrote = subst (λ (z : List ℕ). Appends held held_new z) (ap (λ z. z ++ cut.0) (sym (went_out s now held_now quiet w))) (Appends-trans held held_now held_new w.out cut.0 w.wrote cut.3);
+    is = went_last s now received_now w ∙ cut.2;
+    wrote = subst (λ (z : List ℕ). Appends received received_new z) (ap (λ z. z ++ cut.0) (sym (went_out s now received_now quiet w))) (Appends-trans received received_now received_new w.out cut.0 w.wrote cut.3);
   }
 
-  short_last : (unflushed : Bool) (s : Splitter) (now : List Record → Course) (held_now held_new : Option (List ℕ)) → IsQuiet now → held_of s ≡ []
-      → AppendsShort unflushed held_now held_new ((now []).last s.line_due) → Went reading course held input [] s now held_now → RanOutAtEnd reading course unflushed input held held_new
+  short_last : (unflushed : Bool) (s : Splitter) (now : List Record → RunOutput) (received_now received_new : Option (List ℕ)) → IsQuiet now → buffered_of s ≡ []
+      → AppendsShort unflushed received_now received_new ((now []).last s.line_due) → IsProgress reading run_output received input [] s now received_now → RanOutAtEnd reading run_output unflushed input received received_new
   unfolding broken_last
-  short_last unflushed s now held_now held_new quiet nothing cut w = record {
-    broken = broken_last s now held_now held_new quiet nothing (cut.0, cut.1, cut.2, cut.3) w;
+  short_last unflushed s now received_now received_new quiet nothing cut w = record {
+    broken = broken_last s now received_now received_new quiet nothing (cut.0, cut.1, cut.2, cut.3) w;
     short = cut.4;
   }
 
-  pub last_fault : (unflushed : Bool) (place : ℕ) (s : Splitter) (now : List Record → Course) (held_now held_new : Option (List ℕ)) (fault : EngineFault) → IsQuiet now → held_of s ≡ []
-      → AppendsFront held_now held_new ((now []).last s.line_due) → (fault ≡ TooManyTurns → AppendsShort unflushed held_now held_new ((now []).last s.line_due)) → IsLastFault fault → Went reading course held input [] s now held_now → IsEndFault reading course unflushed input held held_new place fault
-  last_fault unflushed place s now held_now held_new Read quiet nothing cut short kind w = absurd kind
-  last_fault unflushed place s now held_now held_new Write quiet nothing cut short kind w = broken_last s now held_now held_new quiet nothing cut w
-  last_fault unflushed place s now held_now held_new (Frame fault) quiet nothing cut short kind w = absurd kind
-  last_fault unflushed place s now held_now held_new (Truncated at) quiet nothing cut short kind w = absurd kind
-  last_fault unflushed place s now held_now held_new (BodyTooLong at) quiet nothing cut short kind w = absurd kind
-  last_fault unflushed place s now held_now held_new NoMemory quiet nothing cut short kind w = broken_last s now held_now held_new quiet nothing cut w
-  last_fault unflushed place s now held_now held_new TooManyTurns quiet nothing cut short kind w = short_last unflushed s now held_now held_new quiet nothing (short refl) w
-  last_fault unflushed place s now held_now held_new (BadLog at) quiet nothing cut short kind w = absurd kind
+  pub last_fault : (unflushed : Bool) (place : ℕ) (s : Splitter) (now : List Record → RunOutput) (received_now received_new : Option (List ℕ)) (fault : EngineFault) → IsQuiet now → buffered_of s ≡ []
+      → AppendsFront received_now received_new ((now []).last s.line_due) → (fault ≡ TooManyTurns → AppendsShort unflushed received_now received_new ((now []).last s.line_due)) → IsLastFault fault → IsProgress reading run_output received input [] s now received_now → IsEndFault reading run_output unflushed input received received_new place fault
+  last_fault unflushed place s now received_now received_new Read quiet nothing cut short kind w = absurd kind
+  last_fault unflushed place s now received_now received_new Write quiet nothing cut short kind w = broken_last s now received_now received_new quiet nothing cut w
+  last_fault unflushed place s now received_now received_new (Frame fault) quiet nothing cut short kind w = absurd kind
+  last_fault unflushed place s now received_now received_new (Truncated at) quiet nothing cut short kind w = absurd kind
+  last_fault unflushed place s now received_now received_new (BodyTooLong at) quiet nothing cut short kind w = absurd kind
+  last_fault unflushed place s now received_now received_new NoMemory quiet nothing cut short kind w = broken_last s now received_now received_new quiet nothing cut w
+  last_fault unflushed place s now received_now received_new TooManyTurns quiet nothing cut short kind w = short_last unflushed s now received_now received_new quiet nothing (short refl) w
+  last_fault unflushed place s now received_now received_new (BadLog at) quiet nothing cut short kind w = absurd kind
 
   -- Nothing was written of what the end gives.
-  pub went_whole_records : (s : Splitter) (now : List Record → Course) (held_now held_new : Option (List ℕ)) → IsQuiet now → Appends held_now held_new []
-      → Went reading course held input [] s now held_now → Reached reading course input held held_new (λ _. Unit {0})
-  went_whole_records s now held_now held_new quiet nothing w = went_so_far reading course held input [] s now held_now held_new (λ _. Unit {0}) w quiet nothing tt
+  pub went_whole_records : (s : Splitter) (now : List Record → RunOutput) (received_now received_new : Option (List ℕ)) → IsQuiet now → Appends received_now received_new []
+      → IsProgress reading run_output received input [] s now received_now → Reached reading run_output input received received_new (λ _. Unit {0})
+  went_whole_records s now received_now received_new quiet nothing w = went_so_far reading run_output received input [] s now received_now received_new (λ _. Unit {0}) w quiet nothing tt
 
 -- Bytes that are short of some bytes are short of more.
 pub still_short : (unflushed : Bool) (some more : List ℕ) → (0 < length some) ⊎ (unflushed ≡ true) → (0 < length (some ++ more)) ⊎ (unflushed ≡ true)
@@ -266,8 +268,8 @@ still_short unflushed some more (inl long) = inl (omega (arith, long, length-app
 still_short unflushed some more (inr kept) = inr kept
 
 -- a part of what the end gives, and the next one
-pub part_short : (unflushed : Bool) (old mid new : Option (List ℕ)) (all out made rest : List ℕ) → all ≡ out ++ (made ++ rest) → Appends old mid out → AppendsShort unflushed mid new made → AppendsShort unflushed old new all
-part_short unflushed old mid new all out made rest is wrote cut = (
+pub part_short : (unflushed : Bool) (old mid new : Option (List ℕ)) (all out buffer rest : List ℕ) → all ≡ out ++ (buffer ++ rest) → Appends old mid out → AppendsShort unflushed mid new buffer → AppendsShort unflushed old new all
+part_short unflushed old mid new all out buffer rest is wrote cut = (
   out ++ cut.0,
   cut.1 ++ rest,
   is ∙ ap (λ z. out ++ (z ++ rest)) cut.2 ∙ ap (λ z. out ++ z) (append_assoc cut.0 cut.1 rest) ∙ sym (append_assoc out cut.0 (cut.1 ++ rest)),
@@ -275,28 +277,28 @@ part_short unflushed old mid new all out made rest is wrote cut = (
   still_short unflushed cut.1 rest cut.4,
 )
 
-pub part_cut : (old mid new : Option (List ℕ)) (all out made rest : List ℕ) → all ≡ out ++ (made ++ rest) → Appends old mid out → AppendsFront mid new made → AppendsFront old new all
-part_cut old mid new all out made rest is wrote cut =
+pub part_cut : (old mid new : Option (List ℕ)) (all out buffer rest : List ℕ) → all ≡ out ++ (buffer ++ rest) → Appends old mid out → AppendsFront mid new buffer → AppendsFront old new all
+part_cut old mid new all out buffer rest is wrote cut =
     (out ++ cut.0, cut.1 ++ rest, is ∙ ap (λ z. out ++ (z ++ rest)) cut.2 ∙ ap (λ z. out ++ z) (append_assoc cut.0 cut.1 rest) ∙ sym (append_assoc out cut.0 (cut.1 ++ rest)), Appends-trans old mid new out cut.0 wrote cut.3)
 
-pub part_is : (answer : Option Outcome) (last made more : List ℕ) (A B : Type 0) (C : Outcome → Type 0) → MatchOption answer ((last ≡ made ++ more) × A × B) (λ outcome. (last ≡ made) × C outcome)
-    → (rest : List ℕ) × (last ≡ made ++ rest)
-part_is None last made more A B C told = (more, told.0)
-part_is (Some outcome) last made more A B C told = ([], told.0 ∙ sym (append-nil made))
+pub part_is : (answer : Option Outcome) (last buffer more : List ℕ) (A B : Type 0) (C : Outcome → Type 0) → MatchOption answer ((last ≡ buffer ++ more) × A × B) (λ outcome. (last ≡ buffer) × C outcome)
+    → (rest : List ℕ) × (last ≡ buffer ++ rest)
+part_is None last buffer more A B C error = (more, error.0)
+part_is (Some outcome) last buffer more A B C error = ([], error.0 ∙ sym (append-nil buffer))
 
 -- a record's output, from the course that begins with it
-pub record_out : (old new : List Record → Course) (r : Record) (out : List ℕ) (end : Option Outcome) → old (r ∷ []) ≡ after out end (new []) → (new []).out ≡ [] → (old (r ∷ [])).out ≡ out
-record_out old new r out None is silent = ap (λ (c : Course). c.out) is ∙ ap (λ z. out ++ z) silent ∙ append-nil out
-record_out old new r out (Some outcome) is silent = ap (λ (c : Course). c.out) is
+pub record_out : (old new : List Record → RunOutput) (r : Record) (out : List ℕ) (end : Option Outcome) → old (r ∷ []) ≡ after out end (new []) → (new []).out ≡ [] → (old (r ∷ [])).out ≡ out
+record_out old new r out None is silent = ap (λ (c : RunOutput). c.out) is ∙ ap (λ z. out ++ z) silent ∙ append-nil out
+record_out old new r out (Some outcome) is silent = ap (λ (c : RunOutput). c.out) is
 
 -- a fault in writing a record's output
-pub write_fault : (unflushed : Bool) (old new : List Record → Course) (held_old held_new : Option (List ℕ)) (r : Record) (bytes out : List ℕ) (end : Option Outcome) (fault : EngineFault)
+pub write_fault : (unflushed : Bool) (old new : List Record → RunOutput) (received_old received_new : Option (List ℕ)) (r : Record) (bytes out : List ℕ) (end : Option Outcome) (fault : EngineFault)
     → ((more : List Record) → old (r ∷ more) ≡ after out end (new more)) → (new []).out ≡ [] → bytes ≡ out → (fault ≡ Write) ⊎ (fault ≡ TooManyTurns)
-    → AppendsFront held_old held_new bytes → (fault ≡ TooManyTurns → AppendsShort unflushed held_old held_new bytes) → IsHandleFault old unflushed held_old held_new r fault
-write_fault unflushed old new held_old held_new r bytes out end fault gives silent is (inl at) front short =
-    subst (IsHandleFault old unflushed held_old held_new r) (sym at) (subst (AppendsFront held_old held_new) (is ∙ sym (record_out old new r out end (gives []) silent)) front)
-write_fault unflushed old new held_old held_new r bytes out end fault gives silent is (inr at) front short =
-    subst (IsHandleFault old unflushed held_old held_new r) (sym at) (subst (AppendsShort unflushed held_old held_new) (is ∙ sym (record_out old new r out end (gives []) silent)) (short at))
+    → AppendsFront received_old received_new bytes → (fault ≡ TooManyTurns → AppendsShort unflushed received_old received_new bytes) → IsHandleFault old unflushed received_old received_new r fault
+write_fault unflushed old new received_old received_new r bytes out end fault writes silent is (inl at) front short =
+    subst (IsHandleFault old unflushed received_old received_new r) (sym at) (subst (AppendsFront received_old received_new) (is ∙ sym (record_out old new r out end (writes []) silent)) front)
+write_fault unflushed old new received_old received_new r bytes out end fault writes silent is (inr at) front short =
+    subst (IsHandleFault old unflushed received_old received_new r) (sym at) (subst (AppendsShort unflushed received_old received_new) (is ∙ sym (record_out old new r out end (writes []) silent)) (short at))
 
 -- what two clauses say of one answer
 pub ok_and : {T E : Type 0} (r : Result T E) (X : Type 0) (P Q : T → Type 0) → OnOk r X → IfOk r P → ((t : T) → X → P t → Q t) → IfOk r Q

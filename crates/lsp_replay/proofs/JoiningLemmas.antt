@@ -23,12 +23,12 @@ use Rattle.lsp_server.specs.Answer.{changed}
 use Rattle.lsp_server.specs.declared.phase.Phase.{Phase}
 use Rattle.lsp_server.specs.declared.phase.Phase.TheVariants.{New, Running, Down, Ended}
 use Rattle.lsp_server.specs.Incoming.{did_change}
-use Rattle.lsp_server.specs.Step.{State, edit_of, encoding_of}
+use Rattle.lsp_server.specs.Step.{State, edit_from_data, encoding_of}
 use Rattle.lsp_replay.specs.declared.session.Writing.{Writing}
-use Rattle.lsp_replay.specs.declared.session.Writing.TheVariants.{AsItIs, TooLong, GoesOn, Begins}
-use Rattle.lsp_replay.specs.Engines.{normal_if}
+use Rattle.lsp_replay.specs.declared.session.Writing.TheVariants.{AsItIs, TooLong, Continues, Begins}
+use Rattle.lsp_replay.specs.Engines.{canonical_if}
 use Rattle.lsp_replay.specs.Session.{Session, answered, bad, judge_incoming}
-use Rattle.lsp_replay.specs.Joining.{IsOpenIn, IsOpenAfter, IsLonger, IsBegun, IsWriting, IsChangeWriting, refusal_of, server_after}
+use Rattle.lsp_replay.specs.inside.Joining.{IsOpenIn, IsOpenAfter, IsLonger, IsBegun, IsWriting, IsChangeWriting, refusal_of, server_after}
 
 -- ---- a canonical body that is too long is that of a change that is not refused
 
@@ -54,7 +54,7 @@ on_not limits units (Some entry) version batch =
     (meaning_not limits entry.text (meaning units (chars entry.text) batch)))
 
 refused_not : (refusal : Option Refusal) (body : Option Refusal) (len : ℕ) → IsNotTooLong refusal → IsRefusal (else_refused refusal body) (BodyTooLong len) → refusal ≡ None
-refused_not None body len not told = refl
+refused_not None body len not error = refl
 refused_not (Some refusal) body len not (inl e) = absurd (cc)
 refused_not (Some refusal) body len not (inr e) = absurd (other refusal not e)
   where
@@ -70,8 +70,8 @@ refused_not (Some refusal) body len not (inr e) = absurd (other refusal not e)
 
 pub too_long_accepted : (limits : Bounds) (units : ℕ → ℕ) (table : List Entry) (uri : List ℕ) (version : ℤ) (batch : List Edit) (body : Option Refusal) (len : ℕ)
     → IsRefusal (else_refused (change_refusal limits units table uri version batch) body) (BodyTooLong len) → change_refusal limits units table uri version batch ≡ None
-too_long_accepted limits units table uri version batch body len told =
-    refused_not (change_refusal limits units table uri version batch) body len (on_not limits units (entry_at table uri) version batch) told
+too_long_accepted limits units table uri version batch body len error =
+    refused_not (change_refusal limits units table uri version batch) body len (on_not limits units (entry_at table uri) version batch) error
 
 pub not_refused : (first other : Option Refusal) → else_refused first other ≡ None → first ≡ None
 not_refused None other e = refl
@@ -86,7 +86,7 @@ pub running_leaves : (s : Session) (p : ChangeData) → s.server.phase ≡ Runni
 running_leaves s p running none may = rw (running, none, may) refl
 
 running_refused : (s : Session) (p : ChangeData) → s.server.phase ≡ Running → s.expected ≡ None → (refusal : Option Refusal) → refusal_of s.server p ≡ refusal → refusal ≢ None
-    → normal_if s.server (Some p) (judge_incoming s (did_change (Some p))).verdict ≡ None
+    → canonical_if s.server (Some p) (judge_incoming s (did_change (Some p))).verdict ≡ None
 running_refused s p running none None is some = absurd (some refl)
 running_refused s p running none (Some refusal) is some = rw (running, none, is) refl
 
@@ -95,7 +95,7 @@ pub change_writing : (s : Session) (run : Option SquashData) (p : ChangeData) (w
     → IsWriting s.server run (Some p) (judge_incoming s (did_change (Some p))).verdict w
 change_writing s run p (AsItIs ended) running none is = (running_refused s p running none (refusal_of s.server p) refl is.0, is.1)
 change_writing s run p TooLong running none is = (p, refl, running_accepted s p running none is.0, is.1)
-change_writing s run p (GoesOn canonical batches) running none is =
+change_writing s run p (Continues canonical batches) running none is =
     (record { params = p; is = refl; accepted = running_accepted s p running none is.0; framed = is.1 }, is.2)
 change_writing s run p (Begins canonical ended batches) running none is =
     (record { params = p; is = refl; accepted = running_accepted s p running none is.0; framed = is.1 }, is.2, is.3, is.4)
@@ -104,7 +104,7 @@ pub change_open : (s : Session) (run : Option SquashData) (p : ChangeData) (w : 
     → IsOpenAfter (judge_incoming s (did_change (Some p))).session.server w
 change_open s run p (AsItIs ended) running none is = tt
 change_open s run p TooLong running none is = tt
-change_open s run p (GoesOn canonical batches) running none is = subst (λ (server : State). IsOpenIn server batches) (sym (running_leaves s p running none is.0)) is.3
+change_open s run p (Continues canonical batches) running none is = subst (λ (server : State). IsOpenIn server batches) (sym (running_leaves s p running none is.0)) is.3
 change_open s run p (Begins canonical ended batches) running none is = subst (λ (server : State). IsOpenIn server batches) (sym (running_leaves s p running none is.0)) is.5
 
 pub writing_if : (s : Session) (run : Option SquashData) (p : ChangeData) (result : Result Writing AllocError) → s.server.phase ≡ Running → s.expected ≡ None → IfOk result (IsChangeWriting s.server run p)
@@ -125,7 +125,7 @@ not_same a b not =
 -- a change that is not accepted for the phase or for its encoding
 module _ (s : Session) (p : ChangeData) where
   idle_phase : (phase : Phase) → s.server.phase ≡ phase → phase ≢ Running → (expected : Option IdData) → s.expected ≡ expected
-      → normal_if s.server (Some p) (judge_incoming s (did_change (Some p))).verdict ≡ None
+      → canonical_if s.server (Some p) (judge_incoming s (did_change (Some p))).verdict ≡ None
   idle_phase New is idle None none = rw (is, none) refl
   idle_phase New is idle (Some id) some = rw (is, some) refl
   idle_phase Down is idle None none = rw (is, none) refl
@@ -133,18 +133,18 @@ module _ (s : Session) (p : ChangeData) where
   idle_phase Ended is idle expected waits = rw is refl
   idle_phase Running is idle expected waits = absurd (idle refl)
 
-  pub idle : s.server.phase ≢ Running → normal_if s.server (Some p) (judge_incoming s (did_change (Some p))).verdict ≡ None
+  pub idle : s.server.phase ≢ Running → canonical_if s.server (Some p) (judge_incoming s (did_change (Some p))).verdict ≡ None
   idle not = idle_phase s.server.phase refl not s.expected refl
 
   early_phase : (phase : Phase) → s.server.phase ≡ phase → (expected : Option IdData) → s.expected ≡ expected → expected ≢ None
-      → normal_if s.server (Some p) (judge_incoming s (did_change (Some p))).verdict ≡ None
+      → canonical_if s.server (Some p) (judge_incoming s (did_change (Some p))).verdict ≡ None
   early_phase phase is None none some = absurd (some refl)
   early_phase New is (Some id) waits some = rw (is, waits) refl
   early_phase Down is (Some id) waits some = rw (is, waits) refl
   early_phase Ended is (Some id) waits some = rw is refl
   early_phase Running is (Some id) waits some = rw (is, waits) refl
 
-  pub early : s.expected ≢ None → normal_if s.server (Some p) (judge_incoming s (did_change (Some p))).verdict ≡ None
+  pub early : s.expected ≢ None → canonical_if s.server (Some p) (judge_incoming s (did_change (Some p))).verdict ≡ None
   early some = early_phase s.server.phase refl s.expected refl some
 
 -- ---- the batches that are open afterwards
@@ -163,32 +163,32 @@ uri_at (first ∷ table) uri entry found =
 module _ (server : State) (p : ChangeData) (entry : Entry) (found : entry_at server.table p.uri ≡ Some entry) where
   -- the document that is open then
   left : (squash next : SquashData) → squash.uri ≡ p.uri → squash.limits ≡ server.config.limits → squash.encoding ≡ encoding_of server
-      → IsSquashAfter squash p.version (map edit_of p.changes) next → HasReached next (changed_entry (units_in squash.encoding) entry p.version (map edit_of p.changes)) → IsOpenIn (server_after server p) next
+      → IsSquashAfter squash p.version (map edit_from_data p.changes) next → HasReached next (changed_entry (units_in squash.encoding) entry p.version (map edit_from_data p.changes)) → IsOpenIn (server_after server p) next
   left squash next uri limits encoding adds reached = record {
-    entry = changed_entry (units_in (encoding_of server)) entry p.version (map edit_of p.changes);
+    entry = changed_entry (units_in (encoding_of server)) entry p.version (map edit_from_data p.changes);
     is_open =
         ap (λ (u : List ℕ). entry_at (server_after server p).table u) (ap (λ (k : SquashData). k.uri) adds.is ∙ uri)
-        ∙ found_changed (units_in (encoding_of server)) server.table p.uri p.version (map edit_of p.changes) entry found;
-    reached = subst (λ (e : Encoding). HasReached next (changed_entry (units_in e) entry p.version (map edit_of p.changes))) encoding reached;
+        ∙ found_changed (units_in (encoding_of server)) server.table p.uri p.version (map edit_from_data p.changes) entry found;
+    reached = subst (λ (e : Encoding). HasReached next (changed_entry (units_in e) entry p.version (map edit_from_data p.changes))) encoding reached;
     limits = ap (λ (k : SquashData). k.limits) adds.is ∙ limits;
     encoding = ap (λ (k : SquashData). k.encoding) adds.is ∙ encoding;
   }
 
-  pub longer_open : (squash next : SquashData) → IsOpenIn server squash → p.uri ≡ squash.uri → IsSquashAfter squash p.version (map edit_of p.changes) next
-      → HasReached next (changed_entry (units_in squash.encoding) entry p.version (map edit_of p.changes)) → IsOpenIn (server_after server p) next
+  pub longer_open : (squash next : SquashData) → IsOpenIn server squash → p.uri ≡ squash.uri → IsSquashAfter squash p.version (map edit_from_data p.changes) next
+      → HasReached next (changed_entry (units_in squash.encoding) entry p.version (map edit_from_data p.changes)) → IsOpenIn (server_after server p) next
   longer_open squash next at same adds reached = left squash next (sym same) at.limits at.encoding adds reached
 
-  pub is_longer : (squash next : SquashData) → p.uri ≡ squash.uri → IsSquashAfter squash p.version (map edit_of p.changes) next → IsLonger (Some squash) p next
-  is_longer squash next same adds = record { before = squash; open_one = refl; same = (bytes_eq-Decides p.uri squash.uri).1 same; joined = after_is squash p.version (map edit_of p.changes) next adds }
+  pub is_longer : (squash next : SquashData) → p.uri ≡ squash.uri → IsSquashAfter squash p.version (map edit_from_data p.changes) next → IsLonger (Some squash) p next
+  is_longer squash next same adds = record { before = squash; open_one = refl; same = (bytes_eq-Decides p.uri squash.uri).1 same; joined = after_is squash p.version (map edit_from_data p.changes) next adds }
 
-  pub begun_open : (next : SquashData) → IsSquashAfter (squash_of server.config.limits (encoding_of server) entry) p.version (map edit_of p.changes) next
-      → HasReached next (changed_entry (units_in (encoding_of server)) entry p.version (map edit_of p.changes)) → IsOpenIn (server_after server p) next
+  pub begun_open : (next : SquashData) → IsSquashAfter (squash_of server.config.limits (encoding_of server) entry) p.version (map edit_from_data p.changes) next
+      → HasReached next (changed_entry (units_in (encoding_of server)) entry p.version (map edit_from_data p.changes)) → IsOpenIn (server_after server p) next
   begun_open next adds reached = left (squash_of server.config.limits (encoding_of server) entry) next (uri_at server.table p.uri entry found) refl refl adds reached
 
-  pub is_begun : (next : SquashData) → IsSquashAfter (squash_of server.config.limits (encoding_of server) entry) p.version (map edit_of p.changes) next → IsBegun server p next
-  is_begun next adds = record { entry = entry; is_open = found; joined = after_is (squash_of server.config.limits (encoding_of server) entry) p.version (map edit_of p.changes) next adds }
+  pub is_begun : (next : SquashData) → IsSquashAfter (squash_of server.config.limits (encoding_of server) entry) p.version (map edit_from_data p.changes) next → IsBegun server p next
+  is_begun next adds = record { entry = entry; is_open = found; joined = after_is (squash_of server.config.limits (encoding_of server) entry) p.version (map edit_from_data p.changes) next adds }
 
-  pub accepts : refusal_of server p ≡ None → entry_refusal server.config.limits (units_in (encoding_of server)) entry p.version (map edit_of p.changes) ≡ None
+  pub accepts : refusal_of server p ≡ None → entry_refusal server.config.limits (units_in (encoding_of server)) entry p.version (map edit_from_data p.changes) ≡ None
   accepts may = rw found at may
 
 -- the open document of a run is the one that is found

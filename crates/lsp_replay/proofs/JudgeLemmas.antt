@@ -20,8 +20,8 @@ use Rattle.lsp_log.specs.declared.record.Head.{Head}
 use Rattle.lsp_log.specs.Log.{Record}
 use Rattle.lsp_replay.specs.Session.{Session, Verdict, answered, recorded, bad, Judged, judged, judge, judge_at, judge_from, judge_incoming, handled, hear_for, heard, settle_by, settle_in, result_for, versioned, is_ended, is_early, is_new, expected_of, count_if, is_refused}
 use Rattle.lsp_stream.specs.Ports.{one_more}
-use Rattle.lsp_replay.specs.Engines.{change_in, normal_if, normal_of, normal_body}
-use Rattle.lsp_replay.proofs.NormalLemmas.{accepted, heard_has_none}
+use Rattle.lsp_replay.specs.Engines.{change_in, canonical_if, canonical_of_record, canonical_change_body}
+use Rattle.lsp_replay.proofs.CanonicalLogLemmas.{accepted, heard_has_none}
 use Rattle.lsp_replay.proofs.AskedLemmas.{IsProperIncoming, asked_proper}
 use Rattle.lsp_replay.proofs.StateLemmas.{IsHeldState, step_on_held}
 use Rattle.lsp_replay.proofs.SettledLemmas.{IsSettledChange, settled_change}
@@ -60,46 +60,46 @@ from_version s Server body = of_heard (λ (j : Judged). j.session.version ≡ s.
 
 -- the version of a log at a record, which the line tells
 pub record IsVersionAt (version : Version) (line_due : Bool) (s : Session) : Type 0 where
-  pub told : line_due ≡ true → version ≡ Two
+  pub error : line_due ≡ true → version ≡ Two
   pub kept : line_due ≡ false → s.version ≡ version
 
 versioned_is : (version : Version) (line_due : Bool) (s : Session) → IsVersionAt version line_due s → (versioned s line_due).version ≡ version
-versioned_is version true s is = sym (is.told refl)
+versioned_is version true s is = sym (is.error refl)
 versioned_is version false s is = is.kept refl
 
 pub judged_version : (version : Version) (s : Session) (head : Head) (body : List ℕ) → IsVersionAt version head.line_due s → (judge_at s head body).session.version ≡ version
 judged_version version s head body is = from_version (versioned s head.line_due) head.side body ∙ versioned_is version head.line_due s is
 
 from_held : (limits : Bounds) (s : Session) (side : Side) (body : List ℕ) → IsHeldState limits s.server → IsHeldState limits (judge_from s side body).session.server
-from_held limits s Client body held =
-    of_incoming (λ (j : Judged). IsHeldState limits j.session.server) s (incoming_of (reading body)) held (step_on_held limits s.server (incoming_of (reading body)) (asked_proper body) held)
-from_held limits s Server body held =
-    of_heard (λ (j : Judged). IsHeldState limits j.session.server) s held held (λ encoding. record { limit = held.limit; table = held.table }) s.expected body
+from_held limits s Client body received =
+    of_incoming (λ (j : Judged). IsHeldState limits j.session.server) s (incoming_of (reading body)) received (step_on_held limits s.server (incoming_of (reading body)) (asked_proper body) received)
+from_held limits s Server body received =
+    of_heard (λ (j : Judged). IsHeldState limits j.session.server) s received received (λ encoding. record { limit = received.limit; table = received.table }) s.expected body
 
 at_held : (limits : Bounds) (s : Session) (line_due : Bool) (side : Side) (body : List ℕ) → IsHeldState limits s.server → IsHeldState limits (judge_from (versioned s line_due) side body).session.server
-at_held limits s true side body held = from_held limits (record s { version = Two }) side body held
-at_held limits s false side body held = from_held limits s side body held
+at_held limits s true side body received = from_held limits (record s { version = Two }) side body received
+at_held limits s false side body received = from_held limits s side body received
 
 pub judged_held : (limits : Bounds) (s : Session) (r : Record) → IsHeldState limits s.server → IsHeldState limits (judge s r).session.server
-judged_held limits s r held = at_held limits s r.head.line_due r.head.side r.body held
+judged_held limits s r received = at_held limits s r.head.line_due r.head.side r.body received
 
 -- ---- the record of an accepted change
 
 record IsNormalCase (server : State) (m : IncomingData) (verdict : Verdict) (body : List ℕ) : Type 0 where
   change : ChangeData
   asks : m ≡ did_change (Some change)
-  told : verdict ≡ answered changed
-  is : body ≡ normal_body server change
+  error : verdict ≡ answered changed
+  is : body ≡ canonical_change_body server change
 
 abbrev CaseOf : State → Option ChangeData → Verdict → List ℕ → Type 0
-CaseOf server change verdict body = (p : ChangeData) × (change ≡ Some p) × (verdict ≡ answered changed) × (body ≡ normal_body server p)
+CaseOf server change verdict body = (p : ChangeData) × (change ≡ Some p) × (verdict ≡ answered changed) × (body ≡ canonical_change_body server p)
 
 none_some : (server : State) (change : Option ChangeData) (verdict : Verdict) (body : List ℕ) → None ≡ Some body → CaseOf server change verdict body
 none_some server change verdict body e = absurd (cc)
 
-by_change : (server : State) (change : Option ChangeData) (verdict : Verdict) (body : List ℕ) → normal_if server change verdict ≡ Some body → CaseOf server change verdict body
+by_change : (server : State) (change : Option ChangeData) (verdict : Verdict) (body : List ℕ) → canonical_if server change verdict ≡ Some body → CaseOf server change verdict body
 by_change server None verdict body e = none_some server None verdict body e
-by_change server (Some p) (answered changed) body e = let some : Some (normal_body server p) ≡ Some body = e in let is : normal_body server p ≡ body = cc in (p, refl, refl, sym is)
+by_change server (Some p) (answered changed) body e = let some : Some (canonical_change_body server p) ≡ Some body = e in let is : canonical_change_body server p ≡ body = cc in (p, refl, refl, sym is)
 by_change server (Some p) (answered (reply m)) body e = none_some server (Some p) (answered (reply m)) body e
 by_change server (Some p) (answered dropped) body e = none_some server (Some p) (answered dropped) body e
 by_change server (Some p) (answered ignored) body e = none_some server (Some p) (answered ignored) body e
@@ -125,10 +125,10 @@ asks_change (did_open params) p e = no_change (did_open params) p e
 asks_change (did_close params) p e = no_change (did_close params) p e
 asks_change (other_notification method) p e = no_change (other_notification method) p e
 
-case_of : (server : State) (m : IncomingData) (verdict : Verdict) (body : List ℕ) → normal_if server (change_in m) verdict ≡ Some body → IsNormalCase server m verdict body
+case_of : (server : State) (m : IncomingData) (verdict : Verdict) (body : List ℕ) → canonical_if server (change_in m) verdict ≡ Some body → IsNormalCase server m verdict body
 case_of server m verdict body e =
     let found = by_change server (change_in m) verdict body e in
-    record { change = found.0; asks = asks_change m found.0 found.1; told = found.2; is = found.3 }
+    record { change = found.0; asks = asks_change m found.0 found.1; error = found.2; is = found.3 }
 
 -- ---- the canonical body is judged as the change was
 
@@ -155,41 +155,41 @@ again_incoming s p again same =
 -- a body is judged as another, and it is its own canonical body
 abbrev IsJudgedAgain : Session → Side → List ℕ → List ℕ → Type 0
 IsJudgedAgain s side body again =
-    (judge_from s side again ≡ judge_from s side body) × (normal_if s.server (change_in (incoming_of (reading again))) (judge_from s side body).verdict ≡ Some again)
+    (judge_from s side again ≡ judge_from s side body) × (canonical_if s.server (change_in (incoming_of (reading again))) (judge_from s side body).verdict ≡ Some again)
 
 module _ (limits : Bounds) (ranges : AreInRange limits) where
-  again_client : (s : Session) (body again : List ℕ) → IsHeldState limits s.server → normal_if s.server (change_in (incoming_of (reading body))) (judge_from s Client body).verdict ≡ Some again
+  again_client : (s : Session) (body again : List ℕ) → IsHeldState limits s.server → canonical_if s.server (change_in (incoming_of (reading body))) (judge_from s Client body).verdict ≡ Some again
       → length again ≤ limits.max_body → IsJudgedAgain s Client body again
-  again_client s body again held normal fits =
+  again_client s body again received canonical_log fits =
       let m = incoming_of (reading body) in
-      let c = case_of s.server m (judge_incoming s m).verdict again normal in
+      let c = case_of s.server m (judge_incoming s m).verdict again canonical_log in
       let p = c.change in
       let proper : IsProperIncoming (did_change (Some p)) = subst IsProperIncoming c.asks (asked_proper body) in
-      let told : (judge_incoming s (did_change (Some p))).verdict ≡ answered changed = ap (λ (x : IncomingData). (judge_incoming s x).verdict) (sym c.asks) ∙ c.told in
-      let here : AreInRange s.server.config.limits = subst AreInRange (sym held.limit) ranges in
-      let own : IsHeldState s.server.config.limits s.server = subst (λ (l : Bounds). IsHeldState l s.server) (sym held.limit) held in
-      let short : length (normal_body s.server p) ≤ s.server.config.limits.max_body = omega (arith, fits, ap length c.is, ap (λ (l : Bounds). l.max_body) held.limit) in
-      let set : IsSettledChange s.server p = settled_change s.server p here own proper (accepted s p told) short in
+      let error : (judge_incoming s (did_change (Some p))).verdict ≡ answered changed = ap (λ (x : IncomingData). (judge_incoming s x).verdict) (sym c.asks) ∙ c.error in
+      let here : AreInRange s.server.config.limits = subst AreInRange (sym received.limit) ranges in
+      let own : IsHeldState s.server.config.limits s.server = subst (λ (l : Bounds). IsHeldState l s.server) (sym received.limit) received in
+      let short : length (canonical_change_body s.server p) ≤ s.server.config.limits.max_body = omega (arith, fits, ap length c.is, ap (λ (l : Bounds). l.max_body) received.limit) in
+      let set : IsSettledChange s.server p = settled_change s.server p here own proper (accepted s p error) short in
       let asks : incoming_of (reading again) ≡ did_change (Some set.again) = ap (λ b. incoming_of (reading b)) c.is ∙ set.asks in (
         ap (judge_incoming s) asks ∙ again_incoming s p set.again set.same_step ∙ ap (judge_incoming s) (sym c.asks),
-        ap (λ (x : IncomingData). normal_if s.server (change_in x) (judge_incoming s m).verdict) asks ∙ ap (normal_if s.server (Some set.again)) c.told ∙ ap Some (set.same_body ∙ sym c.is),
+        ap (λ (x : IncomingData). canonical_if s.server (change_in x) (judge_incoming s m).verdict) asks ∙ ap (canonical_if s.server (Some set.again)) c.error ∙ ap Some (set.same_body ∙ sym c.is),
       )
 
-  again_from : (s : Session) (side : Side) (body again : List ℕ) → IsHeldState limits s.server → normal_if s.server (change_in (incoming_of (reading body))) (judge_from s side body).verdict ≡ Some again
+  again_from : (s : Session) (side : Side) (body again : List ℕ) → IsHeldState limits s.server → canonical_if s.server (change_in (incoming_of (reading body))) (judge_from s side body).verdict ≡ Some again
       → length again ≤ limits.max_body → IsJudgedAgain s side body again
-  again_from s Client body again held normal fits = again_client s body again held normal fits
-  again_from s Server body again held normal fits =
-      let none : None ≡ Some again = sym (heard_has_none s.server (change_in (incoming_of (reading body))) s s.expected body) ∙ normal in absurd (cc)
+  again_from s Client body again received canonical_log fits = again_client s body again received canonical_log fits
+  again_from s Server body again received canonical_log fits =
+      let none : None ≡ Some again = sym (heard_has_none s.server (change_in (incoming_of (reading body))) s s.expected body) ∙ canonical_log in absurd (cc)
 
   again_at : (s : Session) (line_due : Bool) (side : Side) (body again : List ℕ) → IsHeldState limits s.server
-      → normal_if s.server (change_in (incoming_of (reading body))) (judge_from (versioned s line_due) side body).verdict ≡ Some again → length again ≤ limits.max_body
+      → canonical_if s.server (change_in (incoming_of (reading body))) (judge_from (versioned s line_due) side body).verdict ≡ Some again → length again ≤ limits.max_body
       → (judge_from (versioned s line_due) side again ≡ judge_from (versioned s line_due) side body)
-      × (normal_if s.server (change_in (incoming_of (reading again))) (judge_from (versioned s line_due) side body).verdict ≡ Some again)
-  again_at s true side body again held normal fits = again_from (record s { version = Two }) side body again held normal fits
-  again_at s false side body again held normal fits = again_from s side body again held normal fits
+      × (canonical_if s.server (change_in (incoming_of (reading again))) (judge_from (versioned s line_due) side body).verdict ≡ Some again)
+  again_at s true side body again received canonical_log fits = again_from (record s { version = Two }) side body again received canonical_log fits
+  again_at s false side body again received canonical_log fits = again_from s side body again received canonical_log fits
 
-  pub judged_again : (s : Session) (head : Head) (body again : List ℕ) → IsHeldState limits s.server → normal_of s body (judge_at s head body).verdict ≡ Some again → length again ≤ limits.max_body
-      → (judge_at s head again ≡ judge_at s head body) × (normal_of s again (judge_at s head body).verdict ≡ Some again)
-  judged_again s head body again held normal fits =
-      let same = again_at s head.line_due head.side body again held normal fits in
+  pub judged_again : (s : Session) (head : Head) (body again : List ℕ) → IsHeldState limits s.server → canonical_of_record s body (judge_at s head body).verdict ≡ Some again → length again ≤ limits.max_body
+      → (judge_at s head again ≡ judge_at s head body) × (canonical_of_record s again (judge_at s head body).verdict ≡ Some again)
+  judged_again s head body again received canonical_log fits =
+      let same = again_at s head.line_due head.side body again received canonical_log fits in
       (ap (λ (j : Judged). record j { session = record j.session { records = one_more j.session.records } }) same.0, same.1)

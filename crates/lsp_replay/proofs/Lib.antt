@@ -2,7 +2,7 @@ pub mod LineLemmas
 pub mod EngineLemmas
 pub mod RunLemmas
 pub mod ReportLemmas
-pub mod NormalLemmas
+pub mod CanonicalLogLemmas
 pub mod ContentLemmas
 pub mod ReadLemmas
 pub mod AskedLemmas
@@ -12,7 +12,7 @@ pub mod JudgeLemmas
 pub mod NormalisedLemmas
 pub mod WroteLemmas
 pub mod ConvertedLemmas
-pub mod ToldLemmas
+pub mod RunReportLemmas
 pub mod QuietLemmas
 pub mod ConvertedLogLemmas
 pub mod SquashingLemmas

@@ -2,10 +2,10 @@
 use Rattle.std.proofs.Common.{◌≡◌, ℕ, ◌+◌, ◌≤◌, Bool, true, false, List, [], ◌∷◌, ◌++◌, length, Option, Some, None, refl, sym, ap, ◌∙◌, subst, arith, append_assoc, append-nil, nat_lt}
 use Rattle.std.specs.Prelude.{if◌then◌else◌, Result, Err}
 use Rattle.std.proofs.lemmas.Bool.{ltb-false}
-use Rattle.lsp_frame.specs.Faults.{place_behind}
-use Rattle.lsp_frame.specs.Frame.{frame, Spells}
+use Rattle.lsp_frame.specs.Faults.{place_after}
+use Rattle.lsp_frame.specs.Frame.{frame, IsFrameOf}
 use Rattle.lsp_frame.specs.Limits.{Bounds, AreInRange}
-use Rattle.lsp_frame.proofs.WrittenLemmas.{written_spells}
+use Rattle.lsp_frame.proofs.WrittenLemmas.{written_is_frame}
 use Rattle.lsp_replay.specs.declared.engines.Settings.{Settings}
 use Rattle.lsp_replay.specs.declared.outcome.Outcome.{Outcome}
 use Rattle.lsp_stream.specs.declared.fault.EngineFault.{EngineFault}
@@ -14,34 +14,34 @@ use Rattle.lsp_log.specs.declared.record.Version.{Version}
 use Rattle.lsp_log.specs.declared.record.Version.TheVariants.{One, Two}
 use Rattle.lsp_log.specs.declared.record.Head.{Head}
 use Rattle.lsp_log.specs.Log.{Record, Log, IsRecord, AreRecords, IsVersion, together, record_bytes, mark_of, line_of, version_line, is_line_due}
-use Rattle.lsp_replay.specs.Course.{Course, written_first}
+use Rattle.lsp_replay.specs.RunOutput.{RunOutput, written_first}
 use Rattle.lsp_replay.specs.Session.{Session, Verdict, answered, recorded, bad, Judged, judge, judge_at, opened}
-use Rattle.lsp_replay.specs.Engines.{View, Gives, gives, ends, go_on, unless_bad, course_in, normalising, replaying, normal_gives, normal_of, written, front_of, line_if, log_config, normal}
-use Rattle.lsp_replay.specs.Laws.{NormalLaw, all_of}
+use Rattle.lsp_replay.specs.Engines.{View, RecordOutput, writes, ends, continue_with, unless_bad, run_output_in, normalising, replaying, canonical_output, canonical_of_record, written, front_of, line_if, log_config, canonical_log}
+use Rattle.lsp_replay.specs.Laws.{CanonicalLogLaw, all_of}
 use Rattle.lsp_replay.proofs.StateLemmas.{IsHeldState}
 use Rattle.lsp_replay.proofs.LineLemmas.{is_version_one}
 use Rattle.lsp_replay.proofs.JudgeLemmas.{IsVersionAt, judged_version, judged_held, judged_again}
 
 -- ---- a course, a record at a time
 
-abbrev pub course_by : View → Session → Record → List Record → Judged → Gives → Course
-course_by view s r rs j g = go_on g.out g.end (course_in view j.session rs)
+abbrev pub course_by : View → Session → Record → List Record → Judged → RecordOutput → RunOutput
+course_by view s r rs j g = continue_with g.out g.end (run_output_in view j.session rs)
 
 -- what is known of a record's judgement and of what it gives tells the course
-pub course_of : (view : View) (s : Session) (r : Record) (rs : List Record) (j : Judged) (out : List ℕ) → judge s r ≡ j → view.record_gives s r j ≡ gives out
-    → course_in view s (r ∷ rs) ≡ written_first out (course_in view j.session rs)
-course_of view s r rs j out is gives_it =
-    ap (λ (k : Judged). course_by view s r rs k (view.record_gives s r k)) is ∙ ap (course_by view s r rs j) gives_it
+pub command_output : (view : View) (s : Session) (r : Record) (rs : List Record) (j : Judged) (out : List ℕ) → judge s r ≡ j → view.record_output s r j ≡ writes out
+    → run_output_in view s (r ∷ rs) ≡ written_first out (run_output_in view j.session rs)
+command_output view s r rs j out is gives_it =
+    ap (λ (k : Judged). course_by view s r rs k (view.record_output s r k)) is ∙ ap (course_by view s r rs j) gives_it
 
-pub went_on : (out : List ℕ) (end : Option (Result Outcome EngineFault)) (c : Course) → (go_on out end c).stop ≡ None → (end ≡ None) × (c.stop ≡ None)
+pub went_on : (out : List ℕ) (end : Option (Result Outcome EngineFault)) (c : RunOutput) → (continue_with out end c).stop ≡ None → (end ≡ None) × (c.stop ≡ None)
 went_on out None c e = (refl, e)
 went_on out (Some answer) c e = absurd (let bad_one : Some answer ≡ None = e in cc)
 
 -- a verdict that isn't bad
 abbrev pub Passes : Verdict → Type 0
-Passes verdict = (r : Record) (g : Gives) → unless_bad r verdict g ≡ g
+Passes verdict = (r : Record) (g : RecordOutput) → unless_bad r verdict g ≡ g
 
-pub passes : (verdict : Verdict) (r : Record) (g : Gives) → (unless_bad r verdict g).end ≡ None → Passes verdict
+pub passes : (verdict : Verdict) (r : Record) (g : RecordOutput) → (unless_bad r verdict g).end ≡ None → Passes verdict
 passes (answered answer) r g e = λ q h. refl
 passes recorded r g e = λ q h. refl
 passes bad r g e = absurd (let bad_one : Some (Err (BadLog r.head.place)) ≡ None = e in cc)
@@ -50,73 +50,73 @@ passes bad r g e = absurd (let bad_one : Some (Err (BadLog r.head.place)) ≡ No
 
 -- a head at a place
 abbrev pub placed : ℕ → Head → Head
-placed at head = record head { place = place_behind 0 at }
+placed at head = record head { place = place_after 0 at }
 
 -- the record that is written of a record, with its canonical body, if it has one
-abbrev pub normal_record : ℕ → Record → Option (List ℕ) → Record
-normal_record at r None = record { head = placed at r.head; spelling = r.spelling; body = r.body }
-normal_record at r (Some body) = record { head = placed at r.head; spelling = frame body; body = body }
+abbrev pub canonical_record : ℕ → Record → Option (List ℕ) → Record
+canonical_record at r None = record { head = placed at r.head; spelling = r.spelling; body = r.body }
+canonical_record at r (Some body) = record { head = placed at r.head; spelling = frame body; body = body }
 
 -- It is judged as the record, and the same is written of both.
 pub record IsWrittenAs (limits : Bounds) (at : ℕ) (s : Session) (r q : Record) : Type 0 where
-  pub spells : Spells limits.max_body q.spelling q.body
-  pub place : q.head.place ≡ place_behind 0 at
+  pub is_frame_of : IsFrameOf limits.max_body q.spelling q.body
+  pub place : q.head.place ≡ place_after 0 at
   pub side : q.head.side ≡ r.head.side
   pub due : q.head.line_due ≡ r.head.line_due
   pub same : judge s q ≡ judge s r
-  pub first : normalising.record_gives s r (judge s r) ≡ gives (front_of (judge s r).session r ++ q.spelling)
-  pub again : normalising.record_gives s q (judge s r) ≡ gives (front_of (judge s r).session r ++ q.spelling)
-  pub told : replaying.record_gives s r (judge s r) ≡ gives []
-  pub told_again : replaying.record_gives s q (judge s r) ≡ gives []
+  pub first : normalising.record_output s r (judge s r) ≡ writes (front_of (judge s r).session r ++ q.spelling)
+  pub again : normalising.record_output s q (judge s r) ≡ writes (front_of (judge s r).session r ++ q.spelling)
+  pub error : replaying.record_output s r (judge s r) ≡ writes []
+  pub told_again : replaying.record_output s q (judge s r) ≡ writes []
 
 module _ (limits : Bounds) (ranges : AreInRange limits) where
-  module _ (at : ℕ) (s : Session) (r : Record) (held : IsHeldState limits s.server) (spells : Spells limits.max_body r.spelling r.body)
+  module _ (at : ℕ) (s : Session) (r : Record) (received : IsHeldState limits s.server) (is_frame_of : IsFrameOf limits.max_body r.spelling r.body)
       (passing : Passes (judge s r).verdict) where
-    pub kept : normal_of s r.body (judge s r).verdict ≡ None → IsWrittenAs limits at s r (normal_record at r None)
+    pub kept : canonical_of_record s r.body (judge s r).verdict ≡ None → IsWrittenAs limits at s r (canonical_record at r None)
     kept none = record {
-      spells = spells;
+      is_frame_of = is_frame_of;
       place = refl;
       side = refl;
       due = refl;
       same = refl;
       first = passing r _ ∙ ap (written s.server.config.limits.max_body r (front_of (judge s r).session r)) none;
-      again = passing (normal_record at r None) _ ∙ ap (written s.server.config.limits.max_body (normal_record at r None) (front_of (judge s r).session r)) none;
-      told = passing r _;
-      told_again = passing (normal_record at r None) _;
+      again = passing (canonical_record at r None) _ ∙ ap (written s.server.config.limits.max_body (canonical_record at r None) (front_of (judge s r).session r)) none;
+      error = passing r _;
+      told_again = passing (canonical_record at r None) _;
     }
 
     fits : (body : List ℕ) → (written s.server.config.limits.max_body r (front_of (judge s r).session r) (Some body)).end ≡ None → nat_lt s.server.config.limits.max_body (length body) ≡ false
     fits body e = by (nat_lt s.server.config.limits.max_body (length body)) e
       where
-        by : (over : Bool) → (if over then ends [] (Err (BodyTooLong r.head.place)) else gives (front_of (judge s r).session r ++ frame body)).end ≡ None → over ≡ false
+        by : (over : Bool) → (if over then ends [] (Err (BodyTooLong r.head.place)) else writes (front_of (judge s r).session r ++ frame body)).end ≡ None → over ≡ false
         by true f = absurd (let bad_one : Some (Err (BodyTooLong r.head.place)) ≡ None = f in cc)
         by false f = refl
 
     framed : (q : Record) (body : List ℕ) → nat_lt s.server.config.limits.max_body (length body) ≡ false
-        → written s.server.config.limits.max_body q (front_of (judge s r).session r) (Some body) ≡ gives (front_of (judge s r).session r ++ frame body)
+        → written s.server.config.limits.max_body q (front_of (judge s r).session r) (Some body) ≡ writes (front_of (judge s r).session r ++ frame body)
     framed q body short = rw short refl
 
-    changed : (body : List ℕ) → normal_of s r.body (judge s r).verdict ≡ Some body → (normal_gives s r (judge s r)).end ≡ None → IsWrittenAs limits at s r (normal_record at r (Some body))
+    changed : (body : List ℕ) → canonical_of_record s r.body (judge s r).verdict ≡ Some body → (canonical_output s r (judge s r)).end ≡ None → IsWrittenAs limits at s r (canonical_record at r (Some body))
     changed body some e =
         let short : nat_lt s.server.config.limits.max_body (length body) ≡ false =
         fits body (ap (λ n. (written s.server.config.limits.max_body r (front_of (judge s r).session r) n).end) (sym some) ∙ e) in
-        let small : length body ≤ limits.max_body = subst (λ (l : Bounds). length body ≤ l.max_body) held.limit (ltb-false s.server.config.limits.max_body (length body) short) in
-        let twice = judged_again limits ranges s r.head r.body body held some small in
+        let small : length body ≤ limits.max_body = subst (λ (l : Bounds). length body ≤ l.max_body) received.limit (ltb-false s.server.config.limits.max_body (length body) short) in
+        let twice = judged_again limits ranges s r.head r.body body received some small in
         record {
-          spells = written_spells limits.max_body body small (omega (arith, small, ranges.greatest_body));
+          is_frame_of = written_is_frame limits.max_body body small (omega (arith, small, ranges.greatest_body));
           place = refl;
           side = refl;
           due = refl;
           same = twice.0;
           first = passing r _ ∙ ap (written s.server.config.limits.max_body r (front_of (judge s r).session r)) some ∙ framed r body short;
           again =
-              passing (normal_record at r (Some body)) _ ∙ ap (written s.server.config.limits.max_body (normal_record at r (Some body)) (front_of (judge s r).session r)) twice.1
-              ∙ framed (normal_record at r (Some body)) body short;
-          told = passing r _;
-          told_again = passing (normal_record at r (Some body)) _;
+              passing (canonical_record at r (Some body)) _ ∙ ap (written s.server.config.limits.max_body (canonical_record at r (Some body)) (front_of (judge s r).session r)) twice.1
+              ∙ framed (canonical_record at r (Some body)) body short;
+          error = passing r _;
+          told_again = passing (canonical_record at r (Some body)) _;
         }
 
-    pub written_as : (normalised : Option (List ℕ)) → normal_of s r.body (judge s r).verdict ≡ normalised → (normal_gives s r (judge s r)).end ≡ None → IsWrittenAs limits at s r (normal_record at r normalised)
+    pub written_as : (normalised : Option (List ℕ)) → canonical_of_record s r.body (judge s r).verdict ≡ normalised → (canonical_output s r (judge s r)).end ≡ None → IsWrittenAs limits at s r (canonical_record at r normalised)
     written_as None none e = kept none
     written_as (Some body) some e = changed body some e
 
@@ -137,17 +137,17 @@ module _ (limits : Bounds) (ranges : AreInRange limits) where
   -- The records that are written of some, the first at a place: they are a log's, the same is told of them, and the same is written.
   record AreWritten (at : ℕ) (version : Version) (due : Bool) (s : Session) (rs qs : List Record) : Type 0 where
     are : AreRecords limits.max_body version at due qs
-    out : (course_in normalising s rs).out ≡ front_if due rs ++ together version qs []
-    last : (line_due : Bool) → (course_in normalising s rs).last line_due ≡ line_if line_due
-    again : course_in normalising s qs ≡ course_in normalising s rs
-    same : course_in replaying s qs ≡ course_in replaying s rs
-    to_end : (course_in replaying s rs).stop ≡ None
-    outcome : (course_in normalising s rs).outcome ≡ (course_in replaying s rs).outcome
+    out : (run_output_in normalising s rs).out ≡ front_if due rs ++ together version qs []
+    last : (line_due : Bool) → (run_output_in normalising s rs).last line_due ≡ line_if line_due
+    again : run_output_in normalising s qs ≡ run_output_in normalising s rs
+    same : run_output_in replaying s qs ≡ run_output_in replaying s rs
+    to_end : (run_output_in replaying s rs).stop ≡ None
+    outcome : (run_output_in normalising s rs).outcome ≡ (run_output_in replaying s rs).outcome
 
-  module _ (at before : ℕ) (version : Version) (due : Bool) (s : Session) (r q : Record) (rs qs : List Record) (is : IsRecord limits.max_body version before due r) (told : IsVersionAt version due s)
+  module _ (at before : ℕ) (version : Version) (due : Bool) (s : Session) (r q : Record) (rs qs : List Record) (is : IsRecord limits.max_body version before due r) (error : IsVersionAt version due s)
       (one : IsWrittenAs limits at s r q) (more : AreWritten (at + length (record_bytes version q)) version false (judge s r).session rs qs) where
     fresh : IsVersionAt version r.head.line_due s
-    fresh = subst (λ (b : Bool). IsVersionAt version b s) (sym is.due) told
+    fresh = subst (λ (b : Bool). IsVersionAt version b s) (sym is.due) error
 
     front_is : front_of (judge s r).session r ≡ line_if due ++ mark_of version q.head.side
     front_is =
@@ -155,17 +155,17 @@ module _ (limits : Bounds) (ranges : AreInRange limits) where
         ∙ ap (λ v. line_if due ++ mark_of v r.head.side) (judged_version version s r.head r.body fresh)
         ∙ ap (λ side. line_if due ++ mark_of version side) (sym one.side)
 
-    first : course_in normalising s (r ∷ rs) ≡ written_first (front_of (judge s r).session r ++ q.spelling) (course_in normalising (judge s r).session rs)
-    first = course_of normalising s r rs (judge s r) (front_of (judge s r).session r ++ q.spelling) refl one.first
+    first : run_output_in normalising s (r ∷ rs) ≡ written_first (front_of (judge s r).session r ++ q.spelling) (run_output_in normalising (judge s r).session rs)
+    first = command_output normalising s r rs (judge s r) (front_of (judge s r).session r ++ q.spelling) refl one.first
 
-    told_first : course_in replaying s (r ∷ rs) ≡ written_first [] (course_in replaying (judge s r).session rs)
-    told_first = course_of replaying s r rs (judge s r) [] refl one.told
+    told_first : run_output_in replaying s (r ∷ rs) ≡ written_first [] (run_output_in replaying (judge s r).session rs)
+    told_first = command_output replaying s r rs (judge s r) [] refl one.error
 
     one_more : AreWritten at version due s (r ∷ rs) (q ∷ qs)
     one_more = record {
       are = (
         record {
-          spells = one.spells;
+          is_frame_of = one.is_frame_of;
           side = λ e. one.side ∙ is.side e;
           placed = one.place;
           due = one.due ∙ is.due;
@@ -173,40 +173,40 @@ module _ (limits : Bounds) (ranges : AreInRange limits) where
         more.are,
       );
       out =
-          ap (λ (c : Course). c.out) first ∙ ap (λ z. (front_of (judge s r).session r ++ q.spelling) ++ z) (more.out ∙ ap (λ z. z ++ together version qs []) (front_none rs))
+          ap (λ (c : RunOutput). c.out) first ∙ ap (λ z. (front_of (judge s r).session r ++ q.spelling) ++ z) (more.out ∙ ap (λ z. z ++ together version qs []) (front_none rs))
           ∙ ap (λ z. (z ++ q.spelling) ++ together version qs []) front_is ∙ four (line_if due) (mark_of version q.head.side) q.spelling (together version qs []);
-      last = λ line_due. ap (λ (c : Course). c.last line_due) first ∙ more.last line_due;
+      last = λ line_due. ap (λ (c : RunOutput). c.last line_due) first ∙ more.last line_due;
       again =
-          course_of normalising s q qs (judge s r) (front_of (judge s r).session r ++ q.spelling) one.same one.again
+          command_output normalising s q qs (judge s r) (front_of (judge s r).session r ++ q.spelling) one.same one.again
           ∙ ap (written_first (front_of (judge s r).session r ++ q.spelling)) more.again ∙ sym first;
-      same = course_of replaying s q qs (judge s r) [] one.same one.told_again ∙ ap (written_first []) more.same ∙ sym told_first;
-      to_end = ap (λ (c : Course). c.stop) told_first ∙ more.to_end;
-      outcome = ap (λ (c : Course). c.outcome) first ∙ more.outcome ∙ sym (ap (λ (c : Course). c.outcome) told_first);
+      same = command_output replaying s q qs (judge s r) [] one.same one.told_again ∙ ap (written_first []) more.same ∙ sym told_first;
+      to_end = ap (λ (c : RunOutput). c.stop) told_first ∙ more.to_end;
+      outcome = ap (λ (c : RunOutput). c.outcome) first ∙ more.outcome ∙ sym (ap (λ (c : RunOutput). c.outcome) told_first);
     }
 
   abbrev normal_from : ℕ → Version → Session → List Record → List Record
   normal_from at version s [] = []
   normal_from at version s (r ∷ rs) =
-      normal_record at r (normal_of s r.body (judge s r).verdict)
-      ∷ normal_from (at + length (record_bytes version (normal_record at r (normal_of s r.body (judge s r).verdict)))) version (judge s r).session rs
+      canonical_record at r (canonical_of_record s r.body (judge s r).verdict)
+      ∷ normal_from (at + length (record_bytes version (canonical_record at r (canonical_of_record s r.body (judge s r).verdict)))) version (judge s r).session rs
 
   later : (version : Version) (s : Session) (head : Head) (body : List ℕ) → IsVersionAt version head.line_due s → IsVersionAt version false (judge_at s head body).session
-  later version s head body told = record { told = λ e. absurd (let bad_one : false ≡ true = e in cc); kept = λ _. judged_version version s head body told }
+  later version s head body error = record { error = λ e. absurd (let bad_one : false ≡ true = e in cc); kept = λ _. judged_version version s head body error }
 
   written_log : (at before : ℕ) (version : Version) (due : Bool) (s : Session) (rs : List Record) → IsHeldState limits s.server → IsVersionAt version due s
-      → AreRecords limits.max_body version before due rs → (course_in normalising s rs).stop ≡ None → AreWritten at version due s rs (normal_from at version s rs)
-  written_log at before version due s [] held told each goes =
+      → AreRecords limits.max_body version before due rs → (run_output_in normalising s rs).stop ≡ None → AreWritten at version due s rs (normal_from at version s rs)
+  written_log at before version due s [] received error each goes =
       record { are = tt; out = refl; last = λ line_due. refl; again = refl; same = refl; to_end = refl; outcome = refl }
-  written_log at before version due s (r ∷ rs) held told each goes =
-      let g = normal_gives s r (judge s r) in
-      let on = went_on (unless_bad r (judge s r).verdict g).out (unless_bad r (judge s r).verdict g).end (course_in normalising (judge s r).session rs) goes in
+  written_log at before version due s (r ∷ rs) received error each goes =
+      let g = canonical_output s r (judge s r) in
+      let on = went_on (unless_bad r (judge s r).verdict g).out (unless_bad r (judge s r).verdict g).end (run_output_in normalising (judge s r).session rs) goes in
       let passing : Passes (judge s r).verdict = passes (judge s r).verdict r g on.0 in
-      let inner : g.end ≡ None = ap (λ (h : Gives). h.end) (sym (passing r g)) ∙ on.0 in
-      let one = written_as at s r held each.0.spells passing (normal_of s r.body (judge s r).verdict) refl inner in
-      let q = normal_record at r (normal_of s r.body (judge s r).verdict) in
-      let fresh_here : IsVersionAt version r.head.line_due s = subst (λ (b : Bool). IsVersionAt version b s) (sym each.0.due) told in
-      one_more at before version due s r q rs (normal_from (at + length (record_bytes version q)) version (judge s r).session rs) each.0 told one
-      (written_log (at + length (record_bytes version q)) (before + length (record_bytes version r)) version false (judge s r).session rs (judged_held limits s r held)
+      let inner : g.end ≡ None = ap (λ (h : RecordOutput). h.end) (sym (passing r g)) ∙ on.0 in
+      let one = written_as at s r received each.0.is_frame_of passing (canonical_of_record s r.body (judge s r).verdict) refl inner in
+      let q = canonical_record at r (canonical_of_record s r.body (judge s r).verdict) in
+      let fresh_here : IsVersionAt version r.head.line_due s = subst (λ (b : Bool). IsVersionAt version b s) (sym each.0.due) error in
+      one_more at before version due s r q rs (normal_from (at + length (record_bytes version q)) version (judge s r).session rs) each.0 error one
+      (written_log (at + length (record_bytes version q)) (before + length (record_bytes version r)) version false (judge s r).session rs (judged_held limits s r received)
       (later version s r.head r.body fresh_here) each.1 on.1)
 
 -- ---- the bytes
@@ -230,27 +230,27 @@ version_is max_body One rs bytes are is = λ wanted more e. is_version_one max_b
 version_is max_body Two rs bytes are is = (refl, (together Two rs [], is))
 
 pub start_at : (settings : Settings) (version : Version) → IsVersionAt version (is_line_due version []) (opened (log_config settings))
-start_at settings One = record { told = λ e. absurd (let bad_one : false ≡ true = e in cc); kept = λ e. refl }
-start_at settings Two = record { told = λ e. refl; kept = λ e. absurd (let bad_one : true ≡ false = e in cc) }
+start_at settings One = record { error = λ e. absurd (let bad_one : false ≡ true = e in cc); kept = λ e. refl }
+start_at settings Two = record { error = λ e. refl; kept = λ e. absurd (let bad_one : true ≡ false = e in cc) }
 
 none_together : (limits : Bounds) (ranges : AreInRange limits) (at : ℕ) (version : Version) (s : Session) (rs : List Record) → rs ≡ [] → together version (normal_from limits ranges at version s rs) [] ≡ []
 none_together limits ranges at version s [] e = refl
 none_together limits ranges at version s (r ∷ rs) e = absurd (let lengths = ap length e in cc)
 
 -- What `normalise` writes of a log is a log, of which the same is told and the same is written.
-pub normal_law : NormalLaw
-normal_law settings ranges input log reads whole goes = record {
+pub canonical_log_law : CanonicalLogLaw
+canonical_log_law settings ranges input log reads whole goes = record {
   outcome = w.outcome;
-  tells = record {
+  reports = record {
     log = next;
     reads = record { version = version_is settings.limits.max_body log.version qs bytes w.are is; accepted = λ e. absurd (let bad_one : false ≡ true = e in cc); is = is; each = w.are };
     whole = refl;
-    to_end = ap (λ (c : Course). c.stop) w.same ∙ w.to_end;
+    to_end = ap (λ (c : RunOutput). c.stop) w.same ∙ w.to_end;
     alike = w.same;
   };
-  goes_on = ap (λ (c : Course). c.stop) w.again ∙ goes;
-  again = ap (λ (c : Course). c.out ++ c.last (is_line_due log.version qs)) w.again
-      ∙ ap (λ due. (normal settings log.records).out ++ (normal settings log.records).last due) (due_same settings.limits ranges start log.version s log.records);
+  continues = ap (λ (c : RunOutput). c.stop) w.again ∙ goes;
+  again = ap (λ (c : RunOutput). c.out ++ c.last (is_line_due log.version qs)) w.again
+      ∙ ap (λ due. (canonical_log settings log.records).out ++ (canonical_log settings log.records).last due) (due_same settings.limits ranges start log.version s log.records);
 }
   where
     start : ℕ
@@ -269,10 +269,10 @@ normal_law settings ranges input log reads whole goes = record {
     next = record { version = log.version; records = qs; rest = [] }
 
     bytes : List ℕ
-    bytes = all_of (normal settings) log
+    bytes = all_of (canonical_log settings) log
 
     is : bytes ≡ line_of log.version ++ together log.version qs []
     is =
-        ap (λ z. z ++ (normal settings log.records).last (is_line_due log.version log.records)) w.out
+        ap (λ z. z ++ (canonical_log settings log.records).last (is_line_due log.version log.records)) w.out
         ∙ ap (λ z. (front_if settings.limits ranges (is_line_due log.version []) log.records ++ together log.version qs []) ++ z) (w.last (is_line_due log.version log.records))
         ∙ all_is settings.limits ranges log.version log.records (together log.version qs []) (none_together settings.limits ranges start log.version s log.records)

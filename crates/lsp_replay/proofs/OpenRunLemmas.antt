@@ -19,8 +19,8 @@ use Rattle.lsp_store.specs.Message.{AreTexts}
 use Rattle.lsp_store.specs.Squash.{SquashData, items_meant, squash_batch, squash_of}
 use Rattle.lsp_store.proofs.MessageLemmas.{Accepts, accepted_parts}
 use Rattle.lsp_store.proofs.ScalarLemmas.{scalar-meaning, scalar-text}
-use Rattle.lsp_server.specs.Step.{State, edit_of, encoding_of}
-use Rattle.lsp_replay.specs.Joining.{refusal_of, server_after}
+use Rattle.lsp_server.specs.Step.{State, edit_from_data, encoding_of}
+use Rattle.lsp_replay.specs.inside.Joining.{refusal_of, server_after}
 use Rattle.lsp_replay.specs.Squashed.{joined_by}
 use Rattle.lsp_replay.proofs.AskedLemmas.{IsProperAsked}
 use Rattle.lsp_replay.proofs.JoiningLemmas.{uri_at}
@@ -36,7 +36,7 @@ with_items squash items version = record squash { items = items; version = versi
 pub record IsOpenFrom (t : State) (squash : SquashData) (now : State) : Type 0 where
   pub entry : Entry
   pub found : entry_at t.table squash.uri ≡ Some entry
-  pub held : IsHeldEntry t.config.limits entry
+  pub received : IsHeldEntry t.config.limits entry
   pub is : squash ≡ with_items (squash_of t.config.limits (encoding_of t) entry) squash.items squash.version
   pub batch : List Edit
   pub means : meaning (units_in (encoding_of t)) (chars entry.text) batch ≡ Ok squash.items
@@ -67,18 +67,18 @@ left_chars units text batch items utf8 texts means =
 
 -- ---- a change begins a run
 
-module _ (t : State) (p : ChangeData) (entry : Entry) (found : entry_at t.table p.uri ≡ Some entry) (held : IsHeldEntry t.config.limits entry) (proper : IsProperAsked p) (may : refusal_of t p ≡ None) where
-  begun_accepts : Accepts t.config.limits (units_in (encoding_of t)) entry p.version (map edit_of p.changes)
-  begun_accepts = accepted_parts t.config.limits (units_in (encoding_of t)) entry p.version (map edit_of p.changes) (rw found at may)
+module _ (t : State) (p : ChangeData) (entry : Entry) (found : entry_at t.table p.uri ≡ Some entry) (received : IsHeldEntry t.config.limits entry) (proper : IsProperAsked p) (may : refusal_of t p ≡ None) where
+  begun_accepts : Accepts t.config.limits (units_in (encoding_of t)) entry p.version (map edit_from_data p.changes)
+  begun_accepts = accepted_parts t.config.limits (units_in (encoding_of t)) entry p.version (map edit_from_data p.changes) (rw found at may)
 
   abbrev begun_squash : SquashData
   begun_squash = joined_by p (squash_of t.config.limits (encoding_of t) entry)
 
   begun_items : begun_squash.items ≡ begun_accepts.items
   begun_items =
-      ap (λ x. then_items (plain (chars entry.text)) (items_meant (meaning (units_in (encoding_of t)) x (map edit_of p.changes)))) (plain_text (chars entry.text))
+      ap (λ x. then_items (plain (chars entry.text)) (items_meant (meaning (units_in (encoding_of t)) x (map edit_from_data p.changes)))) (plain_text (chars entry.text))
       ∙ ap (λ m. then_items (plain (chars entry.text)) (items_meant m)) begun_accepts.means
-      ∙ plain_then (units_in (encoding_of t)) (chars entry.text) (map edit_of p.changes) begun_accepts.items begun_accepts.means
+      ∙ plain_then (units_in (encoding_of t)) (chars entry.text) (map edit_from_data p.changes) begun_accepts.items begun_accepts.means
 
   same_uri : entry.uri ≡ p.uri
   same_uri = uri_at t.table p.uri entry found
@@ -87,9 +87,9 @@ module _ (t : State) (p : ChangeData) (entry : Entry) (found : entry_at t.table 
   begins_from = record {
     entry = entry;
     found = ap (entry_at t.table) same_uri ∙ found;
-    held = held;
+    received = received;
     is = refl;
-    batch = map edit_of p.changes;
+    batch = map edit_from_data p.changes;
     means = begun_accepts.means ∙ ap Ok (sym begun_items);
     texts = proper.texts;
     newer = begun_accepts.newer;
@@ -98,7 +98,7 @@ module _ (t : State) (p : ChangeData) (entry : Entry) (found : entry_at t.table 
     version = proper.version;
     now_is =
         ap (λ (table : List Entry). record t { table = table })
-        (change_puts (units_in (encoding_of t)) t.table p.uri p.version (map edit_of p.changes) entry found
+        (change_puts (units_in (encoding_of t)) t.table p.uri p.version (map edit_from_data p.changes) entry found
         ∙ ap (λ m. put t.table p.uri p.version (meant_text entry.text m)) begun_accepts.means
         ∙ ap (λ items. put t.table p.uri p.version (bytes_after entry.text items)) (sym begun_items)
         ∙ ap (λ u. put t.table u p.version (bytes_after entry.text begun_squash.items)) (sym same_uri));
@@ -134,20 +134,20 @@ module _ (t : State) (squash : SquashData) (now : State) (from : IsOpenFrom t sq
   may_now : refusal_of next p ≡ None
   may_now = subst (λ (s : State). refusal_of s p ≡ None) from.now_is may
 
-  accepts_now : Accepts t.config.limits (units_in (encoding_of t)) reached_now p.version (map edit_of p.changes)
-  accepts_now = accepted_parts t.config.limits (units_in (encoding_of t)) reached_now p.version (map edit_of p.changes) (rw found_now at may_now)
+  accepts_now : Accepts t.config.limits (units_in (encoding_of t)) reached_now p.version (map edit_from_data p.changes)
+  accepts_now = accepted_parts t.config.limits (units_in (encoding_of t)) reached_now p.version (map edit_from_data p.changes) (rw found_now at may_now)
 
   chars_now : chars reached_text ≡ text_of (chars from.entry.text) squash.items
-  chars_now = left_chars (units_in (encoding_of t)) from.entry.text from.batch squash.items from.held.utf8 from.texts from.means
+  chars_now = left_chars (units_in (encoding_of t)) from.entry.text from.batch squash.items from.received.utf8 from.texts from.means
 
-  means_now : meaning (units_in (encoding_of t)) (text_of (chars from.entry.text) squash.items) (map edit_of p.changes) ≡ Ok accepts_now.items
-  means_now = ap (λ x. meaning (units_in (encoding_of t)) x (map edit_of p.changes)) (sym chars_now) ∙ accepts_now.means
+  means_now : meaning (units_in (encoding_of t)) (text_of (chars from.entry.text) squash.items) (map edit_from_data p.changes) ≡ Ok accepts_now.items
+  means_now = ap (λ x. meaning (units_in (encoding_of t)) x (map edit_from_data p.changes)) (sym chars_now) ∙ accepts_now.means
 
   abbrev longer_squash : SquashData
   longer_squash = joined_by p squash
 
-  items_in : (k : SquashData) → k ≡ squash → items_meant (meaning (units_in k.encoding) (text_of (chars k.text) squash.items) (map edit_of p.changes)) ≡ items_meant (meaning (units_in squash.encoding) (text_of (chars squash.text) squash.items) (map edit_of p.changes))
-  items_in k e = ap (λ (x : SquashData). items_meant (meaning (units_in x.encoding) (text_of (chars x.text) squash.items) (map edit_of p.changes))) e
+  items_in : (k : SquashData) → k ≡ squash → items_meant (meaning (units_in k.encoding) (text_of (chars k.text) squash.items) (map edit_from_data p.changes)) ≡ items_meant (meaning (units_in squash.encoding) (text_of (chars squash.text) squash.items) (map edit_from_data p.changes))
+  items_in k e = ap (λ (x : SquashData). items_meant (meaning (units_in x.encoding) (text_of (chars x.text) squash.items) (map edit_from_data p.changes))) e
 
   longer_items : longer_squash.items ≡ then_items squash.items accepts_now.items
   longer_items =
@@ -163,11 +163,11 @@ module _ (t : State) (squash : SquashData) (now : State) (from : IsOpenFrom t sq
   goes_on_from = record {
     entry = from.entry;
     found = from.found;
-    held = from.held;
+    received = from.received;
     is = ap (λ (k : SquashData). with_items k longer_squash.items longer_squash.version) from.is;
-    batch = from.batch ++ map edit_of p.changes;
-    means = then_means (units_in (encoding_of t)) (chars from.entry.text) from.batch (map edit_of p.changes) squash.items accepts_now.items from.means means_now ∙ ap Ok (sym longer_items);
-    texts = texts_more from.batch (map edit_of p.changes) from.texts proper.texts;
+    batch = from.batch ++ map edit_from_data p.changes;
+    means = then_means (units_in (encoding_of t)) (chars from.entry.text) from.batch (map edit_from_data p.changes) squash.items accepts_now.items from.means means_now ∙ ap Ok (sym longer_items);
+    texts = texts_more from.batch (map edit_from_data p.changes) from.texts proper.texts;
     newer = newer_still p.version squash.version from.entry.version accepts_now.newer from.newer;
     short = subst (λ (text : List ℕ). length text ≤ t.config.limits.max_text) left_now accepts_now.short;
     uri = from.uri;
@@ -175,7 +175,7 @@ module _ (t : State) (squash : SquashData) (now : State) (from : IsOpenFrom t sq
     now_is =
         ap (λ (s : State). server_after s p) from.now_is
         ∙ ap (λ (table : List Entry). record t { table = table })
-        (change_puts (units_in (encoding_of t)) next.table p.uri p.version (map edit_of p.changes) reached_now found_now
+        (change_puts (units_in (encoding_of t)) next.table p.uri p.version (map edit_from_data p.changes) reached_now found_now
         ∙ ap (λ m. put next.table p.uri p.version (meant_text reached_text m)) accepts_now.means
         ∙ ap (λ u. put next.table u p.version (bytes_after reached_text accepts_now.items)) uri_is
         ∙ put_twice t.table squash.uri squash.version p.version reached_text (bytes_after reached_text accepts_now.items)
@@ -195,7 +195,7 @@ module _ (t : State) (squash : SquashData) (now : State) (from : IsOpenFrom t sq
       sym (put_at t.table squash.uri squash.version reached from.entry from.found) ∙ sym (ap (λ (s : State). entry_at s.table squash.uri) from.now_is) ∙ ap (entry_at now.table) (sym same) ∙ found in
       let one : record from.entry { version = squash.version; text = reached } ≡ entry = cc in
       ap (λ (k : SquashData). text_of (chars k.text) squash.items) from.is
-      ∙ sym (left_chars (units_in (encoding_of t)) from.entry.text from.batch squash.items from.held.utf8 from.texts from.means)
+      ∙ sym (left_chars (units_in (encoding_of t)) from.entry.text from.batch squash.items from.received.utf8 from.texts from.means)
       ∙ ap (λ (e : Entry). chars e.text) one
 
 -- ---- all batches of a run as one message
@@ -207,8 +207,8 @@ module _ (t : State) (squash : SquashData) (now : State) (from : IsOpenFrom t sq
   proper_at : IsProperAt t squash.uri squash.version from.entry from.batch squash.items
   proper_at = record {
     found = from.found;
-    utf8 = from.held.utf8;
-    held = from.held.short;
+    utf8 = from.received.utf8;
+    received = from.received.short;
     uri_utf8 = from.uri;
     version_fits = from.version;
     means = from.means;

@@ -3,10 +3,10 @@ use Rattle.std.proofs.Common.{◌≡◌, ◌≢◌, ℕ, ◌+◌, ◌≤◌, Boo
 use Rattle.std.specs.Prelude.{if◌then◌else◌}
 use Rattle.std.specs.Str.{chars}
 use Rattle.std.proofs.lemmas.Bool.{ltb-false}
-use Rattle.lsp_frame.specs.Faults.{place_behind}
+use Rattle.lsp_frame.specs.Faults.{place_after}
 use Rattle.lsp_frame.specs.Frame.{frame}
 use Rattle.lsp_frame.specs.Limits.{Bounds, AreInRange}
-use Rattle.lsp_frame.proofs.WrittenLemmas.{written_spells}
+use Rattle.lsp_frame.proofs.WrittenLemmas.{written_is_frame}
 use Rattle.lsp_text.specs.Units.{units_in}
 use Rattle.lsp_edit.proofs.EditedLemmas.{plain_text}
 use Rattle.lsp_message.specs.Message.{reading}
@@ -17,21 +17,21 @@ use Rattle.lsp_store.specs.Table.{Entry, Refusal, entry_at}
 use Rattle.lsp_server.specs.declared.phase.Phase.TheVariants.{Running}
 use Rattle.lsp_server.specs.Incoming.{incoming_of}
 use Rattle.lsp_server.specs.Answer.{changed}
-use Rattle.lsp_server.specs.Step.{State, edit_of, encoding_of}
+use Rattle.lsp_server.specs.Step.{State, edit_from_data, encoding_of}
 use Rattle.lsp_log.specs.declared.record.Version.{Version}
 use Rattle.lsp_log.specs.declared.record.Side.TheVariants.{Client}
 use Rattle.lsp_log.specs.Log.{Record, IsRecord, AreRecords, together, record_bytes, mark_of}
-use Rattle.lsp_log.proofs.LogLemmas.{are_push, due_behind, together_push}
+use Rattle.lsp_log.proofs.LogLemmas.{are_push, due_after, together_push}
 use Rattle.std.proofs.lemmas.Slice.Eq.{bytes_eq-Decides}
 use Rattle.lsp_log.specs.declared.record.Side.{Side}
 use Rattle.lsp_store.proofs.LawLemmas.{MayChange, change_parts}
 use Rattle.lsp_replay.proofs.JoiningLemmas.{uri_at}
 use Rattle.lsp_replay.proofs.SingleLemmas.{IsSingle, is_single, single_record}
-use Rattle.lsp_replay.specs.Course.{written_first}
-use Rattle.lsp_replay.specs.Engines.{course_in, replaying, front_of, line_if, change_in, normal_body}
-use Rattle.lsp_replay.specs.Joining.{server_after}
+use Rattle.lsp_replay.specs.RunOutput.{written_first}
+use Rattle.lsp_replay.specs.Engines.{run_output_in, replaying, front_of, line_if, change_in, canonical_change_body}
+use Rattle.lsp_replay.specs.inside.Joining.{server_after}
 use Rattle.lsp_replay.specs.Session.{Session, answered, bad, judge, versioned}
-use Rattle.lsp_replay.specs.Squashed.{Run, joined_by, change_gives, longer, squash_step, squashed_in, run_bytes, end_bytes}
+use Rattle.lsp_replay.specs.Squashed.{Run, joined_by, change_output, longer, squash_step, squashed_in, run_bytes, end_bytes}
 use Rattle.lsp_replay.proofs.CanonicalChangeLemmas.{IsCanonicalChange, canonical_at, canonical_change}
 use Rattle.lsp_replay.proofs.ChangeLemmas.{IsAccepted, IsDone, is_done, proper_change, session_after}
 use Rattle.lsp_replay.proofs.JudgeLemmas.{IsVersionAt, judged_version}
@@ -47,7 +47,7 @@ pub record IsPending (max_body at : ℕ) (version : Version) (due : Bool) (s : S
   pub from : IsOpenFrom t.server run.squash s.server
   pub running : t.server.phase ≡ Running
   pub waits : t.expected ≡ None
-  pub told : IsVersionAt version due t
+  pub error : IsVersionAt version due t
   pub like : IsAlike (record (versioned t due) { server = s.server }) s
   pub apart : IsApart before run.squash.uri
   pub front : run.front ≡ line_if due ++ mark_of version Client
@@ -59,37 +59,37 @@ pub record IsPending (max_body at : ℕ) (version : Version) (due : Bool) (s : S
   pub last : Session
   pub last_like : IsAlike s last
   pub last_version : last.version ≡ version
-  pub course : (more : List Record) → squashed_in t before (ss ++ more) ≡ written_first (end_bytes before) (squashed_in last (Some run) more)
-  pub replay : (more : List Record) → course_in replaying t (ss ++ more) ≡ course_in replaying last more
+  pub run_output : (more : List Record) → squashed_in t before (ss ++ more) ≡ written_first (end_bytes before) (squashed_in last (Some run) more)
+  pub replay : (more : List Record) → run_output_in replaying t (ss ++ more) ≡ run_output_in replaying last more
 
 -- no line is due later
 pub later : (version : Version) (s : Session) → s.version ≡ version → IsVersionAt version false s
-later version s is = record { told = λ e. absurd (let wrong : false ≡ true = e in cc); kept = λ _. is }
+later version s is = record { error = λ e. absurd (let wrong : false ≡ true = e in cc); kept = λ _. is }
 
-pub behind_some : (due : Bool) (rs : List Record) → NonEmpty rs → due_behind due rs ≡ false
+pub behind_some : (due : Bool) (rs : List Record) → NonEmpty rs → due_after due rs ≡ false
 behind_some due [] some = absurd some
 behind_some due (r ∷ rs) some = refl
 
 -- ---- what an accepted change gives
 
-module _ (t : Session) (before : Option Run) (q : Record) (p : ChangeData) (a : IsAccepted t q p) (d : IsDone t q p) (short : length (normal_body t.server p) ≤ t.server.config.limits.max_body) where
+module _ (t : Session) (before : Option Run) (q : Record) (p : ChangeData) (a : IsAccepted t q p) (d : IsDone t q p) (short : length (canonical_change_body t.server p) ≤ t.server.config.limits.max_body) where
   abbrev its_front : List ℕ
   its_front = front_of (judge t q).session q
 
   abbrev its_single : List ℕ
-  its_single = its_front ++ frame (normal_body t.server p)
+  its_single = its_front ++ frame (canonical_change_body t.server p)
 
-  gives_change : squash_step t before q (judge t q) ≡ change_gives t.server p its_front its_single before
+  gives_change : squash_step t before q (judge t q) ≡ change_output t.server p its_front its_single before
   gives_change =
-      step_changed t.server q its_front (frame (normal_body t.server p)) before (change_in (incoming_of (reading q.body))) (judge t q).verdict
-      (record { params = p; is = ap change_in a.asks; accepted = d.told; framed = record { is = refl; within = short } })
+      step_changed t.server q its_front (frame (canonical_change_body t.server p)) before (change_in (incoming_of (reading q.body))) (judge t q).verdict
+      (record { params = p; is = ap change_in a.asks; accepted = d.error; framed = record { is = refl; within = short } })
 
   -- it begins a run
   pub begun_step : (entry : Entry) → entry_at t.server.table p.uri ≡ Some entry → IsApart before p.uri
       → squash_step t before q (judge t q) ≡ record { out = end_bytes before; end = None; run = Some (record { front = its_front; singles = its_single; squash = joined_by p (squash_of t.server.config.limits (encoding_of t.server) entry) }) }
   begun_step entry found apart = gives_change ∙ by before apart
     where
-      by : (b : Option Run) → IsApart b p.uri → change_gives t.server p its_front its_single b
+      by : (b : Option Run) → IsApart b p.uri → change_output t.server p its_front its_single b
           ≡ record { out = end_bytes b; end = None; run = Some (record { front = its_front; singles = its_single; squash = joined_by p (squash_of t.server.config.limits (encoding_of t.server) entry) }) }
       by None apart = rw found refl
       by (Some run) apart = rw (apart, found) refl
@@ -97,37 +97,37 @@ module _ (t : Session) (before : Option Run) (q : Record) (p : ChangeData) (a : 
   -- it goes on with the open run
   pub longer_step : (run : Run) → before ≡ Some run → bytes_eq p.uri run.squash.uri ≡ true
       → squash_step t before q (judge t q) ≡ record { out = []; end = None; run = Some (longer run p its_single) }
-  longer_step run is same = gives_change ∙ ap (change_gives t.server p its_front its_single) is ∙ rw same refl
+  longer_step run is same = gives_change ∙ ap (change_output t.server p its_front its_single) is ∙ rw same refl
 
   pub not_bad : (judge t q).verdict ≢ bad
-  not_bad e = let wrong : answered changed ≡ bad = sym d.told ∙ e in cc
+  not_bad e = let wrong : answered changed ≡ bad = sym d.error ∙ e in cc
 
   -- what stands in front of it
   pub front_is : (version : Version) → IsVersionAt version q.head.line_due t → its_front ≡ line_if q.head.line_due ++ mark_of version Client
-  front_is version told =
-      ap (λ v. line_if q.head.line_due ++ mark_of v q.head.side) (judged_version version t q.head q.body told) ∙ ap (λ side. line_if q.head.line_due ++ mark_of version side) a.side
+  front_is version error =
+      ap (λ v. line_if q.head.line_due ++ mark_of v q.head.side) (judged_version version t q.head q.body error) ∙ ap (λ side. line_if q.head.line_due ++ mark_of version side) a.side
 
 -- ---- no run is open
 
 pub none_ended : (max_body at : ℕ) (version : Version) (due : Bool) (s t : Session) → IsAlike s t → IsVersionAt version due t → IsEnded max_body at version due s None t None
-none_ended max_body at version due s t like told = record {
+none_ended max_body at version due s t like error = record {
   us = [];
   last = t;
   last_run = None;
   like = like;
-  told = told;
+  error = error;
   some = λ none. absurd none;
   same_bytes = refl;
   apart = λ uri apart. tt;
   are = tt;
   bytes = refl;
-  course = λ more. refl;
+  run_output = λ more. refl;
   replay = λ more. refl;
 }
 
-pub none_behind : (max_body at : ℕ) (version : Version) (due : Bool) (s t : Session) (like : IsAlike s t) (told : IsVersionAt version due t) → due_behind due (none_ended max_body at version due s t like told).us ≡ due
+pub none_after : (max_body at : ℕ) (version : Version) (due : Bool) (s t : Session) (like : IsAlike s t) (error : IsVersionAt version due t) → due_after due (none_ended max_body at version due s t like error).us ≡ due
 unfolding none_ended
-none_behind max_body at version due s t like told = refl
+none_after max_body at version due s t like error = refl
 
 -- ---- the run ends
 
@@ -139,13 +139,13 @@ module _ (limits : Bounds) (ranges : AreInRange limits) (at : ℕ) (version : Ve
     last = p.last;
     last_run = Some run;
     like = p.last_like;
-    told = subst (λ (b : Bool). IsVersionAt version b p.last) (sym (behind_some due p.ss p.some)) (later version p.last p.last_version);
+    error = subst (λ (b : Bool). IsVersionAt version b p.last) (sym (behind_some due p.ss p.some)) (later version p.last p.last_version);
     some = λ _. p.some;
     same_bytes = refl;
     apart = λ uri apart. apart;
     are = p.are;
     bytes = rw is p.singles;
-    course = p.course;
+    run_output = p.run_output;
     replay = p.replay;
   }
 
@@ -182,18 +182,18 @@ module _ (limits : Bounds) (ranges : AreInRange limits) (at : ℕ) (version : Ve
     body_is : body ≡ change_body run.squash.uri run.squash.version (canonical_at t.server entry run.squash.items)
     body_is = ap (change_body run.squash.uri run.squash.version) (one_batch t.server run.squash s.server p.from here few)
 
-    own : normal_body t.server change ≡ body
+    own : canonical_change_body t.server change ≡ body
     own = message.own ∙ sym body_is
 
     within : length body ≤ limits.max_body
     within = subst (λ (l : Bounds). length body ≤ l.max_body) (same_limits ∙ limit) (ltb-false run.squash.limits.max_body (length body) both.1)
 
-    short : length (normal_body t.server change) ≤ t.server.config.limits.max_body
-    short = subst (λ (l : Bounds). length (normal_body t.server change) ≤ l.max_body) (sym limit) (subst (λ (b : List ℕ). length b ≤ limits.max_body) (sym own) within)
+    short : length (canonical_change_body t.server change) ≤ t.server.config.limits.max_body
+    short = subst (λ (l : Bounds). length (canonical_change_body t.server change) ≤ l.max_body) (sym limit) (subst (λ (b : List ℕ). length b ≤ limits.max_body) (sym own) within)
 
     -- its one record
     abbrev one : Record
-    one = record { head = record { side = Client; place = place_behind 0 at; line_due = due }; spelling = frame body; body = body }
+    one = record { head = record { side = Client; place = place_after 0 at; line_due = due }; spelling = frame body; body = body }
 
     accepted : IsAccepted t one change
     accepted = record { side = refl; asks = ap (λ b. incoming_of (reading b)) body_is ∙ message.asks; running = p.running; waits = p.waits; may = message.may }
@@ -205,7 +205,7 @@ module _ (limits : Bounds) (ranges : AreInRange limits) (at : ℕ) (version : Ve
     front = front_of (judge t one).session one
 
     abbrev one_run : Run
-    one_run = record { front = front; singles = front ++ frame (normal_body t.server change); squash = joined_by change (squash_of t.server.config.limits (encoding_of t.server) entry) }
+    one_run = record { front = front; singles = front ++ frame (canonical_change_body t.server change); squash = joined_by change (squash_of t.server.config.limits (encoding_of t.server) entry) }
 
     joins : one_run.squash ≡ run.squash
     joins = one_joins t.server run.squash s.server p.from here few
@@ -214,7 +214,7 @@ module _ (limits : Bounds) (ranges : AreInRange limits) (at : ℕ) (version : Ve
     step = begun_step t before one change accepted done short entry p.from.found p.apart
 
     same_front : front ≡ run.front
-    same_front = front_is t before one change accepted done short version p.told ∙ sym p.front
+    same_front = front_is t before one change accepted done short version p.error ∙ sym p.front
 
     leaves : server_after t.server change ≡ s.server
     leaves = message.leaves ∙ sym p.from.now_is
@@ -236,15 +236,15 @@ module _ (limits : Bounds) (ranges : AreInRange limits) (at : ℕ) (version : Ve
       like =
           alike_both (record (versioned t due) { server = s.server }) s (judge t one).session p.like
           (subst (λ (server : State). IsAlike (record (versioned t due) { server = server }) (judge t one).session) leaves done.leaves);
-      told = later version (judge t one).session (judged_version version t one.head one.body p.told);
+      error = later version (judge t one).session (judged_version version t one.head one.body p.error);
       some = λ _. tt;
       same_bytes = same_end;
       apart = λ uri apart. ap (λ (k : SquashData). bytes_eq uri k.uri) joins ∙ apart;
-      are = (record { spells = written_spells limits.max_body body within (omega (arith, within, ranges.greatest_body)); side = λ e. refl; placed = refl; due = refl }, tt);
+      are = (record { is_frame_of = written_is_frame limits.max_body body within (omega (arith, within, ranges.greatest_body)); side = λ e. refl; placed = refl; due = refl }, tt);
       bytes =
           one_written ∙ ap (λ f. f ++ frame body) p.front ∙ append_assoc (line_if due) (mark_of version Client) (frame body)
           ∙ ap (λ z. line_if due ++ z) (sym (append-nil (mark_of version Client ++ frame body)));
-      course = λ more. step_on t before one more (end_bytes before) (Some one_run) step;
+      run_output = λ more. step_on t before one more (end_bytes before) (Some one_run) step;
       replay = λ more. report_on t one more (not_bad t before one change accepted done short);
     }
 
@@ -261,7 +261,7 @@ module _ (limits : Bounds) (ranges : AreInRange limits) (at : ℕ) (version : Ve
 abbrev pub run_at : Session → Record → ChangeData → Entry → Run
 run_at s r p entry = record {
   front = front_of (judge s r).session r;
-  singles = front_of (judge s r).session r ++ frame (normal_body s.server p);
+  singles = front_of (judge s r).session r ++ frame (canonical_change_body s.server p);
   squash = joined_by p (squash_of s.server.config.limits (encoding_of s.server) entry);
 }
 
@@ -298,19 +298,19 @@ after_out s t due p again next like leaves after = (after.0, after.1, after.2 �
 
 pub record IsBegunRun (max_body at : ℕ) (version : Version) (due : Bool) (s : Session) (run : Option Run) (r : Record) (t : Session) (before : Option Run) : Type 0 where
   pub next : Run
-  pub gives : squash_step s run r (judge s r) ≡ record { out = end_bytes run; end = None; run = Some next }
+  pub writes : squash_step s run r (judge s r) ≡ record { out = end_bytes run; end = None; run = Some next }
   pub pending : IsPending max_body at version due (judge s r).session next t before
 
 module _ (limits : Bounds) (ranges : AreInRange limits) (at : ℕ) (version : Version) (due : Bool) (s : Session) (run : Option Run) (t : Session) (before : Option Run) (r : Record) (p : ChangeData)
-    (like : IsAlike s t) (told : IsVersionAt version due t) (told_in : IsVersionAt version r.head.line_due s) (apart_in : IsApart run p.uri) (apart : IsApart before p.uri) (held : IsHeldState limits s.server)
-    (a : IsAccepted s r p) (fits : length (normal_body s.server p) ≤ s.server.config.limits.max_body) (same_due : r.head.line_due ≡ due) where
+    (like : IsAlike s t) (error : IsVersionAt version due t) (told_in : IsVersionAt version r.head.line_due s) (apart_in : IsApart run p.uri) (apart : IsApart before p.uri) (received : IsHeldState limits s.server)
+    (a : IsAccepted s r p) (fits : length (canonical_change_body s.server p) ≤ s.server.config.limits.max_body) (same_due : r.head.line_due ≡ due) where
   there : t.server ≡ s.server
   there = same_server s t like
 
   single : IsSingle limits.max_body at version due t p (single_record at t r p)
   single =
-      is_single limits ranges at version due t r p (subst (IsHeldState limits) (sym there) held) (as_accepted s t r p like a)
-      (subst (λ (server : State). length (normal_body server p) ≤ server.config.limits.max_body) (sym there) fits) same_due
+      is_single limits ranges at version due t r p (subst (IsHeldState limits) (sym there) received) (as_accepted s t r p like a)
+      (subst (λ (server : State). length (canonical_change_body server p) ≤ server.config.limits.max_body) (sym there) fits) same_due
 
   abbrev q : Record
   q = single_record at t r p
@@ -321,8 +321,8 @@ module _ (limits : Bounds) (ranges : AreInRange limits) (at : ℕ) (version : Ve
   done_out : IsDone t q single.again
   done_out = is_done t q single.again single.accepted
 
-  may_in : MayChange s.server.config.limits (units_in (encoding_of s.server)) s.server.table p.uri p.version (map edit_of p.changes)
-  may_in = change_parts s.server.config.limits (units_in (encoding_of s.server)) s.server.table p.uri p.version (map edit_of p.changes) a.may
+  may_in : MayChange s.server.config.limits (units_in (encoding_of s.server)) s.server.table p.uri p.version (map edit_from_data p.changes)
+  may_in = change_parts s.server.config.limits (units_in (encoding_of s.server)) s.server.table p.uri p.version (map edit_from_data p.changes) a.may
 
   abbrev its_entry : Entry
   its_entry = may_in.entry
@@ -341,7 +341,7 @@ module _ (limits : Bounds) (ranges : AreInRange limits) (at : ℕ) (version : Ve
 
   front_out : front_of (judge t q).session q ≡ line_if due ++ mark_of version Client
   front_out =
-      front_is t before q single.again single.accepted done_out single.within version (subst (λ b. IsVersionAt version b t) (sym same_due) told) ∙ ap (λ b. line_if b ++ mark_of version Client) same_due
+      front_is t before q single.again single.accepted done_out single.within version (subst (λ b. IsVersionAt version b t) (sym same_due) error) ∙ ap (λ b. line_if b ++ mark_of version Client) same_due
 
   same_squash : joined_by single.again (squash_of t.server.config.limits (encoding_of t.server) its_entry) ≡ joined_by p (squash_of s.server.config.limits (encoding_of s.server) its_entry)
   same_squash =
@@ -355,7 +355,7 @@ module _ (limits : Bounds) (ranges : AreInRange limits) (at : ℕ) (version : Ve
   same_run : run_at t q single.again its_entry ≡ run_at s r p its_entry
   same_run = λ i. record {
     front = (front_out ∙ sym front_in) i;
-    singles = (ap₂ (λ (f b : List ℕ). f ++ frame b) (front_out ∙ sym front_in) (single.own ∙ ap (λ (server : State). normal_body server p) there)) i;
+    singles = (ap₂ (λ (f b : List ℕ). f ++ frame b) (front_out ∙ sym front_in) (single.own ∙ ap (λ (server : State). canonical_change_body server p) there)) i;
     squash = same_squash i;
   }
 
@@ -370,17 +370,17 @@ module _ (limits : Bounds) (ranges : AreInRange limits) (at : ℕ) (version : Ve
     where
       entry_held : IsHeldEntry t.server.config.limits its_entry
       entry_held = subst (λ (server : State). IsHeldEntry server.config.limits its_entry) (sym there)
-          (subst (λ (l : Bounds). IsHeldEntry l its_entry) (sym held.limit) (held_at limits s.server.table p.uri its_entry held.table may_in.is_open))
+          (subst (λ (l : Bounds). IsHeldEntry l its_entry) (sym received.limit) (held_at limits s.server.table p.uri its_entry received.table may_in.is_open))
 
   pub begun_run : IsBegunRun limits.max_body at version due s run r t before
   begun_run = record {
     next = run_at s r p its_entry;
-    gives = step_in;
+    writes = step_in;
     pending = record {
       from = from_here;
       running = ap (λ (server : State). server.phase) there ∙ a.running;
       waits = ap (λ (u : Session). u.expected) like.2 ∙ a.waits;
-      told = told;
+      error = error;
       like = after_alike s t due p (judge s r).session like (subst (λ b. IsAlike (session_after s b p) (judge s r).session) same_due done_in.leaves);
       apart = subst (IsApart before) (sym (uri_at s.server.table p.uri its_entry may_in.is_open)) apart;
       front = front_in;
@@ -388,13 +388,13 @@ module _ (limits : Bounds) (ranges : AreInRange limits) (at : ℕ) (version : Ve
       some = tt;
       are = (single.is, tt);
       singles =
-          ap (λ f. f ++ frame (normal_body s.server p)) front_in ∙ append_assoc (line_if due) (mark_of version Client) (frame (normal_body s.server p))
+          ap (λ f. f ++ frame (canonical_change_body s.server p)) front_in ∙ append_assoc (line_if due) (mark_of version Client) (frame (canonical_change_body s.server p))
           ∙ ap (λ z. line_if due ++ z)
-          (ap₂ (λ (side : Side) (b : List ℕ). mark_of version side ++ frame b) (sym a.side) (ap (λ (server : State). normal_body server p) (sym there)) ∙ sym (append-nil (record_bytes version q)));
+          (ap₂ (λ (side : Side) (b : List ℕ). mark_of version side ++ frame b) (sym a.side) (ap (λ (server : State). canonical_change_body server p) (sym there)) ∙ sym (append-nil (record_bytes version q)));
       last = (judge t q).session;
       last_like = alike_both (session_after s due p) (judge s r).session (judge t q).session (subst (λ b. IsAlike (session_after s b p) (judge s r).session) same_due done_in.leaves) out_like;
-      last_version = judged_version version t q.head q.body (subst (λ b. IsVersionAt version b t) (sym same_due) told);
-      course = λ more. step_on t before q more (end_bytes before) (Some (run_at s r p its_entry)) (step_out ∙ ap (λ o. record { out = end_bytes before; end = None; run = Some o }) same_run);
+      last_version = judged_version version t q.head q.body (subst (λ b. IsVersionAt version b t) (sym same_due) error);
+      run_output = λ more. step_on t before q more (end_bytes before) (Some (run_at s r p its_entry)) (step_out ∙ ap (λ o. record { out = end_bytes before; end = None; run = Some o }) same_run);
       replay = λ more. report_on t q more (not_bad t before q single.again single.accepted done_out single.within);
     };
   }
@@ -407,12 +407,12 @@ module _ (limits : Bounds) (ranges : AreInRange limits) (at : ℕ) (version : Ve
 
 pub record IsLongerRun (max_body at : ℕ) (version : Version) (due : Bool) (s : Session) (run : Run) (r : Record) (t : Session) (before : Option Run) : Type 0 where
   pub next : Run
-  pub gives : squash_step s (Some run) r (judge s r) ≡ record { out = []; end = None; run = Some next }
+  pub writes : squash_step s (Some run) r (judge s r) ≡ record { out = []; end = None; run = Some next }
   pub pending : IsPending max_body at version due (judge s r).session next t before
 
 module _ (limits : Bounds) (ranges : AreInRange limits) (at : ℕ) (version : Version) (due : Bool) (s : Session) (run : Run) (t : Session) (before : Option Run) (r : Record) (p : ChangeData)
-    (open_run : IsPending limits.max_body at version due s run t before) (told_in : IsVersionAt version r.head.line_due s) (same : bytes_eq p.uri run.squash.uri ≡ true) (held : IsHeldState limits s.server)
-    (a : IsAccepted s r p) (fits : length (normal_body s.server p) ≤ s.server.config.limits.max_body) (not_due : r.head.line_due ≡ false) where
+    (open_run : IsPending limits.max_body at version due s run t before) (told_in : IsVersionAt version r.head.line_due s) (same : bytes_eq p.uri run.squash.uri ≡ true) (received : IsHeldState limits s.server)
+    (a : IsAccepted s r p) (fits : length (canonical_change_body s.server p) ≤ s.server.config.limits.max_body) (not_due : r.head.line_due ≡ false) where
   abbrev last : Session
   last = open_run.last
 
@@ -427,8 +427,8 @@ module _ (limits : Bounds) (ranges : AreInRange limits) (at : ℕ) (version : Ve
 
   another : IsSingle limits.max_body place version false last p (single_record place last r p)
   another =
-      is_single limits ranges place version false last r p (subst (IsHeldState limits) (sym equal) held) (as_accepted s last r p open_run.last_like a)
-      (subst (λ (server : State). length (normal_body server p) ≤ server.config.limits.max_body) (sym equal) fits) not_due
+      is_single limits ranges place version false last r p (subst (IsHeldState limits) (sym equal) received) (as_accepted s last r p open_run.last_like a)
+      (subst (λ (server : State). length (canonical_change_body server p) ≤ server.config.limits.max_body) (sym equal) fits) not_due
 
   abbrev more_q : Record
   more_q = single_record place last r p
@@ -443,7 +443,7 @@ module _ (limits : Bounds) (ranges : AreInRange limits) (at : ℕ) (version : Ve
   uri_is = (bytes_eq-Decides p.uri run.squash.uri).0 same
 
   abbrev next_run : Run
-  next_run = longer run p (front_of (judge s r).session r ++ frame (normal_body s.server p))
+  next_run = longer run p (front_of (judge s r).session r ++ frame (canonical_change_body s.server p))
 
   gives_here : squash_step s (Some run) r (judge s r) ≡ record { out = []; end = None; run = Some next_run }
   gives_here = longer_step s (Some run) r p a done_here fits run refl same
@@ -466,8 +466,8 @@ module _ (limits : Bounds) (ranges : AreInRange limits) (at : ℕ) (version : Ve
       longer_step last (Some run) more_q another.again another.accepted done_last another.within run refl (ap (λ u. bytes_eq u run.squash.uri) another.same_uri ∙ same)
       ∙ (λ i. record { out = []; end = None; run = Some (record run { singles = run.singles ++ single_is i; squash = joins_same i }) })
     where
-      single_is : front_of (judge last more_q).session more_q ++ frame (normal_body last.server another.again) ≡ front_of (judge s r).session r ++ frame (normal_body s.server p)
-      single_is = ap₂ (λ (f b : List ℕ). f ++ frame b) (front_last ∙ sym front_here) (another.own ∙ ap (λ (server : State). normal_body server p) equal)
+      single_is : front_of (judge last more_q).session more_q ++ frame (canonical_change_body last.server another.again) ≡ front_of (judge s r).session r ++ frame (canonical_change_body s.server p)
+      single_is = ap₂ (λ (f b : List ℕ). f ++ frame b) (front_last ∙ sym front_here) (another.own ∙ ap (λ (server : State). canonical_change_body server p) equal)
 
   next_is : server_after s.server p ≡ (judge s r).session.server
   next_is = sym (ap (λ (u : Session). u.server) done_here.leaves.2)
@@ -480,12 +480,12 @@ module _ (limits : Bounds) (ranges : AreInRange limits) (at : ℕ) (version : Ve
   same_line [] q some = absurd some
   same_line (x ∷ rs) q some = refl
 
-  pushed : run.singles ++ (front_of (judge s r).session r ++ frame (normal_body s.server p)) ≡ first_line due (open_run.ss ++ more_q ∷ []) ++ together version (open_run.ss ++ more_q ∷ []) []
+  pushed : run.singles ++ (front_of (judge s r).session r ++ frame (canonical_change_body s.server p)) ≡ first_line due (open_run.ss ++ more_q ∷ []) ++ together version (open_run.ss ++ more_q ∷ []) []
   pushed =
-      ap₂ (λ (x y : List ℕ). x ++ y) open_run.singles (ap₂ (λ (f b : List ℕ). f ++ frame b) front_here (ap (λ (server : State). normal_body server p) (sym equal)))
-      ∙ append_assoc (first_line due open_run.ss) (together version open_run.ss []) (mark_of version Client ++ frame (normal_body last.server p))
+      ap₂ (λ (x y : List ℕ). x ++ y) open_run.singles (ap₂ (λ (f b : List ℕ). f ++ frame b) front_here (ap (λ (server : State). canonical_change_body server p) (sym equal)))
+      ∙ append_assoc (first_line due open_run.ss) (together version open_run.ss []) (mark_of version Client ++ frame (canonical_change_body last.server p))
       ∙ ap₂ (λ (x y : List ℕ). x ++ y) (sym (same_line open_run.ss more_q open_run.some))
-      (ap (λ side. together version open_run.ss [] ++ (mark_of version side ++ frame (normal_body last.server p))) (sym a.side)
+      (ap (λ side. together version open_run.ss [] ++ (mark_of version side ++ frame (canonical_change_body last.server p))) (sym a.side)
       ∙ sym (together_split version open_run.ss (record_bytes version more_q))
       ∙ ap (together version open_run.ss) (sym (append-nil (record_bytes version more_q)))
       ∙ sym (together_push version open_run.ss more_q []))
@@ -504,12 +504,12 @@ module _ (limits : Bounds) (ranges : AreInRange limits) (at : ℕ) (version : Ve
   pub longer_run : IsLongerRun limits.max_body at version due s run r t before
   longer_run = record {
     next = next_run;
-    gives = gives_here;
+    writes = gives_here;
     pending = record {
       from = subst (IsOpenFrom t.server next_run.squash) next_is (goes_on_from t.server run.squash s.server open_run.from p same (proper_change r p a.asks) a.may);
       running = open_run.running;
       waits = open_run.waits;
-      told = open_run.told;
+      error = open_run.error;
       like = like_on;
       apart = open_run.apart;
       front = open_run.front;
@@ -523,11 +523,11 @@ module _ (limits : Bounds) (ranges : AreInRange limits) (at : ℕ) (version : Ve
           (after_out s last false p another.again (judge last more_q).session open_run.last_like (another.leaves ∙ ap (λ (server : State). server_after server p) equal)
           (subst (λ b. IsAlike (session_after last b another.again) (judge last more_q).session) not_due done_last.leaves));
       last_version = judged_version version last more_q.head more_q.body (subst (λ b. IsVersionAt version b last) (sym not_due) told_last);
-      course = λ more.
-          ap (squashed_in t before) (append_assoc open_run.ss (more_q ∷ []) more) ∙ open_run.course (more_q ∷ more)
+      run_output = λ more.
+          ap (squashed_in t before) (append_assoc open_run.ss (more_q ∷ []) more) ∙ open_run.run_output (more_q ∷ more)
           ∙ ap (written_first (end_bytes before)) (step_on last (Some run) more_q more [] (Some next_run) gives_last);
       replay = λ more.
-          ap (course_in replaying t) (append_assoc open_run.ss (more_q ∷ []) more) ∙ open_run.replay (more_q ∷ more)
+          ap (run_output_in replaying t) (append_assoc open_run.ss (more_q ∷ []) more) ∙ open_run.replay (more_q ∷ more)
           ∙ report_on last more_q more (not_bad last (Some run) more_q another.again another.accepted done_last another.within);
     };
   }

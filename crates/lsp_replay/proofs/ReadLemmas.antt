@@ -183,19 +183,19 @@ abbrev mutual
   MembersText json.no_members = ⊤
   MembersText (json.member k j ms) = JsonText j × MembersText ms
 
-abbrev Gives : {A : Type 0} → (A → Type 0) → Option (A × List Token) → Type 0
-Gives P None = ⊤
-Gives P (Some p) = P p.0 × AllText p.1
+abbrev RecordOutput : {A : Type 0} → (A → Type 0) → Option (A × List Token) → Type 0
+RecordOutput P None = ⊤
+RecordOutput P (Some p) = P p.0 × AllText p.1
 
 abbrev Parses : {A : Type 0} → (A → Type 0) → Parse A → Type 0
-Parses P p = (ts : List Token) → AllText ts → Gives P (p ts)
+Parses P p = (ts : List Token) → AllText ts → RecordOutput P (p ts)
 
-mapped : {A B : Type 0} (P : A → Type 0) (Q : B → Type 0) (h : A → B) → ((a : A) → P a → Q (h a)) → (o : Option (A × List Token)) → Gives P o → Gives Q (parse_map h o)
+mapped : {A B : Type 0} (P : A → Type 0) (Q : B → Type 0) (h : A → B) → ((a : A) → P a → Q (h a)) → (o : Option (A × List Token)) → RecordOutput P o → RecordOutput Q (parse_map h o)
 mapped P Q h k None x = tt
 mapped P Q h k (Some p) x = (k p.0 x.0, x.1)
 
 and_more : {B : Type 0} (Q : B → Type 0) (h : json.Json → B → B) → ((j : json.Json) (b : B) → JsonText j → Q b → Q (h j b)) → (more : Parse B) → Parses Q more
-    → (o : Option (json.Json × List Token)) → Gives JsonText o → Gives Q (option_and_then (λ q. parse_map (h q.0) (more q.1)) o)
+    → (o : Option (json.Json × List Token)) → RecordOutput JsonText o → RecordOutput Q (option_and_then (λ q. parse_map (h q.0) (more q.1)) o)
 and_more Q h both more parses None x = tt
 and_more Q h both more parses (Some q) x = mapped Q Q (h q.0) (λ b y. both q.0 b x.0 y) (more q.1) (parses q.1 x.1)
 
@@ -217,7 +217,7 @@ text_end (Token.boolean b ∷ ts) has = tt
 text_end (Token.null ∷ ts) has = tt
 text_end (Token.bad ∷ ts) has = tt
 
-text_key : (ts : List Token) → AllText ts → Gives (λ (k : Option (List ℕ)). ⊤) (read_key ts)
+text_key : (ts : List Token) → AllText ts → RecordOutput (λ (k : Option (List ℕ)). ⊤) (read_key ts)
 text_key [] has = tt
 text_key (Token.begin_object ∷ ts) has = tt
 text_key (Token.end_object ∷ ts) has = (tt, has.1)
@@ -231,7 +231,7 @@ text_key (Token.null ∷ ts) has = tt
 text_key (Token.bad ∷ ts) has = tt
 
 module _ (p : Parse json.Json) (parses : Parses JsonText p) where
-  item_turn : (more : Parse json.Items) → Parses ItemsText more → (ts : List Token) → AllText ts → (o : Option (List Token)) → OnEnd o → Gives ItemsText (items_step p more ts o)
+  item_turn : (more : Parse json.Items) → Parses ItemsText more → (ts : List Token) → AllText ts → (o : Option (List Token)) → OnEnd o → RecordOutput ItemsText (items_step p more ts o)
   unfolding OnEnd
   item_turn more again ts has (Some r) end = (tt, end)
   item_turn more again ts has None end = and_more ItemsText json.item (λ j b x y. (x, y)) more again (p ts) (parses ts has)
@@ -241,8 +241,8 @@ module _ (p : Parse json.Json) (parses : Parses JsonText p) where
   parses_items zero ts has = tt
   parses_items (suc n) ts has = item_turn (items p n) (parses_items n) ts has (after_end_array ts) (text_end ts has)
 
-  member_turn : (more : Parse json.Members) → Parses MembersText more → (o : Option (Option (List ℕ) × List Token)) → Gives (λ (k : Option (List ℕ)). ⊤) o
-      → Gives MembersText (option_and_then (λ q. members_step p more q.0 q.1) o)
+  member_turn : (more : Parse json.Members) → Parses MembersText more → (o : Option (Option (List ℕ) × List Token)) → RecordOutput (λ (k : Option (List ℕ)). ⊤) o
+      → RecordOutput MembersText (option_and_then (λ q. members_step p more q.0 q.1) o)
   member_turn more again None has = tt
   member_turn more again (Some (None, s)) has = (tt, has.1)
   member_turn more again (Some (Some k, s)) has = and_more MembersText (json.member k) (λ j b x y. (x, y)) more again (p s) (parses s has.1)
@@ -372,7 +372,7 @@ mutual
   held_of_members (json.member k j ms) found has so_far =
       on_then IsHeld MembersAreHeld _ (λ d x. held_of_members ms (put k d found) has.1 (held_put k d found x so_far)) (of_json j) (held_of_json j has.0)
 
-last_text : (o : Option (json.Json × List Token)) → Gives JsonText o → OnSome JsonText (option_and_then (λ p. if_last p.0 p.1) o)
+last_text : (o : Option (json.Json × List Token)) → RecordOutput JsonText o → OnSome JsonText (option_and_then (λ p. if_last p.0 p.1) o)
 last_text None has = tt
 last_text (Some (j, [])) has = has.0
 last_text (Some (j, t ∷ ts)) has = tt

@@ -5,8 +5,8 @@ use Rattle.std.proofs.lemmas.List.{length-append, length-take, drop-take, take-a
 use Rattle.std.specs.Io.KnownBytes.{Consumes, Appends, Keeps, IsAtEnd}
 use Rattle.std.proofs.KnownBytes.{Appends-nil, Consumes-trans, Consumes-kept}
 use Rattle.std.proofs.lemmas.Bool.{eqb-true}
-use Rattle.lsp_frame.specs.Faults.{place_behind}
-use Rattle.lsp_frame.specs.Frame.{Spells}
+use Rattle.lsp_frame.specs.Faults.{place_after}
+use Rattle.lsp_frame.specs.Frame.{IsFrameOf}
 use Rattle.lsp_frame.specs.Header.{lines_bytes}
 use Rattle.lsp_replay.specs.declared.outcome.Outcome.{Outcome}
 use Rattle.lsp_stream.specs.declared.fault.EngineFault.{EngineFault}
@@ -14,13 +14,14 @@ use Rattle.lsp_stream.specs.declared.fault.EngineFault.TheVariants.{Read, Write,
 use Rattle.lsp_log.specs.declared.record.Version.{Version}
 use Rattle.lsp_log.specs.declared.record.Version.TheVariants.{One, Two}
 use Rattle.lsp_log.specs.declared.splitter.Splitter.{Splitter}
-use Rattle.lsp_log.specs.Log.{Reading, Record, IsVersion, IsUndecided, line_of, version_line, together, record_bytes}
+use Rattle.lsp_log.specs.Log.{LogRules, Record, IsVersion, IsUndecided, line_of, version_line, together, record_bytes}
 use Rattle.lsp_log.specs.Opening.{IsLineFront, IsBelowLine, IsUnfinished}
-use Rattle.lsp_log.specs.Splitting.{IsReady, IsOpen, Stands, held_of}
+use Rattle.lsp_log.specs.Splitting.{IsReady, IsOpen, IsAfter, buffered_of}
 use Rattle.lsp_log.specs.Laws.{RestLaw}
-use Rattle.lsp_replay.specs.Course.{Course}
-use Rattle.lsp_replay.specs.Engine.{Stopped, Reached, AtEnd, Ran, Called, NonePassedOver, PortState, WroteRecords, IsPieceFault, IsRunFault}
-use Rattle.lsp_replay.specs.Progress.{Went, Runs, IsEndFault, BothSpend}
+use Rattle.lsp_replay.specs.RunOutput.{RunOutput}
+use Rattle.lsp_replay.specs.Engine.{Stopped, Reached, AtEnd, Ran, Called, NonePassedOver, PortState, WroteRecords, IsRunFault}
+use Rattle.lsp_replay.specs.inside.Engine.{IsPieceFault}
+use Rattle.lsp_replay.specs.inside.Progress.{IsProgress, Runs, IsEndFault, BothSpend}
 use Rattle.lsp_stream.specs.Ports.{Rose}
 use Rattle.lsp_stream.specs.Turns.{Spends, StaysWell, StaysFlushed}
 use Rattle.lsp_replay.proofs.EngineLemmas.{IsQuiet, went_read}
@@ -32,7 +33,7 @@ together_more version (q ∷ rs) rest more = ap (λ z. record_bytes version q ++
 ended_not : (ended : Bool) → ended ≡ false → ended ≡ true → ⊥
 ended_not ended a b = let two : false ≡ true = sym a ∙ b in cc
 
-pub not_at_end : (told ended : Bool) → (told ≡ true → ended ≡ true) → ended ≡ false → told ≡ false
+pub not_at_end : (error ended : Bool) → (error ≡ true → ended ≡ true) → ended ≡ false → error ≡ false
 not_at_end true ended same other = absurd (ended_not ended other (same refl))
 not_at_end false ended same other = refl
 
@@ -57,14 +58,14 @@ line_has_none = refl
 regroup : (a b c d e : List ℕ) → (((a ++ b) ++ c) ++ d) ++ e ≡ a ++ (b ++ (c ++ (d ++ e)))
 regroup a b c d e = simp append_assoc
 
-no_frame_in_line : (max_body : ℕ) (bytes spelling body more : List ℕ) → IsLineFront bytes → Spells max_body spelling body → bytes ≡ spelling ++ more → ⊥
-no_frame_in_line max_body bytes spelling body more front spells e =
+no_frame_in_line : (max_body : ℕ) (bytes spelling body more : List ℕ) → IsLineFront bytes → IsFrameOf max_body spelling body → bytes ≡ spelling ++ more → ⊥
+no_frame_in_line max_body bytes spelling body more front is_frame_of e =
     let line : version_line ≡ bytes ++ drop (length bytes) version_line =
     sym (take-append-drop (length bytes) version_line) ∙ ap (λ z. z ++ drop (length bytes) version_line) (sym front.1) in
-    let frame : bytes ≡ ((lines_bytes spells.lines ++ (13 ∷ 10 ∷ [])) ++ body) ++ more = e ∙ ap (λ z. z ++ more) spells.is in
-    let all : version_line ≡ lines_bytes spells.lines ++ (13 ∷ (10 ∷ (body ++ (more ++ drop (length bytes) version_line)))) =
-    line ∙ ap (λ z. z ++ drop (length bytes) version_line) frame ∙ regroup (lines_bytes spells.lines) (13 ∷ 10 ∷ []) body more (drop (length bytes) version_line) in
-    let two : false ≡ true = sym line_has_none ∙ ap has_return all ∙ has_in (lines_bytes spells.lines) (10 ∷ (body ++ (more ++ drop (length bytes) version_line))) in
+    let frame : bytes ≡ ((lines_bytes is_frame_of.lines ++ (13 ∷ 10 ∷ [])) ++ body) ++ more = e ∙ ap (λ z. z ++ more) is_frame_of.is in
+    let all : version_line ≡ lines_bytes is_frame_of.lines ++ (13 ∷ (10 ∷ (body ++ (more ++ drop (length bytes) version_line)))) =
+    line ∙ ap (λ z. z ++ drop (length bytes) version_line) frame ∙ regroup (lines_bytes is_frame_of.lines) (13 ∷ 10 ∷ []) body more (drop (length bytes) version_line) in
+    let two : false ≡ true = sym line_has_none ∙ ap has_return all ∙ has_in (lines_bytes is_frame_of.lines) (10 ∷ (body ++ (more ++ drop (length bytes) version_line))) in
     cc
 
 -- The input may still become the line, or it is nothing.
@@ -73,15 +74,15 @@ unopened : (versions : Bool) (max_body : ℕ) (input : List ℕ) → IsLineFront
 unopened true max_body input front none = inr (refl, front)
 unopened false max_body input front none = inl (inl (none refl))
 
-module _ (reading : Reading) (course : List Record → Course) (left held : Option (List ℕ)) where
+module _ (reading : LogRules) (run_output : List Record → RunOutput) (left received : Option (List ℕ)) where
   -- at the start
   pub runs_at_start : (left_now : Option (List ℕ)) (ended : Bool) (len place size : ℕ) (buf : List ℕ) (s : Splitter) (version : Version) → len ≤ length buf → len < 2 ^ 64 → size ≡ length (line_of version) → place ≡ len → s.version ≡ version
       → Consumes left left_now (take len buf)
       → ((more : List ℕ) → (ended ≡ true → more ≡ []) → IsVersion reading.versions version (take len buf ++ more))
       → length (line_of version) ≤ len → take len buf ≡ line_of version ++ drop (length (line_of version)) (take len buf)
-      → (reading.only_one ≡ true → version ≡ One) → ((input more : List ℕ) → IsOpen reading input version more → Stands reading input more [] s)
-      → Runs reading course left held left_now ended place (take (len - size) (drop size buf)) s course held
-  runs_at_start left_now ended len place size buf s version within fits sized placed same read known short front accepted stands =
+      → (reading.only_one ≡ true → version ≡ One) → ((input more : List ℕ) → IsOpen reading input version more → IsAfter reading input more [] s)
+      → Runs reading run_output left received left_now ended place (take (len - size) (drop size buf)) s run_output received
+  runs_at_start left_now ended len place size buf s version within fits sized placed same read known short front accepted is_after =
       let all : length (take len buf) ≡ len = omega (arith, length-take len buf) in
       let sum : size + (len - size) ≡ len = omega (arith, sized, short) in
       let rest : drop size (take (size + (len - size)) buf) ≡ take (len - size) (drop size buf) = drop-take size (len - size) buf in
@@ -92,56 +93,56 @@ module _ (reading : Reading) (course : List Record → Course) (left held : Opti
       record {
         input = take len buf;
         read = read;
-        went = record {
+        progress = record {
           records = [];
-          stands = stands (take len buf) (take (len - size) (drop size buf)) (record { known = whole; accepted = accepted; is = front ∙ ap (λ z. line_of version ++ z) piece });
+          is_after = is_after (take len buf) (take (len - size) (drop size buf)) (record { known = whole; accepted = accepted; is = front ∙ ap (λ z. line_of version ++ z) piece });
           out = [];
           courses = λ others. refl;
-          wrote = Appends-nil held;
+          wrote = Appends-nil received;
         };
         placed = omega (arith, placed, all, fits);
         sure = λ more last. subst (λ (v : Version). IsVersion reading.versions v (take len buf ++ more)) (sym same) (known more last);
       }
 
   -- a piece was taken
-  pub runs_on : (left_now : Option (List ℕ)) (ended : Bool) (place : ℕ) (piece : List ℕ) (s n : Splitter) (now new : List Record → Course) (held_now held_new : Option (List ℕ)) → n.version ≡ s.version
-      → ((input : List ℕ) → Went reading course held input piece s now held_now → Went reading course held input [] n new held_new)
-      → Runs reading course left held left_now ended place piece s now held_now → Runs reading course left held left_now ended place [] n new held_new
-  runs_on left_now ended place piece s n now new held_now held_new same taken r = record {
+  pub runs_on : (left_now : Option (List ℕ)) (ended : Bool) (place : ℕ) (piece : List ℕ) (s n : Splitter) (now new : List Record → RunOutput) (received_now received_new : Option (List ℕ)) → n.version ≡ s.version
+      → ((input : List ℕ) → IsProgress reading run_output received input piece s now received_now → IsProgress reading run_output received input [] n new received_new)
+      → Runs reading run_output left received left_now ended place piece s now received_now → Runs reading run_output left received left_now ended place [] n new received_new
+  runs_on left_now ended place piece s n now new received_now received_new same taken r = record {
     input = r.input;
     read = r.read;
-    went = taken r.input r.went;
+    progress = taken r.input r.progress;
     placed = r.placed;
     sure = λ more last. subst (λ (v : Version). IsVersion reading.versions v (r.input ++ more)) (sym same) (r.sure more last);
   }
 
   -- more was read
-  pub runs_more : (left_now left_new : Option (List ℕ)) (ended ended_new : Bool) (place place_new n : ℕ) (piece : List ℕ) (s : Splitter) (now : List Record → Course) (held_now : Option (List ℕ)) → ended ≡ false
+  pub runs_more : (left_now left_new : Option (List ℕ)) (ended ended_new : Bool) (place place_new n : ℕ) (piece : List ℕ) (s : Splitter) (now : List Record → RunOutput) (received_now : Option (List ℕ)) → ended ≡ false
       → length piece ≡ n → place_new ≡ min (place + n) (2 ^ 64 - 1) → Consumes left_now left_new piece
-      → Runs reading course left held left_now ended place [] s now held_now → Runs reading course left held left_new ended_new place_new piece s now held_now
-  runs_more left_now left_new ended ended_new place place_new n piece s now held_now open_still len placed read r =
-      let w = r.went in
-      let at = w.stands in
+      → Runs reading run_output left received left_now ended place [] s now received_now → Runs reading run_output left received left_new ended_new place_new piece s now received_now
+  runs_more left_now left_new ended ended_new place place_new n piece s now received_now open_still len placed read r =
+      let w = r.progress in
+      let at = w.is_after in
       let not_ended : (more : List ℕ) → ended ≡ true → more ≡ [] = λ more is. absurd (ended_not ended open_still is) in
       let version : IsVersion reading.versions s.version (r.input ++ piece) = r.sure piece (not_ended piece) in
       let sum : length (r.input ++ piece) ≡ length r.input + length piece = length-append r.input piece in
-      let before : held_of s ++ [] ≡ held_of s = append-nil (held_of s) in
+      let before : buffered_of s ++ [] ≡ buffered_of s = append-nil (buffered_of s) in
       record {
         input = r.input ++ piece;
         read = Consumes-trans left left_now left_new r.input piece r.read read;
-        went = record {
+        progress = record {
           records = w.records;
-          stands = record {
+          is_after = record {
             reads = record {
               version = version;
               accepted = at.reads.accepted;
-              is = ap (λ z. z ++ piece) at.reads.is ∙ append_assoc (line_of s.version) (together s.version w.records (held_of s ++ [])) piece
-                  ∙ ap (λ z. line_of s.version ++ z) (sym (together_more s.version w.records (held_of s ++ []) piece) ∙ ap (λ z. together s.version w.records (z ++ piece)) before);
+              is = ap (λ z. z ++ piece) at.reads.is ∙ append_assoc (line_of s.version) (together s.version w.records (buffered_of s ++ [])) piece
+                  ∙ ap (λ z. line_of s.version ++ z) (sym (together_more s.version w.records (buffered_of s ++ []) piece) ∙ ap (λ z. together s.version w.records (z ++ piece)) before);
               each = at.reads.each;
             };
             limit = at.limit;
-            placed = at.placed ∙ ap (place_behind 0) (omega (arith, sum, length-append (held_of s) piece, ap length before));
-            framed = at.framed ∙ ap (place_behind 0) (omega (arith, sum, length-append s.framer.held piece, ap length (append-nil s.framer.held)));
+            placed = at.placed ∙ ap (place_after 0) (omega (arith, sum, length-append (buffered_of s) piece, ap length before));
+            framed = at.framed ∙ ap (place_after 0) (omega (arith, sum, length-append s.framer.buffered piece, ap length (append-nil s.framer.buffered)));
             part = at.part;
             one = at.one;
             side = at.side;
@@ -156,86 +157,86 @@ module _ (reading : Reading) (course : List Record → Course) (left held : Opti
       }
 
   -- The run ended.
-  pub ran_stopped : (left_now : Option (List ℕ)) (ended : Bool) (state : PortState) (place : ℕ) (piece : List ℕ) (s : Splitter) (now : List Record → Course) (held_now held_new : Option (List ℕ)) (outcome : Outcome)
-      → ((input : List ℕ) → Went reading course held input piece s now held_now → Stopped reading course input held held_new (Ok outcome))
-      → Runs reading course left held left_now ended place piece s now held_now → Ran reading course state left left_now held held_new (Ok outcome)
-  ran_stopped left_now ended state place piece s now held_now held_new outcome stops r = record { input = r.input; read = r.read; came = inl (stops r.input r.went) }
+  pub ran_stopped : (left_now : Option (List ℕ)) (ended : Bool) (state : PortState) (place : ℕ) (piece : List ℕ) (s : Splitter) (now : List Record → RunOutput) (received_now received_new : Option (List ℕ)) (outcome : Outcome)
+      → ((input : List ℕ) → IsProgress reading run_output received input piece s now received_now → Stopped reading run_output input received received_new (Ok outcome))
+      → Runs reading run_output left received left_now ended place piece s now received_now → Ran reading run_output state left left_now received received_new (Ok outcome)
+  ran_stopped left_now ended state place piece s now received_now received_new outcome stops r = record { input = r.input; read = r.read; came = inl (stops r.input r.progress) }
 
-  pub ran_to_end : (left_now : Option (List ℕ)) (ended : Bool) (state : PortState) (place : ℕ) (s : Splitter) (now : List Record → Course) (held_now held_new : Option (List ℕ)) (outcome : Outcome) → state.ended ≡ true
-      → ((input : List ℕ) → Went reading course held input [] s now held_now → AtEnd reading course input held held_new outcome)
-      → Runs reading course left held left_now ended place [] s now held_now → Ran reading course state left left_now held held_new (Ok outcome)
-  ran_to_end left_now ended state place s now held_now held_new outcome told ends r = record { input = r.input; read = r.read; came = inr (told, ends r.input r.went) }
+  pub ran_to_end : (left_now : Option (List ℕ)) (ended : Bool) (state : PortState) (place : ℕ) (s : Splitter) (now : List Record → RunOutput) (received_now received_new : Option (List ℕ)) (outcome : Outcome) → state.ended ≡ true
+      → ((input : List ℕ) → IsProgress reading run_output received input [] s now received_now → AtEnd reading run_output input received received_new outcome)
+      → Runs reading run_output left received left_now ended place [] s now received_now → Ran reading run_output state left left_now received received_new (Ok outcome)
+  ran_to_end left_now ended state place s now received_now received_new outcome error ends r = record { input = r.input; read = r.read; came = inr (error, ends r.input r.progress) }
 
   -- It ended with a fault.
-  piece_fault : (state : PortState) (input : List ℕ) (held_new : Option (List ℕ)) (fault : EngineFault) → IsPieceFault reading course state.unflushed input held held_new fault → IsRunFault reading course state input held held_new fault
-  piece_fault state input held_new Read why = absurd why
-  piece_fault state input held_new Write why = inl why
-  piece_fault state input held_new (Frame fault) why = why
-  piece_fault state input held_new (Truncated place) why = absurd why
-  piece_fault state input held_new (BodyTooLong place) why = why
-  piece_fault state input held_new NoMemory why = inl why
-  piece_fault state input held_new TooManyTurns why = inl why
-  piece_fault state input held_new (BadLog place) (inl why) = inl why
-  piece_fault state input held_new (BadLog place) (inr why) = inr (inl why)
+  piece_fault : (state : PortState) (input : List ℕ) (received_new : Option (List ℕ)) (fault : EngineFault) → IsPieceFault reading run_output state.unflushed input received received_new fault → IsRunFault reading run_output state input received received_new fault
+  piece_fault state input received_new Read why = absurd why
+  piece_fault state input received_new Write why = inl why
+  piece_fault state input received_new (Frame fault) why = why
+  piece_fault state input received_new (Truncated place) why = absurd why
+  piece_fault state input received_new (BodyTooLong place) why = why
+  piece_fault state input received_new NoMemory why = inl why
+  piece_fault state input received_new TooManyTurns why = inl why
+  piece_fault state input received_new (BadLog place) (inl why) = inl why
+  piece_fault state input received_new (BadLog place) (inr why) = inr (inl why)
 
-  pub ran_into_fault : (left_now : Option (List ℕ)) (ended : Bool) (state : PortState) (place : ℕ) (piece : List ℕ) (s : Splitter) (now : List Record → Course) (held_now held_new : Option (List ℕ)) (fault : EngineFault)
-      → ((input : List ℕ) → Went reading course held input piece s now held_now → IsPieceFault reading course state.unflushed input held held_new fault)
-      → Runs reading course left held left_now ended place piece s now held_now → Ran reading course state left left_now held held_new (Err fault)
-  ran_into_fault left_now ended state place piece s now held_now held_new fault fails r =
-      record { input = r.input; read = r.read; came = piece_fault state r.input held_new fault (fails r.input r.went) }
+  pub ran_into_fault : (left_now : Option (List ℕ)) (ended : Bool) (state : PortState) (place : ℕ) (piece : List ℕ) (s : Splitter) (now : List Record → RunOutput) (received_now received_new : Option (List ℕ)) (fault : EngineFault)
+      → ((input : List ℕ) → IsProgress reading run_output received input piece s now received_now → IsPieceFault reading run_output state.unflushed input received received_new fault)
+      → Runs reading run_output left received left_now ended place piece s now received_now → Ran reading run_output state left left_now received received_new (Err fault)
+  ran_into_fault left_now ended state place piece s now received_now received_new fault fails r =
+      record { input = r.input; read = r.read; came = piece_fault state r.input received_new fault (fails r.input r.progress) }
 
-  end_fault : (state : PortState) (input : List ℕ) (place : ℕ) (held_new : Option (List ℕ)) (fault : EngineFault) → state.ended ≡ true → place ≡ place_behind 0 (length input)
-      → IsEndFault reading course state.unflushed input held held_new place fault → IsRunFault reading course state input held held_new fault
-  end_fault state input place held_new Read told placed why = absurd why
-  end_fault state input place held_new Write told placed why = inr (told, why)
-  end_fault state input place held_new (Frame fault) told placed why = absurd why
-  end_fault state input place held_new (Truncated at) told placed why = (told, why.0 ∙ placed, why.1)
-  end_fault state input place held_new (BodyTooLong at) told placed why = absurd why
-  end_fault state input place held_new NoMemory told placed why = inr (told, why)
-  end_fault state input place held_new TooManyTurns told placed why = inr (inl (told, why))
-  end_fault state input place held_new (BadLog at) told placed why = absurd why
+  end_fault : (state : PortState) (input : List ℕ) (place : ℕ) (received_new : Option (List ℕ)) (fault : EngineFault) → state.ended ≡ true → place ≡ place_after 0 (length input)
+      → IsEndFault reading run_output state.unflushed input received received_new place fault → IsRunFault reading run_output state input received received_new fault
+  end_fault state input place received_new Read error placed why = absurd why
+  end_fault state input place received_new Write error placed why = inr (error, why)
+  end_fault state input place received_new (Frame fault) error placed why = absurd why
+  end_fault state input place received_new (Truncated at) error placed why = (error, why.0 ∙ placed, why.1)
+  end_fault state input place received_new (BodyTooLong at) error placed why = absurd why
+  end_fault state input place received_new NoMemory error placed why = inr (error, why)
+  end_fault state input place received_new TooManyTurns error placed why = inr (inl (error, why))
+  end_fault state input place received_new (BadLog at) error placed why = absurd why
 
-  pub ran_into_end_fault : (left_now : Option (List ℕ)) (ended : Bool) (state : PortState) (place : ℕ) (s : Splitter) (now : List Record → Course) (held_now held_new : Option (List ℕ)) (fault : EngineFault) → state.ended ≡ true
-      → ((input : List ℕ) → Went reading course held input [] s now held_now → IsEndFault reading course state.unflushed input held held_new place fault)
-      → Runs reading course left held left_now ended place [] s now held_now → Ran reading course state left left_now held held_new (Err fault)
-  ran_into_end_fault left_now ended state place s now held_now held_new fault told fails r =
-      record { input = r.input; read = r.read; came = end_fault state r.input place held_new fault told r.placed (fails r.input r.went) }
+  pub ran_into_end_fault : (left_now : Option (List ℕ)) (ended : Bool) (state : PortState) (place : ℕ) (s : Splitter) (now : List Record → RunOutput) (received_now received_new : Option (List ℕ)) (fault : EngineFault) → state.ended ≡ true
+      → ((input : List ℕ) → IsProgress reading run_output received input [] s now received_now → IsEndFault reading run_output state.unflushed input received received_new place fault)
+      → Runs reading run_output left received left_now ended place [] s now received_now → Ran reading run_output state left left_now received received_new (Err fault)
+  ran_into_end_fault left_now ended state place s now received_now received_new fault error fails r =
+      record { input = r.input; read = r.read; came = end_fault state r.input place received_new fault error r.placed (fails r.input r.progress) }
 
   -- No more could be read.
-  read_fault : (state : PortState) (input : List ℕ) (held_new : Option (List ℕ)) (fault : EngineFault) → (fault ≡ Read) ⊎ (fault ≡ TooManyTurns)
-      → (fault ≡ TooManyTurns → state.ended_before ≡ false → state.ended ≡ false) → Reached reading course input held held_new (IsUnfinished reading input) → IsRunFault reading course state input held held_new fault
-  read_fault state input held_new fault (inl is) not_ended reached = subst (IsRunFault reading course state input held held_new) (sym is) reached
-  read_fault state input held_new fault (inr is) not_ended reached =
-      subst (IsRunFault reading course state input held held_new) (sym is)
+  read_fault : (state : PortState) (input : List ℕ) (received_new : Option (List ℕ)) (fault : EngineFault) → (fault ≡ Read) ⊎ (fault ≡ TooManyTurns)
+      → (fault ≡ TooManyTurns → state.ended_before ≡ false → state.ended ≡ false) → Reached reading run_output input received received_new (IsUnfinished reading input) → IsRunFault reading run_output state input received received_new fault
+  read_fault state input received_new fault (inl is) not_ended reached = subst (IsRunFault reading run_output state input received received_new) (sym is) reached
+  read_fault state input received_new fault (inr is) not_ended reached =
+      subst (IsRunFault reading run_output state input received received_new) (sym is)
       (inr (inr (not_ended is, reached)))
 
-  pub ran_unread : (left_now left_new : Option (List ℕ)) (ended : Bool) (state : PortState) (place : ℕ) (s : Splitter) (now : List Record → Course) (held_now : Option (List ℕ)) (fault : EngineFault) → RestLaw → IsReady s → IsQuiet now
+  pub ran_unread : (left_now left_new : Option (List ℕ)) (ended : Bool) (state : PortState) (place : ℕ) (s : Splitter) (now : List Record → RunOutput) (received_now : Option (List ℕ)) (fault : EngineFault) → RestLaw → IsReady s → IsQuiet now
       → Keeps left_now left_new → (fault ≡ Read) ⊎ (fault ≡ TooManyTurns) → (fault ≡ TooManyTurns → state.ended_before ≡ false → state.ended ≡ false)
-      → Runs reading course left held left_now ended place [] s now held_now → Ran reading course state left left_new held held_now (Err fault)
-  ran_unread left_now left_new ended state place s now held_now fault rest_law ready quiet kept kind not_ended r = record {
+      → Runs reading run_output left received left_now ended place [] s now received_now → Ran reading run_output state left left_new received received_now (Err fault)
+  ran_unread left_now left_new ended state place s now received_now fault rest_law ready quiet kept kind not_ended r = record {
     input = r.input;
     read = Consumes-kept left left_now left_new r.input r.read kept;
-    came = read_fault state r.input held_now fault kind not_ended (went_read reading course held r.input rest_law s now held_now ready quiet r.went);
+    came = read_fault state r.input received_now fault kind not_ended (went_read reading run_output received r.input rest_law s now received_now ready quiet r.progress);
   }
 
   -- A log of version 2 was refused.
   pub ran_refused : (left_now : Option (List ℕ)) (state : PortState) (fault : EngineFault) (input : List ℕ) (version : Version) → (fault ≡ BadLog 0) × (reading.only_one ≡ true) × (version ≡ Two)
-      → Consumes left left_now input → ((more : List ℕ) → more ≡ [] → IsVersion reading.versions version (input ++ more)) → Ran reading course state left left_now held held (Err fault)
+      → Consumes left left_now input → ((more : List ℕ) → more ≡ [] → IsVersion reading.versions version (input ++ more)) → Ran reading run_output state left left_now received received (Err fault)
   ran_refused left_now state fault input version why read known =
       let two : IsVersion reading.versions Two input = subst (λ (v : Version). IsVersion reading.versions v input) why.2 (subst (λ (z : List ℕ). IsVersion reading.versions version z) (append-nil input) (known [] refl)) in
       record {
         input = input;
         read = read;
-        came = subst (IsRunFault reading course state input held held) (sym why.0) (inr (inr (record { only_one = why.1; version = two; placed = refl; wrote = Appends-nil held })));
+        came = subst (IsRunFault reading run_output state input received received) (sym why.0) (inr (inr (record { only_one = why.1; version = two; placed = refl; wrote = Appends-nil received })));
       }
 
   -- Some first bytes of the line are no log of version 2, and begin no frame.
-  pub ran_unopened : (left_new : Option (List ℕ)) (state : PortState) (fault : EngineFault) → IsQuiet course → IsBelowLine reading.versions left left_new → (fault ≡ Read) ⊎ (fault ≡ TooManyTurns) → (fault ≡ TooManyTurns → state.ended_before ≡ false → state.ended ≡ false)
-      → Ran reading course state left left_new held held (Err fault)
+  pub ran_unopened : (left_new : Option (List ℕ)) (state : PortState) (fault : EngineFault) → IsQuiet run_output → IsBelowLine reading.versions left left_new → (fault ≡ Read) ⊎ (fault ≡ TooManyTurns) → (fault ≡ TooManyTurns → state.ended_before ≡ false → state.ended ≡ false)
+      → Ran reading run_output state left left_new received received (Err fault)
   ran_unopened left_new state fault quiet below kind not_ended = record {
     input = below.0;
     read = below.3;
-    came = read_fault state below.0 held fault kind not_ended (record {
+    came = read_fault state below.0 received fault kind not_ended (record {
       log = record { version = One; records = []; rest = below.0 };
       reads = record {
         version = λ looks more e. omega (arith, ap length e, length-append version_line more, below.1.0);
@@ -244,37 +245,37 @@ module _ (reading : Reading) (course : List Record → Course) (left held : Opti
         each = tt;
       };
       rest = record {
-        none = λ side spelling body more spells e. no_frame_in_line reading.max_body below.0 spelling body more below.1 spells e;
+        none = λ side spelling body more is_frame_of e. no_frame_in_line reading.max_body below.0 spelling body more below.1 is_frame_of e;
         undecided = unopened reading.versions reading.max_body below.0 below.1 below.2;
       };
-      goes_on = quiet.unstopped;
-      wrote = subst (λ (z : List ℕ). Appends held held z) (sym quiet.silent) (Appends-nil held);
+      continues = quiet.unstopped;
+      wrote = subst (λ (z : List ℕ). Appends received received z) (sym quiet.silent) (Appends-nil received);
     });
   }
 
-  pub ran_finished : (left_now : Option (List ℕ)) (ended : Bool) (state : PortState) (place : ℕ) (s : Splitter) (now : List Record → Course) (held_now held_new : Option (List ℕ)) (answer : Result Outcome EngineFault) → state.ended ≡ true
-      → IfOk answer (λ outcome. (rules : Reading) (at_first : List Record → Course) (held_first : Option (List ℕ)) (input : List ℕ) → Went rules at_first held_first input [] s now held_now → AtEnd rules at_first input held_first held_new outcome)
-      → IfErr answer (λ fault. (rules : Reading) (at_first : List Record → Course) (held_first : Option (List ℕ)) (input : List ℕ) → Went rules at_first held_first input [] s now held_now → IsEndFault rules at_first state.unflushed input held_first held_new place fault)
-      → Runs reading course left held left_now ended place [] s now held_now → Ran reading course state left left_now held held_new answer
-  ran_finished left_now ended state place s now held_now held_new (Ok outcome) told ends fails r = ran_to_end left_now ended state place s now held_now held_new outcome told (ends reading course held) r
-  ran_finished left_now ended state place s now held_now held_new (Err fault) told ends fails r = ran_into_end_fault left_now ended state place s now held_now held_new fault told (fails reading course held) r
+  pub ran_finished : (left_now : Option (List ℕ)) (ended : Bool) (state : PortState) (place : ℕ) (s : Splitter) (now : List Record → RunOutput) (received_now received_new : Option (List ℕ)) (answer : Result Outcome EngineFault) → state.ended ≡ true
+      → IfOk answer (λ outcome. (rules : LogRules) (at_first : List Record → RunOutput) (held_first : Option (List ℕ)) (input : List ℕ) → IsProgress rules at_first held_first input [] s now received_now → AtEnd rules at_first input held_first received_new outcome)
+      → IfErr answer (λ fault. (rules : LogRules) (at_first : List Record → RunOutput) (held_first : Option (List ℕ)) (input : List ℕ) → IsProgress rules at_first held_first input [] s now received_now → IsEndFault rules at_first state.unflushed input held_first received_new place fault)
+      → Runs reading run_output left received left_now ended place [] s now received_now → Ran reading run_output state left left_now received received_new answer
+  ran_finished left_now ended state place s now received_now received_new (Ok outcome) error ends fails r = ran_to_end left_now ended state place s now received_now received_new outcome error (ends reading run_output received) r
+  ran_finished left_now ended state place s now received_now received_new (Err fault) error ends fails r = ran_into_end_fault left_now ended state place s now received_now received_new fault error (fails reading run_output received) r
 
   -- Memory ran out at a record.
-  pub piece_whole : (left_now : Option (List ℕ)) (ended : Bool) (place : ℕ) (piece : List ℕ) (s : Splitter) (now : List Record → Course) (held_now held_new : Option (List ℕ)) (unflushed : Bool) (fault : EngineFault)
-      → ((input : List ℕ) → Went reading course held input piece s now held_now → IsPieceFault reading course unflushed input held held_new fault)
-      → Runs reading course left held left_now ended place piece s now held_now → ◌≡◌ {A = Result Outcome EngineFault} (Err fault) (Err NoMemory) → WroteRecords reading course left left_now held held_new
-  piece_whole left_now ended place piece s now held_now held_new unflushed fault fails r is =
+  pub piece_whole : (left_now : Option (List ℕ)) (ended : Bool) (place : ℕ) (piece : List ℕ) (s : Splitter) (now : List Record → RunOutput) (received_now received_new : Option (List ℕ)) (unflushed : Bool) (fault : EngineFault)
+      → ((input : List ℕ) → IsProgress reading run_output received input piece s now received_now → IsPieceFault reading run_output unflushed input received received_new fault)
+      → Runs reading run_output left received left_now ended place piece s now received_now → ◌≡◌ {A = Result Outcome EngineFault} (Err fault) (Err NoMemory) → WroteRecords reading run_output left left_now received received_new
+  piece_whole left_now ended place piece s now received_now received_new unflushed fault fails r is =
       let same : fault ≡ NoMemory = cc in
-      record { input = r.input; read = r.read; reached = subst (IsPieceFault reading course unflushed r.input held held_new) same (fails r.input r.went) }
+      record { input = r.input; read = r.read; reached = subst (IsPieceFault reading run_output unflushed r.input received received_new) same (fails r.input r.progress) }
 
   -- And at the end of the input.
-  pub end_whole : (left_now : Option (List ℕ)) (ended : Bool) (place : ℕ) (s : Splitter) (now : List Record → Course) (held_now held_new : Option (List ℕ)) (Holds : Type 0) (answer : Result Outcome EngineFault)
-      → IfErr answer (λ fault. fault ≡ NoMemory → Holds → (rules : Reading) (at_first : List Record → Course) (held_first : Option (List ℕ)) (input : List ℕ) → Went rules at_first held_first input [] s now held_now → Reached rules at_first input held_first held_new (λ _. Unit {0}))
-      → Holds → Runs reading course left held left_now ended place [] s now held_now → answer ≡ Err NoMemory → WroteRecords reading course left left_now held held_new
-  end_whole left_now ended place s now held_now held_new Holds (Ok outcome) whole one r is = absurd (let two : ◌≡◌ {A = Result Outcome EngineFault} (Ok outcome) (Err NoMemory) = is in cc)
-  end_whole left_now ended place s now held_now held_new Holds (Err fault) whole one r is =
+  pub end_whole : (left_now : Option (List ℕ)) (ended : Bool) (place : ℕ) (s : Splitter) (now : List Record → RunOutput) (received_now received_new : Option (List ℕ)) (Holds : Type 0) (answer : Result Outcome EngineFault)
+      → IfErr answer (λ fault. fault ≡ NoMemory → Holds → (rules : LogRules) (at_first : List Record → RunOutput) (held_first : Option (List ℕ)) (input : List ℕ) → IsProgress rules at_first held_first input [] s now received_now → Reached rules at_first input held_first received_new (λ _. Unit {0}))
+      → Holds → Runs reading run_output left received left_now ended place [] s now received_now → answer ≡ Err NoMemory → WroteRecords reading run_output left left_now received received_new
+  end_whole left_now ended place s now received_now received_new Holds (Ok outcome) whole one r is = absurd (let two : ◌≡◌ {A = Result Outcome EngineFault} (Ok outcome) (Err NoMemory) = is in cc)
+  end_whole left_now ended place s now received_now received_new Holds (Err fault) whole one r is =
       let same : fault ≡ NoMemory = cc in
-      record { input = r.input; read = r.read; reached = whole same one reading course held r.input r.went }
+      record { input = r.input; read = r.read; reached = whole same one reading run_output received r.input r.progress }
 
 -- Which calls were made when a fault came.
 pub called_fault : (reads_old reads_new writes_old writes_new allowed turns : ℕ) (read_failed write_failed ended : Bool) (left : Option (List ℕ)) (fault : EngineFault) → BothSpend reads_old reads_new writes_old writes_new allowed turns
@@ -288,8 +289,8 @@ called_fault reads_old reads_new writes_old writes_new allowed turns read_failed
   at_end = λ other ended_now. at_end (λ is. other (ap Err is)) ended_now;
 }
 
-pub piece_not_read : (reading : Reading) (course : List Record → Course) (unflushed : Bool) (input : List ℕ) (old new : Option (List ℕ)) (fault : EngineFault) → IsPieceFault reading course unflushed input old new fault → fault ≡ Read → ⊥
-piece_not_read reading course unflushed input old new fault why is = subst (IsPieceFault reading course unflushed input old new) is why
+pub piece_not_read : (reading : LogRules) (run_output : List Record → RunOutput) (unflushed : Bool) (input : List ℕ) (old new : Option (List ℕ)) (fault : EngineFault) → IsPieceFault reading run_output unflushed input old new fault → fault ≡ Read → ⊥
+piece_not_read reading run_output unflushed input old new fault why is = subst (IsPieceFault reading run_output unflushed input old new) is why
 
 -- the calls of the writer
 pub both_writes : (reads_old reads_new writes_old writes_now writes_new allowed turns left : ℕ) → BothSpend reads_old reads_new writes_old writes_now allowed turns → Spends writes_now writes_new turns left
@@ -330,8 +331,8 @@ read_not_write fault (inl is) other = let two : Read ≡ Write = sym is ∙ othe
 read_not_write fault (inr is) other = let two : TooManyTurns ≡ Write = sym is ∙ other in cc
 
 pub read_not_ended : (fault : EngineFault) (ended : Bool) (A B : Type 0) → (fault ≡ Read) ⊎ (fault ≡ TooManyTurns) → (fault ≡ Read → A × (ended ≡ false) × B) → (fault ≡ TooManyTurns → ⊥) → ended ≡ true → ⊥
-read_not_ended fault ended A B (inl is) failed other told = ended_not ended (failed is).1 told
-read_not_ended fault ended A B (inr is) failed other told = other is
+read_not_ended fault ended A B (inl is) failed other error = ended_not ended (failed is).1 error
+read_not_ended fault ended A B (inr is) failed other error = other is
 
 -- a test of a number
 pub n_is_zero : (n : ℕ) → n ≡ 0 → nat_eq n 0 ≡ true

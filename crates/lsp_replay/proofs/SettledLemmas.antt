@@ -16,15 +16,15 @@ use Rattle.lsp_message.specs.Message.{reading}
 use Rattle.lsp_message.specs.Params.{ChangeData}
 use Rattle.lsp_message.proofs.ReadBack.{reading-body_of, is_read_back, body_of-unique}
 use Rattle.lsp_store.specs.Table.{Entry, Refusal, not_open, entry_at, refusal_on, entry_refusal, change_refusal, after_change, unless_refused}
-use Rattle.lsp_store.specs.Message.{AreTexts, IsSettled, IsReadAs, written_edit, change_body, canonical_batch, canonical_body, body_refusal, else_refused}
+use Rattle.lsp_store.specs.Message.{AreTexts, IsCanonicalOf, IsReadAgain, written_edit, change_body, canonical_batch, canonical_body, body_refusal, else_refused}
 use Rattle.lsp_store.proofs.MessageLemmas.{Accepts, accepted_parts, body_within, is_settled, is_read}
 use Rattle.lsp_store.proofs.ScalarLemmas.{canonical_texts}
 use Rattle.lsp_server.specs.declared.phase.Phase.{Phase}
 use Rattle.lsp_server.specs.declared.phase.Phase.TheVariants.{New, Running, Down, Ended}
 use Rattle.lsp_server.specs.Incoming.{did_change, incoming_of}
-use Rattle.lsp_server.specs.Step.{State, step_in, step_on, obeyed, edit_of, encoding_of}
-use Rattle.lsp_replay.specs.Engines.{normal_body}
-use Rattle.lsp_replay.proofs.NormalLemmas.{within}
+use Rattle.lsp_server.specs.Step.{State, step_in, step_on, obeyed, edit_from_data, encoding_of}
+use Rattle.lsp_replay.specs.Engines.{canonical_change_body}
+use Rattle.lsp_replay.proofs.CanonicalLogLemmas.{within}
 use Rattle.lsp_replay.proofs.AskedLemmas.{IsProperAsked}
 use Rattle.lsp_replay.proofs.StateLemmas.{IsHeldEntry, IsHeldState, held_at}
 
@@ -44,14 +44,14 @@ first_none (Some refusal) later e = e
 
 -- ---- a batch is read back as it was written
 
-pub edits_back : (batch : List Edit) → AreTexts batch → map edit_of (map written_edit batch) ≡ batch
+pub edits_back : (batch : List Edit) → AreTexts batch → map edit_from_data (map written_edit batch) ≡ batch
 edits_back [] texts = refl
 edits_back (change ∷ batch) texts =
     let text : chars (encode_utf8_all change.text) ≡ change.text = chars-encodes change.text texts.0 in
-    let same : edit_of (written_edit change) ≡ change = λ i. record { range = change.range; text = text i } in
+    let same : edit_from_data (written_edit change) ≡ change = λ i. record { range = change.range; text = text i } in
     rw (same, edits_back batch texts.1) refl
 
-pub asks_back : (uri : List ℕ) (version : ℤ) (batch : List Edit) → IsReadAs uri version batch
+pub asks_back : (uri : List ℕ) (version : ℤ) (batch : List Edit) → IsReadAgain uri version batch
     → incoming_of (reading (change_body uri version batch)) ≡ did_change (Some (record { uri = uri; version = version; changes = map written_edit batch }))
 unfolding change_body
 asks_back uri version batch read = ap incoming_of read.as_sent ∙ ap did_change read.back
@@ -60,32 +60,32 @@ asks_back uri version batch read = ap incoming_of read.as_sent ∙ ap did_change
 
 pub record IsSettledChange (server : State) (p : ChangeData) : Type 0 where
   pub again : ChangeData
-  pub asks : incoming_of (reading (normal_body server p)) ≡ did_change (Some again)
+  pub asks : incoming_of (reading (canonical_change_body server p)) ≡ did_change (Some again)
   pub same_step : step_on server (did_change (Some again)) ≡ step_on server (did_change (Some p))
-  pub same_body : normal_body server again ≡ normal_body server p
+  pub same_body : canonical_change_body server again ≡ canonical_change_body server p
 
 same_change : (server : State) (p again : ChangeData) (phase : Phase)
-    → change_refusal server.config.limits (units_in (encoding_of server)) server.table p.uri p.version (map edit_of p.changes) ≡ None
-    → change_refusal server.config.limits (units_in (encoding_of server)) server.table again.uri again.version (map edit_of again.changes) ≡ None
-    → after_change (units_in (encoding_of server)) server.table again.uri again.version (map edit_of again.changes)
-    ≡ after_change (units_in (encoding_of server)) server.table p.uri p.version (map edit_of p.changes)
+    → change_refusal server.config.limits (units_in (encoding_of server)) server.table p.uri p.version (map edit_from_data p.changes) ≡ None
+    → change_refusal server.config.limits (units_in (encoding_of server)) server.table again.uri again.version (map edit_from_data again.changes) ≡ None
+    → after_change (units_in (encoding_of server)) server.table again.uri again.version (map edit_from_data again.changes)
+    ≡ after_change (units_in (encoding_of server)) server.table p.uri p.version (map edit_from_data p.changes)
     → step_in phase server (did_change (Some again)) ≡ step_in phase server (did_change (Some p))
 same_change server p again New may also same = refl
 same_change server p again Down may also same = refl
 same_change server p again Ended may also same = refl
 same_change server p again Running may also same =
-    ap (λ r. obeyed server (unless_refused r (after_change (units_in (encoding_of server)) server.table again.uri again.version (map edit_of again.changes)))) also
+    ap (λ r. obeyed server (unless_refused r (after_change (units_in (encoding_of server)) server.table again.uri again.version (map edit_from_data again.changes)))) also
     ∙ ap (λ t. obeyed server (unless_refused None t)) same
-    ∙ sym (ap (λ r. obeyed server (unless_refused r (after_change (units_in (encoding_of server)) server.table p.uri p.version (map edit_of p.changes)))) may)
+    ∙ sym (ap (λ r. obeyed server (unless_refused r (after_change (units_in (encoding_of server)) server.table p.uri p.version (map edit_from_data p.changes)))) may)
 
-module _ (server : State) (p : ChangeData) (ranges : AreInRange server.config.limits) (held : IsHeldState server.config.limits server) (proper : IsProperAsked p)
-    (may : change_refusal server.config.limits (units_in (encoding_of server)) server.table p.uri p.version (map edit_of p.changes) ≡ None)
-    (fits : length (normal_body server p) ≤ server.config.limits.max_body) where
+module _ (server : State) (p : ChangeData) (ranges : AreInRange server.config.limits) (received : IsHeldState server.config.limits server) (proper : IsProperAsked p)
+    (may : change_refusal server.config.limits (units_in (encoding_of server)) server.table p.uri p.version (map edit_from_data p.changes) ≡ None)
+    (fits : length (canonical_change_body server p) ≤ server.config.limits.max_body) where
   abbrev encoding : Encoding
   encoding = encoding_of server
 
   abbrev batch : List Edit
-  batch = map edit_of p.changes
+  batch = map edit_from_data p.changes
 
   abbrev entry : Entry
   entry = (open_one server.config.limits (units_in encoding) server.table p.uri p.version batch may).0
@@ -94,7 +94,7 @@ module _ (server : State) (p : ChangeData) (ranges : AreInRange server.config.li
   is_open = (open_one server.config.limits (units_in encoding) server.table p.uri p.version batch may).1
 
   text_held : IsHeldEntry server.config.limits entry
-  text_held = held_at server.config.limits server.table p.uri entry held.table is_open
+  text_held = held_at server.config.limits server.table p.uri entry received.table is_open
 
   laws : (some : List Edit) (items : List Item) → meaning (units_in encoding) (chars entry.text) some ≡ Ok items → IsCanonical (units_in encoding) (chars entry.text) some items
   laws some items means = canonical_law (units_in encoding) (units_some encoding) (chars entry.text) some items means
@@ -111,10 +111,10 @@ module _ (server : State) (p : ChangeData) (ranges : AreInRange server.config.li
   body_fits : body_refusal server.config.limits (canonical_body (units_in encoding) server.table p.uri p.version batch) ≡ None
   body_fits = body_within server.config.limits (canonical_body (units_in encoding) server.table p.uri p.version batch) fits
 
-  does_same : IsSettled server.config.limits (units_in encoding) server.table p.uri p.version batch settled
+  does_same : IsCanonicalOf server.config.limits (units_in encoding) server.table p.uri p.version batch settled
   does_same = is_settled server.config.limits encoding server.table p.uri p.version entry is_open laws batch may_here ranges.greatest_text body_fits
 
-  reads_as : IsReadAs p.uri p.version settled
+  reads_as : IsReadAgain p.uri p.version settled
   reads_as =
       is_read server.config.limits encoding server.table p.uri p.version entry is_open laws proper.uri proper.version text_held.utf8 (omega (arith, text_held.short, ranges.greatest_text))
       body_of-unique batch proper.texts may_here reading-body_of is_read_back
@@ -130,7 +130,7 @@ module _ (server : State) (p : ChangeData) (ranges : AreInRange server.config.li
   abbrev again_change : ChangeData
   again_change = record { uri = p.uri; version = p.version; changes = map written_edit settled }
 
-  back : map edit_of again_change.changes ≡ settled
+  back : map edit_from_data again_change.changes ≡ settled
   back = edits_back settled settled_texts
 
   settled_may : change_refusal server.config.limits (units_in encoding) server.table p.uri p.version settled ≡ None

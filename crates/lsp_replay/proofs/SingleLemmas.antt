@@ -2,10 +2,10 @@
 use Rattle.std.proofs.Common.{◌≡◌, ℕ, ◌≤◌, Bool, map, length, Some, refl, sym, ap, ◌∙◌, subst, arith}
 use Rattle.std.specs.Str.{chars}
 use Rattle.std.proofs.lemmas.Bool.{le-ltb}
-use Rattle.lsp_frame.specs.Faults.{place_behind}
+use Rattle.lsp_frame.specs.Faults.{place_after}
 use Rattle.lsp_frame.specs.Frame.{frame}
 use Rattle.lsp_frame.specs.Limits.{Bounds, AreInRange}
-use Rattle.lsp_frame.proofs.WrittenLemmas.{written_spells}
+use Rattle.lsp_frame.proofs.WrittenLemmas.{written_is_frame}
 use Rattle.lsp_text.specs.Units.{units_in}
 use Rattle.lsp_edit.specs.Compose.{then_items}
 use Rattle.lsp_edit.specs.Items.{text_of}
@@ -21,11 +21,11 @@ use Rattle.lsp_replay.proofs.PutLemmas.{put, change_puts}
 use Rattle.lsp_store.proofs.LawLemmas.{MayChange, change_parts}
 use Rattle.lsp_store.proofs.MessageLemmas.{Accepts, accepted_parts}
 use Rattle.lsp_server.specs.Incoming.{incoming_of}
-use Rattle.lsp_server.specs.Step.{edit_of, encoding_of}
+use Rattle.lsp_server.specs.Step.{edit_from_data, encoding_of}
 use Rattle.lsp_log.specs.declared.record.Version.{Version}
 use Rattle.lsp_log.specs.Log.{Record, IsRecord}
-use Rattle.lsp_replay.specs.Engines.{normal_body}
-use Rattle.lsp_replay.specs.Joining.{server_after}
+use Rattle.lsp_replay.specs.Engines.{canonical_change_body}
+use Rattle.lsp_replay.specs.inside.Joining.{server_after}
 use Rattle.lsp_replay.specs.Session.{Session}
 use Rattle.lsp_replay.specs.Squashed.{joined_by}
 use Rattle.lsp_replay.proofs.CanonicalChangeLemmas.{IsProperAt, IsCanonicalChange, canonical_at, canonical_change, is_canonical_change}
@@ -39,40 +39,40 @@ pub record IsSingle (max_body at : ℕ) (version : Version) (due : Bool) (s : Se
   pub accepted : IsAccepted s q again
   pub same_uri : again.uri ≡ p.uri
   pub leaves : server_after s.server again ≡ server_after s.server p
-  pub own : normal_body s.server again ≡ normal_body s.server p
-  pub within : length (normal_body s.server again) ≤ s.server.config.limits.max_body
-  pub framed : q.spelling ≡ frame (normal_body s.server p)
+  pub own : canonical_change_body s.server again ≡ canonical_change_body s.server p
+  pub within : length (canonical_change_body s.server again) ≤ s.server.config.limits.max_body
+  pub framed : q.spelling ≡ frame (canonical_change_body s.server p)
   pub joins : (squash : SquashData) → squash.encoding ≡ encoding_of s.server → ((entry : Entry) → entry_at s.server.table p.uri ≡ Some entry → text_of (chars squash.text) squash.items ≡ chars entry.text)
       → joined_by again squash ≡ joined_by p squash
 
 -- the record of an accepted change, as it is written singly at a place
 abbrev pub single_record : ℕ → Session → Record → ChangeData → Record
-single_record at s r p = record { head = record r.head { place = place_behind 0 at }; spelling = frame (normal_body s.server p); body = normal_body s.server p }
+single_record at s r p = record { head = record r.head { place = place_after 0 at }; spelling = frame (canonical_change_body s.server p); body = canonical_change_body s.server p }
 
-module _ (limits : Bounds) (ranges : AreInRange limits) (at : ℕ) (version : Version) (due : Bool) (s : Session) (r : Record) (p : ChangeData) (held : IsHeldState limits s.server)
-    (a : IsAccepted s r p) (fits : length (normal_body s.server p) ≤ s.server.config.limits.max_body) (same_due : r.head.line_due ≡ due) where
-  may : MayChange s.server.config.limits (units_in (encoding_of s.server)) s.server.table p.uri p.version (map edit_of p.changes)
-  may = change_parts s.server.config.limits (units_in (encoding_of s.server)) s.server.table p.uri p.version (map edit_of p.changes) a.may
+module _ (limits : Bounds) (ranges : AreInRange limits) (at : ℕ) (version : Version) (due : Bool) (s : Session) (r : Record) (p : ChangeData) (received : IsHeldState limits s.server)
+    (a : IsAccepted s r p) (fits : length (canonical_change_body s.server p) ≤ s.server.config.limits.max_body) (same_due : r.head.line_due ≡ due) where
+  may : MayChange s.server.config.limits (units_in (encoding_of s.server)) s.server.table p.uri p.version (map edit_from_data p.changes)
+  may = change_parts s.server.config.limits (units_in (encoding_of s.server)) s.server.table p.uri p.version (map edit_from_data p.changes) a.may
 
   abbrev entry : Entry
   entry = may.entry
 
   entry_held : IsHeldEntry limits entry
-  entry_held = held_at limits s.server.table p.uri entry held.table may.is_open
+  entry_held = held_at limits s.server.table p.uri entry received.table may.is_open
 
-  accepts : Accepts s.server.config.limits (units_in (encoding_of s.server)) entry p.version (map edit_of p.changes)
-  accepts = accepted_parts s.server.config.limits (units_in (encoding_of s.server)) entry p.version (map edit_of p.changes) may.may
+  accepts : Accepts s.server.config.limits (units_in (encoding_of s.server)) entry p.version (map edit_from_data p.changes)
+  accepts = accepted_parts s.server.config.limits (units_in (encoding_of s.server)) entry p.version (map edit_from_data p.changes) may.may
 
-  law : IsCanonical (units_in (encoding_of s.server)) (chars entry.text) (map edit_of p.changes) accepts.items
-  law = canonical_law (units_in (encoding_of s.server)) (units_some (encoding_of s.server)) (chars entry.text) (map edit_of p.changes) accepts.items accepts.means
+  law : IsCanonical (units_in (encoding_of s.server)) (chars entry.text) (map edit_from_data p.changes) accepts.items
+  law = canonical_law (units_in (encoding_of s.server)) (units_some (encoding_of s.server)) (chars entry.text) (map edit_from_data p.changes) accepts.items accepts.means
 
-  proper_at : IsProperAt s.server p.uri p.version entry (map edit_of p.changes) accepts.items
+  proper_at : IsProperAt s.server p.uri p.version entry (map edit_from_data p.changes) accepts.items
   proper_at =
       let proper = proper_change r p a.asks in
       record {
         found = may.is_open;
         utf8 = entry_held.utf8;
-        held = subst (λ (l : Bounds). length entry.text ≤ l.max_text) (sym held.limit) entry_held.short;
+        received = subst (λ (l : Bounds). length entry.text ≤ l.max_text) (sym received.limit) entry_held.short;
         uri_utf8 = proper.uri;
         version_fits = proper.version;
         means = accepts.means;
@@ -83,32 +83,32 @@ module _ (limits : Bounds) (ranges : AreInRange limits) (at : ℕ) (version : Ve
       }
 
   message : IsCanonicalChange s.server p.uri p.version entry accepts.items
-  message = is_canonical_change s.server p.uri p.version entry (map edit_of p.changes) accepts.items (subst AreInRange (sym held.limit) ranges) proper_at
+  message = is_canonical_change s.server p.uri p.version entry (map edit_from_data p.changes) accepts.items (subst AreInRange (sym received.limit) ranges) proper_at
 
   abbrev again : ChangeData
   again = canonical_change s.server p.uri p.version entry accepts.items
 
-  body_is : normal_body s.server p ≡ change_body p.uri p.version (canonical_at s.server entry accepts.items)
+  body_is : canonical_change_body s.server p ≡ change_body p.uri p.version (canonical_at s.server entry accepts.items)
   body_is = rw (may.is_open, accepts.means) refl
 
-  own : normal_body s.server again ≡ normal_body s.server p
+  own : canonical_change_body s.server again ≡ canonical_change_body s.server p
   own = message.own ∙ sym body_is
 
-  within : length (normal_body s.server p) ≤ limits.max_body
-  within = subst (λ (l : Bounds). length (normal_body s.server p) ≤ l.max_body) held.limit fits
+  within : length (canonical_change_body s.server p) ≤ limits.max_body
+  within = subst (λ (l : Bounds). length (canonical_change_body s.server p) ≤ l.max_body) received.limit fits
 
   meant : (squash : SquashData) → squash.encoding ≡ encoding_of s.server → text_of (chars squash.text) squash.items ≡ chars entry.text
       → joined_by p squash ≡ record squash { items = then_items squash.items accepts.items; version = p.version }
   meant squash encoding text =
-      ap (λ e. record squash { items = then_items squash.items (items_meant (meaning (units_in e) (text_of (chars squash.text) squash.items) (map edit_of p.changes))); version = p.version }) encoding
-      ∙ ap (λ x. record squash { items = then_items squash.items (items_meant (meaning (units_in (encoding_of s.server)) x (map edit_of p.changes))); version = p.version }) text
+      ap (λ e. record squash { items = then_items squash.items (items_meant (meaning (units_in e) (text_of (chars squash.text) squash.items) (map edit_from_data p.changes))); version = p.version }) encoding
+      ∙ ap (λ x. record squash { items = then_items squash.items (items_meant (meaning (units_in (encoding_of s.server)) x (map edit_from_data p.changes))); version = p.version }) text
       ∙ ap (λ m. record squash { items = then_items squash.items (items_meant m); version = p.version }) accepts.means
 
   pub is_single : IsSingle limits.max_body at version due s p (single_record at s r p)
   is_single = record {
     again = again;
     is = record {
-      spells = written_spells limits.max_body (normal_body s.server p) within (omega (arith, within, ranges.greatest_body));
+      is_frame_of = written_is_frame limits.max_body (canonical_change_body s.server p) within (omega (arith, within, ranges.greatest_body));
       side = λ e. a.side;
       placed = refl;
       due = same_due;
@@ -126,5 +126,5 @@ module _ (limits : Bounds) (ranges : AreInRange limits) (at : ℕ) (version : Ve
       same_leaves : server_after s.server p ≡ record s.server { table = put s.server.table p.uri p.version (bytes_after entry.text accepts.items) }
       same_leaves =
           ap (λ table. record s.server { table = table })
-          (change_puts (units_in (encoding_of s.server)) s.server.table p.uri p.version (map edit_of p.changes) entry may.is_open
+          (change_puts (units_in (encoding_of s.server)) s.server.table p.uri p.version (map edit_from_data p.changes) entry may.is_open
           ∙ ap (λ m. put s.server.table p.uri p.version (meant_text entry.text m)) accepts.means)

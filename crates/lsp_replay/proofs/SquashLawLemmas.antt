@@ -4,16 +4,16 @@ use Rattle.std.specs.Prelude.{⊤}
 use Rattle.std.proofs.lemmas.List.{length-append}
 use Rattle.lsp_log.specs.declared.record.Version.{Version}
 use Rattle.lsp_log.specs.Log.{Record, IsRecord, AreRecords, together, record_bytes, mark_of}
-use Rattle.lsp_log.proofs.LogLemmas.{due_behind}
-use Rattle.lsp_replay.specs.Course.{Course, written_first}
-use Rattle.lsp_replay.specs.Engines.{gives, go_on, unless_bad, course_in, replaying, line_if}
+use Rattle.lsp_log.proofs.LogLemmas.{due_after}
+use Rattle.lsp_replay.specs.RunOutput.{RunOutput, written_first}
+use Rattle.lsp_replay.specs.Engines.{writes, continue_with, unless_bad, run_output_in, replaying, line_if}
 use Rattle.lsp_replay.specs.Session.{Session, Verdict, answered, recorded, bad, judge}
 use Rattle.lsp_replay.specs.Squashed.{Run, Step, squash_step, squashed_in, end_bytes}
 use Rattle.lsp_replay.proofs.NumberedLemmas.{IsAlike}
 use Rattle.lsp_replay.proofs.JudgeLemmas.{IsVersionAt}
 
 -- all that is written of some records
-abbrev pub total : Course → List ℕ
+abbrev pub total : RunOutput → List ℕ
 total c = c.out ++ c.last false
 
 -- ---- records one after another
@@ -28,7 +28,7 @@ together_split version (r ∷ rs) rest =
     ap (λ z. record_bytes version r ++ z) (together_split version rs rest) ∙ sym (append_assoc (record_bytes version r) (together version rs []) rest)
 
 pub are_more : (max_body : ℕ) (version : Version) (place : ℕ) (due : Bool) (rs more : List Record) → AreRecords max_body version place due rs
-    → AreRecords max_body version (place + length (together version rs [])) (due_behind due rs) more → AreRecords max_body version place due (rs ++ more)
+    → AreRecords max_body version (place + length (together version rs [])) (due_after due rs) more → AreRecords max_body version place due (rs ++ more)
 are_more max_body version place due [] more each also = subst (λ n. AreRecords max_body version n due more) (omega arith) also
 are_more max_body version place due (r ∷ rs) more each also = (
   each.0,
@@ -37,7 +37,7 @@ are_more max_body version place due (r ∷ rs) more each also = (
       (subst (λ n. AreRecords max_body version n false more) (omega (arith, length-append (record_bytes version r) (together version rs []))) also)),
 )
   where
-    later : (rs : List Record) → due_behind false rs ≡ false
+    later : (rs : List Record) → due_after false rs ≡ false
     later [] = refl
     later (q ∷ rs) = refl
 
@@ -59,13 +59,13 @@ no_line (r ∷ rs) = refl
 -- A squashed log, by a step that is known and goes on.
 pub step_on : (s : Session) (run : Option Run) (r : Record) (rs : List Record) (out : List ℕ) (next : Option Run) → squash_step s run r (judge s r) ≡ record { out = out; end = None; run = next }
     → squashed_in s run (r ∷ rs) ≡ written_first out (squashed_in (judge s r).session next rs)
-step_on s run r rs out next is = ap (λ (step : Step). go_on step.out step.end (squashed_in (judge s r).session step.run rs)) is
+step_on s run r rs out next is = ap (λ (step : Step). continue_with step.out step.end (squashed_in (judge s r).session step.run rs)) is
 
 -- `replay` reports nothing for a record that isn't bad.
-pub report_on : (s : Session) (r : Record) (rs : List Record) → (judge s r).verdict ≢ bad → course_in replaying s (r ∷ rs) ≡ course_in replaying (judge s r).session rs
+pub report_on : (s : Session) (r : Record) (rs : List Record) → (judge s r).verdict ≢ bad → run_output_in replaying s (r ∷ rs) ≡ run_output_in replaying (judge s r).session rs
 report_on s r rs not_bad = by (judge s r).verdict not_bad
   where
-    by : (v : Verdict) → v ≢ bad → go_on (unless_bad r v (gives [])).out (unless_bad r v (gives [])).end (course_in replaying (judge s r).session rs) ≡ course_in replaying (judge s r).session rs
+    by : (v : Verdict) → v ≢ bad → continue_with (unless_bad r v (writes [])).out (unless_bad r v (writes [])).end (run_output_in replaying (judge s r).session rs) ≡ run_output_in replaying (judge s r).session rs
     by bad other = absurd (other refl)
     by recorded other = refl
     by (answered answer) other = refl
@@ -97,14 +97,14 @@ pub record IsEnded (max_body at : ℕ) (version : Version) (due : Bool) (s : Ses
   pub last : Session
   pub last_run : Option Run
   pub like : IsAlike s last
-  pub told : IsVersionAt version (due_behind due us) last
+  pub error : IsVersionAt version (due_after due us) last
   pub some : HasRun run → NonEmpty us
   pub same_bytes : end_bytes last_run ≡ end_bytes run
   pub apart : (uri : List ℕ) → IsApart run uri → IsApart last_run uri
   pub are : AreRecords max_body version at due us
   pub bytes : end_bytes run ≡ first_line due us ++ together version us []
-  pub course : (more : List Record) → squashed_in t before (us ++ more) ≡ written_first (end_bytes before) (squashed_in last last_run more)
-  pub replay : (more : List Record) → course_in replaying t (us ++ more) ≡ course_in replaying last more
+  pub run_output : (more : List Record) → squashed_in t before (us ++ more) ≡ written_first (end_bytes before) (squashed_in last last_run more)
+  pub replay : (more : List Record) → run_output_in replaying t (us ++ more) ≡ run_output_in replaying last more
 
 -- The records that are written of some, with those of the open run.
 pub record IsSquashedAs (max_body at : ℕ) (version : Version) (due : Bool) (s : Session) (run : Option Run) (rs : List Record) (t : Session) (before : Option Run) : Type 0 where
@@ -113,36 +113,36 @@ pub record IsSquashedAs (max_body at : ℕ) (version : Version) (due : Bool) (s 
   pub are : AreRecords max_body version at due qs
   pub bytes : total (squashed_in s run rs) ≡ first_line due qs ++ together version qs []
   pub again : total (squashed_in t before qs) ≡ end_bytes before ++ total (squashed_in s run rs)
-  pub goes_on : (squashed_in t before qs).stop ≡ None
-  pub documents : (line_due : Bool) → (course_in replaying t qs).last line_due ≡ (course_in replaying s rs).last line_due
-  pub to_end : (course_in replaying t qs).stop ≡ None
-  pub status : (course_in replaying t qs).outcome.status ≡ (course_in replaying s rs).outcome.status
-  pub refused : (course_in replaying t qs).outcome.refused ≡ (course_in replaying s rs).outcome.refused
+  pub continues : (squashed_in t before qs).stop ≡ None
+  pub documents : (line_due : Bool) → (run_output_in replaying t qs).last line_due ≡ (run_output_in replaying s rs).last line_due
+  pub to_end : (run_output_in replaying t qs).stop ≡ None
+  pub status : (run_output_in replaying t qs).outcome.status ≡ (run_output_in replaying s rs).outcome.status
+  pub refused : (run_output_in replaying t qs).outcome.refused ≡ (run_output_in replaying s rs).outcome.refused
 
 module _ (max_body at : ℕ) (version : Version) (due : Bool) (s : Session) (run : Option Run) (t : Session) (before : Option Run) (e : IsEnded max_body at version due s run t before) where
   -- At the end of the input.
   pub at_end : IsSquashedAs max_body at version due s run [] t before
   at_end =
       let nil = append-nil e.us in
-      let course = ap (squashed_in t before) (sym nil) ∙ e.course [] in
-      let replay = ap (course_in replaying t) (sym nil) ∙ e.replay [] in
+      let run_output = ap (squashed_in t before) (sym nil) ∙ e.run_output [] in
+      let replay = ap (run_output_in replaying t) (sym nil) ∙ e.replay [] in
       record {
         qs = e.us;
         some = e.some;
         are = e.are;
         bytes = append-nil (end_bytes run) ∙ e.bytes;
         again =
-            ap total course ∙ ap (λ z. (end_bytes before ++ []) ++ (z ++ [])) e.same_bytes ∙ ap (λ z. z ++ (end_bytes run ++ [])) (append-nil (end_bytes before));
-        goes_on = ap (λ (c : Course). c.stop) course;
-        documents = λ line_due. ap (λ (c : Course). c.last line_due) replay ∙ ap (λ (u : Session). (course_in replaying u []).last line_due) e.like.2;
-        to_end = ap (λ (c : Course). c.stop) replay;
-        status = ap (λ (c : Course). c.outcome.status) replay ∙ ap (λ (u : Session). (course_in replaying u []).outcome.status) e.like.2;
-        refused = ap (λ (c : Course). c.outcome.refused) replay ∙ ap (λ (u : Session). (course_in replaying u []).outcome.refused) e.like.2;
+            ap total run_output ∙ ap (λ z. (end_bytes before ++ []) ++ (z ++ [])) e.same_bytes ∙ ap (λ z. z ++ (end_bytes run ++ [])) (append-nil (end_bytes before));
+        continues = ap (λ (c : RunOutput). c.stop) run_output;
+        documents = λ line_due. ap (λ (c : RunOutput). c.last line_due) replay ∙ ap (λ (u : Session). (run_output_in replaying u []).last line_due) e.like.2;
+        to_end = ap (λ (c : RunOutput). c.stop) replay;
+        status = ap (λ (c : RunOutput). c.outcome.status) replay ∙ ap (λ (u : Session). (run_output_in replaying u []).outcome.status) e.like.2;
+        refused = ap (λ (c : RunOutput). c.outcome.refused) replay ∙ ap (λ (u : Session). (run_output_in replaying u []).outcome.refused) e.like.2;
       }
 
   -- The run ends, and others follow that begin with what ends it.
   module _ (r : Record) (rs : List Record) (next : Option Run) (goes : squash_step s run r (judge s r) ≡ record { out = end_bytes run; end = None; run = next }) (not_bad : (judge s r).verdict ≢ bad)
-      (any : IsAny next rs) (more : IsSquashedAs max_body (at + length (together version e.us [])) version (due_behind due e.us) (judge s r).session next rs e.last e.last_run) where
+      (any : IsAny next rs) (more : IsSquashedAs max_body (at + length (together version e.us [])) version (due_after due e.us) (judge s r).session next rs e.last e.last_run) where
     first : squashed_in s run (r ∷ rs) ≡ written_first (end_bytes run) (squashed_in (judge s r).session next rs)
     first = step_on s run r rs (end_bytes run) next goes
 
@@ -158,21 +158,21 @@ module _ (max_body at : ℕ) (version : Version) (due : Bool) (s : Session) (run
               ∙ ap (λ z. z ++ total inner) e.bytes ∙ ap (λ z. (first_line due e.us ++ together version e.us []) ++ z) more.bytes
               ∙ swap;
           again =
-              ap total (e.course more.qs) ∙ append_assoc (end_bytes before) (squashed_in e.last e.last_run more.qs).out ((squashed_in e.last e.last_run more.qs).last false)
+              ap total (e.run_output more.qs) ∙ append_assoc (end_bytes before) (squashed_in e.last e.last_run more.qs).out ((squashed_in e.last e.last_run more.qs).last false)
               ∙ ap (λ z. end_bytes before ++ z) (more.again ∙ ap (λ z. z ++ total inner) e.same_bytes ∙ sym (append_assoc (end_bytes run) inner.out (inner.last false)) ∙ sym (ap total first));
-          goes_on = ap (λ (c : Course). c.stop) (e.course more.qs) ∙ more.goes_on;
-          documents = λ line_due. ap (λ (c : Course). c.last line_due) (e.replay more.qs) ∙ more.documents line_due ∙ sym (ap (λ (c : Course). c.last line_due) (report_on s r rs not_bad));
-          to_end = ap (λ (c : Course). c.stop) (e.replay more.qs) ∙ more.to_end;
-          status = ap (λ (c : Course). c.outcome.status) (e.replay more.qs) ∙ more.status ∙ sym (ap (λ (c : Course). c.outcome.status) (report_on s r rs not_bad));
-          refused = ap (λ (c : Course). c.outcome.refused) (e.replay more.qs) ∙ more.refused ∙ sym (ap (λ (c : Course). c.outcome.refused) (report_on s r rs not_bad));
+          continues = ap (λ (c : RunOutput). c.stop) (e.run_output more.qs) ∙ more.continues;
+          documents = λ line_due. ap (λ (c : RunOutput). c.last line_due) (e.replay more.qs) ∙ more.documents line_due ∙ sym (ap (λ (c : RunOutput). c.last line_due) (report_on s r rs not_bad));
+          to_end = ap (λ (c : RunOutput). c.stop) (e.replay more.qs) ∙ more.to_end;
+          status = ap (λ (c : RunOutput). c.outcome.status) (e.replay more.qs) ∙ more.status ∙ sym (ap (λ (c : RunOutput). c.outcome.status) (report_on s r rs not_bad));
+          refused = ap (λ (c : RunOutput). c.outcome.refused) (e.replay more.qs) ∙ more.refused ∙ sym (ap (λ (c : RunOutput). c.outcome.refused) (report_on s r rs not_bad));
         }
       where
         -- the line is due once
-        swap : (first_line due e.us ++ together version e.us []) ++ (first_line (due_behind due e.us) more.qs ++ together version more.qs [])
+        swap : (first_line due e.us ++ together version e.us []) ++ (first_line (due_after due e.us) more.qs ++ together version more.qs [])
             ≡ first_line due (e.us ++ more.qs) ++ together version (e.us ++ more.qs) []
         swap = by e.us
           where
-            by : (us : List Record) → (first_line due us ++ together version us []) ++ (first_line (due_behind due us) more.qs ++ together version more.qs []) ≡ first_line due (us ++ more.qs) ++ together version (us ++ more.qs) []
+            by : (us : List Record) → (first_line due us ++ together version us []) ++ (first_line (due_after due us) more.qs ++ together version more.qs []) ≡ first_line due (us ++ more.qs) ++ together version (us ++ more.qs) []
             by [] = refl
             by (u ∷ us) =
                 ap (λ z. (line_if due ++ together version (u ∷ us) []) ++ (z ++ together version more.qs [])) (no_line more.qs)
@@ -180,28 +180,28 @@ module _ (max_body at : ℕ) (version : Version) (due : Bool) (s : Session) (run
                 ∙ ap (λ z. line_if due ++ z) (sym (together_split version (u ∷ us) (together version more.qs [])) ∙ sym (together_more version (u ∷ us) more.qs []))
 
   -- A record that is written as it is ends the run.
-  module _ (r q : Record) (rs : List Record) (front : List ℕ) (is : IsRecord max_body version (at + length (together version e.us [])) (due_behind due e.us) q)
+  module _ (r q : Record) (rs : List Record) (front : List ℕ) (is : IsRecord max_body version (at + length (together version e.us [])) (due_after due e.us) q)
       (goes : squash_step s run r (judge s r) ≡ record { out = end_bytes run ++ (front ++ q.spelling); end = None; run = None }) (not_bad : (judge s r).verdict ≢ bad)
-      (front_is : front ≡ line_if (due_behind due e.us) ++ mark_of version q.head.side)
+      (front_is : front ≡ line_if (due_after due e.us) ++ mark_of version q.head.side)
       (again_goes : squash_step e.last e.last_run q (judge e.last q) ≡ record { out = end_bytes e.last_run ++ (front ++ q.spelling); end = None; run = None }) (again_not_bad : (judge e.last q).verdict ≢ bad)
       (more : IsSquashedAs max_body (at + length (together version e.us []) + length (record_bytes version q)) version false (judge s r).session None rs (judge e.last q).session None) where
     one : squashed_in s run (r ∷ rs) ≡ written_first (end_bytes run ++ (front ++ q.spelling)) (squashed_in (judge s r).session None rs)
     one = step_on s run r rs (end_bytes run ++ (front ++ q.spelling)) None goes
 
     again_one : squashed_in t before (e.us ++ q ∷ more.qs) ≡ written_first (end_bytes before) (written_first (end_bytes e.last_run ++ (front ++ q.spelling)) (squashed_in (judge e.last q).session None more.qs))
-    again_one = e.course (q ∷ more.qs) ∙ ap (written_first (end_bytes before)) (step_on e.last e.last_run q more.qs (end_bytes e.last_run ++ (front ++ q.spelling)) None again_goes)
+    again_one = e.run_output (q ∷ more.qs) ∙ ap (written_first (end_bytes before)) (step_on e.last e.last_run q more.qs (end_bytes e.last_run ++ (front ++ q.spelling)) None again_goes)
 
-    replay_one : course_in replaying t (e.us ++ q ∷ more.qs) ≡ course_in replaying (judge e.last q).session more.qs
+    replay_one : run_output_in replaying t (e.us ++ q ∷ more.qs) ≡ run_output_in replaying (judge e.last q).session more.qs
     replay_one = e.replay (q ∷ more.qs) ∙ report_on e.last q more.qs again_not_bad
 
     abbrev written : List ℕ
     written = end_bytes run ++ (front ++ q.spelling)
 
-    abbrev inner : Course
+    abbrev inner : RunOutput
     inner = squashed_in (judge s r).session None rs
 
     -- its bytes, behind those of the run
-    placed_bytes : (us : List Record) (line : List ℕ) → line ≡ line_if (due_behind due us) → (first_line due us ++ together version us []) ++ ((line ++ mark_of version q.head.side) ++ q.spelling)
+    placed_bytes : (us : List Record) (line : List ℕ) → line ≡ line_if (due_after due us) → (first_line due us ++ together version us []) ++ ((line ++ mark_of version q.head.side) ++ q.spelling)
         ≡ first_line due (us ++ q ∷ more.qs) ++ together version us (record_bytes version q)
     placed_bytes [] line e = ap (λ l. (l ++ mark_of version q.head.side) ++ q.spelling) e ∙ append_assoc (line_if due) (mark_of version q.head.side) q.spelling
     placed_bytes (u ∷ us) line e =
@@ -214,7 +214,7 @@ module _ (max_body at : ℕ) (version : Version) (due : Bool) (s : Session) (run
         ap total one ∙ append_assoc written inner.out (inner.last false)
         ∙ ap (λ z. (z ++ (front ++ q.spelling)) ++ total inner) e.bytes
         ∙ ap (λ z. ((first_line due e.us ++ together version e.us []) ++ (z ++ q.spelling)) ++ total inner) front_is
-        ∙ ap (λ z. z ++ total inner) (placed_bytes e.us (line_if (due_behind due e.us)) refl)
+        ∙ ap (λ z. z ++ total inner) (placed_bytes e.us (line_if (due_after due e.us)) refl)
         ∙ ap (λ z. (first_line due (e.us ++ q ∷ more.qs) ++ together version e.us (record_bytes version q)) ++ z) (more.bytes ∙ ap (λ z. z ++ together version more.qs []) (no_line more.qs))
         ∙ append_assoc (first_line due (e.us ++ q ∷ more.qs)) (together version e.us (record_bytes version q)) (together version more.qs [])
         ∙ ap (λ z. first_line due (e.us ++ q ∷ more.qs) ++ z)
@@ -240,29 +240,29 @@ module _ (max_body at : ℕ) (version : Version) (due : Bool) (s : Session) (run
       are = are_more max_body version at due e.us (q ∷ more.qs) e.are (is, more.are);
       bytes = one_bytes;
       again = one_again;
-      goes_on = ap (λ (c : Course). c.stop) again_one ∙ more.goes_on;
-      documents = λ line_due. ap (λ (c : Course). c.last line_due) replay_one ∙ more.documents line_due ∙ sym (ap (λ (c : Course). c.last line_due) (report_on s r rs not_bad));
-      to_end = ap (λ (c : Course). c.stop) replay_one ∙ more.to_end;
-      status = ap (λ (c : Course). c.outcome.status) replay_one ∙ more.status ∙ sym (ap (λ (c : Course). c.outcome.status) (report_on s r rs not_bad));
-      refused = ap (λ (c : Course). c.outcome.refused) replay_one ∙ more.refused ∙ sym (ap (λ (c : Course). c.outcome.refused) (report_on s r rs not_bad));
+      continues = ap (λ (c : RunOutput). c.stop) again_one ∙ more.continues;
+      documents = λ line_due. ap (λ (c : RunOutput). c.last line_due) replay_one ∙ more.documents line_due ∙ sym (ap (λ (c : RunOutput). c.last line_due) (report_on s r rs not_bad));
+      to_end = ap (λ (c : RunOutput). c.stop) replay_one ∙ more.to_end;
+      status = ap (λ (c : RunOutput). c.outcome.status) replay_one ∙ more.status ∙ sym (ap (λ (c : RunOutput). c.outcome.status) (report_on s r rs not_bad));
+      refused = ap (λ (c : RunOutput). c.outcome.refused) replay_one ∙ more.refused ∙ sym (ap (λ (c : RunOutput). c.outcome.refused) (report_on s r rs not_bad));
     }
 
 -- A record that goes on with the run.
 pub goes_on_next : (max_body at : ℕ) (version : Version) (due : Bool) (s : Session) (run : Option Run) (t : Session) (before next : Option Run) (r : Record) (rs : List Record)
     → squash_step s run r (judge s r) ≡ record { out = []; end = None; run = next } → (judge s r).verdict ≢ bad → IsAny next rs
     → IsSquashedAs max_body at version due (judge s r).session next rs t before → IsSquashedAs max_body at version due s run (r ∷ rs) t before
-goes_on_next max_body at version due s run t before next r rs gives not_bad any more =
-    let first = step_on s run r rs [] next gives in
-    let told = report_on s r rs not_bad in
+goes_on_next max_body at version due s run t before next r rs writes not_bad any more =
+    let first = step_on s run r rs [] next writes in
+    let error = report_on s r rs not_bad in
     record {
       qs = more.qs;
       some = λ _. more.some any;
       are = more.are;
       bytes = ap total first ∙ more.bytes;
       again = more.again ∙ ap (λ z. end_bytes before ++ z) (sym (ap total first));
-      goes_on = more.goes_on;
-      documents = λ line_due. more.documents line_due ∙ sym (ap (λ (c : Course). c.last line_due) told);
+      continues = more.continues;
+      documents = λ line_due. more.documents line_due ∙ sym (ap (λ (c : RunOutput). c.last line_due) error);
       to_end = more.to_end;
-      status = more.status ∙ sym (ap (λ (c : Course). c.outcome.status) told);
-      refused = more.refused ∙ sym (ap (λ (c : Course). c.outcome.refused) told);
+      status = more.status ∙ sym (ap (λ (c : RunOutput). c.outcome.status) error);
+      refused = more.refused ∙ sym (ap (λ (c : RunOutput). c.outcome.refused) error);
     }

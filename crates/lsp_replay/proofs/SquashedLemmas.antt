@@ -9,16 +9,16 @@ use Rattle.lsp_server.specs.Step.{State}
 use Rattle.lsp_replay.specs.declared.outcome.Outcome.{Outcome}
 use Rattle.lsp_stream.specs.declared.fault.EngineFault.{EngineFault}
 use Rattle.lsp_log.specs.Log.{Record}
-use Rattle.lsp_replay.specs.Course.{Course}
-use Rattle.lsp_replay.specs.Engines.{Gives, change_in, course_in, front_of, go_on, log_config, normal_body, normal_if, normalising, unless_bad, written}
+use Rattle.lsp_replay.specs.RunOutput.{RunOutput}
+use Rattle.lsp_replay.specs.Engines.{RecordOutput, change_in, run_output_in, front_of, continue_with, log_config, canonical_change_body, canonical_if, normalising, unless_bad, written}
 use Rattle.lsp_replay.specs.Session.{Session, Verdict, answered, recorded, bad, judge, opened}
 use Rattle.lsp_replay.specs.Laws.{StopsAlike}
-use Rattle.lsp_replay.specs.Squashed.{Run, change_gives, squash_step, squashed_in, step_if}
+use Rattle.lsp_replay.specs.Squashed.{Run, change_output, squash_step, squashed_in, step_if}
 
-abbrev single : State → Record → List ℕ → Option ChangeData → Verdict → Gives
-single server r front change v = unless_bad r v (written server.config.limits.max_body r front (normal_if server change v))
+abbrev single : State → Record → List ℕ → Option ChangeData → Verdict → RecordOutput
+single server r front change v = unless_bad r v (written server.config.limits.max_body r front (canonical_if server change v))
 
-change_end : (server : State) (p : ChangeData) (front bytes : List ℕ) (run : Option Run) → (change_gives server p front bytes run).end ≡ None
+change_end : (server : State) (p : ChangeData) (front bytes : List ℕ) (run : Option Run) → (change_output server p front bytes run).end ≡ None
 change_end server p front bytes None = refl
 change_end server p front bytes (Some run) =
     ⊎_elim (λ (is : bytes_eq p.uri run.squash.uri ≡ true). rw is refl) (λ (not : bytes_eq p.uri run.squash.uri ≡ false). rw not refl) (cases_Bool (bytes_eq p.uri run.squash.uri))
@@ -42,30 +42,30 @@ step_end server r front run (Some p) (answered (refused refusal)) = refl
 step_end server r front run (Some p) (answered (exits status)) = refl
 step_end server r front run (Some p) (answered already_ended) = refl
 step_end server r front run (Some p) (answered changed) =
-    ⊎_elim (λ (long : nat_lt server.config.limits.max_body (length (normal_body server p)) ≡ true). rw long refl)
-    (λ (within : nat_lt server.config.limits.max_body (length (normal_body server p)) ≡ false). rw within (change_end server p front _ run))
-    (cases_Bool (nat_lt server.config.limits.max_body (length (normal_body server p))))
+    ⊎_elim (λ (long : nat_lt server.config.limits.max_body (length (canonical_change_body server p)) ≡ true). rw long refl)
+    (λ (within : nat_lt server.config.limits.max_body (length (canonical_change_body server p)) ≡ false). rw within (change_end server p front _ run))
+    (cases_Bool (nat_lt server.config.limits.max_body (length (canonical_change_body server p))))
 
-stop_on : (out bytes : List ℕ) (end also : Option (Result Outcome EngineFault)) (c d : Course) → end ≡ also → c.stop ≡ d.stop → (go_on out end c).stop ≡ (go_on bytes also d).stop
+stop_on : (out bytes : List ℕ) (end also : Option (Result Outcome EngineFault)) (c d : RunOutput) → end ≡ also → c.stop ≡ d.stop → (continue_with out end c).stop ≡ (continue_with bytes also d).stop
 stop_on out bytes None None c d same stops = stops
 stop_on out bytes None (Some a) c d same stops = absurd (cc)
 stop_on out bytes (Some e) None c d same stops = absurd (cc)
 stop_on out bytes (Some e) (Some a) c d same stops = same
 
-pub stops_in : (s : Session) (run : Option Run) (rs : List Record) → (squashed_in s run rs).stop ≡ (course_in normalising s rs).stop
+pub stops_in : (s : Session) (run : Option Run) (rs : List Record) → (squashed_in s run rs).stop ≡ (run_output_in normalising s rs).stop
 stops_in s run [] = refl
 stops_in s run (r ∷ rs) =
     stop_on _ _ _ _ _ _ (step_end s.server r (front_of (judge s r).session r) run (change_in (incoming_of (reading r.body))) (judge s r).verdict)
     (stops_in (judge s r).session (squash_step s run r (judge s r)).run rs)
 
-outcome_on : (out bytes : List ℕ) (end also : Option (Result Outcome EngineFault)) (c d : Course) → end ≡ also → c.outcome ≡ d.outcome → (go_on out end c).outcome ≡ (go_on bytes also d).outcome
+outcome_on : (out bytes : List ℕ) (end also : Option (Result Outcome EngineFault)) (c d : RunOutput) → end ≡ also → c.outcome ≡ d.outcome → (continue_with out end c).outcome ≡ (continue_with bytes also d).outcome
 outcome_on out bytes None None c d same outcomes = outcomes
 outcome_on out bytes None (Some a) c d same outcomes = absurd (cc)
 outcome_on out bytes (Some e) None c d same outcomes = absurd (cc)
 outcome_on out bytes (Some e) (Some a) c d same outcomes = refl
 
 -- Its status and counts are those of `normalise`.
-pub outcome_in : (s : Session) (run : Option Run) (rs : List Record) → (squashed_in s run rs).outcome ≡ (course_in normalising s rs).outcome
+pub outcome_in : (s : Session) (run : Option Run) (rs : List Record) → (squashed_in s run rs).outcome ≡ (run_output_in normalising s rs).outcome
 outcome_in s run [] = refl
 outcome_in s run (r ∷ rs) =
     outcome_on _ _ _ _ _ _ (step_end s.server r (front_of (judge s r).session r) run (change_in (incoming_of (reading r.body))) (judge s r).verdict)

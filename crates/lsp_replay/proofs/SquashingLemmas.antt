@@ -12,20 +12,22 @@ use Rattle.lsp_message.specs.Message.{reading}
 use Rattle.lsp_server.specs.Incoming.{incoming_of}
 use Rattle.lsp_log.specs.declared.record.Version.{Version}
 use Rattle.lsp_log.specs.Log.{mark_of}
-use Rattle.lsp_replay.specs.Course.{after, written_first}
-use Rattle.lsp_replay.specs.Engines.{change_in, front_of, go_on, line_if, normal_if, normal_body}
+use Rattle.lsp_replay.specs.RunOutput.{written_first}
+use Rattle.lsp_replay.specs.inside.RunOutput.{after}
+use Rattle.lsp_replay.specs.Engines.{change_in, front_of, continue_with, line_if, canonical_if, canonical_change_body}
 use Rattle.lsp_replay.specs.Session.{Session, Verdict, answered, recorded, bad, judge}
-use Rattle.lsp_replay.specs.Squashed.{Run, Step, squash_step, squashed_in, run_of, run_bytes, end_bytes, begun, longer, faulty, change_gives, other_step, step_if}
-use Rattle.lsp_replay.specs.Joining.{IsChange, IsLonger, IsOther, IsBegun}
+use Rattle.lsp_replay.specs.Squashed.{Run, Step, squash_step, squashed_in, run_bytes, end_bytes, begun, longer, faulty, change_output, other_step, step_if}
+use Rattle.lsp_replay.specs.inside.Squashed.{run_of}
+use Rattle.lsp_replay.specs.inside.Joining.{IsChange, IsLonger, IsOther, IsBegun}
 
 -- any record but an accepted change
-pub step_other : (server : State) (r : Record) (front : List ℕ) (run : Option Run) (change : Option ChangeData) (verdict : Verdict) → verdict ≢ bad → normal_if server change verdict ≡ None
+pub step_other : (server : State) (r : Record) (front : List ℕ) (run : Option Run) (change : Option ChangeData) (verdict : Verdict) → verdict ≢ bad → canonical_if server change verdict ≡ None
     → step_if server r front run change verdict ≡ other_step r front run
 step_other server r front run change bad not_bad none = absurd (not_bad refl)
 step_other server r front run None recorded not_bad none = refl
 step_other server r front run (Some p) recorded not_bad none = refl
 step_other server r front run None (answered answer) not_bad none = refl
-step_other server r front run (Some p) (answered changed) not_bad none = absurd (let wrong : Some (normal_body server p) ≡ None = none in cc)
+step_other server r front run (Some p) (answered changed) not_bad none = absurd (let wrong : Some (canonical_change_body server p) ≡ None = none in cc)
 step_other server r front run (Some p) (answered (reply m)) not_bad none = refl
 step_other server r front run (Some p) (answered dropped) not_bad none = refl
 step_other server r front run (Some p) (answered ignored) not_bad none = refl
@@ -35,25 +37,25 @@ step_other server r front run (Some p) (answered (exits status)) not_bad none = 
 
 -- an accepted change
 pub step_changed : (server : State) (r : Record) (front canonical : List ℕ) (run : Option Run) (change : Option ChangeData) (verdict : Verdict) → (is : IsChange server change verdict canonical)
-    → step_if server r front run change verdict ≡ change_gives server is.params front (front ++ canonical) run
+    → step_if server r front run change verdict ≡ change_output server is.params front (front ++ canonical) run
 step_changed server r front canonical run change verdict is =
     ap (λ (c : Option ChangeData). step_if server r front run c verdict) is.is
     ∙ ap (λ (v : Verdict). step_if server r front run (Some is.params) v) is.accepted
-    ∙ short (nat_lt server.config.limits.max_body (length (normal_body server is.params))) (le-ltb server.config.limits.max_body (length (normal_body server is.params)) is.framed.within)
-    ∙ ap (λ (c : List ℕ). change_gives server is.params front (front ++ c) run) (sym is.framed.is)
+    ∙ short (nat_lt server.config.limits.max_body (length (canonical_change_body server is.params))) (le-ltb server.config.limits.max_body (length (canonical_change_body server is.params)) is.framed.within)
+    ∙ ap (λ (c : List ℕ). change_output server is.params front (front ++ c) run) (sym is.framed.is)
   where
     short : (over : Bool) → over ≡ false
-        → (if over then faulty (BodyTooLong r.head.place) else change_gives server is.params front (front ++ frame (normal_body server is.params)) run)
-        ≡ change_gives server is.params front (front ++ frame (normal_body server is.params)) run
+        → (if over then faulty (BodyTooLong r.head.place) else change_output server is.params front (front ++ frame (canonical_change_body server is.params)) run)
+        ≡ change_output server is.params front (front ++ frame (canonical_change_body server is.params)) run
     short true e = absurd (let wrong : true ≡ false = e in cc)
     short false e = refl
 
 pub step_too_long : (server : State) (r : Record) (front : List ℕ) (run : Option Run) (change : Option ChangeData) (verdict : Verdict) (p : ChangeData) → change ≡ Some p → verdict ≡ answered changed
-    → server.config.limits.max_body < length (normal_body server p) → step_if server r front run change verdict ≡ faulty (BodyTooLong r.head.place)
+    → server.config.limits.max_body < length (canonical_change_body server p) → step_if server r front run change verdict ≡ faulty (BodyTooLong r.head.place)
 step_too_long server r front run change verdict p is accepted over =
     ap (λ (c : Option ChangeData). step_if server r front run c verdict) is
     ∙ ap (λ (v : Verdict). step_if server r front run (Some p) v) accepted
-    ∙ rw (lt-ltb server.config.limits.max_body (length (normal_body server p)) over) refl
+    ∙ rw (lt-ltb server.config.limits.max_body (length (canonical_change_body server p)) over) refl
 
 pub step_bad : (server : State) (r : Record) (front : List ℕ) (run : Option Run) (change : Option ChangeData) (verdict : Verdict) → verdict ≡ bad
     → step_if server r front run change verdict ≡ faulty (BadLog r.head.place)
@@ -62,9 +64,9 @@ step_bad server r front run (Some p) verdict e = rw e refl
 
 -- it goes on with the open run
 pub gives_longer : (server : State) (p : ChangeData) (front single old_front singles : List ℕ) (run : Option SquashData) (batches : SquashData) → IsLonger run p batches
-    → change_gives server p front single (run_of old_front singles run) ≡ record { out = []; end = None; run = run_of old_front (singles ++ single) (Some batches) }
+    → change_output server p front single (run_of old_front singles run) ≡ record { out = []; end = None; run = run_of old_front (singles ++ single) (Some batches) }
 gives_longer server p front single old_front singles run batches is =
-    ap (λ (o : Option SquashData). change_gives server p front single (run_of old_front singles o)) is.open_one
+    ap (λ (o : Option SquashData). change_output server p front single (run_of old_front singles o)) is.open_one
     ∙ rw is.same (ap (λ (b : SquashData). record { out = []; end = None; run = Some (record { front = old_front; singles = singles ++ single; squash = b }) }) (sym is.joined))
 
 -- it begins a run
@@ -72,14 +74,14 @@ begun_is : (server : State) (p : ChangeData) (front single : List ℕ) (batches 
 begun_is server p front single batches is = rw is.is_open (ap (λ (b : SquashData). Some (record { front = front; singles = single; squash = b })) (sym is.joined))
 
 pub gives_begun : (server : State) (p : ChangeData) (front single old_front singles : List ℕ) (run : Option SquashData) (batches : SquashData) → IsOther run p → IsBegun server p batches
-    → change_gives server p front single (run_of old_front singles run) ≡ record { out = end_bytes (run_of old_front singles run); end = None; run = run_of front single (Some batches) }
+    → change_output server p front single (run_of old_front singles run) ≡ record { out = end_bytes (run_of old_front singles run); end = None; run = run_of front single (Some batches) }
 gives_begun server p front single old_front singles None batches other is = ap (λ (o : Option Run). record { out = []; end = None; run = o }) (begun_is server p front single batches is)
 gives_begun server p front single old_front singles (Some squash) batches other is =
     rw other (ap (λ (o : Option Run). record { out = run_bytes (record { front = old_front; singles = singles; squash = squash }); end = None; run = o }) (begun_is server p front single batches is))
 
 -- ---- the course of a handler, a record at a time
 
-module _ (s : Session) (front singles : List ℕ) (run : Option SquashData) (r : Record) (now : Session) (is_now : now ≡ (judge s r).session) (verdict : Verdict) (told : verdict ≡ (judge s r).verdict) (version : Version) (same_version : version ≡ now.version) where
+module _ (s : Session) (front singles : List ℕ) (run : Option SquashData) (r : Record) (now : Session) (is_now : now ≡ (judge s r).session) (verdict : Verdict) (error : verdict ≡ (judge s r).verdict) (version : Version) (same_version : version ≡ now.version) where
   abbrev here : Option Run
   here = run_of front singles run
 
@@ -91,21 +93,21 @@ module _ (s : Session) (front singles : List ℕ) (run : Option SquashData) (r :
 
   by_step : (out : List ℕ) (next : Option Run) → squash_step s here r (judge s r) ≡ record { out = out; end = None; run = next } → (more : List Record) → squashed_in s here (r ∷ more) ≡ after out None (squashed_in now next more)
   by_step out next is more =
-      ap (λ (step : Step). go_on step.out step.end (squashed_in (judge s r).session step.run more)) is ∙ ap (λ (u : Session). written_first out (squashed_in u next more)) (sym is_now)
+      ap (λ (step : Step). continue_with step.out step.end (squashed_in (judge s r).session step.run more)) is ∙ ap (λ (u : Session). written_first out (squashed_in u next more)) (sym is_now)
 
-  pub gives_as_it_is : (out : List ℕ) → verdict ≢ bad → normal_if s.server (change_in (incoming_of (reading r.body))) verdict ≡ None → out ≡ end_bytes here ++ (its_front ++ r.spelling)
+  pub gives_as_it_is : (out : List ℕ) → verdict ≢ bad → canonical_if s.server (change_in (incoming_of (reading r.body))) verdict ≡ None → out ≡ end_bytes here ++ (its_front ++ r.spelling)
       → (more : List Record) → squashed_in s here (r ∷ more) ≡ after out None (squashed_in now None more)
   gives_as_it_is out not_bad none is more =
       by_step out None
-      (ap (λ v. step_if s.server r (front_of (judge s r).session r) here (change_in (incoming_of (reading r.body))) v) (sym told)
+      (ap (λ v. step_if s.server r (front_of (judge s r).session r) here (change_in (incoming_of (reading r.body))) v) (sym error)
       ∙ step_other s.server r (front_of (judge s r).session r) here (change_in (incoming_of (reading r.body))) verdict not_bad none
       ∙ ap (λ f. other_step r f here) front_here ∙ ap (λ o. record { out = o; end = None; run = None }) (sym is)) more
 
-  changes : (canonical : List ℕ) → (is : IsChange s.server (change_in (incoming_of (reading r.body))) verdict canonical) → squash_step s here r (judge s r) ≡ change_gives s.server is.params its_front (its_front ++ canonical) here
+  changes : (canonical : List ℕ) → (is : IsChange s.server (change_in (incoming_of (reading r.body))) verdict canonical) → squash_step s here r (judge s r) ≡ change_output s.server is.params its_front (its_front ++ canonical) here
   changes canonical is =
-      ap (λ v. step_if s.server r (front_of (judge s r).session r) here (change_in (incoming_of (reading r.body))) v) (sym told)
+      ap (λ v. step_if s.server r (front_of (judge s r).session r) here (change_in (incoming_of (reading r.body))) v) (sym error)
       ∙ step_changed s.server r (front_of (judge s r).session r) canonical here (change_in (incoming_of (reading r.body))) verdict is
-      ∙ ap (λ f. change_gives s.server is.params f (f ++ canonical) here) front_here
+      ∙ ap (λ f. change_output s.server is.params f (f ++ canonical) here) front_here
 
   pub gives_more : (canonical : List ℕ) (batches : SquashData) (is : IsChange s.server (change_in (incoming_of (reading r.body))) verdict canonical) → IsLonger run is.params batches
       → (more : List Record) → squashed_in s here (r ∷ more) ≡ after [] None (squashed_in now (run_of front (singles ++ (its_front ++ canonical)) (Some batches)) more)
@@ -121,12 +123,12 @@ module _ (s : Session) (front singles : List ℕ) (run : Option SquashData) (r :
 
   -- ---- the same, by what the texts and the output are after the calls that write them
 
-  module _ (begun_with : Option SquashData) (taken : begun_with ≡ run) (made : List ℕ) (nothing : made ≡ []) where
-    ends : (ended : Option SquashData) (out : List ℕ) → ended ≡ begun_with → out ≡ made ++ end_bytes (run_of front singles ended) → out ≡ end_bytes here
+  module _ (begun_with : Option SquashData) (taken : begun_with ≡ run) (buffer : List ℕ) (nothing : buffer ≡ []) where
+    ends : (ended : Option SquashData) (out : List ℕ) → ended ≡ begun_with → out ≡ buffer ++ end_bytes (run_of front singles ended) → out ≡ end_bytes here
     ends ended out same is = is ∙ ap (λ z. z ++ end_bytes (run_of front singles ended)) nothing ∙ ap (λ o. end_bytes (run_of front singles o)) (same ∙ taken)
 
-    pub told_as_it_is : (ended : Option SquashData) → ended ≡ begun_with → verdict ≢ bad → normal_if s.server (change_in (incoming_of (reading r.body))) verdict ≡ None
-        → (run_out front_out out : List ℕ) → run_out ≡ made ++ end_bytes (run_of front singles ended) → front_out ≡ run_out ++ its_front → out ≡ front_out ++ r.spelling
+    pub told_as_it_is : (ended : Option SquashData) → ended ≡ begun_with → verdict ≢ bad → canonical_if s.server (change_in (incoming_of (reading r.body))) verdict ≡ None
+        → (run_out front_out out : List ℕ) → run_out ≡ buffer ++ end_bytes (run_of front singles ended) → front_out ≡ run_out ++ its_front → out ≡ front_out ++ r.spelling
         → (batches : Option SquashData) → batches ≡ None → (last_front last_singles : List ℕ)
         → (more : List Record) → squashed_in s here (r ∷ more) ≡ after out None (squashed_in now (run_of last_front last_singles batches) more)
     told_as_it_is ended same not_bad none run_out front_out out run_is front_is is batches closed last_front last_singles more =
@@ -136,13 +138,13 @@ module _ (s : Session) (front singles : List ℕ) (run : Option SquashData) (r :
 
     pub told_more : (canonical : List ℕ) (batches : SquashData) (is : IsChange s.server (change_in (incoming_of (reading r.body))) verdict canonical) → IsLonger begun_with is.params batches
         → (frame new_front new_singles : List ℕ) → frame ≡ canonical → new_front ≡ front → new_singles ≡ singles ++ (its_front ++ frame)
-        → (more : List Record) → squashed_in s here (r ∷ more) ≡ after made None (squashed_in now (run_of new_front new_singles (Some batches)) more)
+        → (more : List Record) → squashed_in s here (r ∷ more) ≡ after buffer None (squashed_in now (run_of new_front new_singles (Some batches)) more)
     told_more canonical batches is longer frame new_front new_singles same same_front more_singles more =
         rw (nothing, same_front, more_singles, same) (gives_more canonical batches is (subst (λ (o : Option SquashData). IsLonger o is.params batches) taken longer) more)
 
     pub told_next : (canonical : List ℕ) (ended : Option SquashData) (batches : SquashData) (is : IsChange s.server (change_in (incoming_of (reading r.body))) verdict canonical)
         → IsOther begun_with is.params → ended ≡ begun_with → IsBegun s.server is.params batches
-        → (out frame new_front new_singles : List ℕ) → out ≡ made ++ end_bytes (run_of front singles ended) → frame ≡ canonical → new_front ≡ its_front → new_singles ≡ its_front ++ frame
+        → (out frame new_front new_singles : List ℕ) → out ≡ buffer ++ end_bytes (run_of front singles ended) → frame ≡ canonical → new_front ≡ its_front → new_singles ≡ its_front ++ frame
         → (more : List Record) → squashed_in s here (r ∷ more) ≡ after out None (squashed_in now (run_of new_front new_singles (Some batches)) more)
     told_next canonical ended batches is other ended_is begun out frame new_front new_singles out_is same same_front more_singles more =
         rw (ends ended out ended_is out_is, same_front, more_singles, same)

@@ -16,7 +16,7 @@ use Rattle.lsp_store.proofs.ScalarLemmas.{scalar-meaning, scalar-text}
 use Rattle.lsp_server.specs.declared.phase.Phase.{Phase}
 use Rattle.lsp_server.specs.declared.phase.Phase.TheVariants.{New, Running, Down, Ended}
 use Rattle.lsp_server.specs.Incoming.{IncomingData, not_json, not_a_message, response, initialize, shutdown, other_request, exit, did_open, did_change, did_close, other_notification}
-use Rattle.lsp_server.specs.Step.{State, step_in, step_on, obeyed, edit_of, encoding_of}
+use Rattle.lsp_server.specs.Step.{State, step_in, step_on, obeyed, edit_from_data, encoding_of}
 use Rattle.lsp_replay.proofs.ReadLemmas.{OnSome}
 use Rattle.lsp_replay.proofs.AskedLemmas.{IsProperAsked, IsTextOpened, IsProperIncoming}
 
@@ -29,18 +29,18 @@ IsHeldTable limits [] = ⊤
 IsHeldTable limits (entry ∷ table) = IsHeldEntry limits entry × IsHeldTable limits table
 
 pub held_at : (limits : Bounds) (table : List Entry) (uri : List ℕ) (entry : Entry) → IsHeldTable limits table → entry_at table uri ≡ Some entry → IsHeldEntry limits entry
-held_at limits [] uri entry held found = absurd (let bad : None ≡ Some entry = found in cc)
-held_at limits (first ∷ table) uri entry held found =
+held_at limits [] uri entry received found = absurd (let bad : None ≡ Some entry = found in cc)
+held_at limits (first ∷ table) uri entry received found =
     ⊎_elim
-    (λ (is : bytes_eq uri first.uri ≡ true). let at : Some first ≡ Some entry = rw is at found in let same : first ≡ entry = cc in subst (IsHeldEntry limits) same held.0)
-    (λ (not : bytes_eq uri first.uri ≡ false). held_at limits table uri entry held.1 (rw not at found))
+    (λ (is : bytes_eq uri first.uri ≡ true). let at : Some first ≡ Some entry = rw is at found in let same : first ≡ entry = cc in subst (IsHeldEntry limits) same received.0)
+    (λ (not : bytes_eq uri first.uri ≡ false). held_at limits table uri entry received.1 (rw not at found))
     (cases_Bool (bytes_eq uri first.uri))
 
 -- ---- commands
 
 held_end : (limits : Bounds) (table : List Entry) (entry : Entry) → IsHeldTable limits table → IsHeldEntry limits entry → IsHeldTable limits (after_open table entry)
-held_end limits [] entry held is = (is, tt)
-held_end limits (first ∷ table) entry held is = (held.0, held_end limits table entry held.1 is)
+held_end limits [] entry received is = (is, tt)
+held_end limits (first ∷ table) entry received is = (received.0, held_end limits table entry received.1 is)
 
 opened_short : (limits : Bounds) (table : List Entry) (entry : Entry) → open_refusal limits table entry ≡ None → length entry.text ≤ limits.max_text
 opened_short limits table entry e = by (is_some (entry_at table entry.uri)) (nat_le limits.max_docs (length table)) (nat_lt limits.max_text (length entry.text)) e (ltb-false limits.max_text (length entry.text))
@@ -54,33 +54,33 @@ opened_short limits table entry e = by (is_some (entry_at table entry.uri)) (nat
 
 held_changed : (limits : Bounds) (units : ℕ → ℕ) (entry : Entry) (version : ℤ) (batch : List Edit) → AreTexts batch → IsHeldEntry limits entry
     → entry_refusal limits units entry version batch ≡ None → IsHeldEntry limits (changed units entry version batch)
-held_changed limits units entry version batch texts held e =
+held_changed limits units entry version batch texts received e =
     let a = accepted_parts limits units entry version batch e in
-    let made : meant_text entry.text (meaning units (chars entry.text) batch) ≡ bytes_after entry.text a.items = ap (meant_text entry.text) a.means in
+    let buffer : meant_text entry.text (meaning units (chars entry.text) batch) ≡ bytes_after entry.text a.items = ap (meant_text entry.text) a.means in
     let all : all_scalars (text_of (chars entry.text) a.items) ≡ true =
-    scalar-text (chars entry.text) a.items (scalars-chars entry.text held.utf8) (scalar-meaning units (chars entry.text) batch a.items texts a.means) in
+    scalar-text (chars entry.text) a.items (scalars-chars entry.text received.utf8) (scalar-meaning units (chars entry.text) batch a.items texts a.means) in
     record {
-      utf8 = subst IsUtf8 (sym made) (text_of (chars entry.text) a.items, (all, refl));
-      short = subst (λ (text : List ℕ). length text ≤ limits.max_text) (sym made) a.short;
+      utf8 = subst IsUtf8 (sym buffer) (text_of (chars entry.text) a.items, (all, refl));
+      short = subst (λ (text : List ℕ). length text ≤ limits.max_text) (sym buffer) a.short;
     }
 
 held_change : (limits : Bounds) (units : ℕ → ℕ) (table : List Entry) (uri : List ℕ) (version : ℤ) (batch : List Edit) → AreTexts batch → IsHeldTable limits table
     → change_refusal limits units table uri version batch ≡ None → IsHeldTable limits (after_change units table uri version batch)
-held_change limits units [] uri version batch texts held e = tt
-held_change limits units (first ∷ table) uri version batch texts held e =
+held_change limits units [] uri version batch texts received e = tt
+held_change limits units (first ∷ table) uri version batch texts received e =
     ⊎_elim
     (λ (is : bytes_eq uri first.uri ≡ true).
     let here : entry_refusal limits units first version batch ≡ None = rw is at e in
-    rw is (held_changed limits units first version batch texts held.0 here, held.1))
+    rw is (held_changed limits units first version batch texts received.0 here, received.1))
     (λ (not : bytes_eq uri first.uri ≡ false).
     let later : change_refusal limits units table uri version batch ≡ None = rw not at e in
-    rw not (held.0, held_change limits units table uri version batch texts held.1 later))
+    rw not (received.0, held_change limits units table uri version batch texts received.1 later))
     (cases_Bool (bytes_eq uri first.uri))
 
 held_close : (limits : Bounds) (table : List Entry) (uri : List ℕ) → IsHeldTable limits table → IsHeldTable limits (after_close table uri)
-held_close limits [] uri held = tt
-held_close limits (first ∷ table) uri held =
-    ⊎_elim (λ (is : bytes_eq uri first.uri ≡ true). rw is held.1) (λ (not : bytes_eq uri first.uri ≡ false). rw not (held.0, held_close limits table uri held.1)) (cases_Bool (bytes_eq uri first.uri))
+held_close limits [] uri received = tt
+held_close limits (first ∷ table) uri received =
+    ⊎_elim (λ (is : bytes_eq uri first.uri ≡ true). rw is received.1) (λ (not : bytes_eq uri first.uri ≡ false). rw not (received.0, held_close limits table uri received.1)) (cases_Bool (bytes_eq uri first.uri))
 
 -- ---- a server
 
@@ -90,63 +90,63 @@ pub record IsHeldState (limits : Bounds) (s : State) : Type 0 where
   pub table : IsHeldTable limits s.table
 
 obeyed_held : (limits : Bounds) (s : State) (refusal : Option Refusal) (next : List Entry) → IsHeldState limits s → (refusal ≡ None → IsHeldTable limits next) → IsHeldState limits (obeyed s (unless_refused refusal next)).state
-obeyed_held limits s None next held made = record { limit = held.limit; table = made refl }
-obeyed_held limits s (Some refusal) next held made = held
+obeyed_held limits s None next received buffer = record { limit = received.limit; table = buffer refl }
+obeyed_held limits s (Some refusal) next received buffer = received
 
 open_step : (limits : Bounds) (s : State) (params : Option OpenData) → OnSome IsTextOpened params → IsHeldState limits s → IsHeldState limits (step_in Running s (did_open params)).state
-open_step limits s None proper held = held
-open_step limits s (Some p) proper held =
-    obeyed_held limits s (open_refusal s.config.limits s.table (record { uri = p.uri; language = p.language; version = p.version; text = p.text })) _ held
+open_step limits s None proper received = received
+open_step limits s (Some p) proper received =
+    obeyed_held limits s (open_refusal s.config.limits s.table (record { uri = p.uri; language = p.language; version = p.version; text = p.text })) _ received
     (λ e.
-    let none : open_refusal limits s.table (record { uri = p.uri; language = p.language; version = p.version; text = p.text }) ≡ None = rw held.limit at e in
-    held_end limits s.table _ held.table (record { utf8 = proper; short = opened_short limits s.table (record { uri = p.uri; language = p.language; version = p.version; text = p.text }) none }))
+    let none : open_refusal limits s.table (record { uri = p.uri; language = p.language; version = p.version; text = p.text }) ≡ None = rw received.limit at e in
+    held_end limits s.table _ received.table (record { utf8 = proper; short = opened_short limits s.table (record { uri = p.uri; language = p.language; version = p.version; text = p.text }) none }))
 
 change_step : (limits : Bounds) (s : State) (params : Option ChangeData) → OnSome IsProperAsked params → IsHeldState limits s → IsHeldState limits (step_in Running s (did_change params)).state
-change_step limits s None proper held = held
-change_step limits s (Some p) proper held =
-    obeyed_held limits s (change_refusal s.config.limits (units_in (encoding_of s)) s.table p.uri p.version (map edit_of p.changes)) _ held
+change_step limits s None proper received = received
+change_step limits s (Some p) proper received =
+    obeyed_held limits s (change_refusal s.config.limits (units_in (encoding_of s)) s.table p.uri p.version (map edit_from_data p.changes)) _ received
     (λ e.
-    let none : change_refusal limits (units_in (encoding_of s)) s.table p.uri p.version (map edit_of p.changes) ≡ None = rw held.limit at e in
-    held_change limits (units_in (encoding_of s)) s.table p.uri p.version (map edit_of p.changes) proper.texts held.table none)
+    let none : change_refusal limits (units_in (encoding_of s)) s.table p.uri p.version (map edit_from_data p.changes) ≡ None = rw received.limit at e in
+    held_change limits (units_in (encoding_of s)) s.table p.uri p.version (map edit_from_data p.changes) proper.texts received.table none)
 
 -- A step keeps it.
 step_held : (limits : Bounds) (phase : Phase) (s : State) (m : IncomingData) → IsProperIncoming m → IsHeldState limits s → IsHeldState limits (step_in phase s m).state
-step_held limits Ended s m proper held = held
-step_held limits New s not_json proper held = held
-step_held limits New s (not_a_message id) proper held = held
-step_held limits New s (response id) proper held = held
-step_held limits New s exit proper held = record { limit = held.limit; table = held.table }
-step_held limits New s (initialize id None) proper held = held
-step_held limits New s (initialize id (Some offers)) proper held = record { limit = held.limit; table = held.table }
-step_held limits New s (shutdown id) proper held = held
-step_held limits New s (other_request id method) proper held = held
-step_held limits New s (did_open params) proper held = held
-step_held limits New s (did_change params) proper held = held
-step_held limits New s (did_close params) proper held = held
-step_held limits New s (other_notification method) proper held = held
-step_held limits Running s not_json proper held = held
-step_held limits Running s (not_a_message id) proper held = held
-step_held limits Running s (response id) proper held = held
-step_held limits Running s exit proper held = record { limit = held.limit; table = held.table }
-step_held limits Running s (initialize id offers) proper held = held
-step_held limits Running s (shutdown id) proper held = record { limit = held.limit; table = held.table }
-step_held limits Running s (other_request id method) proper held = held
-step_held limits Running s (did_open params) proper held = open_step limits s params proper held
-step_held limits Running s (did_change params) proper held = change_step limits s params proper held
-step_held limits Running s (did_close None) proper held = held
-step_held limits Running s (did_close (Some p)) proper held = obeyed_held limits s (close_refusal s.table p.uri) _ held (λ e. held_close limits s.table p.uri held.table)
-step_held limits Running s (other_notification method) proper held = held
-step_held limits Down s not_json proper held = held
-step_held limits Down s (not_a_message id) proper held = held
-step_held limits Down s (response id) proper held = held
-step_held limits Down s exit proper held = record { limit = held.limit; table = held.table }
-step_held limits Down s (initialize id offers) proper held = held
-step_held limits Down s (shutdown id) proper held = held
-step_held limits Down s (other_request id method) proper held = held
-step_held limits Down s (did_open params) proper held = held
-step_held limits Down s (did_change params) proper held = held
-step_held limits Down s (did_close params) proper held = held
-step_held limits Down s (other_notification method) proper held = held
+step_held limits Ended s m proper received = received
+step_held limits New s not_json proper received = received
+step_held limits New s (not_a_message id) proper received = received
+step_held limits New s (response id) proper received = received
+step_held limits New s exit proper received = record { limit = received.limit; table = received.table }
+step_held limits New s (initialize id None) proper received = received
+step_held limits New s (initialize id (Some offers)) proper received = record { limit = received.limit; table = received.table }
+step_held limits New s (shutdown id) proper received = received
+step_held limits New s (other_request id method) proper received = received
+step_held limits New s (did_open params) proper received = received
+step_held limits New s (did_change params) proper received = received
+step_held limits New s (did_close params) proper received = received
+step_held limits New s (other_notification method) proper received = received
+step_held limits Running s not_json proper received = received
+step_held limits Running s (not_a_message id) proper received = received
+step_held limits Running s (response id) proper received = received
+step_held limits Running s exit proper received = record { limit = received.limit; table = received.table }
+step_held limits Running s (initialize id offers) proper received = received
+step_held limits Running s (shutdown id) proper received = record { limit = received.limit; table = received.table }
+step_held limits Running s (other_request id method) proper received = received
+step_held limits Running s (did_open params) proper received = open_step limits s params proper received
+step_held limits Running s (did_change params) proper received = change_step limits s params proper received
+step_held limits Running s (did_close None) proper received = received
+step_held limits Running s (did_close (Some p)) proper received = obeyed_held limits s (close_refusal s.table p.uri) _ received (λ e. held_close limits s.table p.uri received.table)
+step_held limits Running s (other_notification method) proper received = received
+step_held limits Down s not_json proper received = received
+step_held limits Down s (not_a_message id) proper received = received
+step_held limits Down s (response id) proper received = received
+step_held limits Down s exit proper received = record { limit = received.limit; table = received.table }
+step_held limits Down s (initialize id offers) proper received = received
+step_held limits Down s (shutdown id) proper received = received
+step_held limits Down s (other_request id method) proper received = received
+step_held limits Down s (did_open params) proper received = received
+step_held limits Down s (did_change params) proper received = received
+step_held limits Down s (did_close params) proper received = received
+step_held limits Down s (other_notification method) proper received = received
 
 pub step_on_held : (limits : Bounds) (s : State) (m : IncomingData) → IsProperIncoming m → IsHeldState limits s → IsHeldState limits (step_on s m).state
-step_on_held limits s m proper held = step_held limits s.phase s m proper held
+step_on_held limits s m proper received = step_held limits s.phase s m proper received

@@ -1,4 +1,4 @@
--- What holds of every log, and of the logs that are written of it.
+-- What holds of every log, and of the logs that the commands write of it.
 use Rattle.std.specs.Prelude.{ℕ, ◌≡◌, ◌≤◌, Bool, List, [], ◌∷◌, ◌++◌, length, Option, None}
 use Rattle.std.specs.Io.KnownBytes.{Consumes, Appends}
 use Rattle.lsp_frame.specs.Frame.{frame}
@@ -7,107 +7,133 @@ use Rattle.lsp_server.specs.Answer.{reply}
 use Rattle.lsp_replay.specs.declared.engines.Settings.{Settings}
 use Rattle.lsp_replay.specs.declared.outcome.Outcome.{Outcome}
 use Rattle.lsp_log.specs.Log.{Record, Log, IsReadAs}
-use Rattle.lsp_replay.specs.Course.{Course}
+use Rattle.lsp_replay.specs.RunOutput.{RunOutput}
 use Rattle.lsp_replay.specs.Engine.{last_of}
-use Rattle.lsp_replay.specs.Engines.{report, normal, converted, as_log, as_converted, log_config}
+use Rattle.lsp_replay.specs.Engines.{report, canonical_log, converted, as_log, as_converted, log_config}
 use Rattle.lsp_replay.specs.Session.{Session, Verdict, answered, judge, opened}
 use Rattle.lsp_replay.specs.Squashed.{squashed}
 
--- all that a course gives for a log that is records and nothing else
-abbrev pub all_of : (List Record → Course) → Log → List ℕ
-all_of course log = (course log.records).out ++ last_of course log
+-- All that an engine writes for a log that is records and nothing else.
+abbrev pub all_of : (List Record → RunOutput) → Log → List ℕ
+all_of run_output log = (run_output log.records).out ++ last_of run_output log
 
--- The bytes are a log, records and nothing else, of which `replay` says what it says of these records: the same documents, with the same
--- status and counts.
-pub record TellsAlike (settings : Settings) (records : List Record) (bytes : List ℕ) : Type 0 where
+-- The bytes are a log, records and nothing else. `replay` reports of it what it reports of these
+-- records: the same documents, status and counts.
+pub record ReportsAlike (settings : Settings) (records : List Record)
+    (bytes : List ℕ) : Type 0 where
   pub log : Log
   pub reads : IsReadAs (as_log settings) bytes log
   pub whole : log.rest ≡ []
   pub to_end : (report settings log.records).stop ≡ None
   pub alike : report settings log.records ≡ report settings records
 
--- The same, and `normalise` writes of it the same bytes. Its own status and counts are those of `replay`.
-pub record IsNormal (settings : Settings) (records : List Record) (bytes : List ℕ) : Type 0 where
-  pub outcome : (normal settings records).outcome ≡ (report settings records).outcome
-  pub tells : TellsAlike settings records bytes
-  pub goes_on : (normal settings tells.log.records).stop ≡ None
-  pub again : all_of (normal settings) tells.log ≡ bytes
+-- The same, and `normalise` writes the same bytes again. Its own status and counts are those of
+-- `replay`.
+pub record IsCanonicalLog (settings : Settings) (records : List Record)
+    (bytes : List ℕ) : Type 0 where
+  pub outcome : (canonical_log settings records).outcome ≡ (report settings records).outcome
+  pub reports : ReportsAlike settings records bytes
+  pub continues : (canonical_log settings reports.log.records).stop ≡ None
+  pub again : all_of (canonical_log settings) reports.log ≡ bytes
 
--- What `normalise` writes of a log, where no record ends the run.
-abbrev pub NormalLaw : Type 0
-NormalLaw =
-    (settings : Settings) → AreInRange settings.limits → (input : List ℕ) (log : Log) → IsReadAs (as_log settings) input log → log.rest ≡ []
-    → (normal settings log.records).stop ≡ None → IsNormal settings log.records (all_of (normal settings) log)
+-- What `normalise` writes of a log in which no record ends the run.
+abbrev pub CanonicalLogLaw : Type 0
+CanonicalLogLaw =
+    (settings : Settings) → AreInRange settings.limits → (input : List ℕ) (log : Log) →
+    IsReadAs (as_log settings) input log → log.rest ≡ []
+    → (canonical_log settings log.records).stop ≡ None →
+    IsCanonicalLog settings log.records (all_of (canonical_log settings) log)
 
--- An engine came to the end of a log: it wrote bytes of which this holds, and answered the status and the counts of `replay`.
-pub record Wrote (settings : Settings) (Holds : List Record → List ℕ → Type 0) (left_old left_new held_old held_new : Option (List ℕ)) (outcome : Outcome) : Type 0 where
+-- An engine came to the end of a log. It wrote bytes of which `Holds` is true, and its outcome has
+-- the status and the counts of `replay`.
+pub record Wrote (settings : Settings) (Holds : List Record → List ℕ → Type 0)
+    (left_old left_new received_old received_new : Option (List ℕ))
+    (outcome : Outcome) : Type 0 where
+  -- the bytes that were read
   pub input : List ℕ
   pub read : Consumes left_old left_new input
+  -- they are this log, records and nothing else
   pub log : Log
   pub reads : IsReadAs (as_log settings) input log
   pub whole : log.rest ≡ []
-  pub tells : outcome ≡ (report settings log.records).outcome
+  pub reports : outcome ≡ (report settings log.records).outcome
+  -- the output
   pub bytes : List ℕ
-  pub wrote : Appends held_old held_new bytes
+  pub wrote : Appends received_old received_new bytes
   pub holds : Holds log.records bytes
 
 -- ---- `convert`
 
 -- A reply's body is within the limit.
 abbrev pub IsReplyWithin : ℕ → Verdict → Type 0
-IsReplyWithin max_body (answered (reply m)) = (body : List ℕ) → m.frame ≡ frame body → length body ≤ max_body
+IsReplyWithin max_body (answered (reply m)) = (body : List ℕ) → m.frame ≡ frame body →
+    length body ≤ max_body
 IsReplyWithin max_body verdict = Unit {0}
 
--- So is that of each reply to these records.
+-- So is the body of each reply to these records.
 abbrev pub AreRepliesWithin : ℕ → Session → List Record → Type 0
 AreRepliesWithin max_body s [] = Unit {0}
-AreRepliesWithin max_body s (r ∷ rs) = IsReplyWithin max_body (judge s r).verdict × AreRepliesWithin max_body (judge s r).session rs
+AreRepliesWithin max_body s (r ∷ rs) = IsReplyWithin max_body (judge s r).verdict
+    × AreRepliesWithin max_body (judge s r).session rs
 
--- What `convert` writes of a log is a log of which `replay` says the same, if the limit on bodies lets the replies in it pass. Its own
--- status and counts are those of `replay`.
+-- What `convert` writes is a log of which `replay` reports the same, if each reply's body is within
+-- the limit. Its own status and counts are those of `replay`.
 pub record IsConverted (settings : Settings) (records : List Record) (bytes : List ℕ) : Type 0 where
   pub outcome : (converted settings records).outcome ≡ (report settings records).outcome
-  pub tells : AreRepliesWithin settings.limits.max_body (opened (log_config settings)) records → TellsAlike settings records bytes
+  pub reports : AreRepliesWithin settings.limits.max_body (opened (log_config settings)) records →
+      ReportsAlike settings records bytes
 
+-- What `convert` writes of a log in which no record ends the run.
 abbrev pub ConvertedLaw : Type 0
 ConvertedLaw =
-    (settings : Settings) → AreInRange settings.limits → (input : List ℕ) (log : Log) → IsReadAs (as_converted settings) input log → log.rest ≡ []
-    → (converted settings log.records).stop ≡ None → IsConverted settings log.records (all_of (converted settings) log)
+    (settings : Settings) → AreInRange settings.limits → (input : List ℕ) (log : Log) →
+    IsReadAs (as_converted settings) input log → log.rest ≡ []
+    → (converted settings log.records).stop ≡ None →
+    IsConverted settings log.records (all_of (converted settings) log)
 
 -- ---- reading
 
--- `replay` gives nothing before the end of the input.
+-- `replay` writes nothing before the end of the input.
 abbrev pub ReportLaw : Type 0
 ReportLaw = (settings : Settings) (records : List Record) → (report settings records).out ≡ []
 
 -- ---- `normalise` with squash
 
--- The bytes are a log, records and nothing else, of which `replay` reports the documents of these records, with the same status and as many
--- refusals. It has fewer messages, where several were written as one.
+-- The bytes are a log, records and nothing else. `replay` reports of it the documents of these
+-- records, with the same status and as many refusals. It has fewer messages if several were written
+-- as one.
 pub record LeavesAlike (settings : Settings) (records : List Record) (bytes : List ℕ) : Type 0 where
   pub log : Log
   pub reads : IsReadAs (as_log settings) bytes log
   pub whole : log.rest ≡ []
   pub to_end : (report settings log.records).stop ≡ None
-  pub documents : (line_due : Bool) → (report settings log.records).last line_due ≡ (report settings records).last line_due
-  pub status : (report settings log.records).outcome.status ≡ (report settings records).outcome.status
-  pub refused : (report settings log.records).outcome.refused ≡ (report settings records).outcome.refused
+  pub documents : (line_due : Bool) →
+      (report settings log.records).last line_due ≡ (report settings records).last line_due
+  pub status : (report settings log.records).outcome.status
+      ≡ (report settings records).outcome.status
+  pub refused : (report settings log.records).outcome.refused
+      ≡ (report settings records).outcome.refused
 
--- The same, and squashed again it gives the same bytes. The status and counts of the first time are those of `replay`.
+-- The same, and squashed again it is the same bytes. The status and counts of the first time are
+-- those of `replay`.
 pub record IsSquashed (settings : Settings) (records : List Record) (bytes : List ℕ) : Type 0 where
   pub outcome : (squashed settings records).outcome ≡ (report settings records).outcome
   pub leaves : LeavesAlike settings records bytes
-  pub goes_on : (squashed settings leaves.log.records).stop ≡ None
+  pub continues : (squashed settings leaves.log.records).stop ≡ None
   pub again : all_of (squashed settings) leaves.log ≡ bytes
 
--- What `normalise` writes of a log with squash, where no record ends the run of the command.
+-- What `normalise` writes of a log with squash, if no record ends the run of the command.
 abbrev pub SquashedLaw : Type 0
 SquashedLaw =
-    (settings : Settings) → AreInRange settings.limits → (input : List ℕ) (log : Log) → IsReadAs (as_log settings) input log → log.rest ≡ []
-    → (squashed settings log.records).stop ≡ None → IsSquashed settings log.records (all_of (squashed settings) log)
+    (settings : Settings) → AreInRange settings.limits → (input : List ℕ) (log : Log) →
+    IsReadAs (as_log settings) input log → log.rest ≡ []
+    → (squashed settings log.records).stop ≡ None →
+    IsSquashed settings log.records (all_of (squashed settings) log)
 
--- With squash a log ends as without: at the same record, for the same cause, with the same status and counts.
+-- With squash a log ends as without: at the same record, for the same cause, with the same status
+-- and counts.
 abbrev pub StopsAlike : Type 0
 StopsAlike =
-    (settings : Settings) (records : List Record) → ((squashed settings records).stop ≡ (normal settings records).stop)
-    × ((squashed settings records).outcome ≡ (normal settings records).outcome)
+    (settings : Settings) (records : List Record) →
+    ((squashed settings records).stop ≡ (canonical_log settings records).stop)
+    × ((squashed settings records).outcome ≡ (canonical_log settings records).outcome)

@@ -1,10 +1,9 @@
-pub mod Course
+pub mod RunOutput
 pub mod Engine
-pub mod Progress
 pub mod Session
-pub mod Verdicts
 pub mod Engines
 pub mod Squashed
 pub mod Laws
-pub mod Told
-pub mod Joining
+pub mod AllRecords
+pub mod Run
+pub mod inside

@@ -1,4 +1,5 @@
--- A server over the records of a log: what becomes of each record, and what is counted (LSP 3.17, Lifecycle Messages).
+-- A server over the records of a log: the judgement of each record, and what is counted (LSP 3.17,
+-- Lifecycle Messages).
 use Rattle.std.specs.Prelude.{ℕ, Bool, true, false, ◌&&◌, ◌==◌, not, if◌then◌else◌, List, Option, Some, None, is_some}
 use Rattle.std.specs.Ordering.{int_eq}
 use Rattle.std.specs.Str.{bytes_eq}
@@ -25,74 +26,93 @@ use Rattle.lsp_log.specs.declared.record.Side.TheVariants.{Client, Server}
 use Rattle.lsp_log.specs.declared.record.Head.{Head}
 use Rattle.lsp_log.specs.Log.{Record}
 
--- The server that a log is run on; the log's version, which its first record says; the id of the accepted `initialize`, as long as a log
--- of version 2 has not had the result; how many records came, how many bodies were handled, and how many of those were refused.
+-- A server that is run on a log, and what is counted.
 pub record Session : Type 0 where
+  -- the server that the client's records are handed to
   pub server : State
+  -- the log's version, which its first record says
   pub version : Version
+  -- the id of the accepted `initialize`, until its result has come in a log of version 2
   pub expected : Option IdData
+  -- how many records were judged
   pub records : ℕ
+  -- how many bodies were handled
   pub messages : ℕ
+  -- how many of those were refused
   pub refusals : ℕ
 
--- What becomes of a record: a client's is answered, a server's is taken note of, and one that belongs in no log is bad.
+-- The judgement of a record: a client's is answered, a server's is recorded, and one that can't be
+-- in a log is bad.
 pub data Verdict : Type 0 where
   answered : AnswerData Sent → Verdict
   recorded bad : Verdict
 
+-- The judgement of a record, and the session after it.
 pub record Judged : Type 0 where
   pub verdict : Verdict
   pub session : Session
 
+-- The two as a record.
 abbrev pub judged : Verdict → Session → Judged
 judged verdict s = record { verdict = verdict; session = s }
 
--- ---- what counts as refused: a refusal, an error reply but for an unknown method, and the end of the session without `shutdown`
+-- ---- what counts as refused
 
+-- An error reply counts, but for an unknown method.
 abbrev pub is_refusing : Option ErrorCode → Bool
 is_refusing None = false
 is_refusing (Some MethodNotFound) = false
 is_refusing (Some error) = true
 
+-- So do a refusal, and an `exit` without `shutdown`.
 abbrev pub is_refused : AnswerData Sent → Bool
 is_refused (reply m) = is_refusing m.code
 is_refused (refused refusal) = true
 is_refused (exits status) = not (status == 0)
 is_refused answer = false
 
+-- A count, raised if this counts.
 abbrev pub count_if : Bool → ℕ → ℕ
 count_if counts count = if counts then one_more count else count
 
 -- ---- a client's record
 
+-- No `initialize` was accepted yet.
 abbrev pub is_new : Phase → Bool
 is_new New = true
 is_new phase = false
 
+-- `initialize` was accepted, and no `shutdown` came.
 abbrev pub is_running : Phase → Bool
 is_running Running = true
 is_running phase = false
 
+-- `exit` came.
 abbrev pub is_ended : Phase → Bool
 is_ended Ended = true
 is_ended phase = false
 
+-- A `didChange`, with valid parameters or not.
 abbrev pub is_change : IncomingData → Bool
 is_change (did_change params) = true
 is_change m = false
 
--- A change comes too early while the result of `initialize`, which says its encoding, is still to come.
+-- A change comes too early if the result of `initialize`, which says its encoding, is still to
+-- come.
 abbrev pub is_early : Session → IncomingData → Bool
 is_early s m = is_some s.expected && is_running s.server.phase && is_change m
 
--- The id of the `initialize` that is accepted: in a log of version 2 its result is waited for.
+-- The id of the `initialize` that is accepted. In a log of version 2 its result is waited for.
 abbrev pub expected_of : Version → IncomingData → Option IdData → Option IdData
 expected_of Two (initialize id (Some offers)) expected = Some id
 expected_of version m expected = expected
 
+-- The id whose result is waited for after a message.
 abbrev pub expected_after : Session → IncomingData → Option IdData
-expected_after s m = if is_new s.server.phase then expected_of s.version m s.expected else s.expected
+expected_after s m = if is_new s.server.phase then expected_of s.version m s.expected else
+    s.expected
 
+-- The server answered a message, which is counted.
 abbrev pub handled : Session → IncomingData → State → AnswerData Sent → Judged
 handled s m server answer =
     judged (answered answer) (record s {
@@ -102,6 +122,7 @@ handled s m server answer =
       refusals = count_if (is_refused answer) s.refusals;
     })
 
+-- A message after `exit` and an early change are bad. Any other is answered.
 abbrev pub judge_incoming : Session → IncomingData → Judged
 judge_incoming s m =
     if is_ended s.server.phase then judged bad s
@@ -110,39 +131,47 @@ judge_incoming s m =
 
 -- ---- a server's record, of which the result of `initialize` alone is read
 
+-- Are two ids equal?
 abbrev pub same_id : IdData → IdData → Bool
 same_id (read.whole m) (read.whole n) = int_eq m n
 same_id (read.text s) (read.text t) = bytes_eq s t
 same_id id other = false
 
--- the result that a response gives to the request of an id
+-- The result in a response to the request with this id.
 abbrev pub result_in : IdData → MessageData → Option Data
-result_in id (read.response (Some other) (read.given result)) = if same_id id other then Some result else None
+result_in id (read.response (Some other) (read.given result)) = if same_id id other then
+    Some result else None
 result_in id m = None
 
+-- The same from what was read of a body.
 abbrev pub result_for : IdData → Reading → Option Data
 result_for id (read.message m) = result_in id m
 result_for id r = None
 
--- The session goes on in the encoding that was announced; an unknown one makes the record bad.
+-- The session continues in the encoding that was announced. An unknown one makes the record bad.
 abbrev pub settle_in : Session → Option Encoding → Judged
 settle_in s None = judged bad s
-settle_in s (Some encoding) = judged recorded (record s { server = settled s.server encoding; expected = None })
+settle_in s (Some encoding)
+    = judged recorded (record s { server = settled s.server encoding; expected = None })
 
+-- So does a result that can't be read.
 abbrev pub settle_by : Session → Option Announced → Judged
 settle_by s None = judged bad s
 settle_by s (Some announced) = settle_in s announced.encoding
 
+-- Any other body of the server is recorded.
 abbrev pub heard : Session → Option Data → Judged
 heard s None = judged recorded s
 heard s (Some result) = settle_by s (announced_of result)
 
+-- A server's record, by the id whose result is waited for.
 abbrev pub hear_for : Session → Option IdData → List ℕ → Judged
 hear_for s None body = judged recorded s
 hear_for s (Some id) body = heard s (result_for id (reading body))
 
 -- ---- any record
 
+-- A record of one side.
 abbrev pub judge_from : Session → Side → List ℕ → Judged
 judge_from s Client body = judge_incoming s (incoming_of (reading body))
 judge_from s Server body = hear_for s s.expected body
@@ -151,20 +180,34 @@ judge_from s Server body = hear_for s s.expected body
 abbrev pub versioned : Session → Bool → Session
 versioned s line_due = if line_due then record s { version = Two } else s
 
+-- One more record was judged.
 abbrev pub counted : Judged → Judged
 counted j = record j { session = record j.session { records = one_more j.session.records } }
 
+-- A record with this head and body.
 abbrev pub judge_at : Session → Head → List ℕ → Judged
 judge_at s head body = counted (judge_from (versioned s head.line_due) head.side body)
 
--- What becomes of a record, and what the session is after it.
+-- The judgement of a record, and the session after it.
 abbrev pub judge : Session → Record → Judged
 judge s r = judge_at s r.head r.body
 
 -- The session of a log before its first record, over a new server.
 abbrev pub opened : Config → Session
-opened config = record { server = start config; version = One; expected = None; records = 0; messages = 0; refusals = 0 }
+opened config
+    = record {
+      server = start config;
+      version = One;
+      expected = None;
+      records = 0;
+      messages = 0;
+      refusals = 0;
+    }
 
--- The status of a log command says whether something was refused.
+-- The outcome of a log command: status 1 if something was refused, else 0.
 abbrev pub outcome_of : Session → Outcome
-outcome_of s = record { status = (if s.refusals == 0 then 0 else 1); messages = s.messages; refused = s.refusals }
+outcome_of s = record {
+  status = (if s.refusals == 0 then 0 else 1);
+  messages = s.messages;
+  refused = s.refusals;
+}

@@ -1,4 +1,5 @@
--- `normalise` with squash: accepted changes of one document, with no other record between them, are written as one message.
+-- `normalise` with squash: accepted changes of one document, with no other record between them, are
+-- written as one message.
 use Rattle.std.specs.Prelude.{ℕ, Bool, ◌++◌, if◌then◌else◌, nat_lt, length, map, List, [], ◌∷◌, Option, Some, None, Result, Err}
 use Rattle.std.specs.Str.{bytes_eq}
 use Rattle.lsp_frame.specs.Frame.{frame}
@@ -7,120 +8,146 @@ use Rattle.lsp_message.specs.Params.{ChangeData}
 use Rattle.lsp_store.specs.Squash.{SquashData, squash_of, squash_after, squash_frame, squash_refusal}
 use Rattle.lsp_store.specs.Table.{Entry, Refusal, entry_at}
 use Rattle.lsp_server.specs.Incoming.{incoming_of}
-use Rattle.lsp_server.specs.Step.{State, encoding_of, edit_of}
+use Rattle.lsp_server.specs.Step.{State, encoding_of, edit_from_data}
 use Rattle.lsp_server.specs.Answer.{changed}
 use Rattle.lsp_replay.specs.declared.engines.Settings.{Settings}
 use Rattle.lsp_replay.specs.declared.outcome.Outcome.{Outcome}
 use Rattle.lsp_stream.specs.declared.fault.EngineFault.{EngineFault}
 use Rattle.lsp_stream.specs.declared.fault.EngineFault.TheVariants.{BadLog, BodyTooLong}
 use Rattle.lsp_log.specs.Log.{Record}
-use Rattle.lsp_replay.specs.Course.{Course}
-use Rattle.lsp_replay.specs.Engines.{go_on, front_of, change_in, normal_body, line_if, log_config, normal}
+use Rattle.lsp_replay.specs.RunOutput.{RunOutput}
+use Rattle.lsp_replay.specs.Engines.{continue_with, front_of, change_in, canonical_change_body, line_if, log_config, canonical_log}
 use Rattle.lsp_replay.specs.Session.{Session, Verdict, answered, bad, Judged, judge, opened, outcome_of}
 
 -- ---- a run: accepted changes of one document, one after another
 
+-- An open run, as it is written once it ends.
 pub record Run : Type 0 where
-  -- what is in front of its first record's frame
+  -- the bytes before its first record's frame
   pub front : List ℕ
   -- its records as they are written without squash
   pub singles : List ℕ
-  -- what its batches make together of the document before it
+  -- its batches together, on the document before it
   pub squash : SquashData
 
--- A run is written as the one message of all its batches; where that message has too many changes or is too long, as it is
--- written without squash.
+-- A run is written as the one canonical message of all its batches. If that has too many changes or
+-- is too long, the run is written as without squash.
 abbrev pub run_written : Run → Option Refusal → List ℕ
 run_written run None = run.front ++ squash_frame run.squash
 run_written run (Some refusal) = run.singles
 
+-- The bytes of a run, by whether its one message is possible.
 abbrev pub run_bytes : Run → List ℕ
 run_bytes run = run_written run (squash_refusal run.squash)
 
--- what the end of the run writes that may be open
+-- The output when the open run ends, if one is open.
 abbrev pub end_bytes : Option Run → List ℕ
 end_bytes None = []
 end_bytes (Some run) = run_bytes run
 
--- the batch of a change, after the batches of a squash
+-- The batch of a change, after the batches of a squash.
 abbrev pub joined_by : ChangeData → SquashData → SquashData
-joined_by p squash = squash_after squash p.version (map edit_of p.changes)
+joined_by p squash = squash_after squash p.version (map edit_from_data p.changes)
 
--- A change that begins a run, on the document before it; `single` is the record as it is written without squash.
+-- A run that a change begins, on the document before it. `single` is the record as it is written
+-- without squash.
 abbrev pub begun_on : State → ChangeData → List ℕ → List ℕ → Option Entry → Option Run
 begun_on server p front single None = None
 begun_on server p front single (Some entry) =
-    Some (record { front = front; singles = single; squash = joined_by p (squash_of server.config.limits (encoding_of server) entry) })
+    Some (record {
+      front = front;
+      singles = single;
+      squash = joined_by p (squash_of server.config.limits (encoding_of server) entry);
+    })
 
+-- The same on the documents of a server.
 abbrev pub begun : State → ChangeData → List ℕ → List ℕ → Option Run
 begun server p front single = begun_on server p front single (entry_at server.table p.uri)
 
--- A change that goes on with a run.
+-- A run after one more change.
 abbrev pub longer : Run → ChangeData → List ℕ → Run
-longer run p single = record run { singles = run.singles ++ single; squash = joined_by p run.squash }
+longer run p single
+    = record run { singles = run.singles ++ single; squash = joined_by p run.squash }
 
--- ---- what a record gives, and the run that is open after it
+-- ---- the output of a record, and the run that is open after it
 
+-- A record's output, the result with which it ends the command's run, if it does, and the run that
+-- is open after it.
 pub record Step : Type 0 where
   pub out : List ℕ
   pub end : Option (Result Outcome EngineFault)
   pub run : Option Run
 
--- A fault writes nothing more: the open run isn't written.
+-- After a fault nothing more is written, the open run neither.
 abbrev pub faulty : EngineFault → Step
 faulty fault = record { out = []; end = Some (Err fault); run = None }
 
--- An accepted change goes on with the open run, if it is of the same document. Else it ends that run and begins one.
-abbrev pub change_gives : State → ChangeData → List ℕ → List ℕ → Option Run → Step
-change_gives server p front single None = record { out = []; end = None; run = begun server p front single }
-change_gives server p front single (Some run) =
-    if bytes_eq p.uri run.squash.uri then record { out = []; end = None; run = Some (longer run p single) }
+-- An accepted change joins the open run if it is of the same document. Else it ends that run and
+-- begins one.
+abbrev pub change_output : State → ChangeData → List ℕ → List ℕ → Option Run → Step
+change_output server p front single None
+    = record { out = []; end = None; run = begun server p front single }
+change_output server p front single (Some run) =
+    if bytes_eq p.uri run.squash.uri then
+    record { out = []; end = None; run = Some (longer run p single) }
     else record { out = run_bytes run; end = None; run = begun server p front single }
 
 -- Its own canonical message must not be too long.
 abbrev pub change_step : State → Record → ChangeData → List ℕ → Option Run → Step
 change_step server r p front run =
-    if nat_lt server.config.limits.max_body (length (normal_body server p)) then faulty (BodyTooLong r.head.place)
-    else change_gives server p front (front ++ frame (normal_body server p)) run
+    if nat_lt server.config.limits.max_body (length (canonical_change_body server p)) then
+    faulty (BodyTooLong r.head.place)
+    else change_output server p front (front ++ frame (canonical_change_body server p)) run
 
 -- Any other record ends the open run, and is written as it is.
 abbrev pub other_step : Record → List ℕ → Option Run → Step
-other_step r front run = record { out = end_bytes run ++ (front ++ r.spelling); end = None; run = None }
+other_step r front run
+    = record { out = end_bytes run ++ (front ++ r.spelling); end = None; run = None }
 
+-- A record's output, by the change in it and the judgement of it.
 abbrev pub step_if : State → Record → List ℕ → Option Run → Option ChangeData → Verdict → Step
 step_if server r front run change bad = faulty (BadLog r.head.place)
 step_if server r front run (Some p) (answered changed) = change_step server r p front run
 step_if server r front run change verdict = other_step r front run
 
+-- The same from the session before the record.
 abbrev pub squash_step : Session → Option Run → Record → Judged → Step
-squash_step s run r j = step_if s.server r (front_of j.session r) run (change_in (incoming_of (reading r.body))) j.verdict
+squash_step s run r j
+    = step_if s.server r (front_of j.session r) run (change_in (incoming_of (reading r.body)))
+    j.verdict
 
 -- ---- all records
 
 -- The end of the input ends the open run. A log of version 2 without records is its line.
-abbrev pub squashed_in : Session → Option Run → List Record → Course
-squashed_in s run [] = record { out = []; stop = None; last = λ line_due. end_bytes run ++ line_if line_due; outcome = outcome_of s }
+abbrev pub squashed_in : Session → Option Run → List Record → RunOutput
+squashed_in s run []
+    = record {
+      out = [];
+      stop = None;
+      last = λ line_due. end_bytes run ++ line_if line_due;
+      outcome = outcome_of s;
+    }
 squashed_in s run (r ∷ rs) =
-    go_on (squash_step s run r (judge s r)).out (squash_step s run r (judge s r)).end (squashed_in (judge s r).session (squash_step s run r (judge s r)).run rs)
+    continue_with (squash_step s run r (judge s r)).out (squash_step s run r (judge s r)).end
+    (squashed_in (judge s r).session (squash_step s run r (judge s r)).run rs)
 
-abbrev pub squashed : Settings → List Record → Course
+-- The output of `normalise` with squash.
+abbrev pub squashed : Settings → List Record → RunOutput
 squashed settings = squashed_in (opened (log_config settings)) None
 
 -- ---- how far a log is squashed
 
--- the open run, by its texts and the batches that are open, if any are
-abbrev pub run_of : List ℕ → List ℕ → Option SquashData → Option Run
-run_of front singles None = None
-run_of front singles (Some squash) = Some (record { front = front; singles = singles; squash = squash })
-
+-- The session, and the open run.
 pub record Squashing : Type 0 where
   pub session : Session
   pub run : Option Run
 
 -- ---- `normalise`, with squash and without
 
-abbrev pub normalised_if : Bool → Settings → List Record → Course
-normalised_if squash settings = if squash then squashed settings else normal settings
+-- The output of `normalise`, with squash or without.
+abbrev pub normalised_if : Bool → Settings → List Record → RunOutput
+normalised_if squash settings = if squash then squashed settings else canonical_log settings
 
-abbrev pub normalised : Settings → List Record → Course
+-- The output of `normalise` with its settings.
+abbrev pub normalised : Settings → List Record → RunOutput
 normalised settings = normalised_if settings.squash settings

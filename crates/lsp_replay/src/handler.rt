@@ -1,35 +1,36 @@
-//! What an engine makes of the records of a log.
+//! What an engine writes for the records of a log and for its end.
 
 ghost use Rattle.std.specs.Prelude.{◌≡◌, ◌<◌, ◌++◌, ◌∷◌, ◌⊎◌, [], ℕ, Bool, List, None, false, IfOk, IfErr, MatchOption};
-ghost use Rattle.lsp_frame.specs.Frame.{Spells};
+ghost use Rattle.lsp_frame.specs.Frame.{IsFrameOf};
 ghost use Rattle.lsp_log.specs.Log.{Record};
-ghost use Rattle.lsp_replay.specs.Course.{Course, after, stopped, output_of, IsRecordFault};
+ghost use Rattle.lsp_replay.specs.RunOutput.{RunOutput, stopped};
+ghost use Rattle.lsp_replay.specs.inside.RunOutput.{after, output_of, IsRecordFault};
 
 use crate::outcome::Outcome;
 use lsp_log::Head;
 use lsp_stream::EngineFault;
 
-/// Which bytes a record's output is.
+/// Which bytes are a record's output.
 #[derive(Clone, Copy, Debug, PartialEq, Eq)]
 pub enum Output {
     /// Its frame, as it is in the input.
     Frame,
-    /// Those that were made for it.
-    Made,
-    /// Those that were made for it from an index on.
-    MadeFrom(usize),
+    /// The buffer that was filled for it.
+    Bytes,
+    /// That buffer from an index on.
+    BytesFrom(usize),
 }
 
-/// What a record gives.
+/// The output of a record, and whether it ends the run.
 #[derive(Clone, Copy, Debug, PartialEq, Eq)]
 pub struct Given {
     pub output: Output,
-    /// How the run ends, where this record is the last that is read.
+    /// The outcome, if this record is the last that is read.
     pub end: Option<Outcome>,
 }
 
 impl Given {
-    /// That of a record that doesn't end the run.
+    /// The output of a record that doesn't end the run.
     pub fn more(output: Output) -> Self
         ensures { result ≡ record { output = output; end = None } }
     {
@@ -37,47 +38,62 @@ impl Given {
     }
 }
 
-/// What an engine makes of the records of a log, and of its end.
+/// What an engine writes for each record of a log, and for its end.
 pub trait Handler {
-    // What the records that are still to come will give.
-    ghost course: { Self → List Record → Course };
+    // The output for the records that are still to come.
+    ghost run_output: { Self → List Record → RunOutput };
 
     // Is each output passed on before more is read?
     ghost FLUSHES: { Bool };
 
     const FLUSHES: bool;
 
-    // How many times the end of the input may still be asked for more.
+    // How often `finish` may still return without the outcome.
     ghost parts: { Self → ℕ };
 
-    /// Handles a record that is whole. What it makes goes into `made`, which is empty.
+    /// Handles a complete record. Its output is its frame, or is written into `buffer`, which is
+    /// empty before.
     fn handle(
         &mut self,
         head: Head,
         spelling: &[u8],
         body: &[u8],
-        made: &mut Vec<u8>,
+        buffer: &mut Vec<u8>,
     ) -> Result<Given, EngineFault>
-        requires spells { (max_body : ℕ) × Spells max_body spelling.now body.now }
-        requires empty { made.old.items ≡ [] }
+        requires is_frame_of { (max_body : ℕ) × IsFrameOf max_body spelling.now body.now }
+        requires empty { buffer.old.items ≡ [] }
         ensures ok { IfOk result (λ given. (more : List Record) →
-            course self.old (record { head = head; spelling = spelling.now; body = body.now } ∷ more) ≡
-            after (output_of given.output spelling.now made.new.items) given.end (course self.new more)) }
-        ensures err { IfErr result (λ fault. (fault ≡ EngineFault.NoMemory) ⊎ (IsRecordFault fault × ((more : List Record) →
-            course self.old (record { head = head; spelling = spelling.now; body = body.now } ∷ more) ≡ stopped [] (Err fault)))) };
+            run_output self.old
+            (record { head = head; spelling = spelling.now; body = body.now } ∷ more) ≡
+            after (output_of given.output spelling.now buffer.new.items) given.end
+            (run_output self.new more)) }
+        ensures err { IfErr result
+            (λ fault. (fault ≡ EngineFault.NoMemory)
+            ⊎ (IsRecordFault fault × ((more : List Record) →
+            run_output self.old
+            (record { head = head; spelling = spelling.now; body = body.now } ∷ more)
+            ≡ stopped [] (Err fault)))) };
 
-    /// Gives a part of what the end of the input gives, or the last of it with the outcome. `line_due`: is it the
-    /// first part, and the input a log of version 2 without records?
-    fn finish(&mut self, line_due: bool, made: &mut Vec<u8>) -> Result<Option<Outcome>, EngineFault>
-        requires { made.old.items ≡ [] }
+    /// Writes a part of the output at the end of the input into `buffer`; with the last part it
+    /// returns the outcome. `line_due`: is it the first part, and the input a log of version 2
+    /// without records?
+    fn finish(
+        &mut self,
+        line_due: bool,
+        buffer: &mut Vec<u8>,
+    ) -> Result<Option<Outcome>, EngineFault>
+        requires { buffer.old.items ≡ [] }
         ensures ok { IfOk result (λ end. MatchOption end
-            (((course self.old []).last line_due ≡ made.new.items ++ (course self.new []).last false)
-            × ((course self.new []).outcome ≡ (course self.old []).outcome) × (parts self.new < parts self.old))
-            (λ outcome. ((course self.old []).last line_due ≡ made.new.items) × (outcome ≡ (course self.old []).outcome))) }
+            (((run_output self.old []).last line_due
+            ≡ buffer.new.items ++ (run_output self.new []).last false)
+            × ((run_output self.new []).outcome ≡ (run_output self.old []).outcome)
+            × (parts self.new < parts self.old))
+            (λ outcome. ((run_output self.old []).last line_due ≡ buffer.new.items)
+            × (outcome ≡ (run_output self.old []).outcome))) }
         ensures err { IfErr result (λ fault. fault ≡ EngineFault.NoMemory) };
 
-    // Without records nothing is written, and nothing stops the run.
-    ghost silent: { (h : Self) → (course h []).out ≡ [] };
+    // Without records nothing is written, and nothing ends the run.
+    ghost silent: { (h : Self) → (run_output h []).out ≡ [] };
 
-    ghost unstopped: { (h : Self) → (course h []).stop ≡ None };
+    ghost unstopped: { (h : Self) → (run_output h []).stop ≡ None };
 }

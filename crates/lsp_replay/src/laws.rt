@@ -1,19 +1,25 @@
-//! Laws over the definitions alone, that no call of this crate makes by itself.
+//! Laws over the definitions alone, which no single call has in its contract.
 
 ghost use Rattle.lsp_log.specs.Laws.{UniqueLaw};
-ghost use Rattle.lsp_replay.specs.Laws.{ReportLaw, NormalLaw, SquashedLaw, StopsAlike, ConvertedLaw};
+ghost use Rattle.lsp_replay.specs.Laws.{ReportLaw, CanonicalLogLaw, SquashedLaw, StopsAlike, ConvertedLaw};
 
 use lsp_log::reading_laws;
 
-/// What holds of every log, whatever its version and whoever wrote it. It does nothing: its contract says that an input has at most
-/// one list of whole records, with one rest after them; that `replay` writes nothing before the end of the input; that what `normalise` writes of a log
-/// is a log of which `replay` reports the same, and `normalise` writes the same bytes again; that with squash a log ends as without,
-/// and what is written is a log of which `replay` reports the same documents and status, and the same is written again; and that what `convert` writes of a log of
-/// version 1 is a log of which `replay` reports the same, if the limit on bodies lets the replies in it pass.
+/// States what holds of every log, whatever its version and whoever wrote it. It does nothing; its
+/// contract says:
+///
+/// - An input has at most one list of complete records, with one rest after them.
+/// - `replay` writes nothing before the end of the input.
+/// - What `normalise` writes is a log of which `replay` reports the same, and `normalise` writes
+///   the same bytes again.
+/// - With squash a log ends as without. What is written is a log of which `replay` reports the same
+///   documents and status, and the same is written again.
+/// - What `convert` writes of a log of version 1 is a log of which `replay` reports the same. For
+///   that each reply in it must be within the limit on bodies.
 pub fn log_laws()
     ensures unique { UniqueLaw }
     ensures report { ReportLaw }
-    ensures normal { NormalLaw }
+    ensures canonical_log { CanonicalLogLaw }
     ensures stops { StopsAlike }
     ensures squashed { SquashedLaw }
     ensures converted { ConvertedLaw }

@@ -1,24 +1,22 @@
-//! Engines that run between a reader and a writer. Both ends together (`lsp_pair`) and the streams (`lsp_stream`) are re-exported.
+//! The engines of the log commands and of a server: each runs from a reader to a writer, over a
+//! server's end. Both ends together (`lsp_pair`) and the streams (`lsp_stream`) are re-exported.
 //!
 //! - `engines`: `serve` and `serve_on`, `check`, `replay`, `normalise` and `convert`.
-//! - `engine`: the one loop from a reader to a writer, over what a `handler` makes of each record and of the end.
+//! - `engine`: the one loop from a reader to a writer; a `handler` makes the output of each record
+//!   and of the end.
+//! - `session`: a server over the records of a log, and what is counted.
 //! - `serving`, `checking`, `replaying`, `normalising`, `squashing`, `converting`: the handlers.
-//! - `session`: a server over the records of a log.
-//! - `outcome`: how a run ends; `laws`: what holds of the logs that are written.
+//! - `outcome`: the status and the counts at the end of a run.
+//! - `laws`: what holds of the logs that are written.
 #![tactic(auto)]
 
-mod checking;
-mod converting;
+mod commands;
 mod engine;
 mod engines;
 mod handler;
 mod laws;
-mod normalising;
 mod outcome;
-mod replaying;
-mod serving;
 mod session;
-mod squashing;
 
 pub use engines::{Settings, check, convert, normalise, replay, serve, serve_on};
 pub use laws::log_laws;

@@ -1,6 +1,7 @@
-//! How a run of an engine ends.
+//! The outcome of a run.
 
-/// An input whose end came, or after which nothing is read.
+/// The status and the counts of a run that came to the end of its input, or to a record after which
+/// nothing is read.
 #[derive(Clone, Copy, Debug, PartialEq, Eq)]
 pub struct Outcome {
     /// The exit status of the program: 0 or 1.

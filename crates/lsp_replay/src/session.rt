@@ -12,9 +12,9 @@ ghost use Rattle.lsp_server.specs.Step.{encoding_of};
 ghost use Rattle.lsp_server.specs.Seen.{incoming_view, answer_view};
 ghost use Rattle.lsp_stream.specs.Ports.{one_more};
 ghost use Rattle.lsp_replay.specs.Session.{answered, bad, opened, judge_at, judge_from, judge_incoming, is_early, is_change, is_refused, is_refusing, expected_after, hear_for, settle_by, result_for, result_in, same_id, versioned, outcome_of};
-ghost use Rattle.lsp_replay.specs.Engines.{change_in, normal_body, normal_if, normal_of};
-ghost use Rattle.lsp_replay.specs.Verdicts.{IsAppended, IsTold, verdict_view};
-ghost use Rattle.lsp_replay.specs.Joining.{MayBeOpenIn, IsOpenIn, IsOpenAfter, IsWriting, IsChangeWriting, IsBegun, refusal_of, server_after};
+ghost use Rattle.lsp_replay.specs.Engines.{change_in, canonical_change_body, canonical_if, canonical_of_record};
+ghost use Rattle.lsp_replay.specs.inside.Verdicts.{IsAppended, IsCanonicalFor, verdict_view};
+ghost use Rattle.lsp_replay.specs.inside.Joining.{MayBeOpenIn, IsOpenIn, IsOpenAfter, IsWriting, IsChangeWriting, IsBegun, refusal_of, server_after};
 ghost use Rattle.lsp_server.specs.Incoming.{incoming_of};
 ghost use Rattle.lsp_server.specs.Answer.{changed};
 
@@ -31,18 +31,18 @@ use serde_json::Value;
 use std::alloc::{AllocError, Global};
 use std::marker::Model;
 
-/// What becomes of a record.
+/// The judgement of a record.
 #[derive(Debug, PartialEq, Eq, Drop)]
 pub enum Verdict {
-    /// A client's record, and what the server answers to it.
+    /// A client's record, with the server's answer to it.
     Answered(Answer),
     /// A server's record.
     Recorded,
-    /// A record that belongs in no log.
+    /// A record that can't be in a log.
     Bad,
 }
 
-/// How the canonical message of an accepted change is returned.
+/// The canonical message of an accepted change.
 #[derive(Debug, PartialEq, Eq, Drop)]
 pub enum Canonical {
     /// Its frame.
@@ -60,26 +60,28 @@ pub enum Appended {
     TooLong,
 }
 
-/// How a record is written with squash, and what it makes of the batches of the open run.
+/// How a record is written with squash, and which batches are open after it.
 #[derive(Drop)]
 pub enum Writing {
     /// As it is. The open run ends, if there is one.
     AsItIs(Option<Batches>),
     /// It is an accepted change whose canonical body is over the limit.
     TooLong,
-    /// It is an accepted change of the document of the open run: its canonical frame, and the batches with it.
-    GoesOn(Vec<u8>, Batches),
-    /// It is an accepted change of another document: its canonical frame, the run that it ends, and the batches that it begins.
+    /// It is an accepted change of the open run's document: its canonical frame, and the batches
+    /// with it.
+    Continues(Vec<u8>, Batches),
+    /// It is an accepted change of another document: its canonical frame, the run that it ends, and
+    /// the batches that it begins.
     Begins(Vec<u8>, Option<Batches>, Batches),
 }
 
-/// A server that the records of a log are handed to, and what is counted.
+/// A server over the records of a log, and what is counted.
 #[derive(Drop)]
 pub struct Session {
     alloc: Global,
     server: Server,
     version: Version,
-    // The id of the accepted `initialize`, until a log of version 2 has the result.
+    // The id of the accepted `initialize`, until its result has come in a log of version 2.
     expected: Option<Id>,
     records: u64,
     messages: u64,
@@ -104,7 +106,7 @@ impl Model for Session {
 }
 
 impl Session {
-    /// Before the first record, over a new server.
+    /// Starts before the first record, over a new server.
     pub fn new(alloc: Global, config: Config) -> Session
         ensures { result ≡ opened config }
     {
@@ -119,7 +121,7 @@ impl Session {
         }
     }
 
-    /// How many records came.
+    /// How many records were judged.
     pub fn records(&self) -> u64
         ensures { result ≡ self.now.records }
     {
@@ -154,7 +156,7 @@ impl Session {
         self.refusals
     }
 
-    /// How the end of the input ends a log command.
+    /// The outcome of a log command at the end of the input.
     pub fn outcome(&self) -> Ending
         ensures { result ≡ outcome_of self.now }
     {
@@ -165,9 +167,11 @@ impl Session {
         }
     }
 
-    /// Judges a record. Fails only where memory runs out.
+    /// Judges a record: hands a client's to the server, and reads the encoding in a server's. Fails
+    /// only when out of memory.
     pub fn judge(&mut self, head: Head, body: &[u8]) -> Result<Verdict, AllocError>
-        ensures verdict { IfOk result (λ v. verdict_view v ≡ (judge_at self.old head body.now).verdict) }
+        ensures verdict { IfOk result
+            (λ v. verdict_view v ≡ (judge_at self.old head body.now).verdict) }
         ensures session { OnOk result (self.new ≡ (judge_at self.old head body.now).session) }
     {
         self.see_version(head.line_due);
@@ -182,9 +186,11 @@ impl Session {
         Ok(verdict)
     }
 
-    /// Judges a record as [`Session::judge`] does. One that belongs in no log is [`EngineFault::BadLog`], at its first byte.
+    /// Judges a record as [`Session::judge`] does. If it can't be in a log, it is
+    /// [`EngineFault::BadLog`], at its first byte.
     pub fn accept(&mut self, head: Head, body: &[u8]) -> Result<Verdict, EngineFault>
-        ensures verdict { IfOk result (λ v. verdict_view v ≡ (judge_at self.old head body.now).verdict) }
+        ensures verdict { IfOk result
+            (λ v. verdict_view v ≡ (judge_at self.old head body.now).verdict) }
         ensures in_log { IfOk result (λ v. verdict_view v ≢ bad) }
         ensures session { OnOk result (self.new ≡ (judge_at self.old head body.now).session) }
         ensures error { IfErr result (λ fault. (fault ≡ EngineFault.NoMemory)
@@ -198,41 +204,43 @@ impl Session {
         Ok(verdict)
     }
 
-    /// The same as [`Session::judge`], and appends the body of the canonical message of an accepted change. After another record what was
-    /// appended is of no use.
-    #[tactic(auto, using(crate::proofs::NormalLemmas::same_server))]
+    /// Judges a record as [`Session::judge`] does, and appends the body of an accepted change's
+    /// canonical message. After another record the appended bytes mean nothing.
+    #[tactic(auto, using(crate::proofs::CanonicalLogLemmas::same_server))]
     pub fn judge_and_write(
         &mut self,
         head: Head,
         body: &[u8],
         output: &mut Vec<u8>,
     ) -> Result<(Verdict, Option<Appended>), AllocError>
-        ensures verdict { IfOk result (λ told. verdict_view told.0 ≡ (judge_at self.old head body.now).verdict) }
+        ensures verdict { IfOk result
+            (λ judged. verdict_view judged.0 ≡ (judge_at self.old head body.now).verdict) }
         ensures session { OnOk result (self.new ≡ (judge_at self.old head body.now).session) }
-        ensures written { IfOk result (λ told. IsAppended self.old.server.config.limits.max_body
-            (normal_of self.old body.now (judge_at self.old head body.now).verdict)
-            told.1 output.old.items output.new.items) }
+        ensures written { IfOk result (λ judged. IsAppended self.old.server.config.limits.max_body
+            (canonical_of_record self.old body.now (judge_at self.old head body.now).verdict)
+            judged.1 output.old.items output.new.items) }
         ensures kept { vec_len output.old ≤ vec_len output.new }
     {
         self.see_version(head.line_due);
-        let told = self.write_from(head.side, body, output)?;
+        let judged = self.write_from(head.side, body, output)?;
         self.records = one_more(self.records);
-        Ok(told)
+        Ok(judged)
     }
 
-    /// Judges a record of one side, and appends the body of the canonical message of an accepted change.
-    #[tactic(auto, using(crate::proofs::NormalLemmas::heard_has_none))]
+    /// Judges a record of one side, and appends the body of an accepted change's canonical message.
+    #[tactic(auto, using(crate::proofs::CanonicalLogLemmas::heard_has_none))]
     fn write_from(
         &mut self,
         side: Side,
         body: &[u8],
         output: &mut Vec<u8>,
     ) -> Result<(Verdict, Option<Appended>), AllocError>
-        ensures verdict { IfOk result (λ told. verdict_view told.0 ≡ (judge_from self.old side body.now).verdict) }
+        ensures verdict { IfOk result
+            (λ judged. verdict_view judged.0 ≡ (judge_from self.old side body.now).verdict) }
         ensures session { OnOk result (self.new ≡ (judge_from self.old side body.now).session) }
-        ensures written { IfOk result (λ told. IsAppended self.old.server.config.limits.max_body
-            (normal_of self.old body.now (judge_from self.old side body.now).verdict)
-            told.1 output.old.items output.new.items) }
+        ensures written { IfOk result (λ judged. IsAppended self.old.server.config.limits.max_body
+            (canonical_of_record self.old body.now (judge_from self.old side body.now).verdict)
+            judged.1 output.old.items output.new.items) }
         ensures kept { vec_len output.old ≤ vec_len output.new }
     {
         match side {
@@ -244,17 +252,21 @@ impl Session {
         }
     }
 
-    /// Judges a client's record, and appends the body of the canonical message of an accepted change.
+    /// Judges a client's record, and appends the body of an accepted change's canonical message.
     fn take_and_write(
         &mut self,
         incoming: Incoming,
         output: &mut Vec<u8>,
     ) -> Result<(Verdict, Option<Appended>), AllocError>
-        ensures verdict { IfOk result (λ told. verdict_view told.0 ≡ (judge_incoming self.old (incoming_view incoming)).verdict) }
-        ensures session { OnOk result (self.new ≡ (judge_incoming self.old (incoming_view incoming)).session) }
-        ensures written { IfOk result (λ told. IsAppended self.old.server.config.limits.max_body
-            (normal_if self.old.server (change_in (incoming_view incoming)) (judge_incoming self.old (incoming_view incoming)).verdict)
-            told.1 output.old.items output.new.items) }
+        ensures verdict { IfOk result
+            (λ judged. verdict_view judged.0
+            ≡ (judge_incoming self.old (incoming_view incoming)).verdict) }
+        ensures session { OnOk result
+            (self.new ≡ (judge_incoming self.old (incoming_view incoming)).session) }
+        ensures written { IfOk result (λ judged. IsAppended self.old.server.config.limits.max_body
+            (canonical_if self.old.server (change_in (incoming_view incoming))
+            (judge_incoming self.old (incoming_view incoming)).verdict)
+            judged.1 output.old.items output.new.items) }
         ensures kept { vec_len output.old ≤ vec_len output.new }
     {
         let appended = self.append_canonical(&incoming, output)?;
@@ -266,16 +278,19 @@ impl Session {
         }
     }
 
-    /// Appends the body of the canonical message of a change, if it is one that is accepted.
+    /// Appends the body of the canonical message of a change, if it is accepted.
     fn append_canonical(
         &self,
         incoming: &Incoming,
         output: &mut Vec<u8>,
     ) -> Result<Option<Appended>, AllocError>
-        ensures written { IfOk result (λ told. (judge_incoming self.now (incoming_view incoming.now)).verdict ≡ answered changed
+        ensures written { IfOk result
+            (λ judged. (judge_incoming self.now (incoming_view incoming.now)).verdict
+            ≡ answered changed
             → IsAppended self.now.server.config.limits.max_body
-            (option_map (normal_body self.now.server) (change_in (incoming_view incoming.now)))
-            told output.old.items output.new.items) }
+            (option_map (canonical_change_body self.now.server)
+            (change_in (incoming_view incoming.now)))
+            judged output.old.items output.new.items) }
         ensures kept { vec_len output.old ≤ vec_len output.new }
     {
         let Incoming::DidChange(params) = incoming else {
@@ -290,16 +305,20 @@ impl Session {
         self.append_change(params, output)
     }
 
-    /// Appends the body of the canonical message of a change that is not refused.
+    /// Appends the body of the canonical message of a change, if the store accepts it.
     fn append_change(
         &self,
         params: &ChangeParams,
         output: &mut Vec<u8>,
     ) -> Result<Option<Appended>, AllocError>
-        ensures told { IfOk result (λ told. change_refusal self.now.server.config.limits (units_in (encoding_of self.now.server)) self.now.server.table
-            (string_bytes params.now.uri) params.now.version (map edit_of params.now.changes.items) ≡ None
-            → IsAppended self.now.server.config.limits.max_body (Some (normal_body self.now.server (change_view params.now)))
-            told output.old.items output.new.items) }
+        ensures canonical { IfOk result
+            (λ judged. change_refusal self.now.server.config.limits
+            (units_in (encoding_of self.now.server)) self.now.server.table
+            (string_bytes params.now.uri) params.now.version (map edit_of params.now.changes.items)
+            ≡ None
+            → IsAppended self.now.server.config.limits.max_body
+            (Some (canonical_change_body self.now.server (change_view params.now)))
+            judged output.old.items output.new.items) }
         ensures kept { vec_len output.old ≤ vec_len output.new }
     {
         let encoding = self.server.encoding().unwrap_or(Encoding::Utf16);
@@ -320,12 +339,17 @@ impl Session {
         }
     }
 
-    /// The one message of a change that is not refused.
+    /// Returns the canonical message of a change, or `None` if the store refuses the change.
     fn canonical_change(&self, params: &ChangeParams) -> Result<Option<Canonical>, AllocError>
-        ensures told { IfOk result (λ told. change_refusal self.now.server.config.limits (units_in (encoding_of self.now.server)) self.now.server.table
-            (string_bytes params.now.uri) params.now.version (map edit_of params.now.changes.items) ≡ None
-            → IsTold self.now.server.config.limits.max_body (Some (normal_body self.now.server (change_view params.now))) told) }
-        ensures accepted { IfOk result (λ told. told ≢ None → refusal_of self.now.server (change_view params.now) ≡ None) }
+        ensures canonical { IfOk result
+            (λ judged. change_refusal self.now.server.config.limits
+            (units_in (encoding_of self.now.server)) self.now.server.table
+            (string_bytes params.now.uri) params.now.version (map edit_of params.now.changes.items)
+            ≡ None
+            → IsCanonicalFor self.now.server.config.limits.max_body
+            (Some (canonical_change_body self.now.server (change_view params.now))) judged) }
+        ensures accepted { IfOk result (λ judged. judged ≢ None →
+            refusal_of self.now.server (change_view params.now) ≡ None) }
     {
         let encoding = self.server.encoding().unwrap_or(Encoding::Utf16);
         let written = self
@@ -342,9 +366,10 @@ impl Session {
         }
     }
 
-    /// Judges a record as [`Session::judge`] does, and joins an accepted change to the batches of the open run, if they are of its document;
-    /// else batches of its own begin. It takes the open batches.
-    #[tactic(auto, using(crate::proofs::NormalLemmas::same_server))]
+    /// Judges a record as [`Session::judge`] does, and joins an accepted change to the batches of
+    /// the open run if they are of its document. Else batches of its own begin. It consumes the
+    /// open batches.
+    #[tactic(auto, using(crate::proofs::CanonicalLogLemmas::same_server))]
     pub fn judge_and_join(
         &mut self,
         head: Head,
@@ -352,10 +377,12 @@ impl Session {
         run: Option<Batches>,
     ) -> Result<(Verdict, Writing), AllocError>
         requires { MayBeOpenIn self.old.server run }
-        ensures verdict { IfOk result (λ judged. verdict_view judged.0 ≡ (judge_at self.old head body.now).verdict) }
+        ensures verdict { IfOk result
+            (λ judged. verdict_view judged.0 ≡ (judge_at self.old head body.now).verdict) }
         ensures session { OnOk result (self.new ≡ (judge_at self.old head body.now).session) }
         ensures writing { IfOk result (λ judged. verdict_view judged.0 ≢ bad →
-            IsWriting self.old.server run (change_in (incoming_of (reading body.now))) (verdict_view judged.0) judged.1) }
+            IsWriting self.old.server run (change_in (incoming_of (reading body.now)))
+            (verdict_view judged.0) judged.1) }
         ensures reached { IfOk result (λ judged. IsOpenAfter self.new.server judged.1) }
     {
         self.see_version(head.line_due);
@@ -372,10 +399,12 @@ impl Session {
         run: Option<Batches>,
     ) -> Result<(Verdict, Writing), AllocError>
         requires { MayBeOpenIn self.old.server run }
-        ensures verdict { IfOk result (λ judged. verdict_view judged.0 ≡ (judge_from self.old side body.now).verdict) }
+        ensures verdict { IfOk result
+            (λ judged. verdict_view judged.0 ≡ (judge_from self.old side body.now).verdict) }
         ensures session { OnOk result (self.new ≡ (judge_from self.old side body.now).session) }
         ensures writing { IfOk result (λ judged. verdict_view judged.0 ≢ bad →
-            IsWriting self.old.server run (change_in (incoming_of (reading body.now))) (verdict_view judged.0) judged.1) }
+            IsWriting self.old.server run (change_in (incoming_of (reading body.now)))
+            (verdict_view judged.0) judged.1) }
         ensures reached { IfOk result (λ judged. IsOpenAfter self.new.server judged.1) }
     {
         match side {
@@ -394,10 +423,14 @@ impl Session {
         run: Option<Batches>,
     ) -> Result<(Verdict, Writing), AllocError>
         requires { MayBeOpenIn self.old.server run }
-        ensures verdict { IfOk result (λ judged. verdict_view judged.0 ≡ (judge_incoming self.old (incoming_view incoming)).verdict) }
-        ensures session { OnOk result (self.new ≡ (judge_incoming self.old (incoming_view incoming)).session) }
+        ensures verdict { IfOk result
+            (λ judged. verdict_view judged.0
+            ≡ (judge_incoming self.old (incoming_view incoming)).verdict) }
+        ensures session { OnOk result
+            (self.new ≡ (judge_incoming self.old (incoming_view incoming)).session) }
         ensures writing { IfOk result (λ judged. verdict_view judged.0 ≢ bad →
-            IsWriting self.old.server run (change_in (incoming_view incoming)) (verdict_view judged.0) judged.1) }
+            IsWriting self.old.server run (change_in (incoming_view incoming))
+            (verdict_view judged.0) judged.1) }
         ensures reached { IfOk result (λ judged. IsOpenAfter self.new.server judged.1) }
     {
         let writing = self.join(&incoming, run)?;
@@ -405,13 +438,17 @@ impl Session {
         Ok((verdict, writing))
     }
 
-    /// How a client's record is written that is judged next. A change that comes before its encoding is known is bad, and not joined.
+    /// How the client's record is written that is judged next. A change that comes before its
+    /// encoding is known is bad, and isn't joined.
     fn join(&self, incoming: &Incoming, run: Option<Batches>) -> Result<Writing, AllocError>
         requires { MayBeOpenIn self.now.server run }
-        ensures writing { IfOk result (λ writing. (judge_incoming self.now (incoming_view incoming.now)).verdict ≢ bad →
+        ensures writing { IfOk result
+            (λ writing. (judge_incoming self.now (incoming_view incoming.now)).verdict ≢ bad →
             IsWriting self.now.server run (change_in (incoming_view incoming.now))
             (judge_incoming self.now (incoming_view incoming.now)).verdict writing) }
-        ensures reached { IfOk result (λ writing. IsOpenAfter (judge_incoming self.now (incoming_view incoming.now)).session.server writing) }
+        ensures reached { IfOk result
+            (λ writing. IsOpenAfter
+            (judge_incoming self.now (incoming_view incoming.now)).session.server writing) }
     {
         let Incoming::DidChange(params) = incoming else {
             return Ok(Writing::AsItIs(run));
@@ -425,7 +462,7 @@ impl Session {
         self.join_change(params, run)
     }
 
-    /// How a change is written that a running server is asked for.
+    /// How a change is written that a running server receives.
     fn join_change(
         &self,
         params: &ChangeParams,
@@ -449,18 +486,20 @@ impl Session {
         };
         if batches.uri() == params.uri.as_str() {
             batches.add(&document, params.version, &params.changes)?;
-            return Ok(Writing::GoesOn(frame, batches));
+            return Ok(Writing::Continues(frame, batches));
         }
         let begun = self.begin(&document, params)?;
         Ok(Writing::Begins(frame, Some(batches), begun))
     }
 
-    /// The batches that an accepted change of a document begins.
+    /// Starts batches with an accepted change of a document.
     fn begin(&self, document: &Document<'_>, params: &ChangeParams) -> Result<Batches, AllocError>
-        requires found { entry_at self.now.server.table (string_bytes params.now.uri) ≡ Some document.now }
+        requires found { entry_at self.now.server.table (string_bytes params.now.uri)
+            ≡ Some document.now }
         requires accepted { refusal_of self.now.server (change_view params.now) ≡ None }
         ensures begun { IfOk result (IsBegun self.now.server (change_view params.now)) }
-        ensures reached { IfOk result (IsOpenIn (server_after self.now.server (change_view params.now))) }
+        ensures reached { IfOk result
+            (IsOpenIn (server_after self.now.server (change_view params.now))) }
     {
         let encoding = self.server.encoding().unwrap_or(Encoding::Utf16);
         let limits = self.server.store().limits();
@@ -469,7 +508,7 @@ impl Session {
         Ok(batches)
     }
 
-    /// The first record of a log of version 2 says its version.
+    /// Notes the version of the log, which its first record says.
     fn see_version(&mut self, line_due: bool)
         ensures { self.new ≡ versioned self.old line_due }
     {
@@ -478,10 +517,12 @@ impl Session {
         }
     }
 
-    /// Judges a client's record, by what its body asks.
+    /// Judges a client's record.
     fn take(&mut self, incoming: Incoming) -> Result<Verdict, AllocError>
-        ensures verdict { IfOk result (λ v. verdict_view v ≡ (judge_incoming self.old (incoming_view incoming)).verdict) }
-        ensures session { OnOk result (self.new ≡ (judge_incoming self.old (incoming_view incoming)).session) }
+        ensures verdict { IfOk result
+            (λ v. verdict_view v ≡ (judge_incoming self.old (incoming_view incoming)).verdict) }
+        ensures session { OnOk result
+            (self.new ≡ (judge_incoming self.old (incoming_view incoming)).session) }
     {
         if self.server.phase() == Phase::Ended || self.is_early(&incoming) {
             return Ok(Verdict::Bad);
@@ -509,7 +550,8 @@ impl Session {
             && matches!(incoming, Incoming::DidChange(_))
     }
 
-    /// The id of an `initialize` that is accepted, in a log that will have the result.
+    /// Returns the id of an `initialize` that is accepted, in a log of version 2, which has its
+    /// result.
     fn begun_by(&self, incoming: &Incoming) -> Result<Option<Id>, AllocError>
         ensures { IfOk result (λ begun. MatchOption begun
             (expected_after self.now (incoming_view incoming.now) ≡ self.now.expected)
@@ -527,10 +569,12 @@ impl Session {
         }
     }
 
-    /// Judges a server's record: the result of `initialize` alone is read.
+    /// Judges a server's record. Only the result of `initialize` is read.
     fn hear(&mut self, body: &[u8]) -> Result<Verdict, AllocError>
-        ensures verdict { IfOk result (λ v. verdict_view v ≡ (hear_for self.old self.old.expected body.now).verdict) }
-        ensures session { OnOk result (self.new ≡ (hear_for self.old self.old.expected body.now).session) }
+        ensures verdict { IfOk result
+            (λ v. verdict_view v ≡ (hear_for self.old self.old.expected body.now).verdict) }
+        ensures session { OnOk result
+            (self.new ≡ (hear_for self.old self.old.expected body.now).session) }
     {
         let result = match &self.expected {
             None => None,
@@ -542,10 +586,12 @@ impl Session {
         }
     }
 
-    /// Goes on in the encoding that a result of `initialize` announces.
+    /// Continues in the encoding that a result of `initialize` announces.
     fn settle(&mut self, value: Value) -> Result<Verdict, AllocError>
-        ensures verdict { IfOk result (λ v. verdict_view v ≡ (settle_by self.old (announced_of (view value))).verdict) }
-        ensures session { OnOk result (self.new ≡ (settle_by self.old (announced_of (view value))).session) }
+        ensures verdict { IfOk result
+            (λ v. verdict_view v ≡ (settle_by self.old (announced_of (view value))).verdict) }
+        ensures session { OnOk result
+            (self.new ≡ (settle_by self.old (announced_of (view value))).session) }
     {
         match result_initialize(self.alloc, value) {
             Ok(announced) => match announced.encoding {
@@ -610,9 +656,10 @@ fn same_id(id: &Id, other: &Id) -> bool
     }
 }
 
-/// The result that a body gives to the request of an id, if it is a response that does.
+/// Returns the result in a body that is a successful response to the request with this id.
 fn result_for(alloc: Global, id: &Id, body: &[u8]) -> Result<Option<Value>, AllocError>
-    ensures { IfOk result (λ value. option_map view value ≡ result_for (id_view id.now) (reading body.now)) }
+    ensures { IfOk result
+        (λ value. option_map view value ≡ result_for (id_view id.now) (reading body.now)) }
 {
     match read(alloc, body) {
         Ok(message) => Ok(result_in(id, message)),
@@ -621,7 +668,7 @@ fn result_for(alloc: Global, id: &Id, body: &[u8]) -> Result<Option<Value>, Allo
     }
 }
 
-/// The result that a message gives to the request of an id.
+/// Returns the result in a successful response to the request with this id.
 fn result_in(id: &Id, message: Message) -> Option<Value>
     ensures { option_map view result ≡ result_in (id_view id.now) (message_view message) }
 {

@@ -1,4 +1,4 @@
-//! Rows of inputs, with what each engine answers and writes.
+//! Rows of inputs, with the result and the output of each engine.
 
 mod documents;
 mod failures;
@@ -51,27 +51,27 @@ const SHUT_DOWN: &str = r#"{"id":2,"jsonrpc":"2.0","result":null}"#;
 
 const EXIT: &str = r#"{"jsonrpc":"2.0","method":"exit"}"#;
 
-/// What a server answers to a body that is no message.
+/// The answer of a server to a body that is no message.
 const INVALID: &str =
     r#"{"error":{"code":-32600,"message":"invalid request"},"id":null,"jsonrpc":"2.0"}"#;
 
 /// The line that a log of version 2 begins with.
 const LINE: &[u8] = b"lsp-session-log 2\n";
 
-/// What `replay` writes for the document after the session [`WORKED`].
+/// The output of `replay` for the document after the session [`WORKED`].
 const WORKED_REPORT: &[u8] =
     b"{\"languageId\":\"plaintext\",\"text\":\"aXc\",\"uri\":\"file:///a\",\"version\":2}\n";
 
 /// A document is opened, and its whole text replaced.
 const WORKED: &[&str] = &[INITIALIZE, OPEN, WHOLE];
 
-/// What `normalise` makes of it.
+/// The output of `normalise` for it.
 const NORMAL: &[&str] = &[INITIALIZE, OPEN, CANONICAL];
 
-/// What `convert` makes of it.
+/// The output of `convert` for it.
 const CONVERTED: &[(&str, &str)] = &[(">", INITIALIZE), ("<", REPLY), (">", OPEN), (">", WHOLE)];
 
-/// What `normalise` makes of that.
+/// The output of `normalise` for that.
 const NORMAL_CONVERTED: &[(&str, &str)] = &[
     (">", INITIALIZE),
     ("<", REPLY),
@@ -79,16 +79,16 @@ const NORMAL_CONVERTED: &[(&str, &str)] = &[
     (">", CANONICAL),
 ];
 
-/// What `check` writes for [`WORKED`].
+/// The output of `check` for [`WORKED`].
 const CHECK_1: &[u8] = b"1 reply\n2 changed\n3 changed\n";
 
-/// What `check` writes for [`CONVERTED`].
+/// The output of `check` for [`CONVERTED`].
 const CHECK_2: &[u8] = b"1 reply\n2 server\n3 changed\n4 changed\n";
 
 /// An editor's session.
 const SESSION: &[&str] = &[INITIALIZE, INITIALIZED, OPEN, EDITED, CLOSE, SHUTDOWN, EXIT];
 
-/// What a server replies to it.
+/// The server's replies to it.
 const REPLIES: &[&str] = &[REPLY, SHUT_DOWN];
 
 /// Exit without `shutdown`.
@@ -113,7 +113,7 @@ enum Bytes {
     Frames(&'static [&'static str]),
     /// So many first bytes of them.
     Cut(&'static [&'static str], usize),
-    /// They, and then more bytes.
+    /// Those frames, and then more bytes.
     Then(&'static [&'static str], &'static [u8]),
     /// A log of version 2, of records with their marks.
     Marked(&'static [(&'static str, &'static str)]),
@@ -169,7 +169,7 @@ const SINGLE: Calls<'static> = Calls {
 
 type Answer = Result<Outcome, EngineFault>;
 
-/// What a run answered, wrote and did.
+/// The result, the output and the calls of a run.
 #[derive(Drop)]
 struct Report {
     answer: Answer,
@@ -179,7 +179,7 @@ struct Report {
     writes: u64,
 }
 
-/// The limits by default, and UTF-16.
+/// The default limits, and UTF-16.
 fn settings() -> Result<Settings, Fail> {
     Ok(Settings {
         limits: Limits::new(16_777_216, 16_777_216, 1_024, 65_536)?,
@@ -304,8 +304,8 @@ impl End {
 #[derive(Clone, Copy)]
 struct Row(Command, Bytes, End, Bytes, usize);
 
-/// Does the engine answer and write this, however its calls go?
-fn gives(alloc: Global, row: &Row, calls: Calls) -> Result<bool, Fail> {
+/// Has the engine this result and output, however its calls end?
+fn has_result(alloc: Global, row: &Row, calls: Calls) -> Result<bool, Fail> {
     let Row(command, input, end, output, flushes) = row;
     let input = input.get(alloc)?;
     let run = run_with(alloc, *command, &input, settings()?, calls)?;
@@ -316,7 +316,7 @@ fn gives(alloc: Global, row: &Row, calls: Calls) -> Result<bool, Fail> {
 /// Do all rows hold?
 fn all_give(alloc: Global, rows: &[Row]) -> Result<bool, Fail> {
     for row in rows {
-        if !gives(alloc, row, SMOOTH)? {
+        if !has_result(alloc, row, SMOOTH)? {
             return Ok(false);
         }
     }

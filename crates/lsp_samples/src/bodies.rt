@@ -1,10 +1,10 @@
 //! The bodies of a session from `initialize` to `exit`, and those of the replies.
 
-/// A client that counts in UTF-16 alone.
+/// A client that counts in UTF-16 only.
 pub const INITIALIZE: &str =
     r#"{"id":1,"jsonrpc":"2.0","method":"initialize","params":{"capabilities":{"general":{"positionEncodings":["utf-16"]}},"processId":null,"rootUri":null}}"#;
 
-/// The result of `initialize` in UTF-16, under incremental synchronisation.
+/// The result of `initialize`: UTF-16 and incremental synchronisation.
 pub const ACCEPTED: &str =
     r#"{"id":1,"jsonrpc":"2.0","result":{"capabilities":{"positionEncoding":"utf-16","textDocumentSync":{"change":2,"openClose":true}}}}"#;
 
@@ -26,11 +26,11 @@ pub const CHANGE: &str =
 pub const WHOLE: &str =
     r#"{"jsonrpc":"2.0","method":"textDocument/didChange","params":{"contentChanges":[{"text":"aXc"}],"textDocument":{"uri":"file:///a","version":2}}}"#;
 
-/// The canonical message that means the same as [`WHOLE`].
+/// The canonical message with the meaning of [`WHOLE`].
 pub const CANONICAL: &str =
     r#"{"jsonrpc":"2.0","method":"textDocument/didChange","params":{"contentChanges":[{"range":{"end":{"character":3,"line":0},"start":{"character":0,"line":0}},"text":"aXc"}],"textDocument":{"uri":"file:///a","version":2}}}"#;
 
-/// Puts a `b` in after the first unit of line 0.
+/// Inserts a `b` after the first unit of line 0.
 pub const AFTER_ONE_UNIT: &str =
     r#"{"jsonrpc":"2.0","method":"textDocument/didChange","params":{"contentChanges":[{"range":{"end":{"character":1,"line":0},"start":{"character":1,"line":0}},"text":"b"}],"textDocument":{"uri":"file:///a","version":2}}}"#;
 
@@ -44,7 +44,8 @@ pub const SHUT_DOWN: &str = r#"{"id":2,"jsonrpc":"2.0","result":null}"#;
 
 pub const EXIT: &str = r#"{"jsonrpc":"2.0","method":"exit"}"#;
 
-/// A request that no server of ours knows, and the replies before `initialize` and after `shutdown`.
+/// A request that no server of ours knows, and the replies to it before `initialize` and after
+/// `shutdown`.
 pub const HOVER: &str = r#"{"id":"q","jsonrpc":"2.0","method":"textDocument/hover"}"#;
 
 pub const NOT_INITIALIZED: &str =
@@ -53,7 +54,7 @@ pub const NOT_INITIALIZED: &str =
 pub const INVALID: &str =
     r#"{"error":{"code":-32600,"message":"invalid request"},"id":"q","jsonrpc":"2.0"}"#;
 
-/// Replies to what has no id.
+/// Replies with the id `null`, where the body has no id that can be read.
 pub const PARSE_ERROR: &str =
     r#"{"error":{"code":-32700,"message":"parse error"},"id":null,"jsonrpc":"2.0"}"#;
 

@@ -4,13 +4,14 @@ use lsp_edit::{Change, TextEdit};
 use lsp_text::{Position, Range};
 use std::alloc::{AllocError, Global};
 
-/// A change: the line and the character of its start, those of its end, and the text. [`ALL`] as the first line is the whole text.
+/// A change: the line and the character of its start, those of its end, and the text. [`ALL`] as
+/// the first line means the whole text.
 pub type Edit = (u32, u32, u32, u32, &'static str);
 
 /// The line of a change of the whole text.
 pub const ALL: u32 = 4294967295;
 
-/// The change of a row.
+/// Makes the change of a row.
 pub fn change(alloc: Global, edit: Edit) -> Result<Change, AllocError> {
     let (line, character, stop_line, stop_character, text) = edit;
     let range = if line == ALL {
@@ -28,7 +29,7 @@ pub fn change(alloc: Global, edit: Edit) -> Result<Change, AllocError> {
     Ok(Change { range, text })
 }
 
-/// The batch of some rows.
+/// Makes the batch of some rows.
 pub fn batch(alloc: Global, edits: &[Edit]) -> Result<Vec<Change>, AllocError> {
     let mut changes = Vec::new(alloc);
     for edit in edits {
@@ -37,7 +38,7 @@ pub fn batch(alloc: Global, edits: &[Edit]) -> Result<Vec<Change>, AllocError> {
     Ok(changes)
 }
 
-/// The batch of some rows; where memory runs out it is made once more, which is counted.
+/// Makes the batch of some rows, and again if it is out of memory, which is counted.
 pub fn batch_again(
     alloc: Global,
     edits: &[Edit],
@@ -52,7 +53,7 @@ pub fn batch_again(
     }
 }
 
-/// The text edit of a row, which has a range.
+/// Makes the text edit of a row, which has a range.
 fn text_edit(alloc: Global, edit: Edit) -> Result<TextEdit, AllocError> {
     let (line, character, stop_line, stop_character, text) = edit;
     let start = Position { line, character };
@@ -66,7 +67,7 @@ fn text_edit(alloc: Global, edit: Edit) -> Result<TextEdit, AllocError> {
     })
 }
 
-/// The text edits of some rows, of which each has a range.
+/// Makes the text edits of some rows, each of which has a range.
 pub fn text_edits(alloc: Global, edits: &[Edit]) -> Result<Vec<TextEdit>, AllocError> {
     let mut made = Vec::new(alloc);
     for edit in edits {

@@ -1,8 +1,9 @@
-//! What the tests of several crates share: bodies of one session, changes in short, and logs. No program uses it.
+//! Samples that the tests of several crates share: bodies of one session, changes in short, and
+//! logs. No program uses it.
 //!
 //! - `bodies`: the messages of a session, and the replies.
 //! - `edits`: changes as rows of numbers and a text.
-//! - `logs`: frames of bodies.
+//! - `logs`: logs of bodies.
 #![tactic(auto)]
 
 pub mod bodies;

@@ -13,11 +13,11 @@ use Rattle.lsp_server.specs.declared.answer.Answer.{Answer}
 use Rattle.lsp_server.specs.declared.answer.Answer.TheVariants.{Changed, Refused}
 use Rattle.lsp_server.specs.declared.answer.Refusal.TheVariants.{Store}
 use Rattle.lsp_server.specs.Answer.{as_sent, refused}
-use Rattle.lsp_server.specs.Step.{State, edit_of, stays, obeyed, obeys}
+use Rattle.lsp_server.specs.Step.{State, edit_from_data, stays, obeyed, obeys}
 use Rattle.lsp_server.specs.Seen.{answer_view}
 
 -- The changes as they were read are those that the store is given.
-pub edits_of : (changes : List Change) → map edit_of (map edit_view changes) ≡ map made.edit_of changes
+pub edits_of : (changes : List Change) → map edit_from_data (map edit_view changes) ≡ map made.edit_of changes
 edits_of [] = refl
 edits_of (change ∷ changes) = ap (λ edits. made.edit_of change ∷ edits) (edits_of changes)
 
@@ -34,7 +34,7 @@ refusal_answered : (s : State) (refusal : Option table.Refusal) (next : List Ent
     → option_map fault_of refusal ≡ Some fault → obeyed s (unless_refused refusal next) ≡ stays s (refused (Store fault))
 refusal_answered s None next fault e = cc
 refusal_answered s (Some refusal) next fault e =
-    let same : fault_of refusal ≡ fault = cc in ap (λ told. stays s (refused (Store told))) same
+    let same : fault_of refusal ≡ fault = cc in ap (λ error. stays s (refused (Store error))) same
 
 obeyed_as_refused : (s : State) (command : Command) (fault : StoreFault)
     → fault ≢ NoMemory → IsRefused (store_of s) command fault → obeys s command ≡ stays s (refused (Store fault))
@@ -50,10 +50,10 @@ pub answered : {E : Type 0} (s : State) (given command : Command) (new : StoreDa
     → IfErr outcome (λ fault. IfOk result (λ a. (fault ≢ NoMemory) × (a ≡ Refused (Store fault))))
     → given ≡ command
     → IfOk result (λ a. answer_view a ≡ as_sent (obeys s command).answer)
-answered s given command new (Ok u) result takes told changed other same = rw (← same, changed, takes.table) refl
-answered s given command new (Err fault) (Err e) takes told changed other same = tt
-answered s given command new (Err fault) (Ok a) takes told changed other same =
-    rw (← same, other.1, obeyed_as_refused s given fault other.0 told) refl
+answered s given command new (Ok u) result takes error changed other same = rw (← same, changed, takes.table) refl
+answered s given command new (Err fault) (Err e) takes error changed other same = tt
+answered s given command new (Err fault) (Ok a) takes error changed other same =
+    rw (← same, other.1, obeyed_as_refused s given fault other.0 error) refl
 
 -- So is what becomes of it.
 pub after : {E : Type 0} (s : State) (given command : Command) (new : StoreData) (outcome : Result (Unit {0}) StoreFault) (result : Result Answer E)
@@ -63,8 +63,8 @@ pub after : {E : Type 0} (s : State) (given command : Command) (new : StoreData)
     → IfErr outcome (λ fault. IfOk result (λ a. (fault ≢ NoMemory) × (a ≡ Refused (Store fault))))
     → given ≡ command
     → OnOk result (over s new ≡ (obeys s command).state)
-after s given command new (Ok u) (Err e) takes unchanged told other same = tt
-after s given command new (Ok u) (Ok a) takes unchanged told other same = rw (← same, takes.table, takes.limits) refl
-after s given command new (Err fault) (Err e) takes unchanged told other same = tt
-after s given command new (Err fault) (Ok a) takes unchanged told other same =
-    rw (← same, unchanged, obeyed_as_refused s given fault other.0 told) refl
+after s given command new (Ok u) (Err e) takes unchanged error other same = tt
+after s given command new (Ok u) (Ok a) takes unchanged error other same = rw (← same, takes.table, takes.limits) refl
+after s given command new (Err fault) (Err e) takes unchanged error other same = tt
+after s given command new (Err fault) (Ok a) takes unchanged error other same =
+    rw (← same, unchanged, obeyed_as_refused s given fault other.0 error) refl

@@ -19,7 +19,7 @@ use Rattle.lsp_server.specs.Answer.{AnswerData, reply, changed, exits}
 use Rattle.lsp_server.specs.Choice.{chosen, kind_of}
 use Rattle.lsp_reader.specs.Incoming.{IncomingData, response, initialize, shutdown, other_request, exit, did_open, did_change, did_close, other_notification, request_of, notification_of}
 use Rattle.lsp_server.specs.Laws.{RepliesTo, way_of, IsRefusal}
-use Rattle.lsp_server.specs.Step.{State, Step, stays, goes, begins, obeyed, step_in}
+use Rattle.lsp_server.specs.Step.{State, Step, stays, step_to, begins, obeyed, step_in}
 
 -- ---- requests
 
@@ -126,7 +126,7 @@ stays_kept : (p : Phase) (s : State) (answer : AnswerData OutgoingData) → s.ph
 stays_kept p s answer e =
     record { config = refl; forward = rw e (omega arith); documents = λ _. refl; refusal = λ _. refl }
 
-goes_kept : (p q : Phase) (s : State) (answer : AnswerData OutgoingData) → way_of p ≤ way_of q → (IsRefusal answer → ⊥) → Keeps p s (goes s q answer)
+goes_kept : (p q : Phase) (s : State) (answer : AnswerData OutgoingData) → way_of p ≤ way_of q → (IsRefusal answer → ⊥) → Keeps p s (step_to s q answer)
 goes_kept p q s answer on apart =
     record { config = refl; forward = on; documents = λ _. refl; refusal = λ h. absurd (apart h) }
 

@@ -1,4 +1,5 @@
--- What a server announces in its answer to `initialize` (LSP 3.17, Initialize Request: PositionEncodingKind, TextDocumentSyncKind).
+-- What a server announces in its result of `initialize` (LSP 3.17, Initialize Request:
+-- PositionEncodingKind, TextDocumentSyncKind).
 use Rattle.std.specs.Prelude.{if◌then◌else◌}
 use Rattle.lsp_text.specs.declared.encoding.Encoding.{Encoding}
 use Rattle.lsp_text.specs.declared.encoding.Encoding.TheVariants.{Utf16}
@@ -6,17 +7,25 @@ use Rattle.lsp_message.specs.declared.agreement.Offers.{Offers}
 use Rattle.lsp_message.specs.declared.agreement.SyncKind.{SyncKind}
 use Rattle.lsp_message.specs.declared.agreement.SyncKind.TheVariants as kind
 use Rattle.lsp_message.specs.Agreement.{is_offered}
+use Rattle.lsp_frame.specs.Limits.{default_limits}
+use Rattle.lsp_server.specs.declared.config.Config.{Config}
 use Rattle.lsp_server.specs.declared.config.EncodingChoice.{EncodingChoice}
 use Rattle.lsp_server.specs.declared.config.EncodingChoice.TheVariants.{Fixed, Negotiated}
 use Rattle.lsp_server.specs.declared.config.Sync.{Sync}
 use Rattle.lsp_server.specs.declared.config.Sync.TheVariants.{Incremental, Full}
 
--- The encoding in which a session counts: a fixed one whatever was offered, else the preferred one if it was offered, else UTF-16.
+-- The encoding of a session: a fixed one whatever is offered, else the preferred one if it is
+-- offered, else UTF-16.
 abbrev pub chosen : EncodingChoice → Offers → Encoding
 chosen (Fixed encoding) offers = encoding
 chosen (Negotiated prefer) offers = if is_offered offers prefer then prefer else Utf16
 
--- How the server asks to hear of changes.
+-- The kind of synchronisation that a server announces.
 abbrev pub kind_of : Sync → SyncKind
 kind_of Incremental = kind.Incremental
 kind_of Full = kind.Full
+
+-- A server's set-up where a user chooses none: the default limits, UTF-16 whatever the client
+-- offers, changed ranges.
+abbrev pub default_config : Config
+default_config = record { limits = default_limits; choice = Negotiated Utf16; sync = Incremental }

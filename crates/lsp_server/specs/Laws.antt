@@ -1,4 +1,4 @@
--- What holds of every step, in the protocol's words.
+-- What holds of every step, in the protocol's terms.
 use Rattle.std.specs.Prelude.{ℕ, ◌≡◌, ◌≢◌, ◌≤◌, true, List, Option, Some, None}
 use Rattle.serde_json.specs.Data.{Data}
 use Rattle.lsp_message.specs.declared.agreement.Offers.{Offers}
@@ -13,53 +13,57 @@ use Rattle.lsp_server.specs.Answer.{AnswerData, reply, changed, dropped, ignored
 use Rattle.lsp_server.specs.Choice.{chosen}
 use Rattle.lsp_server.specs.Step.{State, step}
 
--- the id that a reply names
+-- The id of a reply.
 abbrev pub id_of : OutgoingData → Option IdData
 id_of (initialize_result id encoding kind) = Some id
 id_of (shutdown_result id) = Some id
 id_of (error_reply id error) = id
 id_of m = None
 
--- A reply to this id is answered.
+-- An answer is a reply with this id.
 abbrev pub RepliesTo : IdData → AnswerData OutgoingData → Type 0
 RepliesTo id answer = (m : OutgoingData) × (answer ≡ reply m) × (id_of m ≡ Some id)
 
--- Each request gets one reply, which names its id (Request Message, Response Message).
+-- Each request has one reply, with its id (Request Message, Response Message).
 abbrev pub RequestLaw : Type 0
 RequestLaw =
     (s : State) (id : IdData) (method : List ℕ) (params : Option Data) → s.phase ≢ Ended
     → RepliesTo id (step s (message (request id method params))).answer
 
--- A notification gets none (Notification Message), and neither does a response.
+-- A notification has no reply (Notification Message).
 abbrev pub NotificationLaw : Type 0
 NotificationLaw =
     (s : State) (method : List ℕ) (params : Option Data) (m : OutgoingData)
     → (step s (message (notification method params))).answer ≢ reply m
 
+-- A response has no reply.
 abbrev pub ResponseLaw : Type 0
 ResponseLaw =
     (s : State) (id : Option IdData) (outcome : OutcomeData) (m : OutgoingData)
     → (step s (message (response id outcome))).answer ≢ reply m
 
--- how far a session is on its way from `initialize` to `exit`
+-- The order of the phases, from `initialize` to `exit`.
 abbrev pub way_of : Phase → ℕ
 way_of New = 0
 way_of Running = 1
 way_of Down = 2
 way_of Ended = 3
 
--- A session never goes back to an earlier phase, and its set-up stays.
+-- A session never returns to an earlier phase.
 abbrev pub ForwardLaw : Type 0
 ForwardLaw = (s : State) (body : Reading) → way_of s.phase ≤ way_of (step s body).state.phase
 
+-- The configuration of a server stays.
 abbrev pub ConfigLaw : Type 0
 ConfigLaw = (s : State) (body : Reading) → (step s body).state.config ≡ s.config
 
 -- Only a document notification that is answered as a change changes the open documents.
 abbrev pub DocumentsLaw : Type 0
-DocumentsLaw = (s : State) (body : Reading) → (step s body).answer ≢ changed → (step s body).state.table ≡ s.table
+DocumentsLaw = (s : State) (body : Reading) → (step s body).answer ≢ changed →
+    (step s body).state.table ≡ s.table
 
--- whether an answer says that nothing was done
+-- An answer after which nothing has changed: an error response, dropped, ignored, refused, or no
+-- answer.
 abbrev pub IsRefusal : AnswerData OutgoingData → Type 0
 IsRefusal (reply (error_reply id error)) = Unit {0}
 IsRefusal (reply m) = ⊥
@@ -76,4 +80,5 @@ RefusalLaw = (s : State) (body : Reading) → IsRefusal (step s body).answer →
 
 -- An encoding that is negotiated was offered (PositionEncodingKind).
 abbrev pub OfferedLaw : Type 0
-OfferedLaw = (prefer : Encoding) (offers : Offers) → is_offered offers (chosen (Negotiated prefer) offers) ≡ true
+OfferedLaw = (prefer : Encoding) (offers : Offers) →
+    is_offered offers (chosen (Negotiated prefer) offers) ≡ true

@@ -1,10 +1,11 @@
--- What the types of `src/` are in the definitions.
+-- The types of `src/` as the definitions see them.
 pub use Rattle.lsp_reader.specs.Seen.{incoming_view}
 use Rattle.lsp_server.specs.declared.answer.Answer.{Answer}
 use Rattle.lsp_server.specs.declared.answer.Answer.TheVariants.{Reply, Changed, Dropped, Ignored, Refused}
 use Rattle.lsp_server.specs.declared.answer.Answer.TheVariants as answer
 use Rattle.lsp_server.specs.Answer.{AnswerData, reply, changed, dropped, ignored, refused, exits, Sent}
 
+-- An answer, with its frame as bytes.
 abbrev pub answer_view : Answer → AnswerData Sent
 answer_view (Reply frame code) = reply (record { frame = frame.items; code = code })
 answer_view Changed = changed

@@ -1,5 +1,5 @@
--- One step of a session (LSP 3.17, Base Protocol, Server lifecycle, Text Document Synchronization): what a server answers to a body, and
--- what it is afterwards.
+-- One step of a session: what a server answers to a body, and its state afterwards (LSP 3.17, Base
+-- Protocol, Server lifecycle, Text Document Synchronization).
 use Rattle.std.specs.Prelude.{List, [], map, option_map, unwrap_or, Option, Some, None, Result, Ok, Err}
 use Rattle.std.specs.Str.{chars}
 use Rattle.lsp_text.specs.declared.encoding.Encoding.{Encoding}
@@ -22,13 +22,15 @@ use Rattle.lsp_server.specs.Answer.{AnswerData, reply, changed, dropped, ignored
 use Rattle.lsp_server.specs.Choice.{chosen, kind_of}
 use Rattle.lsp_reader.specs.Incoming.{IncomingData, not_json, not_a_message, response, initialize, shutdown, other_request, exit, did_open, did_change, did_close, other_notification, incoming_of}
 
--- A server: how it was set up, where its session is, the encoding that was chosen, if one was, and the open documents.
+-- A server: its configuration, its phase, the chosen encoding, if there is one, and the open
+-- documents.
 pub record State : Type 0 where
   pub config : Config
   pub phase : Phase
   pub encoding : Option Encoding
   pub table : List Entry
 
+-- What a server answers, and its state afterwards.
 pub record Step : Type 0 where
   pub answer : AnswerData OutgoingData
   pub state : State
@@ -39,18 +41,19 @@ start config = record { config = config; phase = New; encoding = None; table = [
 
 -- ---- what a step may do
 
--- It answers and changes nothing.
+-- A step that answers and changes nothing.
 abbrev pub stays : State → AnswerData OutgoingData → Step
 stays s answer = record { answer = answer; state = s }
 
+-- A step that answers with an error response and changes nothing.
 abbrev pub fails : State → Option IdData → ErrorCode → Step
 fails s id error = stays s (reply (error_reply id error))
 
--- The session goes on to another phase.
-abbrev pub goes : State → Phase → AnswerData OutgoingData → Step
-goes s phase answer = record { answer = answer; state = record s { phase = phase } }
+-- A step to another phase.
+abbrev pub step_to : State → Phase → AnswerData OutgoingData → Step
+step_to s phase answer = record { answer = answer; state = record s { phase = phase } }
 
--- The session begins, in the encoding that is chosen among those that are offered.
+-- An accepted `initialize`, in this encoding.
 abbrev pub begins_in : State → IdData → Encoding → Step
 begins_in s id encoding =
     record {
@@ -58,73 +61,84 @@ begins_in s id encoding =
       state = record s { phase = Running; encoding = Some encoding };
     }
 
+-- An accepted `initialize`, in the encoding chosen among those that the client offers.
 abbrev pub begins : State → IdData → Offers → Step
 begins s id offers = begins_in s id (chosen s.config.choice offers)
 
--- A command is done on the open documents, or refused.
+-- The step of a command with this result.
 abbrev pub obeyed : State → Result (List Entry) table.Refusal → Step
 obeyed s (Ok next) = record { answer = changed; state = record s { table = next } }
 obeyed s (Err refusal) = stays s (refused (Store (fault_of refusal)))
 
+-- A step that runs a command on the open documents, or refuses it.
 abbrev pub obeys : State → Command → Step
 obeys s command = obeyed s (after_command s.config.limits s.table command)
 
 -- ---- commands
 
+-- The command of a `textDocument/didOpen`.
 abbrev pub open_command : OpenData → Command
-open_command p = opens (record { uri = p.uri; language = p.language; version = p.version; text = p.text })
+open_command p
+    = opens (record { uri = p.uri; language = p.language; version = p.version; text = p.text })
 
-abbrev pub edit_of : EditData → Edit
-edit_of e = record { range = e.range; text = chars e.text }
+-- A change, with its text as characters.
+abbrev pub edit_from_data : EditData → Edit
+edit_from_data e = record { range = e.range; text = chars e.text }
 
--- Changes count in the encoding that was chosen. (Before one was, there are none; UTF-16 is the protocol's default.)
+-- The encoding of changes. Before one is chosen there are no changes; UTF-16 is the protocol's
+-- default.
 abbrev pub encoding_of : State → Encoding
 encoding_of s = unwrap_or s.encoding Utf16
 
+-- The command of a `textDocument/didChange`.
 abbrev pub change_command : State → ChangeData → Command
-change_command s p = changes p.uri p.version (encoding_of s) (map edit_of p.changes)
+change_command s p = changes p.uri p.version (encoding_of s) (map edit_from_data p.changes)
 
+-- The command of a `textDocument/didClose`.
 abbrev pub close_command : CloseData → Command
 close_command p = closes p.uri
 
--- From now on changes count in this encoding; before one was chosen nothing changes.
+-- A server with another encoding of changes. Before one is chosen nothing changes.
 abbrev pub settled : State → Encoding → State
 settled s encoding = record s { encoding = option_map (λ _. encoding) s.encoding }
 
 -- ---- the table of steps: the first row that fits decides
 
+-- The step in a phase.
 abbrev pub step_in : Phase → State → IncomingData → Step
--- After `exit` nothing is answered any more.
+-- After `exit` there is no answer.
 step_in Ended s m = stays s already_ended
--- A body that is no JSON, or JSON and no message, gets an error reply at any time (Response Message).
+-- A body that is no JSON, or JSON and no message, is answered with an error response in any phase
+-- (Response Message).
 step_in phase s not_json = fails s None ParseError
 step_in phase s (not_a_message id) = fails s id InvalidRequest
--- The server asks nothing, so it ignores answers.
+-- The server sends no requests, so it ignores responses.
 step_in phase s (response id) = stays s ignored
 -- `exit` ends the session: with status 0 after `shutdown`, else with 1 (Exit Notification).
-step_in Down s exit = goes s Ended (exits 0)
-step_in phase s exit = goes s Ended (exits 1)
--- `initialize` begins the session, if its parameters are read (Initialize Request).
+step_in Down s exit = step_to s Ended (exits 0)
+step_in phase s exit = step_to s Ended (exits 1)
+-- `initialize` begins the session, if its params are valid (Initialize Request).
 step_in New s (initialize id None) = fails s (Some id) InvalidParams
 step_in New s (initialize id (Some offers)) = begins s id offers
 -- Before it any other request is an error, and notifications are dropped (Initialize Request).
 step_in New s (shutdown id) = fails s (Some id) ServerNotInitialized
 step_in New s (other_request id method) = fails s (Some id) ServerNotInitialized
 step_in New s notification = stays s dropped
--- `initialize` may come only once (Initialize Request).
+-- `initialize` is accepted only once (Initialize Request).
 step_in Running s (initialize id offers) = fails s (Some id) InvalidRequest
--- `shutdown` is answered, and from then on only `exit` is waited for (Shutdown Request).
-step_in Running s (shutdown id) = goes s Down (reply (shutdown_result id))
+-- `shutdown` has a result, and from then on only `exit` is awaited (Shutdown Request).
+step_in Running s (shutdown id) = step_to s Down (reply (shutdown_result id))
 -- No other request is known.
 step_in Running s (other_request id method) = fails s (Some id) MethodNotFound
--- The document notifications are taken whether or not `initialized` came (DidOpen, DidChange, DidClose Text Document Notification).
+-- The document notifications are accepted whether or not `initialized` came (DidOpen, DidChange,
+-- DidClose Text Document Notification).
 step_in Running s (did_open (Some p)) = obeys s (open_command p)
 step_in Running s (did_change (Some p)) = obeys s (change_command s p)
 step_in Running s (did_close (Some p)) = obeys s (close_command p)
 step_in Running s (did_open None) = stays s (refused params_invalid)
 step_in Running s (did_change None) = stays s (refused params_invalid)
 step_in Running s (did_close None) = stays s (refused params_invalid)
--- Any other notification is ignored, those that may be ignored by their name (`$/`) too.
+-- Any other notification is ignored, also one whose name begins with `$/`.
 step_in Running s (other_notification method) = stays s ignored
 -- After `shutdown` requests are errors, and notifications are dropped (Shutdown Request).
 step_in Down s (initialize id offers) = fails s (Some id) InvalidRequest
@@ -132,10 +146,10 @@ step_in Down s (shutdown id) = fails s (Some id) InvalidRequest
 step_in Down s (other_request id method) = fails s (Some id) InvalidRequest
 step_in Down s notification = stays s dropped
 
--- What a server answers to what is asked of it, and what it is afterwards.
+-- What a server answers to what a body asks, and its state afterwards.
 abbrev pub step_on : State → IncomingData → Step
 step_on s m = step_in s.phase s m
 
--- What a server answers to a body, and what it is afterwards, by what the body is read as.
+-- What a server answers to a body, and its state afterwards, by what the body is read as.
 abbrev pub step : State → Reading → Step
 step s body = step_on s (incoming_of body)

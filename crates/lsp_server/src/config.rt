@@ -1,4 +1,4 @@
-//! What a server is set up with.
+//! The configuration of a server.
 
 ghost use Rattle.std.specs.Prelude.{◌≡◌};
 ghost use Rattle.lsp_server.specs.Choice.{chosen, kind_of};
@@ -7,7 +7,8 @@ use lsp_frame::Limits;
 use lsp_message::{Offers, SyncKind};
 use lsp_text::Encoding;
 
-/// What a server is set up with: its limits, how the encoding of positions is chosen, and how it asks to hear of changes.
+/// The configuration of a server: its limits, how it chooses the encoding of positions, and how it
+/// wants to be notified of changes.
 #[derive(Clone, Copy, Debug, PartialEq, Eq)]
 pub struct Config {
     pub limits: Limits,
@@ -15,17 +16,35 @@ pub struct Config {
     pub sync: Sync,
 }
 
+impl Default for Config {
+    ghost use Rattle.lsp_server.specs.Choice.{default_config};
+
+    ghost is_default = { λ config. config ≡ default_config };
+
+    /// The default limits, UTF-16 whatever the client offers, and changed ranges.
+    fn default() -> Config {
+        Config {
+            limits: Limits::default(),
+            choice: EncodingChoice::Negotiated {
+                prefer: Encoding::Utf16,
+            },
+            sync: Sync::Incremental,
+        }
+    }
+}
+
 /// How the encoding of positions is chosen (LSP 3.17, PositionEncodingKind).
 #[derive(Clone, Copy, Debug, PartialEq, Eq, Hash)]
 pub enum EncodingChoice {
-    /// This one, whatever the client offers: for captures, whose encoding is known, and for sessions in UTF-16.
+    /// This one, whatever the client offers: for captures, whose encoding is known, and for
+    /// sessions in UTF-16.
     Fixed(Encoding),
-    /// The preferred one if the client offers it, else UTF-16, which every client takes.
+    /// The preferred one if the client offers it, else UTF-16, which every client accepts.
     Negotiated { prefer: Encoding },
 }
 
 impl EncodingChoice {
-    /// The encoding for a client that offers these.
+    /// Returns the encoding for a client that offers these.
     pub fn chosen(self, offers: Offers) -> Encoding
         ensures { result ≡ chosen self offers }
     {
@@ -37,17 +56,18 @@ impl EncodingChoice {
     }
 }
 
-/// How the server asks to hear of changes (LSP 3.17, TextDocumentSyncKind). It takes both forms whatever it asked for.
+/// How the server wants to be notified of changes (LSP 3.17, TextDocumentSyncKind). It accepts both
+/// forms, whichever it announces.
 #[derive(Clone, Copy, Debug, PartialEq, Eq, Hash)]
 pub enum Sync {
-    /// By changed ranges.
+    /// With the changed ranges.
     Incremental,
-    /// By the whole text.
+    /// With the whole text.
     Full,
 }
 
 impl Sync {
-    /// The kind that is announced.
+    /// Returns the kind that the server announces.
     pub fn kind(self) -> SyncKind
         ensures { result ≡ kind_of self }
     {

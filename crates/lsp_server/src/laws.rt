@@ -1,11 +1,15 @@
-//! Laws over the table of steps, that no call makes by itself.
+//! Laws of the table of steps, which no call states.
 
 ghost use Rattle.lsp_server.specs.Laws.{RequestLaw, NotificationLaw, ResponseLaw, ForwardLaw, ConfigLaw, DocumentsLaw, RefusalLaw, OfferedLaw};
 
-/// What holds of every step. It does nothing: its contract says that each request gets one reply, which names its id, while a notification
-/// and a response get none; that a session never goes back to an earlier phase, and its set-up stays; that only what is answered as a
-/// change changes the documents; that what is refused, dropped or ignored changes nothing; and that an encoding that is negotiated was
-/// offered.
+/// Does nothing: its contract states what holds of every step.
+///
+/// - `request`: each request has one reply, with its id.
+/// - `notification`, `response`: a notification and a response have no reply.
+/// - `forward`, `config`: a session never returns to an earlier phase, and its configuration stays.
+/// - `documents`: only what is answered as a change changes the documents.
+/// - `refusal`: what is refused, dropped or ignored changes nothing.
+/// - `offered`: an encoding that is negotiated was offered.
 pub fn step_laws()
     ensures request { RequestLaw }
     ensures notification { NotificationLaw }

@@ -1,14 +1,14 @@
 //! The server's end of a session of the Language Server Protocol 3.17: one body in, one answer out.
 //!
-//! A [`Server`] keeps its copy of each open document equal to the editor's, and answers the messages of a session's lifecycle. You bring
-//! the bytes and the features. `lsp_frame` takes a stream apart into bodies; each body goes into [`Server::handle`], and what is to be
-//! sent comes back as a frame, whole with its header:
+//! A [`Server`] keeps its copy of each open document equal to the editor's, and answers the
+//! messages of a session's lifecycle. You bring the bytes and the features. `lsp_frame` splits a
+//! stream into bodies, and each body is passed to [`Server::handle`]. A reply comes back as a
+//! frame, whole with its header:
 //!
 //! ```text
-//! let limits = Limits::new(16_777_216, 16_777_216, 1_024, 65_536)?;
-//! let choice = EncodingChoice::Negotiated { prefer: Encoding::Utf8 };
-//! let mut server = Server::new(alloc, Config { limits, choice, sync: Sync::Incremental });
-//! let mut framer = Framer::new(alloc, limits);
+//! let config = Config::default();
+//! let mut server = Server::new(alloc, config);
+//! let mut framer = Framer::new(alloc, config.limits);
 //! // for each piece of the stream, until `feed` has taken all of it:
 //! let taken = framer.feed(piece)?;
 //! if let Some(body) = framer.body() {
@@ -30,7 +30,7 @@
 //! {"id":2,"jsonrpc":"2.0","method":"shutdown"}
 //! ```
 //!
-//! The framer's body is the second line. In phase Running the server answers `Reply` with the frame
+//! The framer's body is the last line. In phase Running the server answers `Reply` with the frame
 //!
 //! ```text
 //! Content-Length: 38
@@ -38,10 +38,15 @@
 //! {"id":2,"jsonrpc":"2.0","result":null}
 //! ```
 //!
-//! and is in phase Down. Had it come in phase New, the frame's body would be
-//! `{"error":{"code":-32002,"message":"server not initialized"},"id":2,"jsonrpc":"2.0"}`, with the code in the answer too.
+//! and is in phase Down. In phase New it answers with an error response, and the answer has the
+//! code too. The frame's body is then
 //!
-//! **A feature of your own**, as hover: read the body yourself, answer what is yours, and hand all else on.
+//! ```text
+//! {"error":{"code":-32002,"message":"server not initialized"},"id":2,"jsonrpc":"2.0"}
+//! ```
+//!
+//! **A feature of your own**, as hover: read the body yourself, answer what is yours, and pass on
+//! all else.
 //!
 //! ```text
 //! let incoming = server.read(body)?;
@@ -52,12 +57,13 @@
 //! ```
 //!
 //! Both programs are tested whole, in `lsp_server_tests/src/tests/front_page.rt`.
-//! `server.store().get(uri)` returns the document as it is now; `lsp_text` turns its positions, in `server.encoding()`, into places.
+//! `server.store().get(uri)` returns the current document. `lsp_text` converts its positions, in
+//! `server.encoding()`, into byte offsets.
 //!
 //! - `server`: the server, and the table of its steps.
-//! - `answer`: what comes back.
-//! - `config`: limits, the choice of an encoding, how changes are asked for.
-//! - `phase`: where a session is.
+//! - `answer`: what a server answers.
+//! - `config`: limits, the choice of an encoding, and the kind of synchronisation.
+//! - `phase`: the phases of a session.
 //! - `laws`: what holds of every step.
 #![tactic(auto)]
 
@@ -70,6 +76,11 @@ mod server;
 pub use answer::{Answer, Refusal, ServerFault};
 pub use config::{Config, EncodingChoice, Sync};
 pub use laws::step_laws;
+pub use lsp_edit::{Change, EditFault, Side};
+pub use lsp_frame::Limits;
+pub use lsp_message::{ChangeParams, CloseParams, ErrorCode, Id, Offers, OpenParams, SyncKind};
 pub use lsp_reader::Incoming;
+pub use lsp_store::{Document, Documents, Store, StoreFault};
+pub use lsp_text::{Encoding, Lines, Position, Range};
 pub use phase::Phase;
 pub use server::Server;

@@ -1,12 +1,15 @@
-/// Where a session is (LSP 3.17, Server lifecycle).
+//! The phases of a session on the server's end.
+
+/// The phase of a session (LSP 3.17, Server lifecycle).
 #[derive(Clone, Copy, Debug, PartialEq, Eq, Hash)]
 pub enum Phase {
-    /// No `initialize` was accepted yet. Document messages are dropped, requests other than `initialize` refused.
+    /// Before an accepted `initialize`. Document messages are dropped, and requests other than
+    /// `initialize` refused.
     New,
-    /// From an accepted `initialize` on. Whether `initialized` came makes no difference.
+    /// From an accepted `initialize` on, whether or not `initialized` came.
     Running,
-    /// From `shutdown` on: requests are refused, and all that is waited for is `exit`.
+    /// From `shutdown` on. Requests are refused, and only `exit` is awaited.
     Down,
-    /// `exit` came. Nothing more can be handed in.
+    /// From `exit` on. The server accepts no more bodies.
     Ended,
 }

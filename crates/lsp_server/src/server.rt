@@ -1,4 +1,4 @@
-//! A session's server end: one body in, one answer out.
+//! The server's end of a session: one body in, one answer out.
 
 ghost use Rattle.std.specs.Prelude.{◌≡◌, ◌≢◌, ◌↔◌, ℕ, List, Option, None, Some, Ok, Err, IfOk, IfErr, OnOk, OnErr, IsOk, IsSome, IsErrOf, option_map};
 ghost use Rattle.lsp_frame.specs.Frame.{frame};
@@ -24,8 +24,8 @@ use lsp_text::Encoding;
 use std::alloc::{AllocError, Global};
 use std::marker::Model;
 
-/// The server's end of one session (LSP 3.17, Server lifecycle, Text Document Synchronization). Clauses see how it was set up, where the
-/// session is, the encoding that was chosen, and the open documents.
+/// The server's end of one session (LSP 3.17, Server lifecycle, Text Document Synchronization).
+/// Clauses see its configuration, its phase, the chosen encoding, and the open documents.
 #[derive(Drop)]
 pub struct Server {
     alloc: Global,
@@ -34,7 +34,7 @@ pub struct Server {
     phase: Phase,
     encoding: Option<Encoding>,
     store: Store,
-    // Bodies are read with it; it is no part of what clauses see.
+    // Bodies are read with it; clauses don't see it.
     scratch: Scratch,
 }
 
@@ -56,7 +56,7 @@ impl Model for Server {
 }
 
 impl Server {
-    /// At the start of a session, in phase New and with no document. Takes no memory.
+    /// Returns a server in phase New, with no open document. Takes no memory.
     pub fn new(alloc: Global, config: Config) -> Server
         ensures { result ≡ start config }
     {
@@ -76,21 +76,22 @@ impl Server {
         }
     }
 
-    /// Where the session is.
+    /// Returns the phase of the session.
     pub fn phase(&self) -> Phase
         ensures { result ≡ self.now.phase }
     {
         self.phase
     }
 
-    /// The open documents, to be read. Only document notifications change them.
+    /// Returns a reference to the open documents. Only document notifications change them.
     pub fn store(&self) -> &Store
         ensures { result.now ≡ record { limits = self.now.config.limits; table = self.now.table } }
     {
         &self.store
     }
 
-    /// The encoding of positions (LSP 3.17, PositionEncodingKind); none before an `initialize` is accepted. In phase Running there is one.
+    /// Returns the encoding of positions (LSP 3.17, PositionEncodingKind). There is none before an
+    /// accepted `initialize`; in phase Running there is one.
     pub fn encoding(&self) -> Option<Encoding>
         ensures value { result ≡ self.now.encoding }
         ensures running { self.now.phase ≡ Running → IsSome result }
@@ -98,7 +99,8 @@ impl Server {
         self.encoding
     }
 
-    /// Handles one body, as a frame brought it, and answers what the table of steps says (`specs/Step.antt`):
+    /// Handles the body of one frame, and returns the answer of the table of steps
+    /// (`specs/Step.antt`):
     ///
     /// | Phase | Body | Answer |
     /// |---|---|---|
@@ -118,12 +120,15 @@ impl Server {
     /// | Down | a request | a reply -32600 |
     /// | New, Down | another notification | dropped |
     ///
-    /// Nothing changes but what the table names. A reply is made before anything changes, so after [`ServerFault::NoMemory`] the server is
-    /// as it was, and the same body can be handed in again. [`ServerFault::AlreadyEnded`] comes in phase Ended, and only there.
+    /// Nothing changes but what the table names. After [`ServerFault::NoMemory`] the server is
+    /// unchanged, and a caller can pass the same body again. [`ServerFault::AlreadyEnded`] comes in
+    /// phase Ended, and only there.
     ///
-    /// One parse of the body, whose texts move into the store; then what the command costs there, or the reply's bytes.
+    /// Costs one parse of the body, whose texts are moved into the store; then what the command
+    /// costs there, or the reply's bytes.
     pub fn handle(&mut self, body: &[u8]) -> Result<Answer, ServerFault>
-        ensures answer { IfOk result (λ a. answer_view a ≡ as_sent (step self.old (reading body.now)).answer) }
+        ensures answer { IfOk result
+            (λ a. answer_view a ≡ as_sent (step self.old (reading body.now)).answer) }
         ensures state { OnOk result (self.new ≡ (step self.old (reading body.now)).state) }
         ensures same { OnErr result (self.new ≡ self.old) }
         ensures ended { IsErrOf result ServerFault.AlreadyEnded ↔ (self.old.phase ≡ Ended) }
@@ -135,11 +140,12 @@ impl Server {
         self.handle_incoming(incoming)
     }
 
-    /// Reads what a body asks, for a program that looks at it before [`handle_incoming`](Server::handle_incoming). Nothing changes. Fails
-    /// only where memory runs out.
+    /// Reads what a body asks, for a program that reads it before
+    /// [`handle_incoming`](Server::handle_incoming). Nothing changes. Fails only where memory runs
+    /// out.
     ///
-    /// The answer is that of [`Incoming::read`]. Where the server has read before, it is quicker: the reader's 16 KB are kept, and the room
-    /// for texts of a body of up to 64 KB.
+    /// The result is that of [`Incoming::read`]. It is quicker from the second body on. The server
+    /// keeps the reader's 16 KB, and the memory for texts of a body of up to 64 KB.
     pub fn read(&mut self, body: &[u8]) -> Result<Incoming, AllocError>
         ensures incoming { IfOk result (λ m. incoming_view m ≡ incoming_of (reading body.now)) }
         ensures unchanged { self.new ≡ self.old }
@@ -147,11 +153,15 @@ impl Server {
         Incoming::read_with(self.alloc, body, &mut self.scratch)
     }
 
-    /// Handles what a body asks, for one who has read it by [`read`](Server::read) or [`Incoming::read`] to look at it first. Answers what
-    /// [`handle`](Server::handle) answers to that body, with the same faults. What was read is used up, so after
-    /// [`ServerFault::NoMemory`] it has to be read again. Nothing is parsed: costs a reply's bytes, or what the command costs in the store.
+    /// Handles what a body asks, for a program that read it before, by [`read`](Server::read) or
+    /// [`Incoming::read`].
+    ///
+    /// Returns what [`handle`](Server::handle) returns for that body, with the same faults. It
+    /// consumes what was read, so after [`ServerFault::NoMemory`] the body has to be read again.
+    /// Nothing is parsed: costs a reply's bytes, or what the command costs in the store.
     pub fn handle_incoming(&mut self, incoming: Incoming) -> Result<Answer, ServerFault>
-        ensures answer { IfOk result (λ a. answer_view a ≡ as_sent (step_on self.old (incoming_view incoming)).answer) }
+        ensures answer { IfOk result
+            (λ a. answer_view a ≡ as_sent (step_on self.old (incoming_view incoming)).answer) }
         ensures state { OnOk result (self.new ≡ (step_on self.old (incoming_view incoming)).state) }
         ensures same { OnErr result (self.new ≡ self.old) }
         // Only a reply, and a document that is opened or changed, take memory.
@@ -166,7 +176,8 @@ impl Server {
 
     fn answer(&mut self, incoming: Incoming) -> Result<Answer, AllocError>
         requires { self.old.phase ≢ Ended }
-        ensures answer { IfOk result (λ a. answer_view a ≡ as_sent (step_on self.old (incoming_view incoming)).answer) }
+        ensures answer { IfOk result
+            (λ a. answer_view a ≡ as_sent (step_on self.old (incoming_view incoming)).answer) }
         ensures state { OnOk result (self.new ≡ (step_on self.old (incoming_view incoming)).state) }
         ensures same { OnErr result (self.new ≡ self.old) }
         ensures quiet { OnErr result
@@ -187,9 +198,10 @@ impl Server {
         }
     }
 
-    /// An error reply, which changes nothing.
+    /// Returns an error response, and changes nothing.
     fn fail(&self, id: Option<Id>, error: ErrorCode) -> Result<Answer, AllocError>
-        ensures { IfOk result (λ a. answer_view a ≡ reply (sent (error_reply (option_map id_view id) error))) }
+        ensures { IfOk result
+            (λ a. answer_view a ≡ reply (sent (error_reply (option_map id_view id) error))) }
     {
         let frame = framed(self.alloc, &Outgoing::ErrorReply { id, error })?;
         Ok(Answer::Reply {
@@ -200,8 +212,11 @@ impl Server {
 
     fn initialize(&mut self, id: Id, offers: Option<Offers>) -> Result<Answer, AllocError>
         requires { self.old.phase ≢ Ended }
-        ensures answer { IfOk result (λ a. answer_view a ≡ as_sent (step_on self.old (initialize (id_view id) offers)).answer) }
-        ensures state { OnOk result (self.new ≡ (step_on self.old (initialize (id_view id) offers)).state) }
+        ensures answer { IfOk result
+            (λ a. answer_view a
+            ≡ as_sent (step_on self.old (initialize (id_view id) offers)).answer) }
+        ensures state { OnOk result
+            (self.new ≡ (step_on self.old (initialize (id_view id) offers)).state) }
         ensures same { OnErr result (self.new ≡ self.old) }
         ensures quiet { OnErr result
             (IsQuiet (step_on self.old (initialize (id_view id) offers)).answer → ⊥) }
@@ -216,7 +231,8 @@ impl Server {
     }
 
     fn begin(&mut self, id: Id, offers: Offers) -> Result<Answer, AllocError>
-        ensures answer { IfOk result (λ a. answer_view a ≡ as_sent (begins self.old (id_view id) offers).answer) }
+        ensures answer { IfOk result
+            (λ a. answer_view a ≡ as_sent (begins self.old (id_view id) offers).answer) }
         ensures state { OnOk result (self.new ≡ (begins self.old (id_view id) offers).state) }
         ensures same { OnErr result (self.new ≡ self.old) }
     {
@@ -234,7 +250,8 @@ impl Server {
 
     fn shutdown(&mut self, id: Id) -> Result<Answer, AllocError>
         requires { self.old.phase ≢ Ended }
-        ensures answer { IfOk result (λ a. answer_view a ≡ as_sent (step_on self.old (shutdown (id_view id))).answer) }
+        ensures answer { IfOk result
+            (λ a. answer_view a ≡ as_sent (step_on self.old (shutdown (id_view id))).answer) }
         ensures state { OnOk result (self.new ≡ (step_on self.old (shutdown (id_view id))).state) }
         ensures same { OnErr result (self.new ≡ self.old) }
         ensures quiet { OnErr result
@@ -254,7 +271,9 @@ impl Server {
     fn other_request(&self, id: Id) -> Result<Answer, AllocError>
         requires { self.now.phase ≢ Ended }
         ensures answer { (method : List ℕ)
-            → IfOk result (λ a. answer_view a ≡ as_sent (step_on self.now (other_request (id_view id) method)).answer) }
+            → IfOk result
+            (λ a. answer_view a
+            ≡ as_sent (step_on self.now (other_request (id_view id) method)).answer) }
         ensures state { (method : List ℕ)
             → (step_on self.now (other_request (id_view id) method)).state ≡ self.now }
         ensures quiet { (method : List ℕ)
@@ -283,8 +302,11 @@ impl Server {
 
     fn did_open(&mut self, params: Option<OpenParams>) -> Result<Answer, AllocError>
         requires { self.old.phase ≢ Ended }
-        ensures answer { IfOk result (λ a. answer_view a ≡ as_sent (step_on self.old (did_open (option_map open_view params))).answer) }
-        ensures state { OnOk result (self.new ≡ (step_on self.old (did_open (option_map open_view params))).state) }
+        ensures answer { IfOk result
+            (λ a. answer_view a
+            ≡ as_sent (step_on self.old (did_open (option_map open_view params))).answer) }
+        ensures state { OnOk result
+            (self.new ≡ (step_on self.old (did_open (option_map open_view params))).state) }
         ensures same { OnErr result (self.new ≡ self.old) }
         ensures quiet { OnErr result
             (IsQuiet (step_on self.old (did_open (option_map open_view params))).answer → ⊥) }
@@ -299,8 +321,11 @@ impl Server {
     }
 
     fn open(&mut self, params: OpenParams) -> Result<Answer, AllocError>
-        ensures answer { IfOk result (λ a. answer_view a ≡ as_sent (obeys self.old (open_command (open_view params))).answer) }
-        ensures state { OnOk result (self.new ≡ (obeys self.old (open_command (open_view params))).state) }
+        ensures answer { IfOk result
+            (λ a. answer_view a
+            ≡ as_sent (obeys self.old (open_command (open_view params))).answer) }
+        ensures state { OnOk result
+            (self.new ≡ (obeys self.old (open_command (open_view params))).state) }
         ensures same { OnErr result (self.new ≡ self.old) }
     {
         let OpenParams {
@@ -314,8 +339,11 @@ impl Server {
 
     fn did_change(&mut self, params: Option<ChangeParams>) -> Result<Answer, AllocError>
         requires { self.old.phase ≢ Ended }
-        ensures answer { IfOk result (λ a. answer_view a ≡ as_sent (step_on self.old (did_change (option_map change_view params))).answer) }
-        ensures state { OnOk result (self.new ≡ (step_on self.old (did_change (option_map change_view params))).state) }
+        ensures answer { IfOk result
+            (λ a. answer_view a
+            ≡ as_sent (step_on self.old (did_change (option_map change_view params))).answer) }
+        ensures state { OnOk result
+            (self.new ≡ (step_on self.old (did_change (option_map change_view params))).state) }
         ensures same { OnErr result (self.new ≡ self.old) }
         ensures quiet { OnErr result
             (IsQuiet (step_on self.old (did_change (option_map change_view params))).answer → ⊥) }
@@ -330,8 +358,11 @@ impl Server {
     }
 
     fn change(&mut self, params: ChangeParams) -> Result<Answer, AllocError>
-        ensures answer { IfOk result (λ a. answer_view a ≡ as_sent (obeys self.old (change_command self.old (change_view params))).answer) }
-        ensures state { OnOk result (self.new ≡ (obeys self.old (change_command self.old (change_view params))).state) }
+        ensures answer { IfOk result
+            (λ a. answer_view a
+            ≡ as_sent (obeys self.old (change_command self.old (change_view params))).answer) }
+        ensures state { OnOk result
+            (self.new ≡ (obeys self.old (change_command self.old (change_view params))).state) }
         ensures same { OnErr result (self.new ≡ self.old) }
     {
         let encoding = self.encoding.unwrap_or(Encoding::Utf16);
@@ -345,8 +376,11 @@ impl Server {
 
     fn did_close(&mut self, params: Option<CloseParams>) -> Result<Answer, AllocError>
         requires { self.old.phase ≢ Ended }
-        ensures answer { IfOk result (λ a. answer_view a ≡ as_sent (step_on self.old (did_close (option_map close_view params))).answer) }
-        ensures state { OnOk result (self.new ≡ (step_on self.old (did_close (option_map close_view params))).state) }
+        ensures answer { IfOk result
+            (λ a. answer_view a
+            ≡ as_sent (step_on self.old (did_close (option_map close_view params))).answer) }
+        ensures state { OnOk result
+            (self.new ≡ (step_on self.old (did_close (option_map close_view params))).state) }
         ensures same { OnErr result (self.new ≡ self.old) }
         ensures quiet { OnErr result
             (IsQuiet (step_on self.old (did_close (option_map close_view params))).answer → ⊥) }
@@ -361,8 +395,11 @@ impl Server {
     }
 
     fn close(&mut self, params: CloseParams) -> Result<Answer, AllocError>
-        ensures answer { IfOk result (λ a. answer_view a ≡ as_sent (obeys self.old (close_command (close_view params))).answer) }
-        ensures state { OnOk result (self.new ≡ (obeys self.old (close_command (close_view params))).state) }
+        ensures answer { IfOk result
+            (λ a. answer_view a
+            ≡ as_sent (obeys self.old (close_command (close_view params))).answer) }
+        ensures state { OnOk result
+            (self.new ≡ (obeys self.old (close_command (close_view params))).state) }
         ensures same { OnErr result (self.new ≡ self.old) }
     {
         answer_of(self.store.close(&params.uri))
@@ -381,8 +418,10 @@ impl Server {
         }
     }
 
-    /// From now on changes are counted in this encoding (LSP 3.17, PositionEncodingKind), whatever was chosen: for a capture that says what
-    /// another server chose. Before an `initialize` is accepted it does nothing. Takes no memory.
+    /// Sets the encoding of changes (LSP 3.17, PositionEncodingKind), whichever was chosen: for a
+    /// capture that names another server's choice.
+    ///
+    /// Before an accepted `initialize` it does nothing. Takes no memory.
     pub fn settle(&mut self, encoding: Encoding)
         ensures { self.new ≡ settled self.old encoding }
     {
@@ -392,10 +431,12 @@ impl Server {
     }
 }
 
-/// How a command on the store went, as an answer.
+/// Converts the store's result of a command into an answer.
 fn answer_of(outcome: Result<(), StoreFault>) -> Result<Answer, AllocError>
     ensures changed { OnOk outcome (result ≡ Ok Answer.Changed) }
-    ensures refused { IfErr outcome (λ fault. IfOk result (λ a. (fault ≢ NoMemory) × (a ≡ Answer.Refused (Refusal.Store fault)))) }
+    ensures refused { IfErr outcome
+        (λ fault. IfOk result
+        (λ a. (fault ≢ NoMemory) × (a ≡ Answer.Refused (Refusal.Store fault)))) }
     ensures memory { OnErr result (outcome ≡ Err StoreFault.NoMemory) }
 {
     match outcome {
@@ -405,7 +446,7 @@ fn answer_of(outcome: Result<(), StoreFault>) -> Result<Answer, AllocError>
     }
 }
 
-/// The frame of a reply.
+/// Returns the frame of a reply.
 fn framed(alloc: Global, message: &Outgoing) -> Result<Vec<u8>, AllocError>
     ensures { IfOk result (λ bytes. bytes.items ≡ frame (body_of (outgoing_view message.now))) }
 {

@@ -1,4 +1,6 @@
-//! The tests of `lsp_server`, in a crate of their own over it.
+//! The tests of `lsp_server`, in a crate of their own, so that `lsp_server` is proved once.
+//!
+//! - `tests`: tables of bodies, each with the expected answer.
 #![tactic(auto)]
 
 #[cfg(test)]

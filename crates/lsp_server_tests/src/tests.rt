@@ -1,4 +1,4 @@
-//! Sessions in bytes: tables of bodies that go in, each with what is wanted of its answer.
+//! Sessions in bytes: tables of bodies, each with the expected answer.
 
 mod agreed;
 mod faults;
@@ -17,7 +17,7 @@ use lsp_text::Encoding;
 use std::alloc::{AllocError, Global};
 use std::test::Fail;
 
-/// A server that counts in UTF-16 and wants changed ranges, with wide limits.
+/// Returns a server with UTF-16, incremental synchronisation and wide limits.
 pub(super) fn new_server(alloc: Global) -> Result<Server, Fail> {
     server_with(
         alloc,
@@ -42,10 +42,11 @@ pub(super) fn server_with(
     ))
 }
 
-/// A body, and the body of the reply that is wanted, or the word of the answer.
+/// A body, and the body of the expected reply, or the word of the answer.
 pub(super) type Row = (&'static str, &'static str);
 
-/// Hands bodies in, one after another. The number of the first row with another answer than is wanted.
+/// Passes bodies to the server, one after another. Returns the number of the first row with another
+/// answer.
 pub(super) fn wrong_row(
     alloc: Global,
     server: &mut Server,
@@ -60,13 +61,13 @@ pub(super) fn wrong_row(
     Ok(None)
 }
 
-/// The version and the text of the document that the bodies are about.
+/// Returns the version and the text of the document that the bodies name.
 pub(super) fn document(server: &Server) -> Option<(i32, &str)> {
     let document = server.store().get("file:///a")?;
     Some((document.version(), document.text()))
 }
 
-/// Is this the answer that is wanted: a reply with this body, or what this word names?
+/// Returns whether this is the expected answer: a reply with this body, or the answer of this word.
 pub(super) fn is_answer(
     alloc: Global,
     given: &Result<Answer, ServerFault>,

@@ -1,4 +1,4 @@
-//! The words that the program is called with.
+//! The program's command line.
 
 mod help;
 
@@ -11,7 +11,7 @@ use lsp_server::{Config, EncodingChoice, Sync};
 use lsp_text::Encoding;
 use std::alloc::{AllocError, Global};
 
-/// How both ends are set up.
+/// The set-up of both ends.
 #[derive(Clone, Copy, Debug, PartialEq, Eq)]
 pub struct Setting {
     pub limits: Limits,
@@ -19,10 +19,11 @@ pub struct Setting {
     pub config: Config,
 }
 
-/// What the words ask for, or the usage fault or the text of help that they are. There is always a setting, since `clap` has checked each
-/// value.
+/// Reads the words of the command line. An error is a usage fault, a text of help, or out of
+/// memory. There is always a setting, since `clap` has checked each value.
 pub fn parse<'a>(alloc: Global, words: &'a [&'a str]) -> Result<Option<Setting>, Error> {
-    let matches = program(alloc)?.try_get_matches_from(words)?;
+    let defaults = help::defaults(alloc)?;
+    let matches = program(alloc, &defaults)?.try_get_matches_from(words)?;
     Ok(setting_of(&matches))
 }
 
@@ -63,7 +64,7 @@ fn client_limits(options: &ArgMatches<'_>) -> Option<Limits> {
     .ok()
 }
 
-/// The server's limits are the client's where nothing else is asked for.
+/// The server's limits. Those that no option sets are the client's.
 fn server_limits(options: &ArgMatches<'_>) -> Option<Limits> {
     Limits::new(
         either(options, "server-max-body", "max-body")?,
@@ -85,7 +86,7 @@ static ENCODINGS: [&str; 3] = ["utf-8", "utf-16", "utf-32"];
 
 static KINDS: [&str; 2] = ["full", "incremental"];
 
-fn program<'a>(alloc: Global) -> Result<Command<'a>, AllocError> {
+fn program<'a>(alloc: Global, defaults: &'a [String; 4]) -> Result<Command<'a>, AllocError> {
     let mut program = Command::new(alloc, "lsp_simulate")
         .about(help::about())
         .after_help(help::notes())
@@ -95,8 +96,8 @@ fn program<'a>(alloc: Global) -> Result<Command<'a>, AllocError> {
     for offer in help::offers() {
         program = program.arg(flag(alloc, offer))?;
     }
-    for limit in help::client_limits() {
-        program = program.arg(number(alloc, limit).default_value(limit.default))?;
+    for (limit, default) in help::client_limits().into_iter().zip(defaults) {
+        program = program.arg(number(alloc, limit).default_value(default))?;
     }
     for limit in help::server_limits() {
         program = program.arg(number(alloc, limit))?;
@@ -142,6 +143,6 @@ fn number<'a>(alloc: Global, limit: Limit) -> Arg<'a> {
     Arg::new(alloc, limit.name)
         .long(limit.name)
         .value_name("N")
-        .value_parser(ValueParser::unsigned(limit.least, limit.greatest))
+        .value_parser(ValueParser::unsigned(limit.least as u64, limit.greatest as u64))
         .help(limit.help)
 }

@@ -1,9 +1,9 @@
 //! `lsp_simulate`: both ends of a session of the Language Server Protocol, driven by lines of JSON.
 //!
-//! - `command_line`: the words that the program is called with.
-//! - `script`: the event of a line.
-//! - `word`: what is written of what happened.
 //! - `run`: the program over any reader and writers.
+//! - `script`: the event of a line.
+//! - `word`: the words for what happened.
+//! - `command_line`: the words that the program is called with.
 #![tactic(auto)]
 
 mod command_line;
@@ -26,7 +26,8 @@ fn main(rt: HostRuntime) -> ExitCode {
     ExitCode::from(status)
 }
 
-/// Runs the program over the process's own streams. Fails only where its words or its buffers could not be had.
+/// Runs the program over the process's own streams. Fails if the words of the command line can't be
+/// read, or if out of memory.
 fn answer(rt: &HostRuntime) -> io::Result<u8> {
     let alloc = rt.alloc();
     let given: Vec<String> = env::args(rt)?.collect(alloc)?;

@@ -14,7 +14,7 @@ use std::alloc::{AllocError, Global};
 use std::io::{self, BufRead, ErrorKind, Write};
 use thiserror::Error;
 
-/// The words, or the ends that they ask for, are not what a session can have.
+/// The status of words that are no call, or of ends that can't have a session.
 const USAGE: u8 = 2;
 
 const STREAM_FAULT: u8 = 3;
@@ -47,7 +47,8 @@ impl From<AllocError> for RunFault {
     }
 }
 
-/// Runs the program: `words` is its command line, the program's name first. Returns the exit status; a fault's line goes to `errors`.
+/// Runs the program, and returns its exit status. `words` is its command line, the program's name
+/// first. A fault's line is written to `errors`.
 pub fn run<R: BufRead + Drop, W: Write, E: Write>(
     alloc: Global,
     words: &[&str],
@@ -68,7 +69,8 @@ pub fn run<R: BufRead + Drop, W: Write, E: Write>(
     }
 }
 
-/// Steps a pair by the events of the lines, and writes what happens, then what waits and the documents of both ends.
+/// Steps a pair by the events of the lines, and writes what happens. At the end it writes how many
+/// frames wait, and the documents of both ends.
 pub fn simulate<R: BufRead + Drop, W: Write>(
     alloc: Global,
     setting: Setting,
@@ -91,7 +93,7 @@ pub fn simulate<R: BufRead + Drop, W: Write>(
     write_end(alloc, &pair, output)
 }
 
-/// Makes the step of one line, and writes its line.
+/// Makes the step of one line of input, and writes its line of output.
 fn step<W: Write>(
     alloc: Global,
     pair: &mut Pair,
@@ -166,7 +168,8 @@ fn written(written: io::Result<()>) -> Result<(), RunFault> {
     written.map_err(|_| RunFault::Write)
 }
 
-/// Prints what `clap` says of the words: help to the output, and a usage fault to the errors. Returns the status.
+/// Prints the text of `clap`'s error: help to the output, and a usage fault to the errors. Returns
+/// the status.
 fn explain<W: Write, E: Write>(
     alloc: Global,
     error: &clap::Error,
@@ -192,7 +195,7 @@ fn print_help<W: Write>(alloc: Global, help: &clap::Error, output: &mut W) -> Re
     flush(output)
 }
 
-/// Passes on what was written. An interrupted flush is repeated.
+/// Flushes the output. An interrupted flush is repeated.
 fn flush<W: Write>(output: &mut W) -> Result<(), RunFault> {
     for _ in 0..MAX_TURNS {
         match output.flush() {
@@ -204,7 +207,8 @@ fn flush<W: Write>(output: &mut W) -> Result<(), RunFault> {
     Err(RunFault::Write)
 }
 
-/// Prints why the words of a call or the buffers could not be had: out of memory, or a word that is no text. Returns the status.
+/// Prints why the program can't start: out of memory, or a word that isn't UTF-8. Returns the
+/// status.
 pub fn refuse<E: Write>(kind: ErrorKind, errors: &mut E) -> u8
     ensures memory { (result ≡ 4) ↔ (kind ≡ ErrorKind.OutOfMemory) }
     ensures words { (result ≡ 2) ↔ (kind ≢ ErrorKind.OutOfMemory) }

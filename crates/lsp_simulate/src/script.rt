@@ -1,4 +1,4 @@
-//! The event that a line of JSON is.
+//! The event of a line of JSON.
 
 use lsp_message::{ParamsFault, params_change, params_close, params_open};
 use lsp_pair::Event;
@@ -28,8 +28,12 @@ impl From<ParamsFault> for ScriptFault {
     }
 }
 
-/// Reads the event of a line: an object whose member `event` is its name, and for `open`, `edit` and `close` the members of the
-/// protocol's didOpen, didChange and didClose beside it. Other members are ignored.
+/// Reads the event of a line: an object whose member `event` names it. For `open`, `edit` and
+/// `close` it has the members of the protocol's didOpen, didChange and didClose beside that. Other
+/// members are ignored.
+///
+/// # Errors
+/// [`ScriptFault::BadEvent`] if the line is no JSON or no event, [`ScriptFault::NoMemory`].
 pub fn event_of(alloc: Global, line: &[u8]) -> Result<Event, ScriptFault> {
     let value = match Value::from_slice(alloc, line) {
         Ok(value) => value,

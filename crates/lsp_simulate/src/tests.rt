@@ -1,4 +1,4 @@
-//! The program on whole inputs: what it writes, its status, and the line of a fault.
+//! The program on whole inputs: its output, its status, and the line of a fault.
 
 mod events;
 mod faults;
@@ -7,7 +7,7 @@ use crate::run::run;
 use std::alloc::Global;
 use std::io::Cursor;
 
-/// What one run of the program answered.
+/// The result of one run of the program.
 #[derive(Drop)]
 struct Answer {
     status: u8,

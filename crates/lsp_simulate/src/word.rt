@@ -1,7 +1,7 @@
-//! What is written of what happened.
+//! The words for what happened in a session.
 
 ghost use Rattle.std.specs.Prelude.{◌≡◌};
-ghost use Rattle.lsp_simulate.specs.Words.{phase_name, reason_name, refusal_name};
+ghost use Rattle.lsp_simulate.specs.inside.Words.{phase_name, reason_name, refusal_name};
 
 use lsp_client::{ClientFault, Phase, Reason};
 use lsp_edit::EditFault;
@@ -10,7 +10,7 @@ use lsp_server::Refusal;
 use lsp_store::StoreFault;
 use std::io::{self, Write};
 
-/// Writes the words of what happened.
+/// Writes the words for what happened.
 pub fn write_happened<W: Write>(output: &mut W, happened: Happened) -> io::Result<()> {
     match happened {
         Happened::Sent => write!(output, "sent"),

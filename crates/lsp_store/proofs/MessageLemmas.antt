@@ -28,9 +28,9 @@ use Rattle.lsp_message.specs.Seen as seen
 use Rattle.lsp_message.specs.Sent.{IsProper, IsReadAsSent, IsReadBack}
 use Rattle.lsp_store.specs.declared.fault.StoreFault.{StoreFault}
 use Rattle.lsp_store.specs.declared.fault.StoreFault.TheVariants.{NoMemory}
-use Rattle.lsp_store.specs.Faults.{encode_told_as, IsRefusal}
+use Rattle.lsp_store.specs.Faults.{store_fault_of_encode, IsRefusal}
 use Rattle.lsp_store.specs.Table.{Entry, Refusal, stale_version, too_many_changes, text_too_long, edit, batch_bytes, bytes_after, greatest_batch, entry_at, entry_refusal, change_refusal, after_change, changed, meaning_refusal}
-use Rattle.lsp_store.specs.Message.{AreTexts, DoAlike, IsCanonicalOn, IsReadAs, IsSettled, body_refusal, canonical_batch, canonical_body, canonical_frame, change_body, change_message, else_refused, message_refusal, written_edit}
+use Rattle.lsp_store.specs.Message.{AreTexts, DoAlike, IsCanonicalOn, IsReadAgain, IsCanonicalOf, body_refusal, canonical_batch, canonical_body, canonical_frame, change_body, change_message, else_refused, message_refusal, written_edit}
 use Rattle.lsp_store.proofs.FrameLemmas.{frame_one}
 use Rattle.lsp_store.proofs.ProperLemmas.{bytes_sum, canonical_proper}
 use Rattle.lsp_store.proofs.ScalarLemmas.{canonical_texts}
@@ -42,23 +42,23 @@ written_same : (changes : List Change) → map edit_view changes ≡ map written
 written_same [] = refl
 written_same (c ∷ changes) = rw (encodes-chars (string_bytes c.text) (IsUtf8-string_bytes c.text), written_same changes) refl
 
-pub body_written : (uri given : List ℕ) (version told : ℤ) (changes : List Change) → uri ≡ given → told ≡ version
-    → body_of (did_change (record { uri = uri; version = told; changes = map edit_view changes })) ≡ change_body given version (map edit_of changes)
+pub body_written : (uri given : List ℕ) (version error : ℤ) (changes : List Change) → uri ≡ given → error ≡ version
+    → body_of (did_change (record { uri = uri; version = error; changes = map edit_view changes })) ≡ change_body given version (map edit_of changes)
 unfolding change_body
-body_written uri given version told changes same is = rw (same, is, written_same changes) refl
+body_written uri given version error changes same is = rw (same, is, written_same changes) refl
 
 -- what is appended, and what is written into an empty buffer
-pub body_pushed : (old new uri : List ℕ) (version told : ℤ) (changes : List Change) → new ≡ old ++ body_of (seen.change_message uri told changes) → told ≡ version
+pub body_pushed : (old new uri : List ℕ) (version error : ℤ) (changes : List Change) → new ≡ old ++ body_of (seen.change_message uri error changes) → error ≡ version
     → new ≡ old ++ change_body uri version (map edit_of changes)
-body_pushed old new uri version told changes is same = is ∙ ap (λ body. old ++ body) (body_written uri uri version told changes refl same)
+body_pushed old new uri version error changes is same = is ∙ ap (λ body. old ++ body) (body_written uri uri version error changes refl same)
 
-pub body_begun : (old new uri : List ℕ) (version told : ℤ) (changes : List Change) → old ≡ [] → new ≡ old ++ body_of (seen.change_message uri told changes) → told ≡ version
+pub body_begun : (old new uri : List ℕ) (version error : ℤ) (changes : List Change) → old ≡ [] → new ≡ old ++ body_of (seen.change_message uri error changes) → error ≡ version
     → new ≡ change_body uri version (map edit_of changes)
-body_begun old new uri version told changes none is same =
-    body_pushed old new uri version told changes is same ∙ ap (λ front. front ++ change_body uri version (map edit_of changes)) none
+body_begun old new uri version error changes none is same =
+    body_pushed old new uri version error changes is same ∙ ap (λ front. front ++ change_body uri version (map edit_of changes)) none
 
-pub encode_refused : (limits : Bounds) (body : List ℕ) (fault : EncodeFault) → IsEncodeFault limits.max_body (length body) fault → IsRefusal (body_refusal limits body) (encode_told_as fault)
-encode_refused limits body (encode.BodyTooLong told) is = inr (rw (lt-ltb limits.max_body (length body) is.0, is.1) refl)
+pub encode_refused : (limits : Bounds) (body : List ℕ) (fault : EncodeFault) → IsEncodeFault limits.max_body (length body) fault → IsRefusal (body_refusal limits body) (store_fault_of_encode fault)
+encode_refused limits body (encode.BodyTooLong error) is = inr (rw (lt-ltb limits.max_body (length body) is.0, is.1) refl)
 encode_refused limits body encode.NoMemory is = inl refl
 
 pub body_within : (limits : Bounds) (body : List ℕ) → length body ≤ limits.max_body → body_refusal limits body ≡ None
@@ -102,8 +102,8 @@ units_few Utf32 c = (utf32_bounds c).1
 -- ---- refusals
 
 pub first_told : (first later : Option Refusal) (fault : StoreFault) → IsRefusal first fault → IsRefusal (else_refused first later) fault
-first_told (Some refusal) later fault told = told
-first_told None later fault told = ⊎_elim (λ (e : fault ≡ NoMemory). inl e) (λ (e : None ≡ Some fault). absurd (cc)) told
+first_told (Some refusal) later fault error = error
+first_told None later fault error = ⊎_elim (λ (e : fault ≡ NoMemory). inl e) (λ (e : None ≡ Some fault). absurd (cc)) error
 
 -- What an accepted batch means on a document.
 pub record Accepts (limits : Bounds) (units : ℕ → ℕ) (entry : Entry) (version : ℤ) (batch : List Edit) : Type 0 where
@@ -180,7 +180,7 @@ module _ (limits : Bounds) (encoding : Encoding) (table : List Entry) (uri : Lis
     message_accepted within = rw (refusal_at batch, may) within
 
     pub message_refused : (fault : StoreFault) → IsRefusal (body_refusal limits (canonical_body (units_in encoding) table uri version batch)) fault → IsRefusal (message_refusal limits (units_in encoding) table uri version batch) fault
-    message_refused fault told = rw (refusal_at batch, may) told
+    message_refused fault error = rw (refusal_at batch, may) error
 
     pub canonical_is : (answered : List Edit) (items : List Item) → meaning (units_in encoding) (chars entry.text) batch ≡ Ok items → answered ≡ canonical (units_in encoding) (chars entry.text) items → canonical_batch (units_in encoding) table uri batch ≡ answered
     canonical_is answered items means is = batch_at batch items means ∙ sym is
@@ -212,7 +212,7 @@ module _ (limits : Bounds) (encoding : Encoding) (table : List Entry) (uri : Lis
     settled_leaves = leaves_same (units_in encoding) table uri version (canonical (units_in encoding) (chars entry.text) accepts.items) batch entry is_open (rw (law.means, accepts.means) refl)
 
     settled_of : limits.max_text ≤ 1073741824 → body_refusal limits (canonical_body (units_in encoding) table uri version batch) ≡ None
-        → IsSettled limits (units_in encoding) table uri version batch (canonical (units_in encoding) (chars entry.text) accepts.items)
+        → IsCanonicalOf limits (units_in encoding) table uri version batch (canonical (units_in encoding) (chars entry.text) accepts.items)
     settled_of small within = record {
       accepted =
           rw (refusal_at (canonical (units_in encoding) (chars entry.text) accepts.items), settled_accepted small)
@@ -222,9 +222,9 @@ module _ (limits : Bounds) (encoding : Encoding) (table : List Entry) (uri : Lis
     }
 
     pub is_settled : limits.max_text ≤ 1073741824 → body_refusal limits (canonical_body (units_in encoding) table uri version batch) ≡ None
-        → IsSettled limits (units_in encoding) table uri version batch (canonical_batch (units_in encoding) table uri batch)
+        → IsCanonicalOf limits (units_in encoding) table uri version batch (canonical_batch (units_in encoding) table uri batch)
     is_settled small within =
-        subst (λ (b : List Edit). IsSettled limits (units_in encoding) table uri version batch b) (sym (batch_at batch accepts.items accepts.means)) (settled_of small within)
+        subst (λ (b : List Edit). IsCanonicalOf limits (units_in encoding) table uri version batch b) (sym (batch_at batch accepts.items accepts.means)) (settled_of small within)
 
   -- ---- of messages that the types hold
 
@@ -285,10 +285,10 @@ module _ (limits : Bounds) (encoding : Encoding) (table : List Entry) (uri : Lis
             ap (λ (x : List Edit). frame (change_body uri version x)) (batch_at batch alike.items means ∙ (same ∙ sym (batch_at other alike.others other_means)))
 
     pub is_read : (batch : List Edit) → AreTexts batch → entry_refusal limits (units_in encoding) entry version batch ≡ None
-        → ((m : OutgoingData) → IsProper m → IsReadAsSent m) → ((m : OutgoingData) → IsProper m → IsReadBack m) → IsReadAs uri version (canonical_batch (units_in encoding) table uri batch)
+        → ((m : OutgoingData) → IsProper m → IsReadAsSent m) → ((m : OutgoingData) → IsProper m → IsReadBack m) → IsReadAgain uri version (canonical_batch (units_in encoding) table uri batch)
     is_read batch texts may read_as read_back =
         let a : Accepts limits (units_in encoding) entry version batch = accepted_parts limits (units_in encoding) entry version batch may in
         let p : IsProper (change_message uri version (canonical (units_in encoding) (chars entry.text) a.items)) = proper batch a.items texts a.means in
         let m : OutgoingData = change_message uri version (canonical (units_in encoding) (chars entry.text) a.items) in
-        let read : IsReadAs uri version (canonical (units_in encoding) (chars entry.text) a.items) = record { as_sent = read_as m p; back = read_back m p } in
-        subst (λ (b : List Edit). IsReadAs uri version b) (sym (batch_at batch a.items a.means)) read
+        let read : IsReadAgain uri version (canonical (units_in encoding) (chars entry.text) a.items) = record { as_sent = read_as m p; back = read_back m p } in
+        subst (λ (b : List Edit). IsReadAgain uri version b) (sym (batch_at batch a.items a.means)) read

@@ -15,7 +15,7 @@ use Rattle.lsp_edit.specs.Indexed.{bytes_left, text_within}
 use Rattle.lsp_edit.specs.Batch.{Edit, Fault, meaning}
 use Rattle.lsp_edit.specs.Edited.{edit_of}
 use Rattle.lsp_store.specs.declared.fault.StoreFault.TheVariants.{TooManyChanges}
-use Rattle.lsp_store.specs.Faults.{fault_of, told_as, IsRefusal}
+use Rattle.lsp_store.specs.Faults.{fault_of, store_fault_of, IsRefusal}
 use Rattle.lsp_store.specs.Table.{Entry, too_many_changes, batch_bytes, greatest_batch, entry_refusal, meaning_refusal, meant_text}
 
 -- the changes of a batch have together so many bytes
@@ -50,7 +50,7 @@ module _ (limits : Bounds) (changes : List Change) where
       or_from _ _ (le-ltb limits.max_changes (length (map edit_of changes)) (omega (arith, few, length-map changes edit_of)))
       (le-ltb greatest_batch (batch_bytes (map edit_of changes)) (omega (arith, fits, batch_bytes-changes changes)))
 
-  module _ (units : ℕ → ℕ) (entry : Entry) (version given held : ℤ) (given_is : given ≡ version) (held_is : held ≡ entry.version) (newer : int_le given held ≡ false) where
+  module _ (units : ℕ → ℕ) (entry : Entry) (version given stored : ℤ) (given_is : given ≡ version) (held_is : stored ≡ entry.version) (newer : int_le given stored ≡ false) where
     pub many_refused : limits.max_changes < length changes → option_map fault_of (entry_refusal limits units entry version (map edit_of changes)) ≡ Some TooManyChanges
     many_refused many = ap (option_map fault_of) (refused_many limits units entry version (map edit_of changes) (rw (given_is, held_is) at newer) (many_told many))
 
@@ -93,33 +93,33 @@ module _ (limits : Bounds) (before : List ℕ) where
       omega (arith, ltb-false limits.max_text (length (bytes_left before items)) within, ap length bytes_are))
       (cases_Bool (nat_lt limits.max_text (length (bytes_left before items))))
 
-  pub meaning_told : (meant : Result (List Item) (ℕ × Fault)) (fault : TextFault) → text_within limits.max_text before meant ≡ Err fault → option_map fault_of (meaning_refusal limits before meant) ≡ Some (told_as fault)
+  pub meaning_told : (meant : Result (List Item) (ℕ × Fault)) (fault : TextFault) → text_within limits.max_text before meant ≡ Err fault → option_map fault_of (meaning_refusal limits before meant) ≡ Some (store_fault_of fault)
   meaning_told (Err cause) fault is =
       let same : ◌≡◌ {A = Result (List ℕ) TextFault} (Err (text.Edit (fault_at cause.0 cause.1))) (Err fault) = is in
-      let told : text.Edit (fault_at cause.0 cause.1) ≡ fault = cc in
-      ap (λ (f : TextFault). Some (told_as f)) told
+      let error : text.Edit (fault_at cause.0 cause.1) ≡ fault = cc in
+      ap (λ (f : TextFault). Some (store_fault_of f)) error
   meaning_told (Ok items) fault is =
       ⊎_elim
       (λ (above : nat_lt limits.max_text (length (bytes_left before items)) ≡ true).
       let same : ◌≡◌ {A = Result (List ℕ) TextFault} (Err text.TooLong) (Err fault) = rw above at is in
-      let told : text.TooLong ≡ fault = cc in
-      rw above (ap (λ (f : TextFault). Some (told_as f)) told))
+      let error : text.TooLong ≡ fault = cc in
+      rw above (ap (λ (f : TextFault). Some (store_fault_of f)) error))
       (λ (within : nat_lt limits.max_text (length (bytes_left before items)) ≡ false).
       let bad : ◌≡◌ {A = Result (List ℕ) TextFault} (Ok (bytes_left before items)) (Err fault) = rw within at is in absurd (cc))
       (cases_Bool (nat_lt limits.max_text (length (bytes_left before items))))
 
-  pub text_told : (meant : Result (List Item) (ℕ × Fault)) (fault : TextFault) → (fault ≡ text.NoMemory) ⊎ (text_within limits.max_text before meant ≡ Err fault) → IsRefusal (meaning_refusal limits before meant) (told_as fault)
-  text_told meant fault told =
-      ⊎_elim (λ (e : fault ≡ text.NoMemory). inl (ap told_as e)) (λ (e : text_within limits.max_text before meant ≡ Err fault). inr (meaning_told meant fault e)) told
+  pub text_told : (meant : Result (List Item) (ℕ × Fault)) (fault : TextFault) → (fault ≡ text.NoMemory) ⊎ (text_within limits.max_text before meant ≡ Err fault) → IsRefusal (meaning_refusal limits before meant) (store_fault_of fault)
+  text_told meant fault error =
+      ⊎_elim (λ (e : fault ≡ text.NoMemory). inl (ap store_fault_of e)) (λ (e : text_within limits.max_text before meant ≡ Err fault). inr (meaning_told meant fault e)) error
 
   -- A batch that is accepted is refused only where memory runs out.
   pub only_memory : (meant : Result (List Item) (ℕ × Fault)) (items : List Item) → meant ≡ Ok items → length (bytes_left before items) ≤ limits.max_text → (fault : TextFault)
       → (fault ≡ text.NoMemory) ⊎ (text_within limits.max_text before meant ≡ Err fault) → fault ≡ text.NoMemory
-  only_memory meant items is within fault told =
+  only_memory meant items is within fault error =
       ⊎_elim (λ (e : fault ≡ text.NoMemory). e)
       (λ (e : text_within limits.max_text before meant ≡ Err fault).
       let bad : ◌≡◌ {A = Result (List ℕ) TextFault} (Ok (bytes_left before items)) (Err fault) = rw (is, le-ltb limits.max_text (length (bytes_left before items)) within) at e in absurd (cc))
-      told
+      error
 
   pub meant_within : (meant : Result (List Item) (ℕ × Fault)) (items : List Item) → meant ≡ Ok items → length (bytes_left before items) ≤ limits.max_text → meaning_refusal limits before meant ≡ None
   meant_within meant items is within = rw (is, le-ltb limits.max_text (length (bytes_left before items)) within) refl

@@ -21,7 +21,7 @@ use Rattle.lsp_edit.proofs.ComposeLemmas.{text_of-then, then_means}
 use Rattle.lsp_edit.proofs.EditedLemmas.{plain_text}
 use Rattle.lsp_edit.proofs.LawLemmas.{canonical_law, units_some}
 use Rattle.lsp_store.specs.declared.fault.StoreFault.{StoreFault}
-use Rattle.lsp_store.specs.declared.held.Held.{Held}
+use Rattle.lsp_store.specs.declared.store.stored.Stored.{Stored}
 use Rattle.lsp_store.specs.Faults.{IsRefusal}
 use Rattle.lsp_store.specs.Message.{AreTexts, body_refusal, change_body}
 use Rattle.lsp_store.specs.Opened.{entry_under}
@@ -59,27 +59,27 @@ pub start_seen : (uri : List ℕ) (limits : Bounds) (encoding : Encoding) (joine
 start_seen uri limits encoding joined before version entry is same_uri same_text same_version =
     (λ i. seen (same_uri i) limits encoding (is i) (same_version i)) ∙ ap (λ (t : List ℕ). seen entry.uri limits encoding (record { before = t; items = plain (chars t) }) entry.version) same_text
 
-module _ (uri : List ℕ) (limits : Bounds) (encoding : Encoding) (joined : JoinedData) (held : Held) (at : IsReached joined held.text) (kept : SquashData) (view : seen uri limits encoding joined held.version ≡ kept) where
-  text_is : held.text ≡ bytes_after joined.before joined.items
-  text_is = sym (encodes-chars held.text at.utf8) ∙ ap encode_utf8_all at.text_is
+module _ (uri : List ℕ) (limits : Bounds) (encoding : Encoding) (joined : JoinedData) (stored : Stored) (at : IsReached joined stored.text) (kept : SquashData) (view : seen uri limits encoding joined stored.version ≡ kept) where
+  text_is : stored.text ≡ bytes_after joined.before joined.items
+  text_is = sym (encodes-chars stored.text at.utf8) ∙ ap encode_utf8_all at.text_is
 
-  refusal_is : (version : ℤ) (more : List Edit) → entry_refusal limits (units_in encoding) (entry_under uri held) version more ≡ add_refusal kept version more
+  refusal_is : (version : ℤ) (more : List Edit) → entry_refusal limits (units_in encoding) (entry_under uri stored) version more ≡ add_refusal kept version more
   refusal_is version more =
-      ap (λ (t : List ℕ). entry_refusal limits (units_in encoding) (record { uri = uri; language = []; version = held.version; text = t }) version more) text_is
+      ap (λ (t : List ℕ). entry_refusal limits (units_in encoding) (record { uri = uri; language = []; version = stored.version; text = t }) version more) text_is
       ∙ ap (λ (k : SquashData). add_refusal k version more) view
 
-  pub add_error : (version : ℤ) (more : List Edit) (fault : StoreFault) → IsRefusal (entry_refusal limits (units_in encoding) (entry_under uri held) version more) fault → IsRefusal (add_refusal kept version more) fault
+  pub add_error : (version : ℤ) (more : List Edit) (fault : StoreFault) → IsRefusal (entry_refusal limits (units_in encoding) (entry_under uri stored) version more) fault → IsRefusal (add_refusal kept version more) fault
   add_error version more fault error = subst (λ (r : Option Refusal). IsRefusal r fault) (refusal_is version more) error
 
-  pub left_to_meaning : (version : ℤ) (more : List Edit) → IsLeftToMeaning limits (entry_under uri held) version more → IsLeftToMeaning kept.limits (reached_entry kept) version more
+  pub left_to_meaning : (version : ℤ) (more : List Edit) → IsLeftToMeaning limits (entry_under uri stored) version more → IsLeftToMeaning kept.limits (reached_entry kept) version more
   left_to_meaning version more left =
-      let at_text = subst (λ (t : List ℕ). IsLeftToMeaning limits (record { uri = uri; language = []; version = held.version; text = t }) version more) text_is left in
+      let at_text = subst (λ (t : List ℕ). IsLeftToMeaning limits (record { uri = uri; language = []; version = stored.version; text = t }) version more) text_is left in
       subst (λ (k : SquashData). IsLeftToMeaning k.limits (reached_entry k) version more) view at_text
 
   -- ---- a batch more
 
   module _ (version next_version : ℤ) (more : List Edit) (next : JoinedData)
-      (accepted : entry_refusal limits (units_in encoding) (entry_under uri held) version more ≡ None)
+      (accepted : entry_refusal limits (units_in encoding) (entry_under uri stored) version more ≡ None)
       (is : IsJoined (units_in encoding) joined more next) (version_is : next_version ≡ version) where
     more_means : meaning (units_in kept.encoding) (text_of (chars kept.text) kept.items) more ≡ Ok is.others
     more_means = subst (λ (k : SquashData). meaning (units_in k.encoding) (text_of (chars k.text) k.items) more ≡ Ok is.others) view is.means

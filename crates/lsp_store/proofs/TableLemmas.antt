@@ -7,7 +7,7 @@ use Rattle.std.specs.String.{string_eq}
 use Rattle.std.specs.declared.alloc.Global.{Global}
 use Rattle.indexmap.specs.IndexMap.{insert_entry}
 use Rattle.lsp_edit.specs.Batch.{Edit}
-use Rattle.lsp_store.specs.declared.held.Held.{Held}
+use Rattle.lsp_store.specs.declared.store.stored.Stored.{Stored}
 use Rattle.lsp_store.specs.Table.{Entry, entry_at, after_change, after_close, changed}
 use Rattle.lsp_store.specs.Opened.{entry_under, entry_of}
 
@@ -16,50 +16,50 @@ abbrev pub at_uri : List ℕ → String Global → Bool
 at_uri uri key = bytes_eq uri (string_bytes key)
 
 -- a document is open where the map has its URI
-pub entry_at-lookup : (uri : List ℕ) (es : List (String Global × Held)) → entry_at (map entry_of es) uri ≡ option_map (entry_under uri) (lookup (at_uri uri) es)
+pub entry_at-lookup : (uri : List ℕ) (es : List (String Global × Stored)) → entry_at (map entry_of es) uri ≡ option_map (entry_under uri) (lookup (at_uri uri) es)
 entry_at-lookup uri [] = refl
 entry_at-lookup uri (e ∷ es) =
     ⊎_elim (λ (is : bytes_eq uri (string_bytes e.0) ≡ true). rw is (ap (λ bytes. Some (entry_under bytes e.1)) (sym ((bytes_eq-Decides uri (string_bytes e.0)).0 is))))
     (λ (not : bytes_eq uri (string_bytes e.0) ≡ false). rw not (entry_at-lookup uri es)) (cases_Bool (bytes_eq uri (string_bytes e.0)))
 
-pub is_some-entry_at : (uri : List ℕ) (es : List (String Global × Held)) → is_some (entry_at (map entry_of es) uri) ≡ is_some (lookup (at_uri uri) es)
+pub is_some-entry_at : (uri : List ℕ) (es : List (String Global × Stored)) → is_some (entry_at (map entry_of es) uri) ≡ is_some (lookup (at_uri uri) es)
 is_some-entry_at uri es = ap is_some (entry_at-lookup uri es) ∙ by (lookup (at_uri uri) es)
   where
-    by : (found : Option Held) → is_some (option_map (entry_under uri) found) ≡ is_some found
+    by : (found : Option Stored) → is_some (option_map (entry_under uri) found) ≡ is_some found
     by None = refl
     by (Some e) = refl
 
 -- the document of the key that was found, and of what was found there
-pub entry_found : (uri : List ℕ) (es : List (String Global × Held)) (key : String Global) (held : Held) → Some key ≡ lookup_key (at_uri uri) es → Some held ≡ lookup (at_uri uri) es
-    → Some (entry_under (string_bytes key) held) ≡ entry_at (map entry_of es) uri
-entry_found uri [] key held at found = absurd (cc)
-entry_found uri (e ∷ es) key held at found =
+pub entry_found : (uri : List ℕ) (es : List (String Global × Stored)) (key : String Global) (stored : Stored) → Some key ≡ lookup_key (at_uri uri) es → Some stored ≡ lookup (at_uri uri) es
+    → Some (entry_under (string_bytes key) stored) ≡ entry_at (map entry_of es) uri
+entry_found uri [] key stored at found = absurd (cc)
+entry_found uri (e ∷ es) key stored at found =
     ⊎_elim
     (λ (is : bytes_eq uri (string_bytes e.0) ≡ true).
     let same_key : key ≡ e.0 = (let f : Some key ≡ Some e.0 = rw is at at in cc) in
-    let same : held ≡ e.1 = (let f : Some held ≡ Some e.1 = rw is at found in cc) in
+    let same : stored ≡ e.1 = (let f : Some stored ≡ Some e.1 = rw is at found in cc) in
     rw (is, same_key, same) refl)
-    (λ (not : bytes_eq uri (string_bytes e.0) ≡ false). rw not (entry_found uri es key held (rw not at at) (rw not at found))) (cases_Bool (bytes_eq uri (string_bytes e.0)))
+    (λ (not : bytes_eq uri (string_bytes e.0) ≡ false). rw not (entry_found uri es key stored (rw not at at) (rw not at found))) (cases_Bool (bytes_eq uri (string_bytes e.0)))
 
 -- a URI that is not there goes last
-pub table-insert_entry : (es : List (String Global × Held)) (key : String Global) (held : Held) → is_some (entry_at (map entry_of es) (string_bytes key)) ≡ false
-    → map entry_of (insert_entry string_eq es key held) ≡ map entry_of es ++ entry_of (key, held) ∷ []
-table-insert_entry [] key held absent = refl
-table-insert_entry (first ∷ es) key held absent =
+pub table-insert_entry : (es : List (String Global × Stored)) (key : String Global) (stored : Stored) → is_some (entry_at (map entry_of es) (string_bytes key)) ≡ false
+    → map entry_of (insert_entry string_eq es key stored) ≡ map entry_of es ++ entry_of (key, stored) ∷ []
+table-insert_entry [] key stored absent = refl
+table-insert_entry (first ∷ es) key stored absent =
     ⊎_elim (λ (is : bytes_eq (string_bytes key) (string_bytes first.0) ≡ true). let shown : true ≡ false = rw is at absent in absurd (cc))
-    (λ (not : bytes_eq (string_bytes key) (string_bytes first.0) ≡ false). rw not (ap (λ (table : List Entry). entry_of first ∷ table) (table-insert_entry es key held (rw not at absent)))) (cases_Bool (bytes_eq (string_bytes key) (string_bytes first.0)))
+    (λ (not : bytes_eq (string_bytes key) (string_bytes first.0) ≡ false). rw not (ap (λ (table : List Entry). entry_of first ∷ table) (table-insert_entry es key stored (rw not at absent)))) (cases_Bool (bytes_eq (string_bytes key) (string_bytes first.0)))
 
 -- what is put at a URI is the changed document, which keeps its place
-pub table-set_value : (units : ℕ → ℕ) (uri : List ℕ) (version : ℤ) (batch : List Edit) (es : List (String Global × Held)) (held next : Held) → Some held ≡ lookup (at_uri uri) es
-    → entry_under uri next ≡ changed units (entry_under uri held) version batch → map entry_of (set_value (at_uri uri) es next) ≡ after_change units (map entry_of es) uri version batch
-table-set_value units uri version batch [] held next found is = refl
-table-set_value units uri version batch (first ∷ es) held next found is =
+pub table-set_value : (units : ℕ → ℕ) (uri : List ℕ) (version : ℤ) (batch : List Edit) (es : List (String Global × Stored)) (stored next : Stored) → Some stored ≡ lookup (at_uri uri) es
+    → entry_under uri next ≡ changed units (entry_under uri stored) version batch → map entry_of (set_value (at_uri uri) es next) ≡ after_change units (map entry_of es) uri version batch
+table-set_value units uri version batch [] stored next found is = refl
+table-set_value units uri version batch (first ∷ es) stored next found is =
     ⊎_elim
     (λ (at : bytes_eq uri (string_bytes first.0) ≡ true).
-    let same : held ≡ first.1 = (let f : Some held ≡ Some first.1 = rw at at found in cc) in
+    let same : stored ≡ first.1 = (let f : Some stored ≡ Some first.1 = rw at at found in cc) in
     let key : uri ≡ string_bytes first.0 = (bytes_eq-Decides uri (string_bytes first.0)).0 at in
     rw (at, ← key, ← same, is) refl)
-    (λ (not : bytes_eq uri (string_bytes first.0) ≡ false). rw not (ap (λ (table : List Entry). entry_of first ∷ table) (table-set_value units uri version batch es held next (rw not at found) is)))
+    (λ (not : bytes_eq uri (string_bytes first.0) ≡ false). rw not (ap (λ (table : List Entry). entry_of first ∷ table) (table-set_value units uri version batch es stored next (rw not at found) is)))
     (cases_Bool (bytes_eq uri (string_bytes first.0)))
 
 -- putting back what is there changes nothing
@@ -70,7 +70,7 @@ set_value-found test (e ∷ es) x h =
     (λ (not : test e.0 ≡ false). rw not (ap (λ rest. e ∷ rest) (set_value-found test es x (rw not at h)))) (cases_Bool (test e.0))
 
 -- a URI that is taken out is closed
-pub table-remove_entry : (uri : List ℕ) (es : List (String Global × Held)) → map entry_of (remove_entry (at_uri uri) es) ≡ after_close (map entry_of es) uri
+pub table-remove_entry : (uri : List ℕ) (es : List (String Global × Stored)) → map entry_of (remove_entry (at_uri uri) es) ≡ after_close (map entry_of es) uri
 table-remove_entry uri [] = refl
 table-remove_entry uri (first ∷ es) =
     ⊎_elim (λ (at : bytes_eq uri (string_bytes first.0) ≡ true). rw at refl)

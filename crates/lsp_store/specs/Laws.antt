@@ -1,4 +1,4 @@
--- What is true of the table of documents, whatever commands come.
+-- What holds of the table of documents after any commands.
 use Rattle.std.specs.Prelude.{ℕ, ℤ, ◌≡◌, ◌≤◌, List, [], ◌∷◌, ◌++◌, length, IsUtf8, None, ⊤}
 use Rattle.lsp_frame.specs.Limits.{Bounds, AreInRange}
 use Rattle.lsp_text.specs.declared.encoding.Encoding.{Encoding}
@@ -20,15 +20,16 @@ GreaterLimitsLaw =
     (small great : Bounds) (table : List Entry) (command : Command) → AreWithin small great
     → command_refusal small table command ≡ None → command_refusal great table command ≡ None
 
--- ---- what may be sent in place of a batch
+-- ---- what may be sent instead of a batch
 
--- Another batch is accepted within these limits, and leaves what the batch leaves.
+-- Another batch is accepted within these limits, and has the result of the batch.
 pub record IsReplacedBy (limits : Bounds) (units : ℕ → ℕ) (table : List Entry) (uri : List ℕ)
     (version : ℤ) (batch other : List Edit) : Type 0 where
   pub accepted : change_refusal limits units table uri version other ≡ None
-  pub leaves : after_change units table uri version other ≡ after_change units table uri version batch
+  pub leaves : after_change units table uri version other
+      ≡ after_change units table uri version batch
 
--- The canonical batch of a batch that is accepted does the same, within greater limits too.
+-- The canonical batch of an accepted batch does the same, within greater limits too.
 abbrev pub CanonicalBatchLaw : Type 0
 CanonicalBatchLaw =
     (small great : Bounds) (encoding : Encoding) (table : List Entry) (uri : List ℕ) (version : ℤ)
@@ -44,25 +45,27 @@ pub record IsWithin (limits : Bounds) (entry : Entry) : Type 0 where
   pub utf8 : IsUtf8 entry.text
   pub short : length entry.text ≤ limits.max_text
 
+-- Each document of a table is within the limits.
 abbrev pub AllWithin : Bounds → List Entry → Type 0
 AllWithin limits [] = ⊤
 AllWithin limits (entry ∷ table) = IsWithin limits entry × AllWithin limits table
 
--- The texts of a command are texts.
+-- The texts of a command are UTF-8, or lists of scalar values.
 abbrev pub HasTexts : Command → Type 0
 HasTexts (opens entry) = IsUtf8 entry.text
 HasTexts (changes uri version encoding batch) = AreTexts batch
 HasTexts (closes uri) = ⊤
 
--- A command that is accepted leaves a table of such documents, and no more of them than there may be.
+-- An accepted command keeps all documents, and their number, within the limits.
 abbrev pub WithinLaw : Type 0
 WithinLaw =
     (limits : Bounds) (table : List Entry) (command : Command) → AllWithin limits table
-    → length table ≤ limits.max_docs → HasTexts command → command_refusal limits table command ≡ None
+    → length table ≤ limits.max_docs → HasTexts command →
+    command_refusal limits table command ≡ None
     → AllWithin limits (table_after table command)
     × (length (table_after table command) ≤ limits.max_docs)
 
--- The whole text that a batch leaves does the same as the batch, within greater limits too.
+-- The whole text after a batch does the same as the batch, within greater limits too.
 abbrev pub WholeTextLaw : Type 0
 WholeTextLaw =
     (small great : Bounds) (encoding : Encoding) (table : List Entry) (uri : List ℕ) (version : ℤ)
@@ -77,7 +80,7 @@ abbrev pub AreUnique : List Entry → Type 0
 AreUnique [] = ⊤
 AreUnique (entry ∷ table) = (entry_at table entry.uri ≡ None) × AreUnique table
 
--- A command that is accepted leaves it so.
+-- An accepted command keeps the URIs unique.
 abbrev pub UniqueLaw : Type 0
 UniqueLaw =
     (limits : Bounds) (table : List Entry) (command : Command) → AreUnique table
@@ -85,26 +88,27 @@ UniqueLaw =
 
 -- ---- the table of a list of commands
 
--- Commands are accepted one after another on a table, and their texts are texts.
+-- Commands are accepted on a table, one after another, and their texts are texts.
 abbrev pub AreAccepted : Bounds → List Entry → List Command → Type 0
 AreAccepted limits table [] = ⊤
 AreAccepted limits table (command ∷ commands) =
     HasTexts command × (command_refusal limits table command ≡ None)
     × AreAccepted limits (table_after table command) commands
 
--- A table has no URI twice, at most as many documents as it may, and each text is within its limit.
+-- A table has no URI twice, at most the allowed number of documents, and each text is within its
+-- limit.
 pub record IsInOrder (limits : Bounds) (table : List Entry) : Type 0 where
   pub unique : AreUnique table
   pub many : length table ≤ limits.max_docs
   pub texts : AllWithin limits table
 
--- So is the table of every list of commands that were accepted.
+-- The table of every list of accepted commands is in order.
 abbrev pub TableLaw : Type 0
 TableLaw =
     (limits : Bounds) (commands : List Command) → AreAccepted limits [] commands
     → IsInOrder limits (table_of commands)
 
--- The table after one command more.
+-- The table after one more command.
 abbrev pub LastLaw : Type 0
 LastLaw =
     (commands : List Command) (command : Command)

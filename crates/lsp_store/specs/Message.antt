@@ -1,4 +1,5 @@
--- The one message in which a batch that is accepted on an open document is written (LSP 3.17, DidChangeTextDocument).
+-- The canonical message of a batch that is accepted on an open document (LSP 3.17,
+-- DidChangeTextDocument).
 use Rattle.std.specs.Prelude.{ℕ, ℤ, ◌≡◌, true, if◌then◌else◌, nat_lt, List, [], ◌∷◌, length, map, encode_utf8_all, Option, Some, None, Result, Ok, Err, ⊤}
 use Rattle.std.specs.Str.{all_scalars, chars}
 use Rattle.lsp_frame.specs.Frame.{frame}
@@ -16,63 +17,76 @@ use Rattle.lsp_store.specs.Table.{Entry, Refusal, body_too_long, entry_at, chang
 abbrev pub written_edit : Edit → EditData
 written_edit change = record { range = change.range; text = encode_utf8_all change.text }
 
--- the message of a batch, and its body
+-- The `textDocument/didChange` of a batch.
 abbrev pub change_message : List ℕ → ℤ → List Edit → OutgoingData
-change_message uri version batch = did_change (record { uri = uri; version = version; changes = map written_edit batch })
+change_message uri version batch
+    = did_change (record { uri = uri; version = version; changes = map written_edit batch })
 
+-- The body of the `textDocument/didChange` of a batch.
 unfoldable pub change_body : List ℕ → ℤ → List Edit → List ℕ
 change_body uri version batch = body_of (change_message uri version batch)
 
--- the canonical batch of a meaning on a text with these bytes, and of a batch on a document; none where nothing is meant
+-- The canonical batch of a meaning on a text with these bytes; no changes where nothing is meant.
 abbrev pub batch_of : (ℕ → ℕ) → List ℕ → Result (List Item) (ℕ × Fault) → List Edit
 batch_of units text (Ok items) = canonical units (chars text) items
 batch_of units text (Err fault) = []
 
+-- The canonical batch of a batch on a document; no changes where it has no meaning.
 abbrev pub batch_on : (ℕ → ℕ) → Option Entry → List Edit → List Edit
-batch_on units (Some entry) batch = batch_of units entry.text (meaning units (chars entry.text) batch)
+batch_on units (Some entry) batch
+    = batch_of units entry.text (meaning units (chars entry.text) batch)
 batch_on units None batch = []
 
--- The canonical batch of a batch on the open document of a URI, and the body and the frame in which it is written.
+-- The canonical batch of a batch on the open document of a URI.
 abbrev pub canonical_batch : (ℕ → ℕ) → List Entry → List ℕ → List Edit → List Edit
 canonical_batch units table uri batch = batch_on units (entry_at table uri) batch
 
+-- The body of the canonical message of a batch.
 abbrev pub canonical_body : (ℕ → ℕ) → List Entry → List ℕ → ℤ → List Edit → List ℕ
-canonical_body units table uri version batch = change_body uri version (canonical_batch units table uri batch)
+canonical_body units table uri version batch
+    = change_body uri version (canonical_batch units table uri batch)
 
+-- The frame of the canonical message of a batch.
 abbrev pub canonical_frame : (ℕ → ℕ) → List Entry → List ℕ → ℤ → List Edit → List ℕ
 canonical_frame units table uri version batch = frame (canonical_body units table uri version batch)
 
--- One change without a range, which holds the whole text of a document (TextDocumentSyncKind.Full).
+-- One change without a range, which is the whole text of a document (TextDocumentSyncKind.Full).
 abbrev pub whole_text : Option Entry → List Edit
 whole_text (Some entry) = record { range = None; text = chars entry.text } ∷ []
 whole_text None = []
 
--- The batch of that one change, with the text that a batch leaves.
+-- The batch of that one change, with the document's text after a batch.
 abbrev pub whole_batch : (ℕ → ℕ) → List Entry → List ℕ → ℤ → List Edit → List Edit
 whole_batch units table uri version batch =
     whole_text (entry_at (after_change units table uri version batch) uri)
 
--- It is refused as the change is, and then where the body is too long.
+-- Why a body is refused: it is too long.
 abbrev pub body_refusal : Bounds → List ℕ → Option Refusal
-body_refusal limits body = if nat_lt limits.max_body (length body) then Some (body_too_long (length body)) else None
+body_refusal limits body = if nat_lt limits.max_body (length body) then
+    Some (body_too_long (length body)) else None
 
+-- The first refusal, else the second.
 abbrev pub else_refused : Option Refusal → Option Refusal → Option Refusal
 else_refused (Some first) later = Some first
 else_refused None later = later
 
+-- Why the canonical message of a batch is refused: as the change is, then as its body is.
 abbrev pub message_refusal : Bounds → (ℕ → ℕ) → List Entry → List ℕ → ℤ → List Edit → Option Refusal
 message_refusal limits units table uri version batch =
-    else_refused (change_refusal limits units table uri version batch) (body_refusal limits (canonical_body units table uri version batch))
+    else_refused (change_refusal limits units table uri version batch)
+    (body_refusal limits (canonical_body units table uri version batch))
 
--- ---- what holds of it
+-- ---- what holds of the canonical message
 
 -- The texts of a batch are lists of scalar values.
 abbrev pub AreTexts : List Edit → Type 0
 AreTexts [] = ⊤
 AreTexts (change ∷ batch) = (all_scalars change.text ≡ true) × AreTexts batch
 
--- Two batches on the open document of a URI keep the same old characters and insert the same texts between them.
-pub record DoAlike (units : ℕ → ℕ) (table : List Entry) (uri : List ℕ) (batch other : List Edit) : Type 0 where
+-- Two batches on the open document of a URI keep the same old characters and insert the same texts
+-- between them.
+pub record DoAlike (units : ℕ → ℕ) (table : List Entry) (uri : List ℕ)
+    (batch other : List Edit) : Type 0 where
   pub entry : Entry
   pub is_open : entry_at table uri ≡ Some entry
   pub items : List Item
@@ -82,7 +96,8 @@ pub record DoAlike (units : ℕ → ℕ) (table : List Entry) (uri : List ℕ) (
   pub same : DoTheSame items others
 
 -- What a batch means on the open document of a URI, and what holds of its canonical batch.
-pub record IsCanonicalOn (units : ℕ → ℕ) (table : List Entry) (uri : List ℕ) (batch : List Edit) : Type 0 where
+pub record IsCanonicalOn (units : ℕ → ℕ) (table : List Entry) (uri : List ℕ)
+    (batch : List Edit) : Type 0 where
   pub entry : Entry
   pub is_open : entry_at table uri ≡ Some entry
   pub items : List Item
@@ -90,13 +105,18 @@ pub record IsCanonicalOn (units : ℕ → ℕ) (table : List Entry) (uri : List 
   pub is : canonical_batch units table uri batch ≡ canonical units (chars entry.text) items
   pub law : IsCanonical units (chars entry.text) batch items
 
--- A canonical batch is accepted where the batch was, leaves the same table, and has the same canonical message.
-pub record IsSettled (limits : Bounds) (units : ℕ → ℕ) (table : List Entry) (uri : List ℕ) (version : ℤ) (batch settled : List Edit) : Type 0 where
+-- A canonical batch is accepted where the batch was, has the same result, and has the same
+-- canonical message.
+pub record IsCanonicalOf (limits : Bounds) (units : ℕ → ℕ) (table : List Entry) (uri : List ℕ)
+    (version : ℤ) (batch settled : List Edit) : Type 0 where
   pub accepted : message_refusal limits units table uri version settled ≡ None
-  pub leaves : after_change units table uri version settled ≡ after_change units table uri version batch
-  pub same_frame : canonical_frame units table uri version settled ≡ canonical_frame units table uri version batch
+  pub leaves : after_change units table uri version settled
+      ≡ after_change units table uri version batch
+  pub same_frame : canonical_frame units table uri version settled
+      ≡ canonical_frame units table uri version batch
 
--- The message is read as the one that was written, and its params as the URI, the version and the batch.
-pub record IsReadAs (uri : List ℕ) (version : ℤ) (batch : List Edit) : Type 0 where
+-- The receiver reads the message as the one that was written, and its params as the URI, the
+-- version and the batch.
+pub record IsReadAgain (uri : List ℕ) (version : ℤ) (batch : List Edit) : Type 0 where
   pub as_sent : IsReadAsSent (change_message uri version batch)
   pub back : IsReadBack (change_message uri version batch)

@@ -1,35 +1,42 @@
--- A store as callers see it, and what its calls make of it.
+-- A store as callers see it, and what its calls do to it.
 use Rattle.std.specs.Prelude.{◌≡◌, ℕ, ℤ, IsSomeAnd, List, String, string_bytes, Ok}
 use Rattle.std.specs.declared.alloc.Global.{Global}
 use Rattle.lsp_frame.specs.Limits.{Bounds}
 use Rattle.lsp_store.specs.declared.fault.StoreFault.{StoreFault}
-use Rattle.lsp_store.specs.declared.held.Held.{Held}
+use Rattle.lsp_store.specs.declared.store.stored.Stored.{Stored}
 use Rattle.lsp_edit.specs.Batch.{Edit}
 use Rattle.lsp_store.specs.Table.{Entry, Command, IsLeftToMeaning, entry_at, after_command, command_refusal}
 use Rattle.lsp_store.specs.Faults.{IsRefusal}
 
--- the limits that a store keeps, and its open documents
+-- A store: its limits, and its open documents in order of opening.
 pub record StoreData : Type 0 where
   pub limits : Bounds
   pub table : List Entry
 
--- the document of a URI and what is kept under it
-abbrev pub entry_under : List ℕ → Held → Entry
-entry_under uri held = record { uri = uri; language = string_bytes held.language; version = held.version; text = held.text }
+-- The document of a URI and what is kept under it.
+abbrev pub entry_under : List ℕ → Stored → Entry
+entry_under uri stored
+    = record {
+      uri = uri;
+      language = string_bytes stored.language;
+      version = stored.version;
+      text = stored.text;
+    }
 
-abbrev pub entry_of : String Global × Held → Entry
+-- The document of an entry of the store.
+abbrev pub entry_of : String Global × Stored → Entry
 entry_of pair = entry_under (string_bytes pair.0) pair.1
 
--- A command is accepted, and leaves the next table.
+-- A command is accepted, and the next table is its result.
 pub record Takes (old : StoreData) (command : Command) (new : StoreData) : Type 0 where
   pub table : after_command old.limits old.table command ≡ Ok new.table
   pub limits : new.limits ≡ old.limits
 
--- A command is refused for the cause that is in the table, or for out of memory.
+-- A command is refused for the cause that the table of refusals names, or for out of memory.
 abbrev pub IsRefused : StoreData → Command → StoreFault → Type 0
 IsRefused old command fault = IsRefusal (command_refusal old.limits old.table command) fault
 
--- All that may still refuse a change of the open document of this URI is what the batch means.
+-- A change of the open document of this URI can be refused only for what the batch means.
 abbrev pub MayTakeMemory : StoreData → List ℕ → ℤ → List Edit → Type 0
 MayTakeMemory old uri version batch =
     IsSomeAnd (entry_at old.table uri) (λ entry. IsLeftToMeaning old.limits entry version batch)

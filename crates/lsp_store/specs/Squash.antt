@@ -1,4 +1,5 @@
--- Batches of changes on one document, one after another, as one batch (LSP 3.17, DidChangeTextDocumentParams).
+-- Batches of changes on one document, one after another, as one batch (LSP 3.17,
+-- DidChangeTextDocumentParams).
 use Rattle.std.specs.Prelude.{ℕ, ℤ, ◌≡◌, if◌then◌else◌, nat_lt, List, [], ◌++◌, length, Option, Some, None, Result, Ok, Err}
 use Rattle.std.specs.Str.{chars}
 use Rattle.lsp_frame.specs.Frame.{frame}
@@ -12,8 +13,9 @@ use Rattle.lsp_edit.specs.Compose.{then_items}
 use Rattle.lsp_store.specs.Table.{Entry, Refusal, too_many_changes, bytes_after, entry_refusal}
 use Rattle.lsp_store.specs.Message.{change_body, body_refusal}
 
--- A document's URI and its text (as bytes) before any batch, the limits and the encoding of all batches, what became of the text's
--- characters, and the version of the last batch.
+-- Batches on one document. URI and text (as bytes) are the document's before any batch; the version
+-- is that of the last batch. The limits and the encoding are those of all batches. The items are
+-- what became of the text's characters.
 pub record SquashData : Type 0 where
   pub uri : List ℕ
   pub limits : Bounds
@@ -22,7 +24,7 @@ pub record SquashData : Type 0 where
   pub items : List Item
   pub version : ℤ
 
--- a document before any batch
+-- A document before any batch.
 abbrev pub squash_of : Bounds → Encoding → Entry → SquashData
 squash_of limits encoding entry = record {
   uri = entry.uri;
@@ -33,57 +35,71 @@ squash_of limits encoding entry = record {
   version = entry.version;
 }
 
--- the document after all batches; its language plays no part
+-- The document after all batches. Its language is ignored.
 abbrev pub reached_entry : SquashData → Entry
-reached_entry squash = record { uri = squash.uri; language = []; version = squash.version; text = bytes_after squash.text squash.items }
+reached_entry squash
+    = record {
+      uri = squash.uri;
+      language = [];
+      version = squash.version;
+      text = bytes_after squash.text squash.items;
+    }
 
--- Why a batch is refused: as a change of the document that was reached.
+-- Why a batch is refused: as a change of the document reached so far.
 abbrev pub add_refusal : SquashData → ℤ → List Edit → Option Refusal
-add_refusal squash version batch = entry_refusal squash.limits (units_in squash.encoding) (reached_entry squash) version batch
+add_refusal squash version batch
+    = entry_refusal squash.limits (units_in squash.encoding) (reached_entry squash) version batch
 
 -- A document has the text and the version that all batches lead to.
 pub record HasReached (squash : SquashData) (entry : Entry) : Type 0 where
   pub text : chars entry.text ≡ text_of (chars squash.text) squash.items
   pub version : entry.version ≡ squash.version
 
--- the items that a batch means; none where it means nothing
+-- The items that a batch means; none where it has no meaning.
 abbrev pub items_meant : Result (List Item) (ℕ × Fault) → List Item
 items_meant (Ok items) = items
 items_meant (Err fault) = []
 
--- A squash after a batch that is accepted, as a function.
+-- The squash after an accepted batch, as a function.
 abbrev pub squash_after : SquashData → ℤ → List Edit → SquashData
 squash_after squash version batch = record squash {
-  items = then_items squash.items (items_meant (meaning (units_in squash.encoding) (text_of (chars squash.text) squash.items) batch));
+  items = then_items squash.items
+      (items_meant (meaning (units_in squash.encoding) (text_of (chars squash.text) squash.items)
+      batch));
   version = version;
 }
 
--- A squash after a batch that is accepted: URI, limits, encoding and the old text stay.
-pub record IsSquashAfter (old : SquashData) (version : ℤ) (batch : List Edit) (new : SquashData) : Type 0 where
-  -- the batch is not refused
+-- The squash after an accepted batch: URI, limits, encoding and the old text stay.
+pub record IsSquashAfter (old : SquashData) (version : ℤ) (batch : List Edit)
+    (new : SquashData) : Type 0 where
+  -- the batch is accepted
   pub accepted : add_refusal old version batch ≡ None
-  -- what it means on the text that was reached
+  -- what it means on the text reached so far
   pub others : List Item
   pub means : meaning (units_in old.encoding) (text_of (chars old.text) old.items) batch ≡ Ok others
   -- the new items are what the old ones and these mean together
   pub is : new ≡ record old { items = then_items old.items others; version = version }
-  -- So they are the meaning of all batches as one list, if the old ones are that of the batches before.
-  pub together : (before : List Edit) → meaning (units_in old.encoding) (chars old.text) before ≡ Ok old.items
+  -- So they are the meaning of all batches as one list, if the old ones are that of the batches
+  -- before.
+  pub together : (before : List Edit) → meaning (units_in old.encoding) (chars old.text) before
+      ≡ Ok old.items
       → meaning (units_in old.encoding) (chars old.text) (before ++ batch) ≡ Ok new.items
 
 -- ---- the message of all batches
 
--- their canonical batch, and the body and the frame in which it is written
+-- The canonical batch of all batches.
 abbrev pub squash_batch : SquashData → List Edit
 squash_batch squash = canonical (units_in squash.encoding) (chars squash.text) squash.items
 
+-- The body of the message of all batches.
 abbrev pub squash_body : SquashData → List ℕ
 squash_body squash = change_body squash.uri squash.version (squash_batch squash)
 
+-- The frame of the message of all batches.
 abbrev pub squash_frame : SquashData → List ℕ
 squash_frame squash = frame (squash_body squash)
 
--- It is refused where it has too many changes, and then where the body is too long.
+-- Why that message is refused: it has too many changes, or then its body is too long.
 abbrev pub squash_refusal : SquashData → Option Refusal
 squash_refusal squash =
     if nat_lt squash.limits.max_changes (length (squash_batch squash)) then Some too_many_changes

@@ -23,27 +23,28 @@ pub enum StoreFault {
     /// S4: no document with this URI is open.
     #[error("the document is not open")]
     NotOpen,
-    /// S5: the version is not greater than the one that is held.
+    /// S5: the version is not greater than the current one.
     #[error("the version is not greater than {held}")]
     StaleVersion { held: i32 },
-    /// S6: there are more than `max_changes` changes, or their texts have together more than [`lsp_edit::MAX_NEW_TEXT`] bytes.
+    /// S6: there are more than `max_changes` changes, or their texts together have more than
+    /// [`lsp_edit::MAX_NEW_TEXT`] bytes.
     #[error("too many changes, or too long ones")]
     TooManyChanges,
-    /// S7: a change has no result; never [`EditFault::NoMemory`].
+    /// S7: a change has no result. It is never [`EditFault::NoMemory`].
     #[error("{0}")]
     Edit(EditFault),
     /// S8: the message's body has this many bytes, more than `max_body`.
     #[error("the body has {len} bytes, more than the limit")]
     BodyTooLong { len: usize },
-    /// S9: out of memory. The same call can be made again.
+    /// S9: out of memory. A caller can repeat the same call.
     #[error("out of memory")]
     NoMemory,
 }
 
 impl From<TextFault> for StoreFault {
-    ghost use Rattle.lsp_store.specs.Faults.{told_as};
+    ghost use Rattle.lsp_store.specs.Faults.{store_fault_of};
 
-    ghost from_gives = { λ fault told. told ≡ told_as fault };
+    ghost from_gives = { λ fault error. error ≡ store_fault_of fault };
 
     fn from(fault: TextFault) -> StoreFault {
         match fault {
@@ -55,9 +56,9 @@ impl From<TextFault> for StoreFault {
 }
 
 impl From<EncodeFault> for StoreFault {
-    ghost use Rattle.lsp_store.specs.Faults.{encode_told_as};
+    ghost use Rattle.lsp_store.specs.Faults.{store_fault_of_encode};
 
-    ghost from_gives = { λ fault told. told ≡ encode_told_as fault };
+    ghost from_gives = { λ fault error. error ≡ store_fault_of_encode fault };
 
     fn from(fault: EncodeFault) -> StoreFault {
         match fault {
@@ -68,7 +69,7 @@ impl From<EncodeFault> for StoreFault {
 }
 
 impl From<AllocError> for StoreFault {
-    ghost from_gives = { λ _ told. told ≡ NoMemory };
+    ghost from_gives = { λ _ error. error ≡ NoMemory };
 
     fn from(_: AllocError) -> StoreFault {
         StoreFault::NoMemory
@@ -76,7 +77,7 @@ impl From<AllocError> for StoreFault {
 }
 
 impl<T: Drop> From<AllocFailed<T>> for StoreFault {
-    ghost from_gives = { λ _ told. told ≡ NoMemory };
+    ghost from_gives = { λ _ error. error ≡ NoMemory };
 
     fn from(_: AllocFailed<T>) -> StoreFault {
         StoreFault::NoMemory

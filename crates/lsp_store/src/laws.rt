@@ -1,14 +1,15 @@
-//! Laws of the table of documents, which no call makes by itself.
+//! Laws of the table of documents, which no call states.
 
 ghost use Rattle.lsp_store.specs.Laws.{GreaterLimitsLaw, CanonicalBatchLaw, WholeTextLaw, WithinLaw, UniqueLaw, TableLaw, LastLaw};
 
-/// What is true of the table of documents. The function does nothing: its contract is the laws.
+/// Does nothing: its contract states what holds of the table of documents.
 ///
 /// - Greater limits refuse no command that smaller ones accept.
-/// - The canonical batch of an accepted batch is accepted too and leaves the same, and so does the batch of one change that is the whole
-///   text. Both hold within greater limits.
-/// - An accepted command leaves at most `max_docs` documents, each text within `max_text`, and no URI twice. So does a list of them.
-/// - The table of a list of commands is built by one command after another.
+/// - The canonical batch of an accepted batch is accepted too and has the same result. So is the
+///   batch of one change that is the whole text. Both hold within greater limits.
+/// - After any list of accepted commands there are at most `max_docs` documents, each text within
+///   `max_text`, and no URI twice. One more accepted command keeps that.
+/// - The table of a list of commands is the result of one command after another.
 pub fn store_laws()
     ensures greater { GreaterLimitsLaw }
     ensures canonical { CanonicalBatchLaw }

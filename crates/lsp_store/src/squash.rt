@@ -1,4 +1,4 @@
-//! Batches of changes on one document, as one.
+//! Batches of changes on one document, as one batch.
 
 ghost use Rattle.std.specs.Prelude.{◌≡◌, None, Err, IfErr, IfOk, OnErr, OnOk, map, string_bytes};
 ghost use Rattle.lsp_edit.specs.Edited.{edit_of};
@@ -7,25 +7,30 @@ ghost use Rattle.lsp_store.specs.Faults.{IsRefusal};
 ghost use Rattle.lsp_store.specs.Squash.{IsSquashAfter, add_refusal, reached_entry, squash_frame, squash_of, squash_refusal};
 ghost use Rattle.lsp_store.specs.Table.{IsLeftToMeaning};
 
-use crate::canonical::{framed_change, may_be_written};
-use crate::document::Document;
+pub(crate) mod batches;
+pub(crate) mod reached;
+
 use crate::fault::StoreFault;
-use crate::held::Held;
+use crate::store::canonical::{framed_change, may_be_written};
+use crate::store::document::Document;
+use crate::store::stored::Stored;
 use lsp_edit::{Change, Joined};
 use lsp_frame::Limits;
 use lsp_text::Encoding;
 use std::alloc::{AllocError, Global};
 use std::marker::Model;
 
-/// Batches of changes on one document, one after another, as one batch (LSP 3.17, DidChangeTextDocumentParams). It keeps the document's
-/// old text and the text reached so far, each with its lines, and what became of the old text, in spans of it and of new texts.
-#[derive(Drop)]
+/// Batches of changes on one document, one after another, as one batch (LSP 3.17,
+/// DidChangeTextDocumentParams). It keeps the document's old text and the text reached so far, each
+/// with its lines. It also keeps which spans of the old text remain, and the new texts between
+/// them.
+#[derive(Debug, Drop)]
 pub struct Squash {
     uri: String,
     limits: Limits,
     encoding: Encoding,
     joined: Joined,
-    reached: Held,
+    reached: Stored,
 }
 
 impl Model for Squash {
@@ -48,8 +53,11 @@ impl Model for Squash {
 }
 
 impl Squash {
-    /// A document before any batch, within limits; what it is changed to later plays no part. Answers an error where memory runs out. Costs
-    /// two copies of the text and two searches through it for its lines.
+    /// Starts at a document before any batch, within limits. Later changes of the document have no
+    /// effect on it.
+    ///
+    /// Fails only where memory runs out. Costs two copies of the text and two searches through it
+    /// for its lines.
     pub fn start(
         alloc: Global,
         limits: Limits,
@@ -58,12 +66,12 @@ impl Squash {
     ) -> Result<Self, AllocError>
         ensures { IfOk result (λ squash. squash ≡ squash_of limits encoding document.now) }
     {
-        let held = document.held;
+        let stored = document.stored;
         let uri = String::from_str(alloc, document.uri)?;
-        let before = String::from_str(alloc, held.text.text())?;
+        let before = String::from_str(alloc, stored.text.text())?;
         let joined = Joined::new(alloc, before)?;
-        let text = String::from_str(alloc, held.text.text())?;
-        let reached = Held::new(alloc, String::new(alloc), held.version, text)?;
+        let text = String::from_str(alloc, stored.text.text())?;
+        let reached = Stored::new(alloc, String::new(alloc), stored.version, text)?;
         Ok(Squash {
             uri,
             limits,
@@ -73,13 +81,19 @@ impl Squash {
         })
     }
 
-    /// Adds a batch on the text reached so far, under a version greater than the one reached (LSP 3.17, DidChangeTextDocumentParams). Refuses
-    /// as [`crate::Store::change`] does from [`StoreFault::StaleVersion`] on, on that text and version; a refused batch changes nothing. Costs
-    /// what the change of a document costs, and a share in the joins of earlier batches: k changes cost some k log k steps on spans.
+    /// Adds a batch on the text reached so far, under a version greater than the one reached (LSP
+    /// 3.17, DidChangeTextDocumentParams).
+    ///
+    /// Refuses, on that text and version, as [`crate::Store::change`] does from
+    /// [`StoreFault::StaleVersion`] on. A refused batch changes nothing. Costs what the change of a
+    /// document costs, and a share in the joins of earlier batches. There k changes cost some k log
+    /// k steps on spans.
     pub fn add(&mut self, version: i32, changes: &[Change]) -> Result<(), StoreFault>
-        ensures ok { OnOk result (IsSquashAfter self.old version (map edit_of changes.now) self.new) }
+        ensures ok { OnOk result
+            (IsSquashAfter self.old version (map edit_of changes.now) self.new) }
         ensures unchanged { OnErr result (self.new ≡ self.old) }
-        ensures error { IfErr result (IsRefusal (add_refusal self.old version (map edit_of changes.now))) }
+        ensures error { IfErr result
+            (IsRefusal (add_refusal self.old version (map edit_of changes.now))) }
         // Memory is taken only once nothing but the meaning can refuse the batch.
         ensures memory { result ≡ Err NoMemory
             → IsLeftToMeaning self.old.limits (reached_entry self.old) version
@@ -95,9 +109,13 @@ impl Squash {
         Ok(())
     }
 
-    /// The frame of the one message in which all added batches are written (LSP 3.17, DidChangeTextDocument): their canonical batch under
-    /// the last version; with none added no changes, under the document's version. Refuses [`StoreFault::TooManyChanges`] where that batch has
-    /// more than `max_changes` changes, then [`StoreFault::BodyTooLong`]. Costs a walk over the spans of each delta, and the message's bytes.
+    /// Returns the frame of the one message that means all added batches (LSP 3.17,
+    /// DidChangeTextDocument): their canonical batch under the last version. With no batch added it
+    /// has no changes, and the document's version.
+    ///
+    /// Refuses with [`StoreFault::TooManyChanges`] where that batch has more than `max_changes`
+    /// changes, then with [`StoreFault::BodyTooLong`]; and with [`StoreFault::NoMemory`]. Costs a
+    /// walk over the spans of each delta, and the message's bytes.
     pub fn message(&self) -> Result<Vec<u8>, StoreFault>
         ensures ok { IfOk result (λ bytes. bytes.items ≡ squash_frame self.now) }
         ensures accepted { OnOk result (squash_refusal self.now ≡ None) }

@@ -7,10 +7,15 @@ ghost use Rattle.lsp_store.specs.Table.{Entry, entry_at, open_refusal, opens, ch
 ghost use Rattle.lsp_store.specs.Opened.{IsRefused, MayTakeMemory, Takes};
 ghost use Rattle.lsp_store.specs.Faults.{fault_of};
 
-use crate::document::Document;
-use crate::documents::Documents;
+pub(crate) mod canonical;
+pub(crate) mod document;
+pub(crate) mod documents;
+pub(crate) mod stored;
+
 use crate::fault::StoreFault;
-use crate::held::Held;
+use crate::store::document::Document;
+use crate::store::documents::Documents;
+use crate::store::stored::Stored;
 use indexmap::IndexMap;
 use lsp_edit::Change;
 use lsp_frame::Limits;
@@ -18,12 +23,12 @@ use lsp_text::Encoding;
 use std::alloc::Global;
 use std::marker::Model;
 
-/// The open documents (LSP 3.17, Text Document Synchronization), in order of opening, within limits. Clauses see the limits and the table
-/// of documents.
-#[derive(Drop)]
+/// The open documents in order of opening, within limits (LSP 3.17, Text Document Synchronization).
+/// Clauses see the limits and the table of documents.
+#[derive(Debug, Drop)]
 pub struct Store {
     pub(crate) limits: Limits,
-    pub(crate) documents: IndexMap<String, Held>,
+    pub(crate) documents: IndexMap<String, Stored>,
 }
 
 impl Model for Store {
@@ -32,11 +37,12 @@ impl Model for Store {
 
     ghost Value = { StoreData };
 
-    ghost view = { λ store. record { limits = store.limits; table = map entry_of store.documents.entries } };
+    ghost view = { λ store.
+        record { limits = store.limits; table = map entry_of store.documents.entries } };
 }
 
 impl Store {
-    /// No document is open. Takes no memory.
+    /// Returns a store with no open document. Takes no memory.
     pub fn new(alloc: Global, limits: Limits) -> Self
         ensures { result ≡ record { limits = limits; table = [] } }
     {
@@ -46,14 +52,16 @@ impl Store {
         }
     }
 
-    /// The limits that the store keeps.
+    /// Returns the store's limits.
     pub fn limits(&self) -> Limits
         ensures { result ≡ self.now.limits }
     {
         self.limits
     }
 
-    /// How many documents are open. Costs one step. There are never more than `max_docs`: [`store_laws`](crate::store_laws) says it of the
+    /// Returns the number of open documents. Costs one step.
+    ///
+    /// There are never more than `max_docs`: [`store_laws`](crate::store_laws) states it of the
     /// table of every list of accepted commands, and a store's table is one.
     pub fn len(&self) -> usize
         ensures { result ≡ length self.now.table }
@@ -61,44 +69,51 @@ impl Store {
         self.documents.len()
     }
 
-    /// Whether no document is open. Costs one step.
+    /// Returns whether no document is open. Costs one step.
     pub fn is_empty(&self) -> bool
         ensures { IsTrue result ↔ (self.now.table ≡ []) }
     {
         self.documents.is_empty()
     }
 
-    /// The open document of a URI, which is compared byte for byte; none where it isn't open. Costs a hash look-up, however many are open.
+    /// Returns the open document of a URI, which is compared byte for byte. Costs a hash look-up,
+    /// however many are open.
     pub fn get(&self, uri: &str) -> Option<Document<'_>>
         ensures { result ≡ entry_at self.now.table uri.now }
     {
-        let (uri, held) = self.documents.get_key_value(uri)?;
-        Some(Document::new(uri, held))
+        let (uri, stored) = self.documents.get_key_value(uri)?;
+        Some(Document::new(uri, stored))
     }
 
-    /// The document at an index, in order of opening from 0; none from [`Store::len`] on. Costs one step.
+    /// Returns the document at an index, in order of opening from 0. There is none from
+    /// [`Store::len`] on. Costs one step.
     pub fn at(&self, index: usize) -> Option<Document<'_>>
         ensures { result ≡ slice_get self.now.table index }
     {
-        let (uri, held) = self.documents.get_index(index)?;
-        Some(Document::new(uri, held))
+        let (uri, stored) = self.documents.get_index(index)?;
+        Some(Document::new(uri, stored))
     }
 
-    /// The open documents in order of opening. Each costs one step.
+    /// Returns the open documents in order of opening. Each costs one step.
     pub fn iter(&self) -> Documents<'_>
         ensures { result ≡ self.now.table }
     {
         Documents::new(self.documents.iter())
     }
 
-    /// Whether [`Store::open`] would take a document of this URI and text, whatever its language and version; refuses as it does, in the
-    /// same order. Takes no memory. Costs one hash look-up.
+    /// Checks whether [`Store::open`] would accept a document of this URI and text, whatever its
+    /// language and version.
+    ///
+    /// Refuses as `open` does, in the same order. Takes no memory. Costs one hash look-up.
     pub fn may_open(&self, uri: &str, text: &str) -> Result<(), StoreFault>
         ensures may { OnOk result ((language : List ℕ) (version : ℤ) →
-            open_refusal self.now.limits self.now.table (record { uri = uri.now; language = language; version = version; text = text.now }) ≡ None) }
-        ensures told { IfErr result (λ fault. (language : List ℕ) (version : ℤ) →
+            open_refusal self.now.limits self.now.table
+            (record { uri = uri.now; language = language; version = version; text = text.now })
+            ≡ None) }
+        ensures error { IfErr result (λ fault. (language : List ℕ) (version : ℤ) →
             option_map fault_of (open_refusal self.now.limits self.now.table
-            (record { uri = uri.now; language = language; version = version; text = text.now })) ≡ Some fault) }
+            (record { uri = uri.now; language = language; version = version; text = text.now }))
+            ≡ Some fault) }
         ensures short { OnOk result (length text.now ≤ 1073741824) }
         ensures memory { result ≢ Err NoMemory }
     {
@@ -114,10 +129,13 @@ impl Store {
         Ok(())
     }
 
-    /// Opens a document (LSP 3.17, DidOpenTextDocument): it goes last, also where it was open before. Refuses, in this order,
-    /// [`StoreFault::AlreadyOpen`], [`StoreFault::TooManyDocuments`] and, where the text has more than `max_text` bytes,
-    /// [`StoreFault::TextTooLong`]; and [`StoreFault::NoMemory`]. Any version is taken. The texts are moved in, not copied. Costs two hash
-    /// look-ups and a search through the text for its lines.
+    /// Opens a document after all others, even one that was open before (LSP 3.17,
+    /// DidOpenTextDocument). Any version is accepted.
+    ///
+    /// Refuses, in this order, with [`StoreFault::AlreadyOpen`], [`StoreFault::TooManyDocuments`]
+    /// and, where the text has more than `max_text` bytes, [`StoreFault::TextTooLong`]; and with
+    /// [`StoreFault::NoMemory`]. The texts are moved in, not copied. Costs two hash look-ups and a
+    /// search through the text for its lines.
     pub fn open(
         &mut self,
         uri: String,
@@ -126,10 +144,20 @@ impl Store {
         text: String,
     ) -> Result<(), StoreFault>
         ensures taken { OnOk result (Takes self.old
-            (opens (record { uri = string_bytes uri; language = string_bytes language; version = version; text = string_bytes text })) self.new) }
+            (opens (record {
+              uri = string_bytes uri;
+              language = string_bytes language;
+              version = version;
+              text = string_bytes text;
+            })) self.new) }
         ensures same { OnErr result (self.new ≡ self.old) }
-        ensures told { IfErr result (IsRefused self.old
-            (opens (record { uri = string_bytes uri; language = string_bytes language; version = version; text = string_bytes text }))) }
+        ensures error { IfErr result (IsRefused self.old
+            (opens (record {
+              uri = string_bytes uri;
+              language = string_bytes language;
+              version = version;
+              text = string_bytes text;
+            }))) }
         // Memory is taken only once nothing refuses the document.
         ensures memory { result ≡ Err NoMemory → open_refusal self.old.limits self.old.table
             (record {
@@ -140,17 +168,20 @@ impl Store {
             }) ≡ None }
     {
         self.may_open(&uri, &text)?;
-        let held = Held::new(*self.documents.allocator(), language, version, text)?;
-        self.documents.insert(uri, held)?;
+        let stored = Stored::new(*self.documents.allocator(), language, version, text)?;
+        self.documents.insert(uri, stored)?;
         Ok(())
     }
 
-    /// Changes an open document (LSP 3.17, DidChangeTextDocument): it gets the text that the batch means, and the version. Characters of
-    /// positions are counted in the units of `encoding`. Refuses, in this order, [`StoreFault::NotOpen`], [`StoreFault::StaleVersion`],
-    /// [`StoreFault::TooManyChanges`], [`StoreFault::Edit`], and [`StoreFault::TextTooLong`] where the text that the batch leaves has more
-    /// than `max_text` bytes, whatever came between; and [`StoreFault::NoMemory`]. Costs a hash look-up, and what the batch costs to apply
-    /// ([`lsp_edit::IndexedText::change`]): for one change of a range its two positions, one move of the text after it, and one pass over
-    /// the line starts that follow.
+    /// Changes an open document: applies the batch to its text, and sets its version (LSP 3.17,
+    /// DidChangeTextDocument). Positions are in the units of `encoding`.
+    ///
+    /// Refuses, in this order, with [`StoreFault::NotOpen`], [`StoreFault::StaleVersion`],
+    /// [`StoreFault::TooManyChanges`], [`StoreFault::Edit`] and [`StoreFault::TextTooLong`]; and
+    /// with [`StoreFault::NoMemory`]. Only the text after the whole batch has to be within
+    /// `max_text` bytes. Costs a hash look-up, and what the batch costs to apply
+    /// ([`lsp_edit::IndexedText::change`]). For one change of a range: its two positions, one move
+    /// of the text after it, and one pass over the line starts after it.
     pub fn change(
         &mut self,
         uri: &str,
@@ -158,27 +189,33 @@ impl Store {
         encoding: Encoding,
         changes: &[Change],
     ) -> Result<(), StoreFault>
-        ensures taken { OnOk result (Takes self.old (changing uri.now version encoding (map edit_of changes.now)) self.new) }
+        ensures taken { OnOk result
+            (Takes self.old (changing uri.now version encoding (map edit_of changes.now))
+            self.new) }
         ensures same { OnErr result (self.new ≡ self.old) }
-        ensures told { IfErr result (IsRefused self.old (changing uri.now version encoding (map edit_of changes.now))) }
+        ensures error { IfErr result
+            (IsRefused self.old (changing uri.now version encoding (map edit_of changes.now))) }
         // Memory is taken only once nothing but what the batch means can refuse it.
         ensures memory { result ≡ Err NoMemory
             → MayTakeMemory self.old uri.now version (map edit_of changes.now) }
     {
         let limits = self.limits;
-        let Some(held) = self.documents.get_mut(uri) else {
+        let Some(stored) = self.documents.get_mut(uri) else {
             return Err(StoreFault::NotOpen);
         };
-        held.change(&limits, version, encoding, changes)?;
+        stored.change(&limits, version, encoding, changes)?;
         Ok(())
     }
 
-    /// Closes an open document (LSP 3.17, DidCloseTextDocument); it is taken out, and the others keep their order. Refuses
-    /// [`StoreFault::NotOpen`]. Takes no memory. Costs a hash look-up, and one step for each document that was opened later.
+    /// Closes an open document; the others keep their order (LSP 3.17, DidCloseTextDocument).
+    ///
+    /// Refuses with [`StoreFault::NotOpen`]. Takes no memory. Costs a hash look-up, and one step
+    /// for each document that was opened later.
     pub fn close(&mut self, uri: &str) -> Result<(), StoreFault>
         ensures taken { OnOk result (Takes self.old (closes uri.now) self.new) }
         ensures same { OnErr result (self.new ≡ self.old) }
-        ensures told { IfErr result (λ fault. (fault ≡ NotOpen) × IsRefused self.old (closes uri.now) fault) }
+        ensures error { IfErr result
+            (λ fault. (fault ≡ NotOpen) × IsRefused self.old (closes uri.now) fault) }
     {
         let Some(_) = self.documents.shift_remove(uri) else {
             return Err(StoreFault::NotOpen);

@@ -1,4 +1,5 @@
-//! Documents that are opened, changed and closed, and canonical messages with their exact bytes. Ranges are counted in UTF-16.
+//! Documents that are opened, changed and closed, and canonical messages with their exact bytes.
+//! Positions are in UTF-16.
 
 mod canonical;
 mod documents;
@@ -16,7 +17,7 @@ use std::alloc::Global;
 
 pub(super) const URI: &str = "file:///a";
 
-/// The limits of a test. A fault is in place of those that are out of range: no test has them.
+/// Returns the limits of a test. Limits out of range are a fault, which no test has.
 pub(super) fn limits_of(
     body: usize,
     text: usize,
@@ -29,7 +30,7 @@ pub(super) fn limits_of(
     }
 }
 
-/// Bodies of 4,096 bytes, texts of 8, and so many documents and changes.
+/// Returns limits of 4,096 bytes for bodies and 8 for texts, and of so many documents and changes.
 pub(super) fn narrow(max_docs: usize, max_changes: usize) -> Result<Limits, StoreFault> {
     limits_of(4_096, 8, max_docs, max_changes)
 }
@@ -47,7 +48,7 @@ pub(super) fn open(
     store.open(uri, language, version, text)
 }
 
-/// A store with one open document.
+/// Returns a store with one open document.
 pub(super) fn store_of(
     alloc: Global,
     limits: Limits,
@@ -59,7 +60,7 @@ pub(super) fn store_of(
     Ok(store)
 }
 
-/// The version and the text of the document of [`URI`].
+/// Returns the version and the text of the document of [`URI`].
 pub(super) fn current(store: &Store) -> Option<(i32, &str)> {
     let document = store.get(URI)?;
     Some((document.version(), document.text()))

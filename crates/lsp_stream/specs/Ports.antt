@@ -1,43 +1,73 @@
--- What the calls of a reader and of a writer say.
-use Rattle.std.specs.Prelude.{◌≡◌, ◌≢◌, ℕ, ◌+◌, ◌<◌, ◌-◌, ◌^◌, min, max, Bool, true, ◌&&◌, ◌==◌, List, length, Result, Ok, Err}
+-- What a reader and a writer report of their calls.
+use Rattle.std.specs.Prelude.{◌≡◌, ◌≢◌, ℕ, ◌+◌, ◌<◌, ◌-◌, ◌^◌, min, max, Bool, true, ◌&&◌, ◌==◌, List, length, Option, Result, Ok, Err}
 use Rattle.std.specs.declared.io.Error.{Error}
 use Rattle.std.specs.declared.io.ErrorKind.TheVariants.{Interrupted}
 use Rattle.std.specs.IoError.{error_kind}
 
--- A read failed: an interrupted one didn't.
+-- What is known of a reader.
+pub record ReaderState : Type 0 where
+  -- the bytes that are left to read, where they are known
+  pub left : Option (List ℕ)
+  -- Did the last read fail?
+  pub failed : Bool
+  -- how many reads were made
+  pub calls : ℕ
+  -- Did the last read come to the end?
+  pub ended : Bool
+
+-- What is known of a writer.
+pub record WriterState : Type 0 where
+  -- the bytes that it holds, where they are known
+  pub written : Option (List ℕ)
+  -- Did the last write or flush fail?
+  pub failed : Bool
+  -- how many writes and flushes were made
+  pub calls : ℕ
+  -- Is all that it took passed on?
+  pub flushed : Bool
+
+-- What is known of both.
+pub record Ports : Type 0 where
+  pub reader : ReaderState
+  pub writer : WriterState
+
+abbrev pub ports : ReaderState → WriterState → Ports
+ports reader writer = record { reader = reader; writer = writer }
+
+-- A read failed: it returned an error other than an interruption.
 abbrev pub IsReadFailure : Result ℕ Error → Type 0
 IsReadFailure (Ok n) = ⊥
 IsReadFailure (Err e) = error_kind e ≢ Interrupted
 
--- A write failed: one that takes nothing of some bytes did, an interrupted one didn't.
+-- A write failed: it returned an error other than an interruption, or took nothing of some bytes.
 abbrev pub IsWriteFailure : Result ℕ Error → List ℕ → Type 0
 IsWriteFailure (Ok n) bytes = (n ≡ 0) × (0 < length bytes)
 IsWriteFailure (Err e) bytes = error_kind e ≢ Interrupted
 
--- A flush failed: an interrupted one didn't.
+-- A flush failed: it returned an error other than an interruption.
 abbrev pub IsFlushFailure : Result (Unit {0}) Error → Type 0
 IsFlushFailure (Ok _) = ⊥
 IsFlushFailure (Err e) = error_kind e ≢ Interrupted
 
--- Whether all that was taken is passed on after a write that answers this: what it took itself is not.
+-- Whether all that was taken is passed on after a write: if all was before, and it took no byte.
 abbrev pub flushed_after_write : Bool → Result ℕ Error → Bool
 flushed_after_write flushed (Ok n) = flushed && n == 0
 flushed_after_write flushed (Err e) = flushed
 
--- The same after a flush: one that failed or was interrupted changes nothing.
+-- The same after a flush. One that failed or was interrupted changes nothing.
 abbrev pub flushed_after_flush : Bool → Result (Unit {0}) Error → Bool
 flushed_after_flush flushed (Ok _) = true
 flushed_after_flush flushed (Err e) = flushed
 
--- A read with room gave no byte: the end.
+-- A read is at the end: it had room and returned 0.
 abbrev pub IsEnd : List ℕ → Result ℕ Error → Type 0
 IsEnd room (Ok n) = (0 < length room) × (n ≡ 0)
 IsEnd room (Err e) = ⊥
 
--- one call more; a count stays at the greatest value of a u64
+-- One call more. A count stays at the greatest value of a `u64`.
 abbrev pub one_more : ℕ → ℕ
 one_more n = max n (min (n + 1) (2 ^ 64 - 1))
 
--- A count rose, or is at its greatest value.
+-- A count rose, unless it is at its greatest value.
 abbrev pub Rose : ℕ → ℕ → Type 0
 Rose old new = new + 1 < 2 ^ 64 → old < new

@@ -7,11 +7,11 @@ ghost use Rattle.lsp_stream.specs.contracts.duplex.Duplex.{the_row};
 
 use crate::port::{Sink, Source};
 
-/// Both ends of a connection. It says whether a read came too early: before all that was written was passed on. A peer
-/// that waits for the rest sends nothing then, and both ends wait.
+/// Both ends of a connection. It notes whether a read came too early: before all that was written
+/// was passed on. A peer that waits for the rest sends nothing then, and both ends wait.
 ///
-/// While one end is borrowed the other can't be used. So nothing is written between [`reader`](Duplex::reader) and the
-/// reads that are made through its result.
+/// While one end is borrowed the other can't be used. So nothing is written between
+/// [`reader`](Duplex::reader) and the reads that are made through its result.
 #[derive(Drop)]
 pub struct Duplex<'a, R, W> {
     reader: &'a mut R,
@@ -20,7 +20,7 @@ pub struct Duplex<'a, R, W> {
 }
 
 impl<'a, R: Source, W: Sink> Duplex<'a, R, W> {
-    /// No read came too early yet.
+    /// Joins a reader and a writer. No read came too early yet.
     pub fn new(reader: &'a mut R, writer: &'a mut W) -> Duplex<'a, R, W>
         ensures reader { result.reader.now ≡ reader.old }
         ensures writer { result.writer.now ≡ writer.old }
@@ -35,30 +35,35 @@ impl<'a, R: Source, W: Sink> Duplex<'a, R, W> {
         }
     }
 
-    /// The reader, to read from. Notes whether something that was written is not passed on yet.
+    /// Returns the reader, to read from. Notes whether something that was written is not passed on
+    /// yet.
     pub fn reader(&mut self) -> &mut R
         ensures value { result.now ≡ self.old.reader.now }
-        // Once it is given back, it is the only end that may be another.
-        ensures* lends { sem 𝓛 (Lends (the_row (record { mir = named 1; lft = [] }) R.row W.row) R.row
+        // Once the reader's borrow ends, the reader is the only end that may have changed.
+        ensures* lends { sem 𝓛
+            (Lends (the_row (record { mir = named 1; lft = [] }) R.row W.row) R.row
             self.entry result (λ r. record self.old {
               reader = record self.old.reader { now = r };
-              read_early = self.old.read_early || not (W.has_flushed self.old.writer.now);
+              read_early = self.old.read_early || not (W.seen self.old.writer.now).flushed;
             })) }
     {
         self.read_early = self.read_early || !self.writer.flushed();
         &mut *self.reader
     }
 
-    /// The writer, to write to and to flush.
+    /// Returns the writer, to write to and to flush.
     pub fn writer(&mut self) -> &mut W
         ensures value { result.now ≡ self.old.writer.now }
-        ensures* lends { sem 𝓛 (Lends (the_row (record { mir = named 1; lft = [] }) R.row W.row) W.row
-            self.entry result (λ w. record self.old { writer = record self.old.writer { now = w } })) }
+        ensures* lends { sem 𝓛
+            (Lends (the_row (record { mir = named 1; lft = [] }) R.row W.row) W.row
+            self.entry result
+            (λ w. record self.old { writer = record self.old.writer { now = w } })) }
     {
         &mut *self.writer
     }
 
-    /// Did a read come too early: was the reader asked for while something that was written was not passed on?
+    /// Did a read come too early: was the reader borrowed while something that was written was not
+    /// passed on?
     pub fn read_early(&self) -> bool
         ensures { result ≡ self.now.read_early }
     {

@@ -8,8 +8,8 @@ use lsp_frame::FrameFault;
 use std::alloc::AllocError;
 use thiserror::Error;
 
-/// Why a run ended early. Places are offsets in the input, in bytes; they stay at the greatest value of a
-/// `u64`.
+/// Why a run ended early. A `place` is a byte offset in the input. It stays at the greatest value
+/// of a `u64`.
 #[derive(Clone, Copy, Debug, PartialEq, Eq, Error)]
 pub enum EngineFault {
     /// P1: a read failed.
@@ -18,22 +18,23 @@ pub enum EngineFault {
     /// P2: a write or a flush failed, or a write took nothing.
     #[error("write fault")]
     Write,
-    /// P3: one of F1 to F7, with its place.
+    /// P3: one of F1 to F7, with its byte offset.
     #[error("{0}")]
     Frame(FrameFault),
-    /// P4: the input ends inside a record. The place is the input's length.
+    /// P4: the input ends inside a record. `place` is the input's length.
     #[error("truncated at {place}")]
     Truncated { place: u64 },
-    /// P5: what is to be written for this record has too long a body. The place is the record's first byte.
+    /// P5: the body that is to be written for this record is too long. `place` is the record's
+    /// first byte.
     #[error("body too long at {place}")]
     BodyTooLong { place: u64 },
-    /// P6: a request for memory was refused.
+    /// P6: out of memory.
     #[error("out of memory")]
     NoMemory,
-    /// P7: the call that was to be made would be one more than allowed.
+    /// P7: one call more than allowed was needed.
     #[error("too many turns")]
     TooManyTurns,
-    /// P8: what is here belongs in no log. The place is the record's first byte.
+    /// P8: the log has a byte or a record that it can't have. `place` is the record's first byte.
     #[error("bad log at {place}")]
     BadLog { place: u64 },
 }

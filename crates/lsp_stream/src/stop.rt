@@ -1,17 +1,19 @@
-//! A reader and a writer over memory whose calls go as a script says.
+//! A reader and a writer over memory whose calls end as a script says.
 
 ghost use Rattle.std.specs.Prelude.{◌≡◌, [], Some, min, length};
 ghost use Rattle.std.specs.Io.{ReadsAtMost, WritesAtMost};
 ghost use Rattle.std.specs.Io.KnownBytes.{ReadConsumes, WriteAppends, Keeps};
-ghost use Rattle.lsp_stream.specs.Scripts.{call_of, rest_of, IsStop, ReadGoes, WriteGoes, FlushGoes};
+ghost use Rattle.lsp_stream.specs.Scripts.{call_of, rest_of, IsScriptedRead, IsScriptedWrite, IsScriptedFlush};
+ghost use Rattle.lsp_stream.specs.inside.Scripts.{IsStop};
 
 use std::alloc::Global;
 use std::io::{self, ErrorKind, Read, Write};
 
-/// How a call goes.
+/// How a call ends.
 #[derive(Clone, Copy, Debug, PartialEq, Eq)]
 pub enum Call {
-    /// It moves so many bytes, or fewer where there are fewer. A read moves at least one, a flush succeeds.
+    /// It moves so many bytes, or fewer if there are fewer. A read moves at least one, a flush
+    /// succeeds.
     Take(usize),
     /// It is interrupted, and may be made again.
     Interrupt,
@@ -19,7 +21,7 @@ pub enum Call {
     Fail,
 }
 
-/// The next call of a script, or how the calls after its end do.
+/// Returns the next call of a script, or what the calls after its end do.
 fn next_call(script: &mut &[Call], others: Call) -> Call
     ensures call { result ≡ call_of script.old.now others }
     ensures rest { script.new.now ≡ rest_of script.old.now }
@@ -33,7 +35,7 @@ fn next_call(script: &mut &[Call], others: Call) -> Call
     }
 }
 
-/// Why a call moves no byte: it is interrupted or fails.
+/// The error of a call that moves no byte.
 fn stopped(call: Call) -> io::Error
     ensures { IsStop call result }
 {
@@ -43,7 +45,8 @@ fn stopped(call: Call) -> io::Error
     }
 }
 
-/// Reads from memory: its nth call goes as the nth of the script says, and all later ones as `others`.
+/// Reads from memory. Its nth call ends as the nth of `script` says, and all later ones as `others`
+/// says.
 #[derive(Debug, Drop)]
 pub struct StopReader<'a> {
     rest: &'a [u8],
@@ -52,6 +55,7 @@ pub struct StopReader<'a> {
 }
 
 impl<'a> StopReader<'a> {
+    /// Makes a reader of these bytes.
     pub fn new(bytes: &'a [u8], script: &'a [Call], others: Call) -> StopReader<'a>
         ensures bytes { result.rest.now ≡ bytes.now }
         ensures script { result.script.now ≡ script.now }
@@ -70,8 +74,10 @@ impl Read for StopReader<'_> {
 
     fn read(&mut self, buf: &mut [u8]) -> io::Result<usize>
         ensures bound { ReadsAtMost result buf.new }
-        ensures bytes { ReadConsumes (Some self.old.rest.now) (Some self.new.rest.now) result buf.new }
-        ensures goes { ReadGoes (call_of self.old.script.now self.old.others) (min (length buf.old) (length self.old.rest.now)) result }
+        ensures bytes { ReadConsumes (Some self.old.rest.now) (Some self.new.rest.now) result
+            buf.new }
+        ensures as_scripted { IsScriptedRead (call_of self.old.script.now self.old.others)
+            (min (length buf.old) (length self.old.rest.now)) result }
         ensures script { self.new.script.now ≡ rest_of self.old.script.now }
         ensures others { self.new.others ≡ self.old.others }
     {
@@ -88,8 +94,8 @@ impl Read for StopReader<'_> {
     }
 }
 
-/// Writes to memory: its nth call goes as the nth of the script says, and all later ones as `others`. Writes and
-/// flushes are calls alike.
+/// Writes to memory. Its nth call ends as the nth of `script` says, and all later ones as `others`
+/// says. Writes and flushes count alike.
 #[derive(Debug, Drop)]
 pub struct StopWriter<'a> {
     bytes: Vec<u8>,
@@ -99,7 +105,7 @@ pub struct StopWriter<'a> {
 }
 
 impl<'a> StopWriter<'a> {
-    /// Holds nothing yet.
+    /// Makes a writer without bytes.
     pub fn new(alloc: Global, script: &'a [Call], others: Call) -> StopWriter<'a>
         ensures bytes { result.bytes.items ≡ [] }
         ensures flushes { result.flushes ≡ 0 }
@@ -114,7 +120,7 @@ impl<'a> StopWriter<'a> {
         }
     }
 
-    /// The bytes that it holds.
+    /// The bytes that were written.
     pub fn bytes(&self) -> &[u8]
         ensures { result.now ≡ self.now.bytes.items }
     {
@@ -134,8 +140,10 @@ impl Write for StopWriter<'_> {
 
     fn write(&mut self, buf: &[u8]) -> io::Result<usize>
         ensures bound { WritesAtMost result buf.now }
-        ensures bytes { WriteAppends (Some self.old.bytes.items) (Some self.new.bytes.items) result buf.now }
-        ensures goes { WriteGoes (call_of self.old.script.now self.old.others) (length buf.now) result }
+        ensures bytes { WriteAppends (Some self.old.bytes.items) (Some self.new.bytes.items) result
+            buf.now }
+        ensures as_scripted { IsScriptedWrite (call_of self.old.script.now self.old.others)
+            (length buf.now) result }
         ensures script { self.new.script.now ≡ rest_of self.old.script.now }
         ensures others { self.new.others ≡ self.old.others }
         ensures flushes { self.new.flushes ≡ self.old.flushes }
@@ -152,7 +160,8 @@ impl Write for StopWriter<'_> {
 
     fn flush(&mut self) -> io::Result<()>
         ensures bytes { Keeps (Some self.old.bytes.items) (Some self.new.bytes.items) }
-        ensures goes { FlushGoes (call_of self.old.script.now self.old.others) self.old.flushes self.new.flushes result }
+        ensures as_scripted { IsScriptedFlush (call_of self.old.script.now self.old.others)
+            self.old.flushes self.new.flushes result }
         ensures script { self.new.script.now ≡ rest_of self.old.script.now }
         ensures others { self.new.others ≡ self.old.others }
     {

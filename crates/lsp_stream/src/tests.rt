@@ -1,2 +1,4 @@
+//! `Told` and `Duplex` over scripted readers and writers.
+
+mod adapter;
 mod duplex;
-mod told;

@@ -3,11 +3,11 @@
 ghost use Rattle.std.specs.Prelude.{◌≡◌, ◌≢◌, ◌<◌, ◌≤◌, ◌+◌, ◌↔◌, ◌⊎◌, ◌&&◌, not, true, false, IfOk, IfErr, OnOk, OnErr, length, take};
 ghost use Rattle.std.specs.Io.KnownBytes.{Consumes, Appends, Keeps, IsAtEnd};
 ghost use Rattle.lsp_stream.specs.Ports.{Rose};
-ghost use Rattle.lsp_stream.specs.Turns.{Spends, AppendsFront, AppendsShort, StaysWell};
+ghost use Rattle.lsp_stream.specs.Turns.{AppendsFront, AppendsShort, ReadsWithin, WritesWithin};
 
+use crate::adapter::is_interrupted;
 use crate::fault::EngineFault;
 use crate::port::{Sink, Source};
-use crate::told::is_interrupted;
 
 /// How many reads, writes and flushes may still be made.
 #[derive(Drop)]
@@ -16,16 +16,19 @@ pub struct Turns {
 }
 
 impl Turns {
+    /// Allows so many reads, writes and flushes.
     pub fn new(left: u64) -> Turns
         ensures { result.left ≡ left }
     {
         Turns { left }
     }
 
-    /// Takes one turn, if there is one.
+    /// Uses one turn, if there is one.
     fn spend(&mut self) -> Result<(), EngineFault>
         ensures spent { OnOk result (self.new.left + 1 ≡ self.old.left) }
-        ensures none { IfErr result (λ fault. (fault ≡ EngineFault.TooManyTurns) × (self.old.left ≡ 0) × (self.new.left ≡ 0)) }
+        ensures none { IfErr result
+            (λ fault. (fault ≡ EngineFault.TooManyTurns) × (self.old.left ≡ 0)
+            × (self.new.left ≡ 0)) }
     {
         if self.left == 0 {
             return Err(EngineFault::TooManyTurns);
@@ -35,7 +38,11 @@ impl Turns {
     }
 }
 
-/// Reads the next bytes into `buf`, and answers how many: 0 at the end. An interrupted read is repeated.
+/// Reads the next bytes into `buf`, and returns how many: 0 at the end. An interrupted read is
+/// repeated.
+///
+/// # Errors
+/// [`EngineFault::Read`] if a read fails, [`EngineFault::TooManyTurns`] if no turn is left for one.
 pub fn read_piece<R: Source>(
     reader: &mut R,
     buf: &mut [u8],
@@ -43,21 +50,14 @@ pub fn read_piece<R: Source>(
 ) -> Result<usize, EngineFault>
     requires { 0 < length buf.old }
     ensures bound { IfOk result (λ n. n ≤ length buf.new) }
-    ensures read { IfOk result (λ n. Consumes (R.left reader.old) (R.left reader.new) (take n buf.new)) }
-    ensures kept { OnErr result (Keeps (R.left reader.old) (R.left reader.new)) }
-    ensures ended { IfOk result (λ n. R.has_ended reader.new ≡ true ↔ n ≡ 0) }
-    ensures at_end { IfOk result (λ n. n ≡ 0 → IsAtEnd (R.left reader.new)) }
-    ensures rose { OnOk result (Rose (R.count reader.old) (R.count reader.new)) }
+    ensures read { IfOk result
+        (λ n. Consumes (R.seen reader.old).left (R.seen reader.new).left (take n buf.new)) }
+    ensures kept { OnErr result (Keeps (R.seen reader.old).left (R.seen reader.new).left) }
+    ensures ended { IfOk result (λ n. (R.seen reader.new).ended ≡ true ↔ n ≡ 0) }
+    ensures at_end { IfOk result (λ n. n ≡ 0 → IsAtEnd (R.seen reader.new).left) }
     ensures less { OnOk result (turns.new.left < turns.old.left) }
-    ensures fault { IfErr result (λ fault. (fault ≡ EngineFault.Read) ⊎ (fault ≡ EngineFault.TooManyTurns)) }
-    ensures failed { IfErr result (λ fault. fault ≡ EngineFault.Read →
-        (R.has_failed reader.new ≡ true) × (R.has_ended reader.new ≡ false) × Rose (R.count reader.old) (R.count reader.new)) }
-    ensures not_ended { IfErr result (λ fault. fault ≡ EngineFault.TooManyTurns →
-        R.has_ended reader.old ≡ false → R.has_ended reader.new ≡ false) }
-    ensures well { OnOk result (StaysWell (R.has_failed reader.old) (R.has_failed reader.new)) }
-    ensures told { IfErr result (λ fault. fault ≢ EngineFault.Read → StaysWell (R.has_failed reader.old) (R.has_failed reader.new)) }
-    ensures none_left { IfErr result (λ fault. fault ≡ EngineFault.TooManyTurns → turns.new.left ≡ 0) }
-    ensures spent { Spends (R.count reader.old) (R.count reader.new) turns.old.left turns.new.left }
+    ensures calls { ReadsWithin turns.old.left turns.new.left
+        (R.seen reader.old) (R.seen reader.new) result }
 {
     'reads: loop {
         turns.spend()?;
@@ -72,20 +72,19 @@ pub fn read_piece<R: Source>(
     }
 }
 
-/// Writes all of the bytes, each time all that are left. An interrupted write is repeated, and one that takes
-/// nothing is a fault.
+/// Writes all of the bytes, each time all that are left. An interrupted write is repeated, and one
+/// that takes nothing is a fault.
 fn write_out<W: Sink>(writer: &mut W, bytes: &[u8], turns: &mut Turns) -> Result<(), EngineFault>
-    ensures wrote { OnOk result (Appends (W.held writer.old) (W.held writer.new) bytes.now) }
-    ensures front { OnErr result (AppendsFront (W.held writer.old) (W.held writer.new) bytes.now) }
-    ensures fault { IfErr result (λ fault. (fault ≡ EngineFault.Write) ⊎ (fault ≡ EngineFault.TooManyTurns)) }
+    ensures wrote { OnOk result
+        (Appends (W.seen writer.old).written (W.seen writer.new).written bytes.now) }
+    ensures front { OnErr result
+        (AppendsFront (W.seen writer.old).written (W.seen writer.new).written bytes.now) }
+    ensures fault { IfErr result
+        (λ fault. (fault ≡ EngineFault.Write) ⊎ (fault ≡ EngineFault.TooManyTurns)) }
     ensures short { IfErr result (λ fault. fault ≡ EngineFault.TooManyTurns →
-        AppendsShort false (W.held writer.old) (W.held writer.new) bytes.now) }
-    ensures failed { IfErr result (λ fault. fault ≡ EngineFault.Write →
-        (W.has_failed writer.new ≡ true) × Rose (W.count writer.old) (W.count writer.new)) }
-    ensures well { OnOk result (StaysWell (W.has_failed writer.old) (W.has_failed writer.new)) }
-    ensures told { IfErr result (λ fault. fault ≢ EngineFault.Write → StaysWell (W.has_failed writer.old) (W.has_failed writer.new)) }
-    ensures none_left { IfErr result (λ fault. fault ≡ EngineFault.TooManyTurns → turns.new.left ≡ 0) }
-    ensures spent { Spends (W.count writer.old) (W.count writer.new) turns.old.left turns.new.left }
+        AppendsShort false (W.seen writer.old).written (W.seen writer.new).written bytes.now) }
+    ensures calls { WritesWithin turns.old.left turns.new.left
+        (W.seen writer.old) (W.seen writer.new) result }
 {
     let mut at = 0;
     'writes: while at < bytes.len() {
@@ -103,23 +102,24 @@ fn write_out<W: Sink>(writer: &mut W, bytes: &[u8], turns: &mut Turns) -> Result
     Ok(())
 }
 
-/// Passes on what was written. An interrupted flush is repeated.
+/// Flushes the writer, which passes on what was written. An interrupted flush is repeated.
 ///
 /// # Errors
-/// [`EngineFault::Write`] where a flush fails, [`EngineFault::TooManyTurns`] where one more was to be made than allowed.
+/// [`EngineFault::Write`] if a flush fails, [`EngineFault::TooManyTurns`] if no turn is left for
+/// one.
 pub fn flush_out<W: Sink>(writer: &mut W, turns: &mut Turns) -> Result<(), EngineFault>
-    ensures kept { Keeps (W.held writer.old) (W.held writer.new) }
+    ensures kept { Keeps (W.seen writer.old).written (W.seen writer.new).written }
     // The last flush was made, and did not fail.
-    ensures flushed { OnOk result ((W.has_failed writer.new ≡ false) × Rose (W.count writer.old) (W.count writer.new)) }
-    ensures passed_on { OnOk result (W.has_flushed writer.new ≡ true) }
-    ensures not_passed_on { OnErr result (W.has_flushed writer.new ≡ W.has_flushed writer.old) }
-    ensures fault { IfErr result (λ fault. (fault ≡ EngineFault.Write) ⊎ (fault ≡ EngineFault.TooManyTurns)) }
-    ensures failed { IfErr result (λ fault. fault ≡ EngineFault.Write →
-        (W.has_failed writer.new ≡ true) × Rose (W.count writer.old) (W.count writer.new)) }
-    ensures well { OnOk result (StaysWell (W.has_failed writer.old) (W.has_failed writer.new)) }
-    ensures told { IfErr result (λ fault. fault ≢ EngineFault.Write → StaysWell (W.has_failed writer.old) (W.has_failed writer.new)) }
-    ensures none_left { IfErr result (λ fault. fault ≡ EngineFault.TooManyTurns → turns.new.left ≡ 0) }
-    ensures spent { Spends (W.count writer.old) (W.count writer.new) turns.old.left turns.new.left }
+    ensures flushed { OnOk result
+        (((W.seen writer.new).failed ≡ false)
+        × Rose (W.seen writer.old).calls (W.seen writer.new).calls) }
+    ensures passed_on { OnOk result ((W.seen writer.new).flushed ≡ true) }
+    ensures not_passed_on { OnErr result
+        ((W.seen writer.new).flushed ≡ (W.seen writer.old).flushed) }
+    ensures fault { IfErr result
+        (λ fault. (fault ≡ EngineFault.Write) ⊎ (fault ≡ EngineFault.TooManyTurns)) }
+    ensures calls { WritesWithin turns.old.left turns.new.left
+        (W.seen writer.old) (W.seen writer.new) result }
 {
     'flushes: loop {
         turns.spend()?;
@@ -134,27 +134,31 @@ pub fn flush_out<W: Sink>(writer: &mut W, turns: &mut Turns) -> Result<(), Engin
     }
 }
 
-/// Writes what a record or the end of the input gives, and where that is asked for passes on all that was written, if
-/// anything is not passed on yet.
+/// Writes the output of a record or of the end of the input. With `flush` it then passes on all
+/// that was written, if something isn't passed on yet.
+///
+/// # Errors
+/// [`EngineFault::Write`] if a write or a flush fails, or a write takes nothing.
+/// [`EngineFault::TooManyTurns`] if no turn is left for a call.
 pub fn write_given<W: Sink>(
     writer: &mut W,
     bytes: &[u8],
     flush: bool,
     turns: &mut Turns,
 ) -> Result<(), EngineFault>
-    ensures wrote { OnOk result (Appends (W.held writer.old) (W.held writer.new) bytes.now) }
-    ensures front { OnErr result (AppendsFront (W.held writer.old) (W.held writer.new) bytes.now) }
-    ensures fault { IfErr result (λ fault. (fault ≡ EngineFault.Write) ⊎ (fault ≡ EngineFault.TooManyTurns)) }
+    ensures wrote { OnOk result
+        (Appends (W.seen writer.old).written (W.seen writer.new).written bytes.now) }
+    ensures front { OnErr result
+        (AppendsFront (W.seen writer.old).written (W.seen writer.new).written bytes.now) }
+    ensures fault { IfErr result
+        (λ fault. (fault ≡ EngineFault.Write) ⊎ (fault ≡ EngineFault.TooManyTurns)) }
     // Where the turns ran out, bytes were still to be written, or to be passed on.
     ensures short { IfErr result (λ fault. fault ≡ EngineFault.TooManyTurns →
-        AppendsShort (flush && not (W.has_flushed writer.new)) (W.held writer.old) (W.held writer.new) bytes.now) }
-    ensures flushed { OnOk result (flush ≡ true → W.has_flushed writer.new ≡ true) }
-    ensures failed { IfErr result (λ fault. fault ≡ EngineFault.Write →
-        (W.has_failed writer.new ≡ true) × Rose (W.count writer.old) (W.count writer.new)) }
-    ensures well { OnOk result (StaysWell (W.has_failed writer.old) (W.has_failed writer.new)) }
-    ensures told { IfErr result (λ fault. fault ≢ EngineFault.Write → StaysWell (W.has_failed writer.old) (W.has_failed writer.new)) }
-    ensures none_left { IfErr result (λ fault. fault ≡ EngineFault.TooManyTurns → turns.new.left ≡ 0) }
-    ensures spent { Spends (W.count writer.old) (W.count writer.new) turns.old.left turns.new.left }
+        AppendsShort (flush && not (W.seen writer.new).flushed) (W.seen writer.old).written
+        (W.seen writer.new).written bytes.now) }
+    ensures flushed { OnOk result (flush ≡ true → (W.seen writer.new).flushed ≡ true) }
+    ensures calls { WritesWithin turns.old.left turns.new.left
+        (W.seen writer.old) (W.seen writer.new) result }
 {
     write_out(writer, bytes, turns)?;
     if flush && !writer.flushed() {

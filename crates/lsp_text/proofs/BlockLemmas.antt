@@ -3,7 +3,7 @@ use Rattle.std.proofs.Common.{◌≡◌, ℕ, ◌+◌, ◌-◌, ◌*◌, ◌≤�
 use Rattle.std.proofs.Math.Seq.{take-add}
 use Rattle.std.proofs.lemmas.List.{length-drop, length-take, length-take-le, take-append-drop, drop-drop, take_rest}
 use Rattle.std.proofs.lemmas.List.Sums.{sum_by-append, sum_by-cons, sum_by-take-drop}
-use Rattle.lsp_text.specs.Leads.{byte_place}
+use Rattle.lsp_text.specs.inside.Leads.{byte_place}
 use Rattle.lsp_text.proofs.LeadLemmas.{map_twice, map_none}
 
 -- Bytes that have no more units than are left are passed.
@@ -25,9 +25,9 @@ module _ (lead : ℕ → ℕ) where
       option_map (λ n. (place + size) + n) (byte_place lead (drop (place + size) bytes) (left - units)) ≡ found
   pass_block bytes place size left units found within counted few rest =
       let block = take size (drop place bytes) in
-      let behind : drop size (drop place bytes) ≡ drop (place + size) bytes = drop-drop size place bytes in
+      let rest_after : drop size (drop place bytes) ≡ drop (place + size) bytes = drop-drop size place bytes in
       let long : length block ≡ size = length-take-le size (drop place bytes) (omega (arith, length-drop place bytes)) in
-      let whole : block ++ drop (place + size) bytes ≡ drop place bytes = ap (λ ys. block ++ ys) (sym behind) ∙ take-append-drop size (drop place bytes) in
+      let whole : block ++ drop (place + size) bytes ≡ drop place bytes = ap (λ ys. block ++ ys) (sym rest_after) ∙ take-append-drop size (drop place bytes) in
       let passed : byte_place lead (drop place bytes) left ≡ option_map (λ n. length block + n) (byte_place lead (drop (place + size) bytes) (left - sum_by lead block)) =
       ap (λ xs. byte_place lead xs left) (sym whole) ∙ pass block (drop (place + size) bytes) left (omega arith) in
       sym (map_twice place size (byte_place lead (drop (place + size) bytes) (left - units))) ∙
@@ -47,8 +47,8 @@ module _ (lead : ℕ → ℕ) where
 
   pub blocks_all : (bytes : List ℕ) (block blocks units rest : ℕ) → block ≡ blocks → units ≡ sum_by lead (take (32 * block) bytes) →
       rest ≡ sum_by lead (take (length bytes - 32 * blocks) (drop (32 * blocks) bytes)) → units + rest ≡ sum_by lead bytes
-  blocks_all bytes block blocks units rest same before behind =
-      omega (arith, before, behind, ap (λ n. sum_by lead (take (32 * n) bytes)) same, sum_by-take-drop lead bytes (32 * blocks), ap (sum_by lead) (take_rest bytes (32 * blocks)))
+  blocks_all bytes block blocks units rest same before rest_after =
+      omega (arith, before, rest_after, ap (λ n. sum_by lead (take (32 * n) bytes)) same, sum_by-take-drop lead bytes (32 * blocks), ap (sum_by lead) (take_rest bytes (32 * blocks)))
 
 pub part_few : (bytes : List ℕ) (from rest : ℕ) → rest ≤ 4 * length (take (length bytes - from) (drop from bytes)) → rest ≤ 4 * length bytes
 part_few bytes from rest few = omega (arith, few, length-take (length bytes - from) (drop from bytes), length-drop from bytes)

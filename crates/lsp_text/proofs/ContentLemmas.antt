@@ -22,8 +22,8 @@ before_split text k split =
     let both = and_parts (slice_index text k == carriage_return) (slice_index text (suc k) == line_feed) split in
     let is_return : slice_index text k ≡ 13 = eqb-true (slice_index text k) 13 both.0 in
     let is_feed : slice_index text (suc k) ≡ 10 = eqb-true (slice_index text (suc k)) 10 both.1 in
-    let goes_on : ends_line text (suc k) ≡ false = rw (is_return, is_feed) refl in
-    (rw goes_on refl, whole k is_return)
+    let continues : ends_line text (suc k) ≡ false = rw (is_return, is_feed) refl in
+    (rw continues refl, whole k is_return)
   where
     whole : (k : ℕ) → slice_index text k ≡ 13 → splits_crlf text k ≡ false
     whole zero e = refl
@@ -115,10 +115,10 @@ prefix_of_bytes (c ∷ cs) =
     (λ (h : c < 128).
     ap (λ bs. prefix_len is_inside_line (bs ++ bytes)) (encode_ascii c h) ∙ ascii (is_inside_line c) (ap length (encode_ascii c h)) (prefix_of_bytes cs))
     (λ (h : 128 ≤ c).
-    let goes_on : prefix_len is_inside_line (c ∷ cs) ≡ 1 + front = rw (inside_high c h) refl in
+    let continues : prefix_len is_inside_line (c ∷ cs) ≡ 1 + front = rw (inside_high c h) refl in
     prefix_high (encode c) bytes (encode_high c h) ∙
     (ap (λ n. length (encode c) + n) (prefix_of_bytes cs) ∙
-    (sym (place_cons c cs front) ∙ ap (place_of (c ∷ cs)) (sym goes_on))))
+    (sym (place_cons c cs front) ∙ ap (place_of (c ∷ cs)) (sym continues))))
     (cases_lt c 128)
   where
     ascii : (b : Bool) → length (encode c) ≡ 1 → prefix_len is_inside_line (encode_utf8_all cs) ≡ place_of cs (prefix_len is_inside_line cs) → cond b (1 + prefix_len is_inside_line (encode_utf8_all cs)) 0 ≡ place_of (c ∷ cs) (cond b (1 + prefix_len is_inside_line cs) 0)

@@ -2,7 +2,8 @@
 use Rattle.std.proofs.Common.{ℕ, suc, ◌≡◌, ◌+◌, ◌-◌, ◌<◌, ◌≤◌, List, [], ◌∷◌, ◌++◌, length, map, get_or, slice_index, take, drop, refl, sym, ap, ap₂, ◌∙◌, arith}
 use Rattle.std.proofs.lemmas.List.{length-append, length-map, map-append, get_or_append_left, get_or-append_right, get_or-drop, append_assoc, take-append-drop, length-take-le, length-drop, take-append-le, drop-append-le, take-take, drop-take, drop-drop, take_at, drop_at}
 use Rattle.lsp_text.proofs.GapLemmas.{take_past, drop_past}
-use Rattle.lsp_text.specs.Gapped.{AreWithin, starts_of_both}
+use Rattle.lsp_text.specs.Gapped.{starts_of_both}
+use Rattle.lsp_text.specs.inside.Gapped.{AreWithin}
 
 get_or-mapped : (f : ℕ → ℕ) (xs : List ℕ) (k : ℕ) → k < length xs → get_or (map f xs) k 0 ≡ f (get_or xs k 0)
 get_or-mapped f [] k h = absurd (omega arith)

@@ -1,15 +1,16 @@
 -- A text with a gap, changed: its line starts are those of the new text.
-use Rattle.std.proofs.Common.{ℕ, zero, suc, ◌≡◌, ◌+◌, ◌-◌, ◌<◌, ◌≤◌, Bool, true, false, not, ◌&&◌, ◌||◌, ◌==◌, List, [], ◌∷◌, ◌++◌, length, map, take, drop, get_or, slice_index, refl, sym, ap, ap₂, ◌∙◌, subst, arith, ⊎_elim}
-use Rattle.std.proofs.lemmas.List.{length-append, length-drop, length-take-le, length-map, map-id, get_or_append_left, append_assoc, append-nil, take-append-le, take_at, drop_at}
+use Rattle.std.proofs.Common.{ℕ, zero, suc, ◌≡◌, ◌+◌, ◌-◌, ◌<◌, ◌≤◌, Bool, true, false, not, ◌&&◌, ◌||◌, ◌==◌, List, [], ◌∷◌, ◌++◌, length, map, take, drop, replicate, get_or, slice_index, refl, sym, ap, ap₂, ◌∙◌, subst, arith, ⊎_elim}
+use Rattle.std.proofs.lemmas.List.{length-append, length-drop, length-take-le, length-map, map-append, map-id, get_or_append_left, append_assoc, append-nil, take-append-drop, take-append-le, take_at, drop_at, drop-drop}
 use Rattle.std.proofs.lemmas.Bool.{cases_lt}
 use Rattle.std.proofs.lemmas.Str.{IsUtf8-append, IsUtf8-take, IsUtf8-drop, IsUtf8-from_is_utf8, is_utf8-from_IsUtf8}
 use Rattle.std.specs.List.{replace_range}
 use Rattle.std.specs.Str.{IsCharBoundary, IsUtf8}
-use Rattle.lsp_text.specs.Gapped.{AreWithin, IsGapText, starts_of_both}
+use Rattle.lsp_text.specs.Gapped.{IsGapText, starts_of_both}
+use Rattle.lsp_text.specs.inside.Gapped.{AreWithin, HasNoEnd}
 use Rattle.lsp_text.specs.LineStarts.{Indexes, ends_between, line_starts}
 use Rattle.lsp_text.specs.Splice.{IsReplaced}
 use Rattle.lsp_text.specs.Starts.{AreStarts, IsLineOf}
-use Rattle.lsp_text.specs.TextLines.{ends_line, splits_crlf}
+use Rattle.lsp_text.specs.TextLines.{line_feed, carriage_return, ends_line, splits_crlf}
 use Rattle.lsp_text.proofs.GapStartsLemmas.{at_front, at_back, both_count}
 use Rattle.lsp_text.proofs.SpliceLemmas.{IsCut, starts_cut, starts_spliced, filter_moved, filter_below, ends_behind}
 use Rattle.lsp_text.proofs.StartLemmas.{starts_of_text}
@@ -159,28 +160,28 @@ module _ (old before after bytes front back new : List ℕ) (start stop : ℕ) (
     back = ap (drop (start + length new)) bytes_is ∙ drop_at (take start old ++ new) (drop stop old) (start + length new) both_len;
   }
 
-  abbrev behind : List ℕ
-  behind = map (λ (d : ℕ). length old - d) rest
+  abbrev rest_after : List ℕ
+  rest_after = map (λ (d : ℕ). length old - d) rest
 
-  starts_are : first ++ behind ≡ line_starts old
+  starts_are : first ++ rest_after ≡ line_starts old
   starts_are = same ∙ is.starts
 
   stop_cut : IsCut old stop (length first)
   stop_cut = starts_cut old stop (length first) at_stop.0 some (subst (λ (xs : List ℕ). IsLineOf xs stop (length first - 1)) is.starts to_stop)
 
-  behind_is : behind ≡ ends_between old stop (length old)
-  behind_is = sym (drop_at first behind (length first) refl) ∙ (ap (drop (length first)) starts_are ∙ stop_cut.behind)
+  behind_is : rest_after ≡ ends_between old stop (length old)
+  behind_is = sym (drop_at first rest_after (length first) refl) ∙ (ap (drop (length first)) starts_are ∙ stop_cut.rest_after)
 
-  low_line : IsLineOf (first ++ behind) (start - 1) (keep - 1)
+  low_line : IsLineOf (first ++ rest_after) (start - 1) (keep - 1)
   low_line =
-      let count : length (first ++ behind) ≡ length first + length behind = length-append first behind in
-      let stops : IsLineOf (first ++ behind) stop (length first - 1) = subst (λ (xs : List ℕ). IsLineOf xs stop (length first - 1)) (sym same) to_stop in
+      let count : length (first ++ rest_after) ≡ length first + length rest_after = length-append first rest_after in
+      let stops : IsLineOf (first ++ rest_after) stop (length first - 1) = subst (λ (xs : List ℕ). IsLineOf xs stop (length first - 1)) (sym same) to_stop in
       record {
         within = omega (arith, count, to_low.within);
-        at_most = omega (arith, get_or_append_left first behind 0 (keep - 1) to_low.within, to_low.at_most);
+        at_most = omega (arith, get_or_append_left first rest_after 0 (keep - 1) to_low.within, to_low.at_most);
         greatest = λ later above within.
             ⊎_elim
-            (λ (h : later < length first). omega (arith, get_or_append_left first behind 0 later h, to_low.greatest later above h))
+            (λ (h : later < length first). omega (arith, get_or_append_left first rest_after 0 later h, to_low.greatest later above h))
             (λ (h : length first ≤ later). omega (arith, order, stops.greatest later (omega (arith, h, some)) within))
             (cases_lt later (length first));
       }
@@ -192,7 +193,7 @@ module _ (old before after bytes front back new : List ℕ) (start stop : ℕ) (
   kept_within = omega (arith, to_low.within, kept)
 
   kept_is : take keep first ≡ 0 ∷ ends_between old 0 (start - 1)
-  kept_is = sym (take-append-le keep first behind kept_within) ∙ (ap (take keep) starts_are ∙ low_cut.front)
+  kept_is = sym (take-append-le keep first rest_after kept_within) ∙ (ap (take keep) starts_are ∙ low_cut.front)
 
   found_is : ends_between front (start - 1) (start + length new) ≡ ends_between bytes (start - 1) (start + length new)
   found_is =
@@ -219,4 +220,98 @@ module _ (old before after bytes front back new : List ℕ) (start stop : ℕ) (
         ∙ (assoc (take keep first) (ends_between front (start - 1) (start + length new)) (map (λ (d : ℕ). length bytes - d) rest)
         ∙ (ap₂ (λ (x y : List ℕ). x ++ y) kept_is (ap₂ (λ (x y : List ℕ). x ++ y) found_is moved_is)
         ∙ sym (starts_spliced old bytes start stop (length new) replaced)));
+  }
+
+-- ---- bytes that are written over as many others, with no line end among either: no line start changes
+
+no_end : (lf cr : Bool) → ¬ ((lf || cr) ≡ true) → (lf ≡ false) × (cr ≡ false)
+no_end true cr none = absurd (none refl)
+no_end false true none = absurd (none refl)
+no_end false false none = (refl, refl)
+
+module _ (kind : ℕ → Bool) where
+  kind_at : (xs : List ℕ) (k : ℕ) → get_or (map kind xs) k (kind 0) ≡ kind (slice_index xs k)
+  kind_at [] k = refl
+  kind_at (x ∷ xs) zero = refl
+  kind_at (x ∷ xs) (suc k) = kind_at xs k
+
+  none_of : (xs : List ℕ) → ((k : ℕ) → k < length xs → kind (slice_index xs k) ≡ false) → map kind xs ≡ replicate (length xs) false
+  none_of [] none = refl
+  none_of (x ∷ xs) none = ap₂ (λ (b : Bool) (bs : List Bool). b ∷ bs) (none 0 (omega arith)) (none_of xs (λ k h. none (suc k) (omega (arith, h))))
+
+  map_three : (front middle back : List ℕ) → map kind (front ++ middle ++ back) ≡ map kind front ++ map kind middle ++ map kind back
+  map_three front middle back = map-append kind (front ++ middle) back ∙ ap (λ (bs : List Bool). bs ++ map kind back) (map-append kind front middle)
+
+  same_kinds : (front old new back : List ℕ) → length new ≡ length old → map kind old ≡ replicate (length old) false → map kind new ≡ replicate (length new) false
+      → (k : ℕ) → kind (slice_index (front ++ new ++ back) k) ≡ kind (slice_index (front ++ old ++ back) k)
+  same_kinds front old new back len none_old none_new k =
+      let middle : map kind new ≡ map kind old = none_new ∙ (ap (λ (n : ℕ). replicate n false) len ∙ sym none_old) in
+      let all : map kind (front ++ new ++ back) ≡ map kind (front ++ old ++ back)
+      = map_three front new back ∙ (ap (λ (bs : List Bool). map kind front ++ bs ++ map kind back) middle ∙ sym (map_three front old back)) in
+      sym (kind_at (front ++ new ++ back) k) ∙ (ap (λ (bs : List Bool). get_or bs k (kind 0)) all ∙ kind_at (front ++ old ++ back) k)
+
+module _ (old bytes : List ℕ) (feeds : (k : ℕ) → (slice_index bytes k == line_feed) ≡ (slice_index old k == line_feed)) (returns : (k : ℕ) → (slice_index bytes k == carriage_return) ≡ (slice_index old k == carriage_return)) where
+  same_ends : (k : ℕ) → ends_line bytes k ≡ ends_line old k
+  same_ends zero = refl
+  same_ends (suc k) = ap₂ (λ (a b : Bool). a || b) (feeds k) (ap₂ (λ (a b : Bool). a && not b) (returns k) (feeds (suc k)))
+
+  same_starts : length bytes ≡ length old → line_starts bytes ≡ line_starts old
+  same_starts len =
+      ap (λ (xs : List ℕ). 0 ∷ xs)
+      (ap (λ (n : ℕ). ends_between bytes 0 n) len
+      ∙ (sym (map-id (ends_between bytes 0 (length old))) ∙ filter_moved (λ x. x) (ends_line bytes) (ends_line old) 1 1 (length old - 0) (λ j h. same_ends (1 + j)) (λ j h. refl)))
+
+module _ (old before after new : List ℕ) (start stop : ℕ) (is : IsGapText old before after) (new_utf8 : IsUtf8 new) (order : start ≤ stop) (at_start : IsCharBoundary old start) (at_stop : IsCharBoundary old stop)
+    (len : length new ≡ stop - start) (old_end : HasNoEnd (take (stop - start) (drop start old))) (new_end : HasNoEnd new) where
+  abbrev middle : List ℕ
+  middle = take (stop - start) (drop start old)
+
+  abbrev bytes : List ℕ
+  bytes = replace_range old start stop new
+
+  middle_len : length middle ≡ stop - start
+  middle_len = length-take-le (stop - start) (drop start old) (omega (arith, length-drop start old, at_stop.0, order))
+
+  old_is : take start old ++ middle ++ drop stop old ≡ old
+  old_is =
+      let rest : drop (stop - start) (drop start old) ≡ drop stop old = drop-drop (stop - start) start old ∙ ap (λ (n : ℕ). drop n old) (let sum : start + (stop - start) ≡ stop = omega (arith, order) in sum) in
+      assoc (take start old) middle (drop stop old)
+      ∙ (ap (λ (xs : List ℕ). take start old ++ (middle ++ xs)) (sym rest) ∙ (ap (λ (xs : List ℕ). take start old ++ xs) (take-append-drop (stop - start) (drop start old)) ∙ take-append-drop start old))
+
+  same_len : length bytes ≡ length old
+  same_len =
+      omega (
+        arith,
+        len,
+        order,
+        at_start.0,
+        at_stop.0,
+        length-append (take start old ++ new) (drop stop old),
+        length-append (take start old) new,
+        length-take-le start old at_start.0,
+        length-drop stop old,
+      )
+
+  same_of : (kind : ℕ → Bool) → ((k : ℕ) → k < length middle → kind (slice_index middle k) ≡ false) → ((k : ℕ) → k < length new → kind (slice_index new k) ≡ false)
+      → (k : ℕ) → kind (slice_index bytes k) ≡ kind (slice_index old k)
+  same_of kind none_old none_new k =
+      same_kinds kind (take start old) middle new (drop stop old) (len ∙ sym middle_len) (none_of kind middle none_old) (none_of kind new none_new) k
+      ∙ ap (λ (xs : List ℕ). kind (slice_index xs k)) old_is
+
+  none : (xs : List ℕ) → HasNoEnd xs → (k : ℕ) → k < length xs → (slice_index xs k == line_feed ≡ false) × (slice_index xs k == carriage_return ≡ false)
+  none xs apart k h = no_end (slice_index xs k == line_feed) (slice_index xs k == carriage_return) (apart k h)
+
+  starts_stay : line_starts bytes ≡ line_starts old
+  starts_stay =
+      same_starts old bytes (same_of (λ b. b == line_feed) (λ k h. (none middle old_end k h).0) (λ k h. (none new new_end k h).0))
+      (same_of (λ b. b == carriage_return) (λ k h. (none middle old_end k h).1) (λ k h. (none new new_end k h).1)) same_len
+
+  pub gap_overwritten : IsGapText bytes before after
+  gap_overwritten = record {
+    utf8 =
+        is_utf8-from_IsUtf8 bytes
+        (IsUtf8-append (take start old ++ new) (drop stop old) (IsUtf8-append (take start old) new (IsUtf8-take old start (gap_utf8 old before after is) at_start) new_utf8) (IsUtf8-drop old stop (gap_utf8 old before after is) at_stop));
+    size = omega (arith, same_len, is.size);
+    some = is.some;
+    starts = ap (λ (n : ℕ). starts_of_both n before after) same_len ∙ (is.starts ∙ sym starts_stay);
   }

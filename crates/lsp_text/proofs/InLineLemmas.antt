@@ -63,7 +63,7 @@ index_found units (x ∷ line) c n found =
     (λ (e : (c == 0) ≡ false).
     ⊎_elim
     (λ (l : nat_lt c (units x) ≡ true). absurd (let f : ◌≡◌ {A = Option ℕ} None (Some n) = rw (e, l) at found in cc))
-    (λ (l : nat_lt c (units x) ≡ false). behind (index_in_line units line (c - units x)) refl (λ m f. index_found units line (c - units x) m f) (ltb-false c (units x) l) (rw (e, l) at found))
+    (λ (l : nat_lt c (units x) ≡ false). rest_after (index_in_line units line (c - units x)) refl (λ m f. index_found units line (c - units x) m f) (ltb-false c (units x) l) (rw (e, l) at found))
     (cases_Bool (nat_lt c (units x))))
     (cases_Bool (c == 0))
   where
@@ -79,13 +79,13 @@ index_found units (x ∷ line) c n found =
           r.1,
     )
 
-    behind : (o : Option ℕ) → index_in_line units line (c - units x) ≡ o
+    rest_after : (o : Option ℕ) → index_in_line units line (c - units x) ≡ o
         → ((m : ℕ) → index_in_line units line (c - units x) ≡ Some m → (m ≤ length line) × ((sum_by units (take m line) ≡ c - units x) ⊎ ((m ≡ length line) × (sum_by units line ≤ c - units x))))
         → units x ≤ c
         → option_map suc (index_in_line units line (c - units x)) ≡ Some n
         → (n ≤ suc (length line)) × ((sum_by units (take n (x ∷ line)) ≡ c) ⊎ ((n ≡ suc (length line)) × (sum_by units (x ∷ line) ≤ c)))
-    behind None is ih room g = absurd (let f : ◌≡◌ {A = Option ℕ} None (Some n) = rw is at g in cc)
-    behind (Some m) is ih room g = further m (let f : Some (suc m) ≡ Some n = rw is at g in cc) room (ih m is)
+    rest_after None is ih room g = absurd (let f : ◌≡◌ {A = Option ℕ} None (Some n) = rw is at g in cc)
+    rest_after (Some m) is ih room g = further m (let f : Some (suc m) ≡ Some n = rw is at g in cc) room (ih m is)
 
 -- Where there is none, the line has more units than c, and no index of it has exactly c before it.
 index_missed : (units : ℕ → ℕ) (line : List ℕ) (c : ℕ) → index_in_line units line c ≡ None → (c < sum_by units line) × ((n : ℕ) → n ≤ length line → sum_by units (take n line) ≡ c → ⊥)
@@ -97,7 +97,7 @@ index_missed units (x ∷ line) c missed =
     let above : c ≡ 0 → ⊥ = eqb-false c 0 e in
     ⊎_elim
     (λ (l : nat_lt c (units x) ≡ true). inside above (ltb-true c (units x) l))
-    (λ (l : nat_lt c (units x) ≡ false). behind above (index_in_line units line (c - units x)) refl (index_missed units line (c - units x)) (ltb-false c (units x) l) (rw (e, l) at missed))
+    (λ (l : nat_lt c (units x) ≡ false). rest_after above (index_in_line units line (c - units x)) refl (index_missed units line (c - units x)) (ltb-false c (units x) l) (rw (e, l) at missed))
     (cases_Bool (nat_lt c (units x))))
     (cases_Bool (c == 0))
   where
@@ -115,13 +115,13 @@ index_missed units (x ∷ line) c missed =
           (front n),
     )
 
-    behind : (c ≡ 0 → ⊥) → (o : Option ℕ) → index_in_line units line (c - units x) ≡ o
+    rest_after : (c ≡ 0 → ⊥) → (o : Option ℕ) → index_in_line units line (c - units x) ≡ o
         → (index_in_line units line (c - units x) ≡ None → (c - units x < sum_by units line) × ((n : ℕ) → n ≤ length line → sum_by units (take n line) ≡ c - units x → ⊥))
         → units x ≤ c
         → option_map suc (index_in_line units line (c - units x)) ≡ None
         → (c < sum_by units (x ∷ line)) × ((n : ℕ) → n ≤ suc (length line) → sum_by units (take n (x ∷ line)) ≡ c → ⊥)
-    behind above (Some m) is ih room g = absurd (let f : ◌≡◌ {A = Option ℕ} (Some (suc m)) None = rw is at g in cc)
-    behind above None is ih room g = (
+    rest_after above (Some m) is ih room g = absurd (let f : ◌≡◌ {A = Option ℕ} (Some (suc m)) None = rw is at g in cc)
+    rest_after above None is ih room g = (
       rw (sum_by-cons units x line) (omega (arith, (ih is).0)),
       λ n order same.
           ⊎_elim

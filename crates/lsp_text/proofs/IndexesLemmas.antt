@@ -15,10 +15,10 @@ use Rattle.std.specs.Prelude.{encode_utf8_all}
 
 -- Lines made of the bytes of a text are those of the text.
 pub indexes_from : (bytes starts : List ℕ) → IsUtf8 bytes → length bytes ≤ 2147483648 → starts ≡ line_starts bytes → Indexes starts bytes
-indexes_from bytes starts utf8 size made = record { starts = made ∙ starts_of_text bytes utf8; size = size }
+indexes_from bytes starts utf8 size looks_made = record { starts = looks_made ∙ starts_of_text bytes utf8; size = size }
 
 pub starts_from : (bytes starts : List ℕ) → starts ≡ line_starts bytes → AreStarts starts
-starts_from bytes starts made = subst AreStarts (sym made) (line_starts_are bytes)
+starts_from bytes starts looks_made = subst AreStarts (sym looks_made) (line_starts_are bytes)
 
 -- `starts` after the first start was put in, and then the line ends; `read` are the bytes as they were lent
 pub made_whole : (bytes read before first starts : List ℕ) → read ≡ bytes → before ≡ [] → first ≡ before ++ 0 ∷ [] → starts ≡ first ++ ends_between read 0 (length read) → starts ≡ line_starts bytes

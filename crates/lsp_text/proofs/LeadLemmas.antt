@@ -12,7 +12,8 @@ use Rattle.std.specs.Str.{IsUtf8, chars}
 use borrow.Author.Tests.{ltb-true, ltb-false}
 use Rattle.lsp_text.specs.Units.{units_in}
 use Rattle.lsp_text.specs.declared.encoding.Encoding.TheVariants.{Utf16}
-use Rattle.lsp_text.specs.Leads.{lead_units_utf16, lead_units_utf32, HaveNone, FirstHas, line_place, byte_place}
+use Rattle.lsp_text.specs.Leads.{lead_units_utf16, lead_units_utf32}
+use Rattle.lsp_text.specs.inside.Leads.{HaveNone, FirstHas, line_place, byte_place}
 
 -- a byte inside a character has no units
 utf16_none : (b : ℕ) → 128 ≤ b → b < 192 → lead_units_utf16 b ≡ 0

@@ -13,7 +13,7 @@ use Rattle.lsp_text.specs.Positions.{denoted}
 use Rattle.lsp_text.specs.LineStarts.{IsPlace}
 use Rattle.lsp_text.proofs.PositionLemmas.{denoted_whole}
 use Rattle.lsp_text.proofs.BoundaryLemmas.{boundary_from}
-use Rattle.lsp_text.specs.Leads.{line_place}
+use Rattle.lsp_text.specs.inside.Leads.{line_place}
 use Rattle.lsp_text.proofs.InLineLemmas.{index_in_line, denoted_in_line}
 use Rattle.lsp_text.proofs.PlaceLemmas.{place_end, place_within, place_add, part_place, place_boundary, place_rises}
 use Rattle.lsp_text.proofs.ContentLemmas.{stop_behind, stop_within}
@@ -46,12 +46,12 @@ map_len units x c f g o p same next start = by_tests (c == 0) (nat_lt c (units x
     by_tests false false (Some n) same = ap (option_map (λ n. len_utf8 x + n)) same ∙ ap Some (sym (next n))
 
 -- The place in a line is that of its index, whatever stands behind the line.
-line_place_is : (units : ℕ → ℕ) (cs behind : List ℕ) (c : ℕ) → line_place units cs c ≡ option_map (place_of (cs ++ behind)) (index_in_line units cs c)
-line_place_is units [] behind c = refl
-line_place_is units (x ∷ cs) behind c =
-    map_len units x c (place_of (x ∷ (cs ++ behind))) (place_of (cs ++ behind)) (index_in_line units cs (c - units x)) (line_place units cs (c - units x))
-    (line_place_is units cs behind (c - units x))
-    (λ n. length-append (encode x) (encode_utf8_all (take n (cs ++ behind))) ∙ ap (λ l. l + place_of (cs ++ behind) n) (length-encode x)) refl
+line_place_is : (units : ℕ → ℕ) (cs rest_after : List ℕ) (c : ℕ) → line_place units cs c ≡ option_map (place_of (cs ++ rest_after)) (index_in_line units cs c)
+line_place_is units [] rest_after c = refl
+line_place_is units (x ∷ cs) rest_after c =
+    map_len units x c (place_of (x ∷ (cs ++ rest_after))) (place_of (cs ++ rest_after)) (index_in_line units cs (c - units x)) (line_place units cs (c - units x))
+    (line_place_is units cs rest_after (c - units x))
+    (λ n. length-append (encode x) (encode_utf8_all (take n (cs ++ rest_after))) ∙ ap (λ l. l + place_of (cs ++ rest_after) n) (length-encode x)) refl
 
 shifted : (text : List ℕ) (start : ℕ) (o : Option ℕ) → option_map (place_of text) (option_map (λ n. start + n) o) ≡ option_map (λ n. place_of text start + n) (option_map (place_of (drop start text)) o)
 shifted text start None = refl
@@ -67,13 +67,13 @@ resolved units some bytes p utf8 there =
     let start = line_start text p.line in
     let stop = line_stop text p.line in
     let content = take (stop - start) (drop start text) in
-    let behind = drop (stop - start) (drop start text) in
-    let whole : content ++ behind ≡ drop start text = take-append-drop (stop - start) (drop start text) in
+    let rest_after = drop (stop - start) (drop start text) in
+    let whole : content ++ rest_after ≡ drop start text = take-append-drop (stop - start) (drop start text) in
     let found = index_in_line units content p.character in
     ap (option_map (place_of text)) (denoted_in_line units some text p there) ∙
     (shifted text start found ∙
     (ap (λ cs. option_map (λ n. place_of text start + n) (option_map (place_of cs) found)) (sym whole) ∙
-    (ap (option_map (λ n. place_of text start + n)) (sym (line_place_is units content behind p.character)) ∙
+    (ap (option_map (λ n. place_of text start + n)) (sym (line_place_is units content rest_after p.character)) ∙
     ap (λ cs. option_map (λ n. place_of text start + n) (line_place units cs p.character)) (sym (chars_part bytes start stop utf8 (stop_behind text p.line there) (stop_within text p.line there))))))
 
 -- A position past the last line denotes the end.

@@ -6,7 +6,8 @@ use Rattle.std.proofs.lemmas.Bool.{cases_lt, cases_Bool}
 use Rattle.lsp_text.specs.TextLines.{ends_line, numbers_from}
 use Rattle.lsp_text.specs.LineStarts.{Indexes, ends_between, line_starts}
 use Rattle.lsp_text.specs.Starts.{IsLineOf, AreStarts}
-use Rattle.lsp_text.specs.Splice.{IsReplaced, Replaces}
+use Rattle.lsp_text.specs.Splice.{IsReplaced}
+use Rattle.lsp_text.specs.inside.Splice.{Replaces}
 use Rattle.std.specs.Prelude.{Result, Ok, Err, OnOk, OnErr}
 use Rattle.std.specs.Str.{IsUtf8}
 use Rattle.lsp_text.proofs.StartLemmas.{starts_of_text}
@@ -67,19 +68,19 @@ ends_behind text low high k h = ascends_from (suc low) (ends_between text low hi
 
 -- A row in two parts, where the first holds what is at most a place and the second what is above it: the last at most the place ends
 -- the first part.
-count_front : (front behind : List ℕ) (place line : ℕ) → 0 < length front → ((k : ℕ) → k < length front → get_or front k 0 ≤ place) → ((k : ℕ) → k < length behind → place < get_or behind k 0) →
-    IsLineOf (front ++ behind) place line → line + 1 ≡ length front
-count_front front behind place line some low high found =
-    let size : length (front ++ behind) ≡ length front + length behind = length-append front behind in
+count_front : (front rest_after : List ℕ) (place line : ℕ) → 0 < length front → ((k : ℕ) → k < length front → get_or front k 0 ≤ place) → ((k : ℕ) → k < length rest_after → place < get_or rest_after k 0) →
+    IsLineOf (front ++ rest_after) place line → line + 1 ≡ length front
+count_front front rest_after place line some low high found =
+    let size : length (front ++ rest_after) ≡ length front + length rest_after = length-append front rest_after in
     ⊎_elim
     (λ (h : line + 1 < length front).
     let last = length front - 1 in
-    let at : get_or (front ++ behind) last 0 ≡ get_or front last 0 = get_or_append_left front behind 0 last (omega arith) in
+    let at : get_or (front ++ rest_after) last 0 ≡ get_or front last 0 = get_or_append_left front rest_after 0 last (omega arith) in
     absurd (omega (arith, at, low last (omega arith), found.greatest last (omega arith) (omega (arith, size)))))
     (λ (h : length front ≤ line + 1).
     ⊎_elim
     (λ (g : length front < line + 1).
-    let at : get_or (front ++ behind) line 0 ≡ get_or behind (line - length front) 0 = get_or-append_right front behind (length front) line 0 refl (omega arith) in
+    let at : get_or (front ++ rest_after) line 0 ≡ get_or rest_after (line - length front) 0 = get_or-append_right front rest_after (length front) line 0 refl (omega arith) in
     absurd (omega (arith, at, found.at_most, high (line - length front) (omega (arith, size, found.within)))))
     (λ (g : line + 1 ≤ length front). omega arith)
     (cases_lt (length front) (line + 1)))
@@ -88,19 +89,19 @@ count_front front behind place line some low high found =
 -- The starts up to a place, and those behind it.
 pub record IsCut (text : List ℕ) (place count : ℕ) : Type 0 where
   pub front : take count (line_starts text) ≡ 0 ∷ ends_between text 0 place
-  pub behind : drop count (line_starts text) ≡ ends_between text place (length text)
+  pub rest_after : drop count (line_starts text) ≡ ends_between text place (length text)
 
 pub starts_cut : (text : List ℕ) (place count : ℕ) → place ≤ length text → 0 < count → IsLineOf (line_starts text) place (count - 1) → IsCut text place count
 starts_cut text place count within some found =
     let front = 0 ∷ ends_between text 0 place in
-    let behind = ends_between text place (length text) in
-    let whole : line_starts text ≡ front ++ behind = ap (λ xs. 0 ∷ xs) (ends_split text 0 place (length text) (omega arith) within) in
+    let rest_after = ends_between text place (length text) in
+    let whole : line_starts text ≡ front ++ rest_after = ap (λ xs. 0 ∷ xs) (ends_split text 0 place (length text) (omega arith) within) in
     let counted : count - 1 + 1 ≡ length front =
-    count_front front behind place (count - 1) (omega arith) (low place) (ends_behind text place (length text)) (subst (λ xs. IsLineOf xs place (count - 1)) whole found) in
+    count_front front rest_after place (count - 1) (omega arith) (low place) (ends_behind text place (length text)) (subst (λ xs. IsLineOf xs place (count - 1)) whole found) in
     let size : length front ≡ count = omega arith in
     record {
-      front = ap (take count) whole ∙ take_at front behind count size;
-      behind = ap (drop count) whole ∙ drop_at front behind count size;
+      front = ap (take count) whole ∙ take_at front rest_after count size;
+      rest_after = ap (drop count) whole ∙ drop_at front rest_after count size;
     }
   where
     low : (place : ℕ) (k : ℕ) → k < length (0 ∷ ends_between text 0 place) → get_or (0 ∷ ends_between text 0 place) k 0 ≤ place
@@ -177,7 +178,7 @@ module _ (old bytes starts found now : List ℕ) (from to len keep past : ℕ) (
   front_is = ap (take keep) placed.starts_are ∙ cut_keep.front
 
   behind_is : drop past starts ≡ ends_between old to (length old)
-  behind_is = ap (drop past) placed.starts_are ∙ cut_past.behind
+  behind_is = ap (drop past) placed.starts_are ∙ cut_past.rest_after
 
   front_length : length (take keep starts ++ found) ≡ keep + length found
   front_length = omega (arith, length-append (take keep starts) found, length-take keep starts, placed.keep_is.within, placed.some_keep)
@@ -220,15 +221,15 @@ module _ (old bytes starts found now : List ℕ) (from to len keep past : ℕ) (
       (ap (λ xs. (0 ∷ ends_between old 0 (from - 1)) ++ (xs ++ map (λ start. start - to + (from + len)) (ends_between old to (length old)))) placed.found_is ∙
       sym (starts_spliced old bytes from to len placed.is)))))
 
-pub line_of_same : (starts shown : List ℕ) (place told line : ℕ) → shown ≡ starts → told ≡ place → IsLineOf shown told line → IsLineOf starts place line
-line_of_same starts shown place told line same is found = subst (λ xs. IsLineOf xs place line) same (subst (λ p. IsLineOf shown p line) is found)
+pub line_of_same : (starts shown : List ℕ) (place error line : ℕ) → shown ≡ starts → error ≡ place → IsLineOf shown error line → IsLineOf starts place line
+line_of_same starts shown place error line same is found = subst (λ xs. IsLineOf xs place line) same (subst (λ p. IsLineOf shown p line) is found)
 
 pub starts_are_same : (old starts shown : List ℕ) → shown ≡ starts → starts ≡ line_starts old → AreStarts shown
 starts_are_same old starts shown same are = subst AreStarts (sym (same ∙ are)) (line_starts_are old)
 
 -- What was found anew, where nothing stood before.
-pub found_anew : (bytes before found : List ℕ) (low told end : ℕ) → before ≡ [] → told ≡ low → found ≡ before ++ ends_between bytes told end → found ≡ ends_between bytes low end
-found_anew bytes before found low told end empty is found_is = found_is ∙ (ap (λ xs. xs ++ ends_between bytes told end) empty ∙ ap (λ l. ends_between bytes l end) is)
+pub found_anew : (bytes before found : List ℕ) (low error end : ℕ) → before ≡ [] → error ≡ low → found ≡ before ++ ends_between bytes error end → found ≡ ends_between bytes low end
+found_anew bytes before found low error end empty is found_is = found_is ∙ (ap (λ xs. xs ++ ends_between bytes error end) empty ∙ ap (λ l. ends_between bytes l end) is)
 
 -- The same of the row as it was lent, and of the count as it was told.
 module _ (old bytes starts found now shown : List ℕ) (from to len keep past count : ℕ) (placed : IsPlaced old bytes starts found now from to len keep past) (same : shown ≡ now) (counted : count ≡ length found) where
@@ -243,10 +244,10 @@ module _ (old bytes starts found now shown : List ℕ) (from to len keep past co
       omega (arith, here, room)
 
   -- The row that was written back whole has the line starts.
-  pub shown_starts : (new behind : List ℕ) (n : ℕ) → length new ≡ n → new ≡ take (keep + count) shown ++ map (λ start. start - to + (from + len)) (drop (keep + count) shown) →
-      take n (new ++ drop (length new) behind) ≡ line_starts bytes
-  shown_starts new behind n size moved =
-      take_at new (drop (length new) behind) n size ∙
+  pub shown_starts : (new rest_after : List ℕ) (n : ℕ) → length new ≡ n → new ≡ take (keep + count) shown ++ map (λ start. start - to + (from + len)) (drop (keep + count) shown) →
+      take n (new ++ drop (length new) rest_after) ≡ line_starts bytes
+  shown_starts new rest_after n size moved =
+      take_at new (drop (length new) rest_after) n size ∙
       (moved ∙
       (ap (λ m. take (keep + m) shown ++ map (λ start. start - to + (from + len)) (drop (keep + m) shown)) counted ∙
       (ap (λ xs. take (keep + length found) xs ++ map (λ start. start - to + (from + len)) (drop (keep + length found) xs)) same ∙
@@ -262,9 +263,9 @@ replaces_from old lines starts bytes read from to len same indexes utf8 is repla
 
 module _ {T E : Type 0} (starts bytes read : List ℕ) (is : read ≡ bytes) where
   pub indexes_ok : (r : Result T E) → IsUtf8 bytes → length bytes ≤ 2147483648 → OnOk r (starts ≡ line_starts read) → OnOk r (Indexes starts bytes)
-  indexes_ok (Ok x) utf8 size made = indexes_from bytes starts utf8 size (made ∙ ap line_starts is)
-  indexes_ok (Err e) utf8 size made = made
+  indexes_ok (Ok x) utf8 size looks_made = indexes_from bytes starts utf8 size (looks_made ∙ ap line_starts is)
+  indexes_ok (Err e) utf8 size looks_made = looks_made
 
   pub starts_kept : (r : Result T E) (old : List ℕ) → AreStarts old → OnOk r (starts ≡ line_starts read) → OnErr r (starts ≡ old) → AreStarts starts
-  starts_kept (Ok x) old are made kept = subst AreStarts (sym made) (line_starts_are read)
-  starts_kept (Err e) old are made kept = subst AreStarts (sym kept) are
+  starts_kept (Ok x) old are looks_made kept = subst AreStarts (sym looks_made) (line_starts_are read)
+  starts_kept (Err e) old are looks_made kept = subst AreStarts (sym kept) are

@@ -68,7 +68,7 @@ length-line_starts text =
 
 -- What stands in the row of line ends behind index k: an index behind k that ends a line, and which one.
 record IsEnd (text : List ℕ) (k n line end : ℕ) : Type 0 where
-  behind : k < end
+  rest_after : k < end
   within : end ≤ k + n
   ends : ends_line text end ≡ true
   line_is : line_at text end ≡ line
@@ -78,15 +78,15 @@ one_further : (text : List ℕ) (k n : ℕ) (b : Bool) → ends_line text (suc k
     (j : ℕ) → j < length (cond b (suc k ∷ later) later) → IsEnd text k (suc n) (line_at text k + suc j) (get_or (cond b (suc k ∷ later) later) j 0)
 one_further text k n true e later each zero h =
     let l : line_at text (suc k) ≡ suc (line_at text k) = rw e refl in
-    record { behind = omega arith; within = omega arith; ends = e; line_is = omega arith }
+    record { rest_after = omega arith; within = omega arith; ends = e; line_is = omega arith }
 one_further text k n true e later each (suc j) h =
     let l : line_at text (suc k) ≡ suc (line_at text k) = rw e refl in
     let end = each j (omega arith) in
-    record { behind = omega (arith, end.behind); within = omega (arith, end.within); ends = end.ends; line_is = omega (arith, end.line_is) }
+    record { rest_after = omega (arith, end.rest_after); within = omega (arith, end.within); ends = end.ends; line_is = omega (arith, end.line_is) }
 one_further text k n false e later each j h =
     let l : line_at text (suc k) ≡ line_at text k = rw e refl in
     let end = each j h in
-    record { behind = omega (arith, end.behind); within = omega (arith, end.within); ends = end.ends; line_is = omega (arith, end.line_is) }
+    record { rest_after = omega (arith, end.rest_after); within = omega (arith, end.within); ends = end.ends; line_is = omega (arith, end.line_is) }
 
 end_at : (text : List ℕ) (k n j : ℕ) → j < length (filter (ends_line text) (numbers_from (suc k) n)) →
     IsEnd text k n (line_at text k + suc j) (get_or (filter (ends_line text) (numbers_from (suc k) n)) j 0)
@@ -120,7 +120,7 @@ start_at text (suc j) h =
     let size : suc (length row) ≡ suc (line_ends text) = length-line_starts text in
     let end : IsEnd text 0 (length text - 0) (0 + suc j) (get_or row j 0) = end_at text 0 (length text - 0) j (omega arith) in
     let line_is : line_at text (get_or row j 0) ≡ suc j = omega (arith, end.line_is) in
-    sym (ap (line_start text) (sym line_is) ∙ end_starts text (get_or row j 0) (omega (arith, end.within)) (omega (arith, end.behind)) end.ends)
+    sym (ap (line_start text) (sym line_is) ∙ end_starts text (get_or row j 0) (omega (arith, end.within)) (omega (arith, end.rest_after)) end.ends)
 
 -- Where a later line starts, an index ends the line before it.
 pub record IsNextStart (text : List ℕ) (line next : ℕ) : Type 0 where
@@ -134,5 +134,5 @@ next_start text line h =
     let row = filter (ends_line text) (numbers_from 1 (length text - 0)) in
     let size : suc (length row) ≡ suc (line_ends text) = length-line_starts text in
     let end : IsEnd text 0 (length text - 0) (0 + suc line) (get_or row line 0) = end_at text 0 (length text - 0) line (omega arith) in
-    let found : IsNextStart text line (get_or row line 0) = record { some = omega (arith, end.behind); within = omega (arith, end.within); ends = end.ends; line_is = omega (arith, end.line_is) } in
+    let found : IsNextStart text line (get_or row line 0) = record { some = omega (arith, end.rest_after); within = omega (arith, end.within); ends = end.ends; line_is = omega (arith, end.line_is) } in
     subst (IsNextStart text line) (start_at text (suc line) h) found

@@ -5,7 +5,8 @@ use Rattle.lsp_text.specs.Units.{units_in, name_of, encoding_named}
 
 -- An encoding is found by its name, and by no other.
 abbrev pub NameLaw : Type 0
-NameLaw = (name : List ℕ) (encoding : Encoding) → (encoding_named name ≡ Some encoding) ↔ (name ≡ name_of encoding)
+NameLaw = (name : List ℕ) (encoding : Encoding) →
+    (encoding_named name ≡ Some encoding) ↔ (name ≡ name_of encoding)
 
 -- A character has 1 to 4 units.
 abbrev pub UnitLaw : Type 0

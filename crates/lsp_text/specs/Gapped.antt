@@ -1,9 +1,9 @@
--- A text with a gap where it is changed.
-use Rattle.std.specs.Prelude.{ℕ, ◌≡◌, ◌-◌, ◌<◌, ◌≤◌, true, List, ◌++◌, length, map, slice_index}
+-- A text with a gap at its last change.
+use Rattle.std.specs.Prelude.{ℕ, ◌≡◌, ◌-◌, ◌<◌, ◌≤◌, ◌==◌, ◌||◌, true, List, ◌++◌, length, map}
 use Rattle.std.specs.Str.{is_utf8}
 use Rattle.lsp_text.specs.LineStarts.{line_starts}
 
--- A row with a gap: what is before it, and what is after it.
+-- A list with a gap: the items before it, and the items after it.
 pub record Gapped : Type 0 where
   pub front : List ℕ
   pub back : List ℕ
@@ -12,15 +12,12 @@ pub record Gapped : Type 0 where
 abbrev pub without_gap : Gapped → List ℕ
 without_gap bytes = bytes.front ++ bytes.back
 
--- The line starts of a text that has `end` bytes: those before the gap as they are, and those after it by their distance to the end.
+-- The line starts of a text of `end` bytes: those before the gap as they are, those after it by
+-- their distance to the end.
 abbrev pub starts_of_both : ℕ → List ℕ → List ℕ → List ℕ
 starts_of_both end before after = before ++ map (λ (distance : ℕ). end - distance) after
 
--- All are at most `end`.
-abbrev pub AreWithin : ℕ → List ℕ → Type 0
-AreWithin end starts = (k : ℕ) → k < length starts → slice_index starts k ≤ end
-
--- The bytes of a text, with the line starts that are kept for it on both sides of a gap.
+-- The bytes of a text, and the line starts that are kept for it on both sides of a gap.
 pub record IsGapText (bytes before after : List ℕ) : Type 0 where
   pub utf8 : is_utf8 bytes ≡ true
   pub size : length bytes ≤ 2147483648

@@ -1,4 +1,4 @@
--- No byte has more than four units.
+-- No byte counts for more than four units.
 use Rattle.std.specs.Prelude.{ℕ, ◌≤◌}
 use Rattle.std.proofs.Common.{arith}
 use Rattle.std.proofs.lemmas.Bool.Decides.{nat_tests}

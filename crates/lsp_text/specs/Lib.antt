@@ -14,3 +14,4 @@ pub mod PlaceLaws
 pub mod EncodingLaws
 pub mod PositionLaws
 pub mod Examples
+pub mod inside

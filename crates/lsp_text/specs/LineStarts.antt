@@ -1,26 +1,27 @@
--- The line starts of a text, and what it means that they were kept for it.
+-- The line starts of a text, and what it means that they are kept for it.
 use Rattle.std.specs.Prelude.{ℕ, suc, ◌≡◌, ◌-◌, ◌≤◌, false, List, ◌∷◌, length, map, filter}
 use Rattle.std.specs.Str.{chars}
 use Rattle.lsp_text.specs.Text.{place_of}
 use Rattle.lsp_text.specs.TextLines.{ends_line, splits_crlf, numbers_from}
 
--- The indexes behind `low`, up to `high`, that end a line.
+-- The indexes after `low`, up to `high`, that end a line.
 abbrev pub ends_between : List ℕ → ℕ → ℕ → List ℕ
 ends_between text low high = filter (ends_line text) (numbers_from (suc low) (high - low))
 
--- The line starts, in order: the first index, and each that ends a line.
+-- The line starts as indexes, in order: 0, and each index that ends a line.
 abbrev pub line_starts : List ℕ → List ℕ
 line_starts text = 0 ∷ ends_between text 0 (length text)
 
--- their places
+-- Their byte offsets.
 abbrev pub start_places : List ℕ → List ℕ
 start_places text = map (place_of text) (line_starts text)
 
--- The lines are those of the text with these bytes, which has at most 2,147,483,648 of them.
+-- The lines are those of the text with these bytes, and there are at most 2,147,483,648 bytes.
 pub record Indexes (lines bytes : List ℕ) : Type 0 where
   pub starts : lines ≡ start_places (chars bytes)
   pub size : length bytes ≤ 2147483648
 
--- A place at which a position may stand: that of an index which splits no CRLF.
+-- The byte offset is one that a position can denote: that of an index which splits no CRLF.
 abbrev pub IsPlace : List ℕ → ℕ → Type 0
-IsPlace text place = (k : ℕ) × (k ≤ length text) × (splits_crlf text k ≡ false) × (place_of text k ≡ place)
+IsPlace text place = (k : ℕ) × (k ≤ length text) × (splits_crlf text k ≡ false)
+    × (place_of text k ≡ place)

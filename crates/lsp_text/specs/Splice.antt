@@ -1,7 +1,7 @@
--- A text in which some bytes were replaced.
+-- A text after an edit, beside the lines of the text before it.
 use Rattle.std.specs.Prelude.{ℕ, ◌≡◌, ◌+◌, ◌≤◌, List, length, take, drop}
 use Rattle.std.specs.Str.{IsUtf8}
-use Rattle.lsp_text.specs.LineStarts.{line_starts, Indexes}
+use Rattle.lsp_text.specs.LineStarts.{Indexes}
 
 -- `bytes` is `old` with the bytes from `from` to `to` replaced by `len` others.
 pub record IsReplaced (old bytes : List ℕ) (from to len : ℕ) : Type 0 where
@@ -11,15 +11,9 @@ pub record IsReplaced (old bytes : List ℕ) (from to len : ℕ) : Type 0 where
   pub front : take from bytes ≡ take from old
   pub back : drop (from + len) bytes ≡ drop to old
 
--- The lines are those of a text that became `bytes` so.
+-- The lines are those of a text that such an edit changed into `bytes`.
 pub record IsSpliced (lines bytes : List ℕ) (from to len : ℕ) : Type 0 where
   pub old : List ℕ
   pub utf8 : IsUtf8 old
   pub indexed : Indexes lines old
-  pub replaced : IsReplaced old bytes from to len
-
--- The same of the line starts of bytes.
-pub record Replaces (starts bytes : List ℕ) (from to len : ℕ) : Type 0 where
-  pub old : List ℕ
-  pub starts_are : starts ≡ line_starts old
   pub replaced : IsReplaced old bytes from to len

@@ -8,7 +8,8 @@ use std::fmt;
 use std::str::FromStr;
 use thiserror::Error;
 
-/// What a position's character counts (LSP 3.17, PositionEncodingKind). It is shown by the name that the protocol has for it.
+/// The unit that a position's character counts (LSP 3.17, PositionEncodingKind). `Display` shows
+/// the protocol's name for it.
 #[derive(Clone, Copy, Debug, Default, PartialEq, Eq, Hash)]
 pub enum Encoding {
     /// Bytes of UTF-8.
@@ -16,12 +17,12 @@ pub enum Encoding {
     /// 16-bit code units of UTF-16, the protocol's default.
     #[default]
     Utf16,
-    /// Scalar values.
+    /// Scalar values, that is code points.
     Utf32,
 }
 
 impl Encoding {
-    /// The name by which the protocol knows it.
+    /// Returns the protocol's name for it, as `utf-16`.
     pub fn name(self) -> &'static str
         ensures { result.now ≡ name_of self }
     {
@@ -32,7 +33,8 @@ impl Encoding {
         }
     }
 
-    /// The encoding with this name, which is compared byte for byte. Any other name gives `None`.
+    /// Returns the encoding with this name, which is compared byte for byte, or `None` for any
+    /// other name.
     pub fn of_name(name: &str) -> Option<Self>
         ensures { result ≡ encoding_named name.now }
     {

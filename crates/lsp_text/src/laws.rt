@@ -1,4 +1,4 @@
-//! Laws over the definitions alone, that no call of this crate makes by itself.
+//! Laws that follow from the definitions alone, for proofs over positions.
 
 ghost use Rattle.std.specs.Prelude.{ℕ, List};
 ghost use Rattle.lsp_text.specs.EncodingLaws.{NameLaw, UnitLaw};
@@ -9,11 +9,19 @@ ghost use Rattle.lsp_text.specs.PlaceLaws.{BytesBeforeLaw, BytesBetweenLaw, Byte
 ghost use Rattle.lsp_text.specs.PositionLaws.{DenotesLaw, WholeLaw, NearLaw, AloneLaw, ExactLaw, PastLineLaw, PastTextLaw};
 ghost use Rattle.lsp_text.specs.PositionLaws.{FoundLaw};
 
-/// What holds of positions in every text, whatever units its characters have, one at least. It does nothing: its contract says that
-/// an exact position denotes its index, that what a position denotes is an index of the text that splits no CRLF, that an exact
-/// position goes by the characters before it alone and belongs to one index, that a position which isn't past an end is the exact
-/// position of what it denotes, so that nothing is rounded, that one past a line's content denotes its end, and that one past the
-/// last line denotes the end of the text. It also says what the definitions give on small texts.
+/// Promises what is true of positions in every text (LSP 3.17, Position). The call itself does
+/// nothing.
+///
+/// - An exact position denotes its index, and belongs to no other. It depends only on the
+///   characters before it.
+/// - What a position denotes is an index of the text that splits no CRLF.
+/// - A position that isn't past an end is the exact position of what it denotes: nothing is
+///   rounded.
+/// - A position past a line's content denotes the end of that content, one past the last line the
+///   end of the text.
+/// - `examples`: what the definitions say of some small texts.
+///
+/// The laws are for any units, if each character has at least one.
 pub fn position_laws()
     ensures denotes { DenotesLaw }
     ensures whole { WholeLaw }
@@ -25,9 +33,14 @@ pub fn position_laws()
     ensures examples { HoldsOnExamples }
 {}
 
-/// What holds of the lines of every text: together they are the text, a CRLF is one line end, the kept starts are the byte offsets of the
-/// lines' first indexes, and the line that `line_of` finds among them is the line of the index at that offset. Which indexes split a
-/// CRLF is decided by the characters around them, and none from the end of the text on does. It does nothing.
+/// Promises what is true of the lines of every text (LSP 3.17, Position). The call itself does
+/// nothing.
+///
+/// - The lines together are the text, and a CRLF is one line end.
+/// - The kept starts are the byte offsets of the lines' first indexes.
+/// - The line that `line_of` finds among them is the line of the index at that offset.
+/// - Whether an index splits a CRLF depends only on the characters around it. None from the end of
+///   the text on does.
 pub fn line_laws()
     ensures parts { (text : List ℕ) → LinesPart text }
     ensures starts { StartsLaw }
@@ -36,9 +49,12 @@ pub fn line_laws()
     ensures past_end { PastEndLaw }
 {}
 
-/// What holds of the byte offsets of every text's indexes: they rise strictly, from 0 to the number of bytes, and are the
-/// boundaries of characters, each the offset of exactly one index. The bytes before, between and after such offsets are those of the
-/// characters before, between and after the indexes. It does nothing.
+/// Promises what is true of the byte offsets of a text's indexes. The call itself does nothing.
+///
+/// - They rise strictly, from 0 to the number of bytes.
+/// - They are the boundaries of characters, and each is the offset of exactly one index.
+/// - The bytes before, between and after such offsets are those of the characters before, between
+///   and after the indexes.
 pub fn place_laws()
     ensures rising { RisingLaw }
     ensures ends { EndsLaw }
@@ -50,7 +66,8 @@ pub fn place_laws()
     ensures further { FurtherLaw }
 {}
 
-/// What holds of the encodings: each is found by its name and by no other, and a character has 1 to 4 units. It does nothing.
+/// Promises that each encoding is found by its name and by no other, and that a character has 1 to
+/// 4 units. The call itself does nothing.
 pub fn encoding_laws()
     ensures name { NameLaw }
     ensures units { UnitLaw }

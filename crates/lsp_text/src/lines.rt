@@ -10,19 +10,23 @@ ghost use Rattle.lsp_text.specs.Starts.{AreStarts};
 ghost use Rattle.lsp_text.specs.Units.{units_in};
 ghost use Rattle.lsp_text.specs.Positions.{exact_position, denoted};
 
+pub(crate) mod ends;
+pub(crate) mod splice;
+pub(crate) mod starts;
+
 use crate::encoding::Encoding;
-use crate::ends::{is_inside_crlf, push_ends};
-use crate::exact::position_in;
+use crate::lines::ends::{is_inside_crlf, push_ends};
+use crate::lines::splice::splice_starts;
+use crate::lines::starts::{Looks, Starts};
 use crate::position::Position;
-use crate::resolve::{InsideCharacter, resolve_in};
-use crate::splice::splice_starts;
-use crate::starts::{Looks, Starts};
-use crate::units::{Utf8, Utf16, Utf32};
+use crate::position::exact::position_in;
+use crate::position::resolve::{InsideCharacter, resolve_in};
+use crate::position::units::{Utf8, Utf16, Utf32};
 use std::alloc::{AllocError, Global};
 use std::marker::Model;
 
-/// The lines of a text, by the byte offsets where they start (LSP 3.17, Position: `\n`, `\r\n` and `\r` end a line). It holds four bytes
-/// a line, and not the text.
+/// The lines of a text, as the byte offsets where they start (LSP 3.17, Position: `\n`, `\r\n` and
+/// `\r` end a line). It has four bytes for each line, and doesn't contain the text.
 #[derive(Debug, Drop)]
 pub struct Lines {
     starts: Vec<u32>,
@@ -40,7 +44,8 @@ impl Model for Lines {
 }
 
 impl Lines {
-    /// The lines of a text of at most 2,147,483,648 bytes, in time linear in them. Fails only where memory runs out.
+    /// Finds the lines of a text of at most 2,147,483,648 bytes. Fails only if it is out of memory.
+    /// Linear in the text.
     pub fn new(alloc: Global, text: &str) -> Result<Self, AllocError>
         requires { length text.now ≤ 2147483648 }
         ensures { IfOk result (λ lines. Indexes lines text.now) }
@@ -52,7 +57,7 @@ impl Lines {
         Ok(Lines { starts })
     }
 
-    /// Lines of their starts.
+    /// Makes lines of their starts.
     pub(crate) fn of_starts(starts: Vec<u32>) -> Self
         requires { AreStarts starts.items }
         ensures { result ≡ starts.items }
@@ -60,14 +65,14 @@ impl Lines {
         Lines { starts }
     }
 
-    /// The line starts, handed over.
+    /// Returns the line starts themselves, without a copy.
     pub(crate) fn into_starts(self) -> Vec<u32>
         ensures { result.items ≡ self }
     {
         self.starts
     }
 
-    /// A copy. Costs four bytes a line.
+    /// Returns a copy, or fails if it is out of memory. Costs four bytes for each line.
     pub fn copied(&self, alloc: Global) -> Result<Self, AllocError>
         ensures { IfOk result (λ lines. lines ≡ self.now) }
     {
@@ -76,24 +81,27 @@ impl Lines {
         Ok(Lines { starts })
     }
 
-    /// How many lines there are: one more than line ends, at least one. In constant time.
+    /// Returns how many lines there are: one more than line ends, so at least one. In constant
+    /// time.
     pub fn count(&self) -> usize
         ensures count { result ≡ length self.now }
-        ensures line_ends { (text : List ℕ) → Indexes self.now text → result ≡ line_ends (chars text) + 1 }
+        ensures line_ends { (text : List ℕ) → Indexes self.now text →
+            result ≡ line_ends (chars text) + 1 }
     {
         self.starts.len()
     }
 
-    /// The line starts, to be looked up with each look counted. Nothing is copied.
+    /// Returns the line starts for `line_of`, which counts each start that it reads. Nothing is
+    /// copied.
     pub fn looks(&self) -> Looks<'_>
         ensures starts { ⟦<Looks<'static> as Starts>⟧.starts result ≡ self.now }
-        ensures made { ⟦<Looks<'static> as Starts>⟧.looks result ≡ 0 }
+        ensures looks_made { ⟦<Looks<'static> as Starts>⟧.looks result ≡ 0 }
     {
         Looks::new(&self.starts)
     }
 
-    /// Whether a position can denote this byte offset: it is a boundary of characters that splits no CRLF.
-    /// In constant time.
+    /// Returns whether a position can denote this byte offset: it is a boundary of characters that
+    /// splits no CRLF. In constant time.
     pub fn is_place(&self, text: &str, place: usize) -> bool
         ensures place { IsTrue result ↔ IsPlace (chars text.now) place }
         ensures boundary { IsTrue result → IsCharBoundary text.now place }
@@ -101,9 +109,12 @@ impl Lines {
         text.is_char_boundary(place) && !is_inside_crlf(text.as_bytes(), place)
     }
 
-    /// The byte offset that a position denotes in the text that the lines index (LSP 3.17, Position): the end of the text, if it has no such
-    /// line; the end of the line's content, if that has no more units than the position's character. It is refused where the character
-    /// lies inside a character of the text. It costs the line's text up to the character, in UTF-8 nothing.
+    /// Returns the byte offset that a position denotes in the text that these lines index (LSP
+    /// 3.17, Position).
+    ///
+    /// A position past the last line denotes the end of the text, one past a line's content the end
+    /// of that content. A position inside a character is an error. Costs the line's text up to the
+    /// position; in UTF-8 the time is constant.
     pub fn resolve(
         &self,
         text: &str,
@@ -111,7 +122,9 @@ impl Lines {
         position: Position,
     ) -> Result<usize, InsideCharacter>
         requires { Indexes self.now text.now }
-        ensures value { result_ok result ≡ option_map (place_of (chars text.now)) (denoted (units_in encoding) (chars text.now) position) }
+        ensures value { result_ok result
+            ≡ option_map (place_of (chars text.now))
+            (denoted (units_in encoding) (chars text.now) position) }
         ensures place { IfOk result (IsPlace (chars text.now)) }
         ensures boundary { IfOk result (IsCharBoundary text.now) }
     {
@@ -123,14 +136,16 @@ impl Lines {
         }
     }
 
-    /// The exact position of a byte offset in the text that the lines index. It costs a binary search over the lines, and the line's text up
-    /// to the offset, in UTF-8 the search alone.
+    /// Returns the exact position of a byte offset in the text that these lines index (LSP 3.17,
+    /// Position). Costs a binary search over the lines, and the line's text up to the offset; in
+    /// UTF-8 only the search.
     pub fn position(&self, text: &str, encoding: Encoding, place: usize) -> Position
         requires indexed { Indexes self.now text.now }
         requires place { IsPlace (chars text.now) place }
         ensures exact { (k : ℕ) → k ≤ length (chars text.now) → place_of (chars text.now) k ≡ place
             → result ≡ exact_position (units_in encoding) (chars text.now) k }
-        ensures resolves { option_map (place_of (chars text.now)) (denoted (units_in encoding) (chars text.now) result) ≡ Some place }
+        ensures resolves { option_map (place_of (chars text.now))
+            (denoted (units_in encoding) (chars text.now) result) ≡ Some place }
     {
         let bytes = text.as_bytes();
         match encoding {
@@ -140,9 +155,12 @@ impl Lines {
         }
     }
 
-    /// Makes the lines those of `text`, which is the text that they indexed with the bytes from `from` to `to` replaced by `len`
-    /// others. Memory is taken first: where it is refused nothing changes. It costs two binary searches, a search of the `len` bytes
-    /// for line ends, and one pass of additions over the starts that follow; where lines come or go these are also moved once.
+    /// Updates the lines after an edit: `text` is the indexed text with the bytes from `from` to
+    /// `to` replaced by `len` others.
+    ///
+    /// Out of memory changes nothing. Costs two binary searches, a search of the `len` bytes for
+    /// line ends, and an addition for each later start. If the number of lines changes, the later
+    /// starts are also moved once.
     pub fn splice(
         &mut self,
         text: &str,

@@ -1,6 +1,9 @@
-//! The definitions as a plain program: a slow scan over the characters of a text, a function for each definition of `TextLines`,
-//! `Units` and `Positions` in `specs/`. It is there to be read, and `Lines` is compared with it. An index is counted in characters, and
-//! goes from 0 to their number. Nothing is kept or allocated. A position costs up to the square of the text's length, either way.
+//! The definitions as a plain and slow program over the characters of a text.
+//!
+//! It has a function for each definition of `TextLines`, `Units` and `Positions` in `specs/`, to be
+//! read, and to be compared with `Lines`. An index is counted in characters, from 0 to their
+//! number. Nothing is stored or allocated. A position costs up to the square of the text's length,
+//! either way.
 
 ghost use Rattle.std.specs.Prelude.{◌≡◌, ◌≤◌, length, encode_utf8_all, option_map};
 ghost use Rattle.lsp_text.specs.Text.{place_of as spec_place_of};
@@ -10,9 +13,10 @@ ghost use Rattle.lsp_text.specs.Positions.{exact_position as spec_exact_position
 
 use crate::encoding::Encoding;
 use crate::position::Position;
-use crate::units::{Units, Utf8, Utf16, Utf32};
+use crate::position::units::{Units, Utf8, Utf16, Utf32};
 
-/// Whether an index ends a line: a line feed is before it, or a carriage return with no line feed after it.
+/// Returns whether an index ends a line: a line feed is before it, or a carriage return with no
+/// line feed after it.
 pub fn ends_line(text: &[char], index: usize) -> bool
     requires { index ≤ length text.now }
     ensures { result ≡ spec_ends_line text.now index }
@@ -27,7 +31,7 @@ pub fn ends_line(text: &[char], index: usize) -> bool
     }
 }
 
-/// Whether an index lies between a carriage return and a line feed.
+/// Returns whether an index is between a carriage return and a line feed.
 pub fn splits_crlf(text: &[char], index: usize) -> bool
     requires { index ≤ length text.now }
     ensures { result ≡ spec_splits_crlf text.now index }
@@ -35,7 +39,7 @@ pub fn splits_crlf(text: &[char], index: usize) -> bool
     index > 0 && index < text.len() && text[index - 1] == '\r' && text[index] == '\n'
 }
 
-/// The line of an index: how many indexes up to it end a line.
+/// Returns the line of an index: how many indexes up to it end a line.
 pub fn line_at(text: &[char], index: usize) -> usize
     requires { index ≤ length text.now }
     ensures value { result ≡ spec_line_at text.now index }
@@ -50,14 +54,15 @@ pub fn line_at(text: &[char], index: usize) -> usize
     line
 }
 
-/// How many line ends a text has. It has one line more.
+/// Returns how many line ends a text has. It has one line more.
 pub fn line_ends(text: &[char]) -> usize
     ensures { result ≡ spec_line_ends text.now }
 {
     line_at(text, text.len())
 }
 
-/// Whether an index belongs to the content of a line: it is of that line, and splits no CRLF.
+/// Returns whether an index belongs to the content of a line: it is of that line, and splits no
+/// CRLF.
 pub fn is_in_content(text: &[char], line: usize, index: usize) -> bool
     requires { index ≤ length text.now }
     ensures { result ≡ spec_is_in_content text.now line index }
@@ -65,7 +70,7 @@ pub fn is_in_content(text: &[char], line: usize, index: usize) -> bool
     line_at(text, index) == line && !splits_crlf(text, index)
 }
 
-/// The first index of a line's content; 0 if the text has no such line.
+/// Returns the first index of a line's content, or 0 if the text has no such line.
 pub fn line_start(text: &[char], line: usize) -> usize
     ensures { result ≡ spec_line_start text.now line }
 {
@@ -77,7 +82,7 @@ pub fn line_start(text: &[char], line: usize) -> usize
     0
 }
 
-/// The last index of a line's content; 0 if the text has no such line.
+/// Returns the last index of a line's content, or 0 if the text has no such line.
 pub fn line_stop(text: &[char], line: usize) -> usize
     ensures value { result ≡ spec_line_stop text.now line }
     ensures within { result ≤ length text.now }
@@ -91,7 +96,7 @@ pub fn line_stop(text: &[char], line: usize) -> usize
     stop
 }
 
-/// How many units a character has in an encoding.
+/// Returns how many units a character has in an encoding.
 pub fn units(encoding: Encoding, character: char) -> u32
     ensures { result ≡ units_in encoding character }
 {
@@ -102,7 +107,8 @@ pub fn units(encoding: Encoding, character: char) -> u32
     }
 }
 
-/// The units of the characters from one index to another, in a text of at most 2,147,483,648 bytes of UTF-8.
+/// Returns the units of the characters from one index to another, in a text of at most
+/// 2,147,483,648 bytes of UTF-8.
 pub fn units_between(text: &[char], encoding: Encoding, from: usize, to: usize) -> usize
     requires within { to ≤ length text.now }
     requires size { length (encode_utf8_all text.now) ≤ 2147483648 }
@@ -116,7 +122,8 @@ pub fn units_between(text: &[char], encoding: Encoding, from: usize, to: usize) 
     count
 }
 
-/// The byte offset of an index: how many bytes of UTF-8 are before it. The text has at most 2,147,483,648 of them.
+/// Returns the byte offset of an index: how many bytes of UTF-8 are before it. The text has at most
+/// 2,147,483,648 of them.
 pub fn place_of(text: &[char], index: usize) -> usize
     requires within { index ≤ length text.now }
     requires size { length (encode_utf8_all text.now) ≤ 2147483648 }
@@ -125,7 +132,7 @@ pub fn place_of(text: &[char], index: usize) -> usize
     units_between(text, Encoding::Utf8, 0, index)
 }
 
-/// The exact position of an index of a text of at most 2,147,483,648 bytes of UTF-8.
+/// Returns the exact position of an index of a text of at most 2,147,483,648 bytes of UTF-8.
 pub fn exact_position(text: &[char], encoding: Encoding, index: usize) -> Position
     requires within { index ≤ length text.now }
     requires size { length (encode_utf8_all text.now) ≤ 2147483648 }
@@ -139,7 +146,8 @@ pub fn exact_position(text: &[char], encoding: Encoding, index: usize) -> Positi
     }
 }
 
-/// The index that a position denotes in a text of at most 2,147,483,648 bytes of UTF-8; `None` inside a character.
+/// Returns the index that a position denotes in a text of at most 2,147,483,648 bytes of UTF-8, or
+/// `None` inside a character.
 pub fn denoted(text: &[char], encoding: Encoding, position: Position) -> Option<usize>
     requires { length (encode_utf8_all text.now) ≤ 2147483648 }
     ensures { result ≡ spec_denoted (units_in encoding) text.now position }
@@ -163,10 +171,12 @@ pub fn denoted(text: &[char], encoding: Encoding, position: Position) -> Option<
     None
 }
 
-/// The byte offset that a position denotes in a text of at most 2,147,483,648 bytes of UTF-8; `None` inside a character.
+/// Returns the byte offset that a position denotes in a text of at most 2,147,483,648 bytes of
+/// UTF-8, or `None` inside a character.
 pub fn resolved(text: &[char], encoding: Encoding, position: Position) -> Option<usize>
     requires { length (encode_utf8_all text.now) ≤ 2147483648 }
-    ensures { result ≡ option_map (spec_place_of text.now) (spec_denoted (units_in encoding) text.now position) }
+    ensures { result
+        ≡ option_map (spec_place_of text.now) (spec_denoted (units_in encoding) text.now position) }
 {
     let index = denoted(text, encoding, position)?;
     Some(place_of(text, index))

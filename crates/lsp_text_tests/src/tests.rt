@@ -1,4 +1,5 @@
-//! Positions of small texts in the three encodings, and lines after an edit, against lines made from scratch.
+//! Positions of small texts in the three encodings. Lines after an edit are compared with those of
+//! the new text.
 ghost use Rattle.std.specs.Prelude.{◌≤◌, ◌+◌, IfOk, length, string_bytes};
 ghost use Rattle.lsp_text.specs.LineStarts.{Indexes};
 ghost use Rattle.lsp_text.specs.Splice.{IsReplaced};
@@ -224,7 +225,7 @@ static FOUND: [(&str, usize, usize, usize); 3] = [
 /// The same in a text of a hundred lines.
 static FOUND_IN_HUNDRED: [(usize, usize, usize); 3] = [(50, 50, 7), (100, 100, 7), (1000, 100, 7)];
 
-/// Is this the line of a byte offset, and is it found by reading so few line starts?
+/// Returns whether this is the line of a byte offset, and is found by reading so few line starts.
 fn is_found(
     alloc: Global,
     text: &str,
@@ -237,10 +238,10 @@ fn is_found(
     }
     let lines = Lines::new(alloc, text)?;
     let mut looks = lines.looks();
-    if looks.made() != 0 {
+    if looks.looks_made() != 0 {
         return Ok(false);
     }
-    Ok(line_of(&mut looks, place) == line && looks.made() <= most)
+    Ok(line_of(&mut looks, place) == line && looks.looks_made() <= most)
 }
 
 #[test]
@@ -261,7 +262,7 @@ fn a_line_is_found_with_few_looks(rt: HostRuntime) -> Result<(), Fail> {
     Ok(())
 }
 
-/// A text, where an edit begins and ends, what is put in, and how many lines there are then.
+/// A text, where an edit begins and ends, what it inserts, and how many lines there are then.
 type Splice = (&'static str, usize, usize, &'static str, usize);
 
 static SPLICES: [Splice; 10] = [
@@ -277,7 +278,7 @@ static SPLICES: [Splice; 10] = [
     ("a\u{1F600}\r\n\u{1F600}b", 5, 7, "\u{1F600}", 1),
 ];
 
-/// The text after an edit.
+/// Returns the text after an edit.
 fn edited(
     alloc: Global,
     old: &str,
@@ -285,8 +286,10 @@ fn edited(
     to: usize,
     inserted: &str,
 ) -> Result<String, AllocError>
-    ensures replaced { IfOk result (λ text. IsReplaced old.now (string_bytes text) from to (length inserted.now)) }
-    ensures size { IfOk result (λ text. length (string_bytes text) ≤ length old.now + length inserted.now) }
+    ensures replaced { IfOk result
+        (λ text. IsReplaced old.now (string_bytes text) from to (length inserted.now)) }
+    ensures size { IfOk result
+        (λ text. length (string_bytes text) ≤ length old.now + length inserted.now) }
 {
     if from > to || !old.is_char_boundary(from) || !old.is_char_boundary(to) {
         return Err(AllocError);
@@ -298,7 +301,7 @@ fn edited(
     Ok(text)
 }
 
-/// Whether both have the same starts.
+/// Returns whether both have the same starts.
 fn same_lines(lines: &Lines, others: &Lines) -> bool {
     let mut looks = lines.looks();
     let mut other_looks = others.looks();
@@ -316,7 +319,7 @@ fn same_lines(lines: &Lines, others: &Lines) -> bool {
     true
 }
 
-/// Does an edit leave the lines of the new text?
+/// Returns whether `splice` leaves the lines of the new text.
 fn is_spliced(alloc: Global, row: &Splice) -> Result<bool, AllocError> {
     let (old, from, to, inserted, count) = *row;
     if old.len() > 1000 || inserted.len() > 1000 {
@@ -339,7 +342,7 @@ fn spliced_lines_are_those_of_the_new_text(rt: HostRuntime) -> Result<(), Fail> 
     Ok(())
 }
 
-/// 20 bytes, again and again.
+/// Returns a line of the same 20 bytes, again and again.
 fn long_line(alloc: Global) -> Result<String, AllocError> {
     let mut text = String::new(alloc);
     for _ in 0..50000 {
@@ -351,10 +354,11 @@ fn long_line(alloc: Global) -> Result<String, AllocError> {
 /// An encoding, and the units of these 20 bytes.
 static BLOCKS: [(Encoding, u32); 3] = [(UTF8, 20), (UTF16, 15), (UTF32, 14)];
 
-/// How many times they come before a position.
+/// How many times these bytes are repeated before a position.
 static TURNS: [u32; 6] = [0, 1, 3, 7, 49999, 50000];
 
-/// Is the place after so many turns at so many units, and back?
+/// Returns whether the byte offset after so many turns has so many units before it, by `resolve`
+/// and by `position`.
 fn is_counted(lines: &Lines, text: &str, encoding: Encoding, units: u32, turns: u32) -> bool
     requires indexed { Indexes lines.now text.now }
     requires size { length text.now ≤ 2147483648 }
@@ -369,7 +373,7 @@ fn is_counted(lines: &Lines, text: &str, encoding: Encoding, units: u32, turns: 
         && lines.position(text, encoding, place) == position
 }
 
-/// The first encoding and turns that are counted wrongly.
+/// Returns the first encoding and turns that are counted wrongly.
 fn wrong_count(lines: &Lines, text: &str) -> Option<(Encoding, u32)>
     requires indexed { Indexes lines.now text.now }
     requires size { length text.now ≤ 2147483648 }
@@ -389,7 +393,7 @@ const INSIDE: Position = Position {
     character: 49999 * 15 + 11,
 };
 
-/// Is a long line counted in blocks, also up to a position inside a character?
+/// Returns whether a long line is counted in blocks, also up to a position inside a character.
 fn counts_blocks(alloc: Global, text: &str) -> Result<bool, AllocError> {
     if text.len() > 2147483648 {
         return Ok(false);

@@ -1,11 +1,11 @@
--- What the line of a fault says.
+-- The text of a fault's line.
 use Rattle.std.specs.Prelude.{ℕ, List, ◌++◌, codes, decimal}
 use Rattle.lsp_frame.specs.declared.fault.FrameFault.{FrameFault}
 use Rattle.lsp_frame.specs.declared.fault.FrameFault.TheVariants as frame
 use Rattle.lsp_stream.specs.declared.fault.EngineFault.{EngineFault}
 use Rattle.lsp_stream.specs.declared.fault.EngineFault.TheVariants as engine
 
--- a fault of a frame: its number, and the byte offset on which it was decided
+-- A fault of a frame: its number, and the byte offset at which it is certain.
 abbrev pub frame_text : FrameFault → List ℕ
 frame_text (frame.BadHeader place) = codes "frame fault F1 at " ++ decimal place
 frame_text (frame.HeaderTooLong place) = codes "frame fault F2 at " ++ decimal place
@@ -17,6 +17,7 @@ frame_text (frame.BadCharset place) = codes "frame fault F7 at " ++ decimal plac
 frame_text frame.Failed = codes "frame fault F8"
 frame_text frame.NoMemory = codes "out of memory"
 
+-- A fault of a run, with its byte offset in the input if it has one.
 abbrev pub fault_text : EngineFault → List ℕ
 fault_text engine.Read = codes "read fault"
 fault_text engine.Write = codes "write fault"

@@ -1,3 +1,3 @@
-pub mod CommandLine
 pub mod FaultText
 pub mod Run
+pub mod inside

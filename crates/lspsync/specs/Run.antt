@@ -1,4 +1,4 @@
--- What the program does with a call.
+-- What the program writes, and the status that it ends with.
 use Rattle.std.specs.Prelude.{ℕ, ◌≡◌, ◌⊎◌, ◌++◌, ◌∷◌, [], Bool, true, false, List, codes, Option, Some, None, Result, Ok, Err, IfOk, OnOk}
 use Rattle.std.specs.Io.KnownBytes.{Keeps, Appends}
 use Rattle.clap.specs.Values.{kind_of}
@@ -7,17 +7,16 @@ use Rattle.clap.specs.declared.error.kind.ErrorKind.{ErrorKind}
 use Rattle.clap.specs.declared.error.kind.ErrorKind.TheVariants as kind
 use Rattle.lsp_stream.specs.declared.fault.EngineFault.{EngineFault}
 use Rattle.lsp_stream.specs.declared.fault.EngineFault.TheVariants.{Read, Write, Frame, Truncated, BodyTooLong, NoMemory, TooManyTurns, BadLog}
-use Rattle.lsp_stream.specs.Ports.{Rose}
+use Rattle.lsp_stream.specs.Ports.{Ports, Rose, WriterState, ports}
 use Rattle.lsp_replay.specs.declared.outcome.Outcome.{Outcome}
-use Rattle.lsp_replay.specs.Engine.{PortState, Ran, state_of}
-use Rattle.lsp_replay.specs.Engines.{as_stream, as_log, as_converted, replies, verdicts, report, converted}
-use Rattle.lsp_replay.specs.Squashed.{normalised}
+use Rattle.lsp_replay.specs.Run.{Engine, IsEngineRun, check_engine, convert_engine, normalise_engine, replay_engine, serve_engine}
 use Rattle.lspsync.specs.declared.command_line.Call.{Call}
 use Rattle.lspsync.specs.declared.command_line.Call.TheVariants as call
 use Rattle.lspsync.specs.declared.run.Ending.{Ending}
+use Rattle.lspsync.specs.declared.run.TheConstants.{MAX_TURNS}
 use Rattle.lspsync.specs.FaultText.{fault_text}
 
--- the status of a fault: 3 where a stream failed, 4 where memory ran out, 5 where the input is no log
+-- The status of a fault: 3 if a stream failed, 4 if out of memory, 5 if the input is no log.
 abbrev pub status_of : EngineFault → ℕ
 status_of Read = 3
 status_of Write = 3
@@ -28,101 +27,97 @@ status_of NoMemory = 4
 status_of TooManyTurns = 3
 status_of (BadLog place) = 5
 
--- The engine that a call names ran between a reader and a writer. `serve` alone passes its output on by itself.
-abbrev pub EngineRan : Call → PortState → Option (List ℕ) → Option (List ℕ) → Option (List ℕ) → Option (List ℕ) → Result Outcome EngineFault → Type 0
-EngineRan (call.Serve config) state left_old left_new held_old held_new result =
-    Ran (as_stream config) (replies config) state left_old left_new held_old held_new result
-EngineRan (call.Check settings) state left_old left_new held_old held_new result =
-    Ran (as_log settings) (verdicts settings) (record state { unflushed = false }) left_old left_new held_old held_new result
-EngineRan (call.Replay settings) state left_old left_new held_old held_new result =
-    Ran (as_log settings) (report settings) (record state { unflushed = false }) left_old left_new held_old held_new result
-EngineRan (call.Normalise settings) state left_old left_new held_old held_new result =
-    Ran (as_log settings) (normalised settings) (record state { unflushed = false }) left_old left_new held_old held_new result
-EngineRan (call.Convert settings) state left_old left_new held_old held_new result =
-    Ran (as_converted settings) (converted settings) (record state { unflushed = false }) left_old left_new held_old held_new result
+-- the engine that a call names
+abbrev pub engine_of : Call → Engine
+engine_of (call.Serve config) = serve_engine config
+engine_of (call.Check settings) = check_engine settings
+engine_of (call.Replay settings) = replay_engine settings
+engine_of (call.Normalise settings) = normalise_engine settings
+engine_of (call.Convert settings) = convert_engine settings
 
--- What the last flush answered: after one that succeeded the writer has not failed, and a call was made.
+-- The last flush. If it succeeded, the writer has not failed, and a call was made.
 abbrev pub IsFlushed : Bool → ℕ → ℕ → Result (Unit {0}) EngineFault → Type 0
 IsFlushed failed count_old count_new (Ok _) = (failed ≡ false) × Rose count_old count_new
 IsFlushed failed count_old count_new (Err fault) = fault ≡ Write → failed ≡ true
 
 -- A fault of the engine comes before one of the flush.
-abbrev pub answer_of : Result Outcome EngineFault → Result (Unit {0}) EngineFault → Result ℕ EngineFault
+abbrev pub answer_of : Result Outcome EngineFault → Result (Unit {0}) EngineFault →
+    Result ℕ EngineFault
 answer_of (Ok outcome) (Ok _) = Ok outcome.status
 answer_of (Ok outcome) (Err fault) = Err fault
 answer_of (Err fault) flushed = Err fault
 
--- The engine of a call ran, and what it wrote was passed on; the answer is the outcome's status, or the first fault.
-pub record IsPerformed (call : Call) (ended_before ended : Bool) (left_old left_new held_old held_new : Option (List ℕ)) (failed : Bool) (count_new : ℕ)
+-- The engine of a call ran, and what it wrote was passed on; the answer is the outcome's status, or
+-- the first fault.
+pub record IsPerformed (asked : Call) (before after : Ports)
     (answer : Result ℕ EngineFault) : Type 0 where
   pub result : Result Outcome EngineFault
   pub flushed : Result (Unit {0}) EngineFault
-  -- what the writer holds, and how many calls it has had, before the flush
-  pub held : Option (List ℕ)
-  pub count : ℕ
-  -- whether it has output then that is not passed on
-  pub unflushed : Bool
-  pub ran : EngineRan call (state_of ended_before ended unflushed) left_old left_new held_old held result
-  pub kept : Keeps held held_new
-  pub flush : IsFlushed failed count count_new flushed
+  -- the writer between the engine and the flush
+  pub writer : WriterState
+  pub ran : IsEngineRun (engine_of asked) MAX_TURNS before (ports after.reader writer) result
+  pub kept : Keeps writer.written after.writer.written
+  pub flush : IsFlushed after.writer.failed writer.calls after.writer.calls flushed
   pub answered : answer ≡ answer_of result flushed
 
--- the line that reports a fault
+-- The line that reports a fault.
 abbrev pub fault_line : EngineFault → List ℕ
 fault_line fault = (codes "lspsync: " ++ fault_text fault) ++ 10 ∷ []
 
--- A fault ends the program with its status, and its line follows what was printed before. `None` is what isn't known.
+-- A fault ends the program with its status, and its line follows what was printed before. `None` is
+-- what isn't known.
 abbrev pub IsReported : EngineFault → Option (List ℕ) → Option (List ℕ) → Ending → Type 0
-IsReported fault before after ending = (ending.status ≡ status_of fault) × OnOk ending.printed (Appends before after (fault_line fault))
+IsReported fault before after ending = (ending.status ≡ status_of fault)
+    × OnOk ending.printed (Appends before after (fault_line fault))
 
--- A status ends the program as it is, and prints nothing on standard error; a fault is reported.
+-- A status ends the program, with nothing on standard error. A fault is reported.
 abbrev pub IsEnding : Result ℕ EngineFault → Option (List ℕ) → Option (List ℕ) → Ending → Type 0
 IsEnding (Ok status) before after ending = (ending.status ≡ status) × (after ≡ before)
 IsEnding (Err fault) before after ending = IsReported fault before after ending
 
 -- What is known of the program's streams before and after a run.
 pub record Streams : Type 0 where
-  -- did the last read come to the end?
-  pub ended_before : Bool
-  pub ended : Bool
-  -- the bytes that are left to read
-  pub left_before : Option (List ℕ)
-  pub left : Option (List ℕ)
-  -- the bytes that the output holds; did its last call fail, is all passed on, and how many calls were there?
-  pub held_before : Option (List ℕ)
-  pub held : Option (List ℕ)
-  pub failed : Bool
-  pub flushed : Bool
-  pub calls : ℕ
+  -- standard input and output
+  pub before : Ports
+  pub after : Ports
   -- the bytes that standard error holds
   pub errors_before : Option (List ℕ)
   pub errors : Option (List ℕ)
 
--- The engine of a call ran, all was passed on where a status was answered, and the program ends so.
+-- The engine of a call ran, and the program ends with its status or reports its fault. With a
+-- status all output was passed on.
 pub record IsCalled (asked : Call) (s : Streams) (ending : Ending) : Type 0 where
   pub answer : Result ℕ EngineFault
-  pub performed : IsPerformed asked s.ended_before s.ended s.left_before s.left s.held_before s.held s.failed s.calls answer
-  pub passed_on : OnOk answer (s.flushed ≡ true)
+  pub performed : IsPerformed asked s.before s.after answer
+  pub passed_on : OnOk answer (s.after.writer.flushed ≡ true)
   pub ends : IsEnding answer s.errors_before s.errors ending
 
--- A text was written and passed on, which ends well.
+-- A text of help was written and passed on, with status 0.
 abbrev pub IsHelp : Option (List ℕ) → Option (List ℕ) → Bool → Result ℕ EngineFault → Type 0
-IsHelp before after flushed answer = IfOk answer (λ status. (status ≡ 0) × (flushed ≡ true) × ((text : List ℕ) × Appends before after text))
+IsHelp before after flushed answer
+    = IfOk answer
+    (λ status. (status ≡ 0) × (flushed ≡ true) × ((text : List ℕ) × Appends before after text))
 
--- What is done with words that are no call: out of memory is reported, a mistake has status 2, and help is written.
+-- What the program does with words that are no call. Out of memory is reported, a mistake has
+-- status 2, and help is written.
 pub record IsExplained (k : ErrorKind) (s : Streams) (ending : Ending) : Type 0 where
-  pub memory : k ≡ kind.OutOfMemory → (s.held ≡ s.held_before) × IsReported NoMemory s.errors_before s.errors ending
-  pub mistake : (k ≡ kind.OutOfMemory → ⊥) → (k ≡ kind.DisplayHelp → ⊥) → (k ≡ kind.DisplayVersion → ⊥)
-      → (s.held ≡ s.held_before) × (ending.status ≡ 2)
+  pub memory : k ≡ kind.OutOfMemory → (s.after.writer.written ≡ s.before.writer.written)
+      × IsReported NoMemory s.errors_before s.errors ending
+  pub mistake : (k ≡ kind.OutOfMemory → ⊥) → (k ≡ kind.DisplayHelp → ⊥) →
+      (k ≡ kind.DisplayVersion → ⊥)
+      → (s.after.writer.written ≡ s.before.writer.written) × (ending.status ≡ 2)
   pub help : (k ≡ kind.DisplayHelp) ⊎ (k ≡ kind.DisplayVersion)
-      → (answer : Result ℕ EngineFault) × IsHelp s.held_before s.held s.flushed answer × IsEnding answer s.errors_before s.errors ending
+      → (answer : Result ℕ EngineFault)
+      × IsHelp s.before.writer.written s.after.writer.written s.after.writer.flushed answer
+      × IsEnding answer s.errors_before s.errors ending
 
+-- What the program does with words: the call that they are, or an explanation.
 abbrev pub IsDone : Result (Option Call) Error → Streams → Ending → Type 0
 IsDone (Ok (Some asked)) s ending = IsCalled asked s ending
 IsDone (Ok None) s ending = ending.status ≡ 2
 IsDone (Err error) s ending = IsExplained (kind_of error) s ending
 
--- A run of the program: the words were read as something, and that is done.
+-- A run of the program: what its words were read as, and that this is done.
 pub record IsRun (s : Streams) (ending : Ending) : Type 0 where
   pub read : Result (Option Call) Error
   pub done : IsDone read s ending

@@ -1,8 +1,8 @@
-//! The words that the program is called with.
+//! The program's command line.
 
 ghost use Rattle.std.specs.Prelude.{◌≡◌, IfOk, IfSome};
-ghost use Rattle.lspsync.specs.CommandLine.{AreLimits, AreSettings, GivesNumber, IsCall, IsCallNamed};
-ghost use Rattle.lspsync.specs.CommandLine.{IsConfig, encoding_given, sync_given};
+ghost use Rattle.lspsync.specs.inside.CommandLine.{AreLimits, AreSettings, HasNumber, IsCall, IsCallNamed};
+ghost use Rattle.lspsync.specs.inside.CommandLine.{IsConfig, encoding_given, sync_given};
 
 mod help;
 
@@ -15,25 +15,26 @@ use lsp_server::{Config, EncodingChoice, Sync};
 use lsp_text::Encoding;
 use std::alloc::{AllocError, Global};
 
-/// What the program was asked to do.
+/// A call of the program.
 #[derive(Clone, Copy, Debug, PartialEq, Eq)]
 pub enum Call {
-    /// Be the server's end of a session.
+    /// `serve`: run a server's end of a session.
     Serve(Config),
-    /// Tell what a server answers to each record of a log.
+    /// `check`: print what a server answers to each record of a log.
     Check(Settings),
-    /// Tell the documents that are open at the end of a log.
+    /// `replay`: print the documents that are open at the end of a log.
     Replay(Settings),
-    /// Write a log with each accepted change in its canonical form.
+    /// `normalise`: write a log with each accepted change as its canonical message.
     Normalise(Settings),
-    /// Write a log of version 1 in version 2.
+    /// `convert`: write a log of version 1 in version 2.
     Convert(Settings),
 }
 
-/// What the words ask for, or the usage fault or the text of help that they are. There is always a call, since `clap` has checked the
-/// subcommand and each value.
+/// Reads the words of the command line. An error is a usage fault, a text of help, or out of
+/// memory. There is always a call, since `clap` has checked the subcommand and each value.
 pub fn parse<'a>(alloc: Global, words: &'a [&'a str]) -> Result<Option<Call>, Error> {
-    let matches = program(alloc)?.try_get_matches_from(words)?;
+    let limits = help::limits(alloc)?;
+    let matches = program(alloc, &limits)?.try_get_matches_from(words)?;
     Ok(call_of(&matches))
 }
 
@@ -117,7 +118,7 @@ fn limits_of(options: &ArgMatches<'_>) -> Option<Limits>
 }
 
 fn number_of(options: &ArgMatches<'_>, id: &str) -> Option<usize>
-    ensures { IfSome result (GivesNumber options.now id.now) }
+    ensures { IfSome result (HasNumber options.now id.now) }
 {
     options.get_one::<usize>(id)
 }
@@ -126,18 +127,22 @@ static ENCODINGS: [&str; 3] = ["utf-8", "utf-16", "utf-32"];
 
 static KINDS: [&str; 2] = ["full", "incremental"];
 
-fn program<'a>(alloc: Global) -> Result<Command<'a>, AllocError> {
+fn program<'a>(alloc: Global, limits: &'a [Limit]) -> Result<Command<'a>, AllocError> {
     let mut program = Command::new(alloc, "lspsync")
         .about(help::about())
         .after_help(help::notes())
         .subcommand_required(true);
     for page in help::pages() {
-        program = program.subcommand(subcommand(alloc, page)?)?;
+        program = program.subcommand(subcommand(alloc, page, limits)?)?;
     }
     Ok(program)
 }
 
-fn subcommand<'a>(alloc: Global, page: Page) -> Result<Command<'a>, AllocError> {
+fn subcommand<'a>(
+    alloc: Global,
+    page: Page,
+    limits: &'a [Limit],
+) -> Result<Command<'a>, AllocError> {
     let encoding = choice(alloc, "encoding", ENCODINGS.as_slice(), "utf-16");
     let mut command = Command::new(alloc, page.name)
         .about(page.about)
@@ -150,7 +155,7 @@ fn subcommand<'a>(alloc: Global, page: Page) -> Result<Command<'a>, AllocError> 
     if let Some(help) = page.squash {
         command = command.arg(flag(alloc, "squash").help(help))?;
     }
-    for limit in help::limits() {
+    for limit in limits {
         command = command.arg(number(alloc, limit))?;
     }
     Ok(command)
@@ -171,11 +176,11 @@ fn flag<'a>(alloc: Global, name: &'a str) -> Arg<'a> {
 }
 
 /// An option with a number in a range.
-fn number<'a>(alloc: Global, limit: Limit) -> Arg<'a> {
+fn number<'a>(alloc: Global, limit: &'a Limit) -> Arg<'a> {
     Arg::new(alloc, limit.name)
         .long(limit.name)
         .value_name("N")
-        .value_parser(ValueParser::unsigned(limit.least, limit.greatest))
-        .default_value(limit.default)
+        .value_parser(ValueParser::unsigned(limit.least as u64, limit.greatest as u64))
+        .default_value(&limit.default)
         .help(limit.help)
 }

@@ -1,4 +1,4 @@
-//! What the line of a fault says. The types' own texts are derived, and a derive has no contract.
+//! The text of a fault's line. It is written here because a derived `Display` has no contract.
 
 ghost use Rattle.std.specs.Prelude.{Some};
 ghost use Rattle.lspsync.specs.FaultText.{fault_text, frame_text};

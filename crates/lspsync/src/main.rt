@@ -1,8 +1,9 @@
-//! `lspsync`: a language server's end of a session on standard input and output, and four commands on recorded sessions.
+//! `lspsync`: a language server's end of a session on standard input and output, and four commands
+//! on recorded sessions.
 //!
-//! - `command_line`: the words that the program is called with.
-//! - `fault_text`: what the line of a fault says.
 //! - `run`: the program over any reader and writers; the engines are those of `lsp_replay`.
+//! - `command_line`: the words that the program is called with.
+//! - `fault_text`: the text of a fault's line.
 #![tactic(auto)]
 
 mod command_line;
@@ -17,7 +18,7 @@ use std::env;
 use std::io::{self, BufWriter};
 use std::process::ExitCode;
 
-/// So many bytes of output are gathered before they are passed on; `serve` passes each reply on at once.
+/// Output is buffered up to so many bytes; `serve` flushes each reply at once.
 const GATHERED: usize = 65_536;
 
 fn main(rt: HostRuntime) -> ExitCode {
@@ -28,7 +29,8 @@ fn main(rt: HostRuntime) -> ExitCode {
     ExitCode::from(ending.status)
 }
 
-/// Runs the program over the process's own streams. Fails only where the words of its call could not be had, or no memory for its output.
+/// Runs the program over the process's own streams. Fails if the words of the command line can't be
+/// read, or if out of memory.
 fn answer(rt: &HostRuntime) -> io::Result<Ending> {
     let alloc = rt.alloc();
     let given: Vec<String> = env::args(rt)?.collect(alloc)?;

@@ -1,13 +1,14 @@
 //! The program over any reader and writers.
 
-ghost use Rattle.std.specs.Prelude.{◌≡◌, ◌≢◌, ◌⊎◌, OnOk, not, true, codes, List, ℕ, Result, Err};
+ghost use Rattle.std.specs.Prelude.{◌≡◌, ◌≢◌, ◌⊎◌, OnOk, true, codes, List, ℕ, Result, Err};
 ghost use Rattle.std.specs.Io.KnownBytes.{Appends, Keeps};
 ghost use Rattle.clap.specs.Values.{kind_of};
 ghost use Rattle.clap.specs.declared.error.kind.ErrorKind.TheVariants.{OutOfMemory};
 ghost use Rattle.clap.specs.declared.error.kind.ErrorKind.TheVariants.{DisplayHelp, DisplayVersion};
-ghost use Rattle.lsp_replay.specs.Engine.{state_of};
-ghost use Rattle.lspsync.specs.Run.{EngineRan, IsEnding, IsFlushed, IsHelp, IsPerformed, IsReported};
-ghost use Rattle.lspsync.specs.Run.{IsRun, Streams, answer_of, status_of};
+ghost use Rattle.lsp_stream.specs.Ports.{ports};
+ghost use Rattle.lsp_replay.specs.Run.{IsEngineRun};
+ghost use Rattle.lspsync.specs.Run.{IsEnding, IsFlushed, IsHelp, IsPerformed, IsReported};
+ghost use Rattle.lspsync.specs.Run.{IsRun, Streams, answer_of, engine_of, status_of};
 
 use crate::command_line::{Call, parse};
 use crate::fault_text::FaultText;
@@ -20,7 +21,7 @@ use std::io::{self, ErrorKind, Write};
 /// How many reads, writes and flushes one run may make.
 const MAX_TURNS: u64 = 1_099_511_627_776;
 
-/// What was asked could not be done, or was not what the user meant.
+/// The status of a call that is none, or can't be done.
 const USAGE: u8 = 2;
 
 const STREAM_FAULT: u8 = 3;
@@ -29,16 +30,17 @@ const OUT_OF_MEMORY: u8 = 4;
 
 const BAD_LOG: u8 = 5;
 
-/// How the program ends.
+/// The end of the program.
 #[derive(Drop)]
 pub struct Ending {
     /// The exit status.
     pub status: u8,
-    /// Whether the line on standard error could be printed. Well where there is none.
+    /// Whether the line on standard error could be printed. `Ok` if there is none.
     pub printed: io::Result<()>,
 }
 
-/// Runs the program: `words` is its command line, the program's name first. A fault's line goes to `errors`.
+/// Runs the program. `words` is its command line, the program's name first. A fault's line is
+/// written to `errors`.
 pub fn run<R: Source, W: Sink, E: Write>(
     alloc: Global,
     words: &[&str],
@@ -47,15 +49,8 @@ pub fn run<R: Source, W: Sink, E: Write>(
     errors: &mut E,
 ) -> Ending
     ensures { IsRun (record {
-      ended_before = R.has_ended input.old;
-      ended = R.has_ended input.new;
-      left_before = R.left input.old;
-      left = R.left input.new;
-      held_before = W.held output.old;
-      held = W.held output.new;
-      failed = W.has_failed output.new;
-      flushed = W.has_flushed output.new;
-      calls = W.count output.new;
+      before = ports (R.seen input.old) (W.seen output.old);
+      after = ports (R.seen input.new) (W.seen output.new);
       errors_before = E.contents errors.old;
       errors = E.contents errors.new;
     }) result }
@@ -86,7 +81,8 @@ fn end_with<E: Write>(answer: Result<u8, EngineFault>, errors: &mut E) -> Ending
     }
 }
 
-/// Runs the engine that a call names, and then passes on what it wrote, also after a fault. Answers the outcome's status.
+/// Runs the engine that a call names, and then flushes the output, also after a fault. Returns the
+/// outcome's status.
 ///
 /// # Errors
 /// The fault of the engine, else that of the flush.
@@ -96,11 +92,11 @@ pub fn perform<R: Source, W: Sink>(
     input: &mut R,
     output: &mut W,
 ) -> Result<u8, EngineFault>
-    ensures performed { IsPerformed call (R.has_ended input.old) (R.has_ended input.new)
-        (R.left input.old) (R.left input.new) (W.held output.old) (W.held output.new)
-        (W.has_failed output.new) (W.count output.new) result }
+    ensures performed { IsPerformed call
+        (ports (R.seen input.old) (W.seen output.old))
+        (ports (R.seen input.new) (W.seen output.new)) result }
     // Where a status is answered all that was written is passed on.
-    ensures passed_on { OnOk result (W.has_flushed output.new ≡ true) }
+    ensures passed_on { OnOk result ((W.seen output.new).flushed ≡ true) }
 {
     let ran = obey(alloc, call, input, output);
     let flushed = flush(output);
@@ -121,16 +117,16 @@ fn answer_with(
     }
 }
 
-/// Runs the engine that was asked for.
+/// Runs the engine that a call names.
 fn obey<R: Source, W: Sink>(
     alloc: Global,
     call: Call,
     input: &mut R,
     output: &mut W,
 ) -> Result<Outcome, EngineFault>
-    ensures { EngineRan call
-        (state_of (R.has_ended input.old) (R.has_ended input.new) (not (W.has_flushed output.new)))
-        (R.left input.old) (R.left input.new) (W.held output.old) (W.held output.new) result }
+    ensures { IsEngineRun (engine_of call) MAX_TURNS
+        (ports (R.seen input.old) (W.seen output.old))
+        (ports (R.seen input.new) (W.seen output.new)) result }
 {
     match call {
         Call::Serve(config) => serve(alloc, input, output, config, MAX_TURNS),
@@ -141,21 +137,24 @@ fn obey<R: Source, W: Sink>(
     }
 }
 
-/// Prints what `clap` says of the words: help to the output, and a usage fault to the errors.
+/// Prints the text of `clap`'s error: help to the output, and a usage fault to the errors.
 fn explain<W: Sink, E: Write>(
     alloc: Global,
     error: &clap::Error,
     output: &mut W,
     errors: &mut E,
 ) -> Ending
-    ensures memory { kind_of error.now ≡ OutOfMemory → (W.held output.new ≡ W.held output.old)
+    ensures memory { kind_of error.now ≡ OutOfMemory →
+        ((W.seen output.new).written ≡ (W.seen output.old).written)
         × IsReported EngineFault.NoMemory (E.contents errors.old) (E.contents errors.new) result }
     ensures mistake { kind_of error.now ≢ OutOfMemory → kind_of error.now ≢ DisplayHelp
-        → kind_of error.now ≢ DisplayVersion → (W.held output.new ≡ W.held output.old)
+        → kind_of error.now ≢ DisplayVersion →
+        ((W.seen output.new).written ≡ (W.seen output.old).written)
         × (result.status ≡ 2) }
     ensures help { (kind_of error.now ≡ DisplayHelp) ⊎ (kind_of error.now ≡ DisplayVersion)
         → (answer : Result ℕ EngineFault)
-        × IsHelp (W.held output.old) (W.held output.new) (W.has_flushed output.new) answer
+        × IsHelp (W.seen output.old).written (W.seen output.new).written (W.seen output.new).flushed
+        answer
         × IsEnding answer (E.contents errors.old) (E.contents errors.new) result }
 {
     if error.kind() == clap_error::ErrorKind::OutOfMemory {
@@ -172,9 +171,10 @@ fn explain<W: Sink, E: Write>(
     end_with(answer, errors)
 }
 
-/// Writes a text of help and passes it on. Answers the status.
+/// Writes a text of help and flushes it. Returns the status.
 fn print_help<W: Sink>(alloc: Global, help: &clap::Error, output: &mut W) -> Result<u8, EngineFault>
-    ensures { IsHelp (W.held output.old) (W.held output.new) (W.has_flushed output.new) result }
+    ensures { IsHelp (W.seen output.old).written (W.seen output.new).written
+        (W.seen output.new).flushed result }
 {
     let text = format!(in alloc; "{help}")?;
     let mut turns = Turns::new(MAX_TURNS);
@@ -182,16 +182,18 @@ fn print_help<W: Sink>(alloc: Global, help: &clap::Error, output: &mut W) -> Res
     Ok(0)
 }
 
-/// Passes on what was written. An interrupted flush is repeated.
+/// Flushes the output. An interrupted flush is repeated.
 fn flush<W: Sink>(output: &mut W) -> Result<(), EngineFault>
-    ensures kept { Keeps (W.held output.old) (W.held output.new) }
-    ensures flushed { IsFlushed (W.has_failed output.new) (W.count output.old) (W.count output.new) result }
-    ensures passed_on { OnOk result (W.has_flushed output.new ≡ true) }
+    ensures kept { Keeps (W.seen output.old).written (W.seen output.new).written }
+    ensures flushed { IsFlushed (W.seen output.new).failed (W.seen output.old).calls
+        (W.seen output.new).calls result }
+    ensures passed_on { OnOk result ((W.seen output.new).flushed ≡ true) }
 {
     flush_out(output, &mut Turns::new(MAX_TURNS))
 }
 
-/// Prints why the words of a call could not be had: out of memory, or a word that is no text.
+/// Prints why the words of the command line can't be read: out of memory, or a word that isn't
+/// UTF-8.
 pub fn refuse<E: Write>(kind: ErrorKind, errors: &mut E) -> Ending
     ensures memory { kind ≡ ErrorKind.OutOfMemory →
         IsReported EngineFault.NoMemory (E.contents errors.old) (E.contents errors.new) result }

@@ -1,4 +1,4 @@
-//! The program on whole inputs: what it writes, its status, and the line that reports a fault.
+//! The program on whole inputs: its output, its status, and the line that reports a fault.
 
 mod command_line;
 mod converted;
@@ -11,7 +11,7 @@ use crate::run::run;
 use lsp_replay::{Call, StopReader, StopWriter, Told};
 use std::alloc::{AllocError, Global};
 
-/// What one run of the program answered.
+/// The result of one run of the program.
 #[derive(Drop)]
 struct Answer {
     status: u8,
@@ -28,7 +28,7 @@ impl Answer {
     }
 }
 
-/// Does a run with these words answer so, with nothing on standard error?
+/// Has a run with these words this status and output, and nothing on standard error?
 fn answers(
     alloc: Global,
     words: &[&str],
@@ -50,12 +50,12 @@ fn fails(
     Ok(ran(alloc, words, input)?.is(5, output, line))
 }
 
-/// A run of the program over streams whose calls all go well.
+/// A run of the program over streams that never fail.
 fn ran(alloc: Global, words: &[&str], input: &[u8]) -> Result<Answer, AllocError> {
     stopped(alloc, words, input, &[], &[])
 }
 
-/// A run of the program over streams whose first calls go as these scripts say.
+/// A run of the program over streams whose first calls end as these scripts say.
 fn stopped(
     alloc: Global,
     words: &[&str],

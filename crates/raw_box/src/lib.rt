@@ -1,4 +1,4 @@
-//! A box as its raw pointer, which still owns what lies there.
+//! A box as its raw pointer, which still owns the value.
 #![tactic(auto)]
 
 ghost use Rattle.std.specs.Prelude.{◌≡◌};
@@ -7,8 +7,8 @@ ghost use Rattle.std_alloc.specs.Box.Ownership.{box_owns};
 use std::alloc::Allocator;
 use std::marker::Model;
 
-/// A box as its raw pointer. It owns the value behind the pointer and the right to free its block, so exactly one box comes back
-/// out of it.
+/// A box as its raw pointer. It owns the value that `pointer` points to and the right to free its
+/// block, so exactly one box can be made from it.
 pub struct RawBox<T, A: Allocator> {
     pub pointer: *mut T,
     pub alloc: A,
@@ -20,7 +20,7 @@ impl<T, A: Allocator> Model for RawBox<T, A> {
 }
 
 impl<T: Drop, A: Allocator> RawBox<T, A> {
-    /// Takes a box apart. Costs nothing.
+    /// Makes a box its raw pointer. Costs nothing.
     pub fn from_box(value: Box<T, A>) -> Self
         ensures { result.value ≡ value.value }
     {
@@ -28,7 +28,7 @@ impl<T: Drop, A: Allocator> RawBox<T, A> {
         RawBox { pointer, alloc }
     }
 
-    /// Makes the box again. Costs nothing.
+    /// Makes the raw pointer a box again. Costs nothing.
     pub fn into_box(self) -> Box<T, A>
         ensures { result.value ≡ self.value }
     {

@@ -1,4 +1,4 @@
--- Why an order is refused, as the store says it.
+-- Why an order is refused, as the store reports it.
 use Rattle.std.specs.Prelude.{ℕ, List, None}
 use Rattle.std.specs.Str.{chars}
 use Rattle.lsp_edit.specs.Batch.{Edit}
@@ -6,7 +6,7 @@ use Rattle.lsp_store.specs.declared.fault.StoreFault.{StoreFault}
 use Rattle.lsp_store.specs.Faults.{IsRefusal}
 use Rattle.lsp_client.specs.Step.{State, Order, agreement, command_of, order_refusal}
 
--- This is the fault of an order that is refused, or the client ran out of memory.
+-- This is the fault of a refused order, or the client is out of memory.
 abbrev pub IsOrderFault : State → Order → StoreFault → Type 0
 IsOrderFault s order fault =
     let agreed = agreement s in
@@ -14,6 +14,6 @@ IsOrderFault s order fault =
     (order_refusal s.limits agreed.kind s.table (command_of agreed.encoding order))
     fault
 
--- the change that puts a text of these bytes in place of the whole text
+-- The change that replaces the whole text by a text of these bytes.
 abbrev pub whole_change : List ℕ → Edit
 whole_change text = record { range = None; text = chars text }

@@ -1,4 +1,4 @@
-//! What the answer to `initialize` settles, and what edits send then.
+//! What the response to `initialize` fixes, and what edits send then.
 
 use super::{Ask, URI, answer_to, client_with, is_answer};
 use lsp_client::Client;
@@ -8,7 +8,8 @@ use lsp_text::Encoding;
 use std::alloc::{AllocError, Global};
 use std::test::Fail;
 
-/// The capabilities that a server announces, and what a client that offers UTF-16 and UTF-32 makes of them.
+/// The capabilities that a server announces, and the result of a client that offers UTF-16 and
+/// UTF-32.
 static ANNOUNCED: [(&str, &str); 22] = [
     (r#"{"textDocumentSync":1}"#, "utf-16"),
     (r#"{"textDocumentSync":2}"#, "utf-16"),
@@ -59,7 +60,7 @@ static ANNOUNCED: [(&str, &str); 22] = [
         r#"{"positionEncoding":7,"textDocumentSync":{"change":2,"openClose":true}}"#,
         "not an answer",
     ),
-    // Of two causes the synchronisation comes first.
+    // Of two causes, the synchronisation comes first.
     (
         r#"{"positionEncoding":"utf-8","textDocumentSync":0}"#,
         "no sync",
@@ -72,7 +73,8 @@ fn answer_with(alloc: Global, capabilities: &str) -> Result<String, AllocError> 
     format!(in alloc; r#"{{"id":1,"jsonrpc":"2.0","result":{{"capabilities":{capabilities}}}}}"#)
 }
 
-/// Does a client make this of these capabilities: a word, or the name of the encoding that is agreed on?
+/// Returns whether these capabilities have this result: a word, or the name of the encoding that is
+/// agreed on.
 fn is_made(alloc: Global, capabilities: &str, wanted: &str) -> Result<bool, Fail> {
     let mut client = client_with(alloc, Offers::new(false, true))?;
     let _initialize = client.start()?;
@@ -97,7 +99,7 @@ fn what_a_server_may_announce(rt: HostRuntime) -> Result<(), Fail> {
     Ok(())
 }
 
-/// A client that offers UTF-8 in place of UTF-32, too, takes no other.
+/// A client that offers UTF-8 instead of UTF-32 refuses UTF-32.
 #[test]
 fn an_encoding_that_was_not_offered(rt: HostRuntime) -> Result<(), Fail> {
     let alloc = rt.alloc();
@@ -110,7 +112,8 @@ fn an_encoding_that_was_not_offered(rt: HostRuntime) -> Result<(), Fail> {
     Ok(())
 }
 
-/// What a client offers, the names in its `initialize`, the header in front of it, and how long the frame is.
+/// What a client offers, the names in its `initialize`, the header before it, and the length of the
+/// frame.
 static OFFERS: [(bool, bool, &str, &str, usize); 4] = [
     (
         false,
@@ -151,7 +154,7 @@ fn is_offered(alloc: Global, offers: Offers, names: &str) -> Result<bool, Fail> 
     Ok(is_answer(alloc, &given, &body)?)
 }
 
-/// Does the first frame begin with this header, and has it this length?
+/// Returns whether the first frame begins with this header, and has this length.
 fn is_framed(alloc: Global, offers: Offers, header: &str, len: usize) -> Result<bool, Fail> {
     let mut client = client_with(alloc, offers)?;
     let frame = client.start()?;
@@ -168,7 +171,8 @@ fn what_a_client_offers(rt: HostRuntime) -> Result<(), Fail> {
     Ok(())
 }
 
-/// A client that offers all three encodings, to which a server answered with these capabilities.
+/// Returns a client that offers all three encodings, after a server's response with these
+/// capabilities.
 fn ready(alloc: Global, capabilities: &str) -> Result<Client, Fail> {
     let mut client = client_with(alloc, Offers::new(true, true))?;
     let _initialize = client.start()?;
@@ -176,7 +180,7 @@ fn ready(alloc: Global, capabilities: &str) -> Result<Client, Fail> {
     Ok(client)
 }
 
-/// Capabilities, a text, an edit of it, and what is wanted.
+/// Capabilities, a text, an edit of it, and the expected result.
 static EDITS: [(&str, &str, Ask, &str); 9] = [
     (
         r#"{"positionEncoding":"utf-8","textDocumentSync":2}"#,

@@ -76,7 +76,7 @@ const NOT_FOUND: &str =
 const NOT_FOUND_Q: &str =
     r#"{"error":{"code":-32601,"message":"method not found"},"id":"q","jsonrpc":"2.0"}"#;
 
-/// What is asked, and what is wanted in New, Asked, Ready, Closing, Closed, Done and Failed.
+/// A call, and the expected results in New, Asked, Ready, Closing, Closed, Done and Failed.
 static TABLE: [(Ask, [&str; 7]); 27] = [
     (
         Ask::Start,
@@ -122,7 +122,7 @@ static TABLE: [(Ask, [&str; 7]); 27] = [
         Ask::Deliver(r#"{"id":null,"jsonrpc":"2.0","method":"exit"}"#),
         [NEW, BAD, BAD, BAD, BAD, DONE, FAULTY],
     ),
-    // What the server asks and says.
+    // The server's requests and notifications.
     (
         Ask::Deliver(r#"{"id":5,"jsonrpc":"2.0","method":"workspace/configuration"}"#),
         [
@@ -153,7 +153,7 @@ static TABLE: [(Ask, [&str; 7]); 27] = [
             NEW, "ignored", "ignored", "ignored", "ignored", DONE, FAULTY,
         ],
     ),
-    // Answers to the client's two requests.
+    // Responses to the client's two requests.
     (
         Ask::Deliver(ACCEPTED),
         [NEW, INITIALIZED, BAD, BAD, BAD, DONE, FAULTY],
@@ -209,7 +209,8 @@ fn client_after(alloc: Global, way: &[Ask]) -> Result<Client, Fail> {
     Ok(client)
 }
 
-/// Does a client that went this way answer this, and keep its documents where it fails?
+/// Returns whether a client after these calls has this result, and keeps its documents where it
+/// fails.
 fn is_row(alloc: Global, way: &[Ask], row: Ask, wanted: &str) -> Result<bool, Fail> {
     let mut client = client_after(alloc, way)?;
     let open = client.store().len();

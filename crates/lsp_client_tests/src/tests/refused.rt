@@ -1,4 +1,4 @@
-//! Calls that run out of memory once, and are made again.
+//! Calls that run out of memory once, and are repeated.
 
 use super::{Ask, URI, answer_to, new_client};
 use lsp_client::{Client, ClientFault, Delivered, Phase};
@@ -7,7 +7,7 @@ use std::alloc::Global;
 use std::process::Abort;
 use std::test::Fail;
 
-/// What a caller sees of a client.
+/// Returns what a caller sees of a client.
 fn seen(client: &Client) -> (Phase, bool, usize, Option<i32>) {
     let version = client.store().get(URI).map(|document| document.version());
     (
@@ -18,7 +18,7 @@ fn seen(client: &Client) -> (Phase, bool, usize, Option<i32>) {
     )
 }
 
-/// A session in which a call is made twice where memory runs out.
+/// A session in which a call is repeated where memory runs out.
 #[derive(Drop)]
 struct Session {
     client: Client,
@@ -26,7 +26,7 @@ struct Session {
 }
 
 impl Session {
-    /// Makes a call. Where memory ran out the client is as before, and the same call is made then.
+    /// Makes a call. Where memory runs out, the client is unchanged and the same call is repeated.
     fn call(&mut self, rt: &impl Abort, alloc: Global, asked: Ask) -> bool {
         let before = seen(&self.client);
         match answer_to(alloc, &mut self.client, asked) {
@@ -57,7 +57,7 @@ fn is_done(
     Ok(session.client.phase())
 }
 
-/// The answer that asks for whole texts.
+/// The response of a server that asks for whole texts.
 const FULL: &str = r#"{"id":1,"jsonrpc":"2.0","result":{"capabilities":{"textDocumentSync":1}}}"#;
 
 static LIFECYCLE: [Ask; 5] = [

@@ -1,4 +1,5 @@
-//! A whole session, call by call, with the exact bytes of each frame; and a client and a server that talk.
+//! A whole session, call by call, with the exact bytes of each frame; and a client and a server
+//! that talk.
 
 use super::{Ask, URI, answer_to, change, is_answer, new_client, open_as};
 use lsp_client::{Client, ClientFault, Delivered, Phase};
@@ -13,7 +14,7 @@ use lsp_text::Encoding;
 use std::alloc::{AllocError, Global};
 use std::test::Fail;
 
-/// What is asked, what is wanted, and the phase after it.
+/// A call, the expected result, and the phase after it.
 static SESSION: [(Ask, &str, Phase); 9] = [
     (Ask::Start, INITIALIZE, Phase::Asked),
     (Ask::Edit(2, 1, 2, "X"), "C1 Asked", Phase::Asked),
@@ -44,7 +45,7 @@ fn a_session_from_start_to_exit(rt: HostRuntime) -> Result<(), Fail> {
     Ok(())
 }
 
-/// The lengths of what a client sends, as others count them.
+/// The lengths of what a client sends, as counted elsewhere.
 static LENGTHS: [(&str, usize); 8] = [
     (INITIALIZE, 149),
     (INITIALIZED, 52),
@@ -64,7 +65,8 @@ fn the_lengths_of_the_bodies(rt: HostRuntime) -> Result<(), Fail> {
     Ok(())
 }
 
-/// A client in phase Ready under small limits: bodies of 4,096 bytes, texts of 8,000, one document, two changes.
+/// Returns a client in phase Ready under small limits: bodies of 4,096 bytes, texts of 8,000, one
+/// document, two changes.
 fn small(alloc: Global, answer: &str) -> Result<Client, Fail> {
     let limits = Limits::new(4_096, 8_000, 1, 2)?;
     let mut client = Client::new(alloc, limits, Offers::new(false, false));
@@ -81,7 +83,7 @@ fn letters(alloc: Global, count: usize) -> Result<String, AllocError> {
     Ok(text)
 }
 
-/// Why a text of so many letters isn't opened, if it isn't.
+/// Returns why a text of so many letters isn't opened, if it isn't.
 fn open_fault(
     alloc: Global,
     client: &mut Client,
@@ -91,7 +93,7 @@ fn open_fault(
     Ok(open_as(alloc, client, URI, &text).err())
 }
 
-/// Why so many letters aren't inserted, if they aren't.
+/// Returns why so many letters aren't inserted, if they aren't.
 fn edit_fault(
     alloc: Global,
     client: &mut Client,
@@ -106,7 +108,8 @@ fn too_long(len: usize) -> Option<ClientFault> {
     Some(ClientFault::Store(StoreFault::BodyTooLong { len }))
 }
 
-/// The letters of a text to open, and the length of a body that is too long. 142 bytes are around the text.
+/// The letters of a text to open, and the length of a body that is too long. The body has 142 bytes
+/// besides the text.
 static OPENED: [(usize, Option<usize>); 3] = [
     (3_954, None),
     (3_955, Some(4_097)),
@@ -133,8 +136,8 @@ fn a_body_over_the_limit_is_not_opened(rt: HostRuntime) -> Result<(), Fail> {
 
 const FULL: &str = r#"{"id":1,"jsonrpc":"2.0","result":{"capabilities":{"textDocumentSync":1}}}"#;
 
-/// What the server answered, the letters of a text and of an edit of it, and the length of a body that is too long. Under Full 140 bytes
-/// are around the text.
+/// The server's response, the letters of a text and of an edit of it, and the length of a body that
+/// is too long. Under Full the body has 140 bytes besides the text.
 static EDITED: [(&str, usize, usize, Option<usize>); 3] = [
     (FULL, 3_953, 3, None),
     (FULL, 3_953, 4, Some(4_097)),
@@ -207,7 +210,7 @@ fn new_ends(alloc: Global) -> Result<Ends, Fail> {
     })
 }
 
-/// The body of a frame goes to the server; what it replies is its frame.
+/// Passes the body of a frame to the server, and returns the frame of its reply.
 fn serve(alloc: Global, server: &mut Server, frame: &[u8]) -> Result<Option<Vec<u8>>, Fail> {
     let mut framer = Framer::new(alloc, server.store().limits());
     let _taken = framer.feed(frame)?;
@@ -220,7 +223,7 @@ fn serve(alloc: Global, server: &mut Server, frame: &[u8]) -> Result<Option<Vec<
     }
 }
 
-/// The body of a frame goes to the client; what it sends is its frame.
+/// Passes the body of a frame to the client, and returns the frame that it sends.
 fn hear(alloc: Global, client: &mut Client, frame: &[u8]) -> Result<Option<Vec<u8>>, Fail> {
     let mut framer = Framer::new(alloc, client.store().limits());
     let _taken = framer.feed(frame)?;
@@ -234,7 +237,7 @@ fn hear(alloc: Global, client: &mut Client, frame: &[u8]) -> Result<Option<Vec<u
 }
 
 impl Ends {
-    /// A frame goes to the server, its reply to the client, and so on until nothing is sent.
+    /// Passes a frame to the server, its reply to the client, and so on until nothing is sent.
     fn exchange(&mut self, alloc: Global, frame: Vec<u8>) -> Result<(), Fail> {
         let mut to_server = Some(frame);
         for _ in 0..2 {
@@ -249,7 +252,7 @@ impl Ends {
         Ok(())
     }
 
-    /// Makes a call, and exchanges what follows from it.
+    /// Makes a call, and passes on the frames that follow from it.
     fn call(&mut self, alloc: Global, asked: Ask) -> Result<(), Fail> {
         match answer_to(alloc, &mut self.client, asked)?? {
             Delivered::Send(frame) => self.exchange(alloc, frame),

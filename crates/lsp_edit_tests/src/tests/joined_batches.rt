@@ -1,4 +1,7 @@
-//! Batches that are joined.
+//! Two batches that are joined by `Joined`.
+
+ghost use Rattle.std.specs.Prelude.{◌≡◌, IfOk, OnOk};
+ghost use Rattle.lsp_edit.specs.Joined.{IsReached};
 
 use lsp_edit::{Change, IndexedText, Joined, MAX_OLD_TEXT, TextFault, fits};
 use lsp_samples::edits::{Edit, batch};
@@ -31,23 +34,63 @@ static ROWS: [Row; 4] = [
     ),
 ];
 
-/// The canonical batch of two batches on a text of few bytes: the first changes a copy of the text, and the second is on that copy.
+/// A text that is kept with its lines.
+fn kept(alloc: Global, text: &str) -> Result<IndexedText, TextFault>
+    ensures { IfOk result (λ kept. kept ≡ text.now) }
+{
+    if text.len() > MAX_OLD_TEXT {
+        return Err(TextFault::TooLong);
+    }
+    Ok(IndexedText::new(alloc, String::from_str(alloc, text)?)?)
+}
+
+/// No batch yet, on a copy of a text.
+fn no_batch(alloc: Global, before: &str) -> Result<Joined, TextFault>
+    ensures { IfOk result (λ joined. IsReached joined before.now) }
+{
+    if before.len() > MAX_OLD_TEXT {
+        return Err(TextFault::TooLong);
+    }
+    Ok(Joined::new(alloc, String::from_str(alloc, before)?)?)
+}
+
+/// Joins a batch on the text that was reached, and changes that text.
+fn change(
+    joined: &mut Joined,
+    reached: &mut IndexedText,
+    changes: &[Change],
+) -> Result<(), TextFault>
+    requires { IsReached joined.old reached.old }
+    ensures { OnOk result (IsReached joined.new reached.new) }
+{
+    if reached.text().len() > MAX_OLD_TEXT || !fits(changes) {
+        return Err(TextFault::TooLong);
+    }
+    joined.change(Encoding::Utf16, reached, changes, 9)
+}
+
+/// Joins a batch on the text that was reached.
+fn add(joined: &mut Joined, reached: &IndexedText, changes: &[Change]) -> Result<(), TextFault>
+    requires { IsReached joined.old reached.now }
+{
+    if reached.text().len() > MAX_OLD_TEXT || !fits(changes) {
+        return Err(TextFault::TooLong);
+    }
+    joined.add(Encoding::Utf16, reached, changes, 9)
+}
+
+/// Returns the canonical batch of two batches. The first changes a copy of the text, and the second
+/// is on that copy.
 fn joined(
     alloc: Global,
     before: &str,
     first: &[Change],
     second: &[Change],
 ) -> Result<Vec<Change>, TextFault> {
-    if before.len() > MAX_OLD_TEXT || !fits(first) || !fits(second) {
-        return Err(TextFault::TooLong);
-    }
-    let mut joined = Joined::new(alloc, String::from_str(alloc, before)?)?;
-    let mut reached = IndexedText::new(alloc, String::from_str(alloc, before)?)?;
-    joined.change(Encoding::Utf16, &mut reached, first, 9)?;
-    if reached.text().len() > MAX_OLD_TEXT {
-        return Err(TextFault::TooLong);
-    }
-    joined.add(Encoding::Utf16, &reached, second, 9)?;
+    let mut joined = no_batch(alloc, before)?;
+    let mut reached = kept(alloc, before)?;
+    change(&mut joined, &mut reached, first)?;
+    add(&mut joined, &reached, second)?;
     Ok(joined.canonical(Encoding::Utf16)?)
 }
 

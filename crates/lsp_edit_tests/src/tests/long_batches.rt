@@ -1,8 +1,8 @@
-//! Batches of several changes on a text that is kept with its lines: what they leave, and that nothing changes where they fail. Ranges
-//! are counted in UTF-16.
+//! Batches of several changes on a text with its lines: the texts that they leave, and that nothing
+//! changes where they fail. Ranges are counted in UTF-16.
 
 use lsp_edit::{Change, EditFault, IndexedText, MAX_OLD_TEXT, MAX_TEXT, Side, TextFault, fits};
-use lsp_samples::edits::{ALL, Edit, batch};
+use lsp_samples::edits::{ALL, Edit, batch, batch_again};
 use lsp_text::{Encoding, Lines, Position};
 use std::alloc::{AllocError, Global};
 use std::test::Fail;
@@ -99,7 +99,7 @@ fn applied(text: &mut IndexedText, changes: &[Change], max_len: usize) -> Result
     text.change(Encoding::Utf16, changes, max_len)
 }
 
-/// Whether the lines that are kept are those of the text, by the offset where each starts.
+/// Returns whether the stored lines are those of the text, by the offset where each starts.
 fn has_its_lines(alloc: Global, text: &IndexedText) -> Result<bool, AllocError> {
     if text.text().len() > MAX_TEXT {
         return Err(AllocError);
@@ -150,34 +150,42 @@ fn long_batches_that_fail_change_nothing(rt: HostRuntime) -> Result<(), Fail> {
     Ok(())
 }
 
+const THREE_LINES: &str = "a\nb\nc\n";
+
 static SEVERAL: [Edit; 3] = [
     (1, 0, 1, 1, "B\nBB\nBBB"),
     (0, 0, 0, 1, "A"),
     (4, 0, 4, 0, "x"),
 ];
 
+/// The text of three lines, made again where memory ran out.
+fn kept_again(alloc: Global, refused: &mut usize) -> Result<IndexedText, AllocError> {
+    match kept(alloc, THREE_LINES) {
+        Ok(text) => Ok(text),
+        Err(AllocError) => {
+            *refused = refused.saturating_add(1);
+            kept(alloc, THREE_LINES)
+        }
+    }
+}
+
+/// Whether the batch is applied to the three lines. Where memory runs out they stay, and it is
+/// applied again.
+fn is_applied(text: &mut IndexedText, changes: &[Change], refused: &mut usize) -> bool {
+    let answer = applied(text, changes, MAX_LEN + 10);
+    if answer != Err(TextFault::NoMemory) {
+        return answer == Ok(());
+    }
+    *refused = refused.saturating_add(1);
+    text.text() == THREE_LINES && applied(text, changes, MAX_LEN + 10) == Ok(())
+}
+
 #[test]
 fn refused_long_batch(rt: HostRuntime) -> Result<(), Fail> {
     let mut refused: usize = 0;
-    let changes = match batch(rt.alloc(), &SEVERAL) {
-        Ok(changes) => changes,
-        Err(_) => {
-            refused = refused.saturating_add(1);
-            batch(rt.alloc(), &SEVERAL)?
-        }
-    };
-    let mut text = match kept(rt.alloc(), "a\nb\nc\n") {
-        Ok(text) => text,
-        Err(_) => {
-            refused = refused.saturating_add(1);
-            kept(rt.alloc(), "a\nb\nc\n")?
-        }
-    };
-    if applied(&mut text, &changes, MAX_LEN + 10) == Err(TextFault::NoMemory) {
-        refused = refused.saturating_add(1);
-        assert_eq!(rt; text.text(), "a\nb\nc\n");
-        assert_eq!(rt; applied(&mut text, &changes, MAX_LEN + 10), Ok(()));
-    }
+    let changes = batch_again(rt.alloc(), &SEVERAL, &mut refused)?;
+    let mut text = kept_again(rt.alloc(), &mut refused)?;
+    assert!(rt; is_applied(&mut text, &changes, &mut refused));
     assert_eq!(rt; text.text(), "A\nB\nBB\nBBB\nxc\n");
     assert_eq!(rt; text.lines().count(), 6);
     println!(rt; "refused {refused}")?;

@@ -1,11 +1,11 @@
-//! Calls that run out of memory once and are made again, on texts whose lines change with the edit. Each test prints how many growths
-//! were refused.
+//! Calls that run out of memory once and are called again, on texts whose lines change with the
+//! edit. Each test prints how many requests for memory were refused.
 
 use lsp_edit::{
     Change, EditFault, IndexedText, MAX_OLD_TEXT, Pieces, TextFault, compose_over, fits, plain,
 };
 use lsp_samples::edits::{Edit, batch};
-use lsp_text::{Encoding, Lines};
+use lsp_text::Encoding;
 use std::alloc::{AllocError, Global};
 use std::process::Abort;
 use std::test::Fail;
@@ -17,14 +17,14 @@ const BEFORE: &str = "a\rX\nb";
 
 static EDITS: [Edit; 2] = [(1, 0, 1, 1, ""), (1, 0, 1, 0, "Q")];
 
-/// The texts before each of the changes, and after them.
+/// The text before each of the changes, and after it.
 static TEXTS: [(&str, &str); 2] = [("a\rX\nb", "a\r\nb"), ("a\r\nb", "a\r\nQb")];
 
 const AFTER: &str = "a\r\nQb";
 
 static CANONICAL: [Edit; 2] = [(2, 0, 2, 0, "Q"), (1, 0, 1, 1, "")];
 
-/// A batch, made again where memory ran out.
+/// Makes a batch, and again if it is out of memory.
 fn changes(alloc: Global, edits: &[Edit], refused: &mut usize) -> Result<Vec<Change>, AllocError> {
     match batch(alloc, edits) {
         Ok(changes) => Ok(changes),
@@ -46,8 +46,8 @@ fn has_text(pieces: &Pieces<'_>, wanted: &str, refused: &mut usize) -> Result<bo
     Ok(text.as_str() == wanted)
 }
 
-/// Applies a change to pieces with the first text, and again where memory ran out. Are the second text and the same number of spans there
-/// after it, and before it again the first?
+/// Applies a change to pieces of the first text, and again if it is out of memory. Returns whether
+/// the result is the second text, and a refused call left the first text and its spans.
 fn is_applied<'a>(
     pieces: &mut Pieces<'a>,
     change: &'a Change,
@@ -101,37 +101,43 @@ fn refused_apply_where_lines_come_and_go(rt: HostRuntime) -> Result<(), Fail> {
     Ok(())
 }
 
-/// What a batch leaves of a text by its lines, and whether its canonical batch is `wanted`.
+/// Are the text and the canonical batch of pieces `AFTER` and `wanted`?
+fn are_left(pieces: &Pieces<'_>, wanted: &[Change]) -> Result<bool, AllocError> {
+    let canonical = pieces.canonical(UTF16)?;
+    Ok(canonical.as_slice() == wanted && pieces.text()?.as_str() == AFTER)
+}
+
+/// Whether a batch leaves `AFTER` of a kept text by its lines, and `wanted` is its canonical batch.
 fn left_over_lines(
     alloc: Global,
+    kept: &IndexedText,
     changes: &[Change],
     wanted: &[Change],
 ) -> Result<bool, EditFault> {
-    let lines = Lines::new(alloc, BEFORE)?;
-    if !fits(changes) {
+    if kept.text().len() > MAX_OLD_TEXT || !fits(changes) {
         return Ok(false);
     }
-    let pieces = compose_over(alloc, BEFORE, &lines, UTF16, changes)?;
-    let canonical = pieces.canonical(UTF16)?;
-    Ok(pieces.text()?.as_str() == AFTER && canonical.as_slice() == wanted)
+    let pieces = compose_over(alloc, kept.text(), kept.lines(), UTF16, changes)?;
+    Ok(are_left(&pieces, wanted)?)
 }
 
 #[test]
 fn refused_compose_over(rt: HostRuntime) -> Result<(), Fail> {
     let mut refused: usize = 0;
-    let changes_given = changes(rt.alloc(), &EDITS, &mut refused)?;
+    let kept = kept_text(rt.alloc(), &mut refused)?;
+    let given = changes(rt.alloc(), &EDITS, &mut refused)?;
     let wanted = changes(rt.alloc(), &CANONICAL, &mut refused)?;
-    let mut left = left_over_lines(rt.alloc(), &changes_given, &wanted);
+    let mut left = left_over_lines(rt.alloc(), &kept, &given, &wanted);
     if left == Err(EditFault::NoMemory) {
         refused = refused.saturating_add(1);
-        left = left_over_lines(rt.alloc(), &changes_given, &wanted);
+        left = left_over_lines(rt.alloc(), &kept, &given, &wanted);
     }
     assert_eq!(rt; left, Ok(true));
     println!(rt; "refused {refused}")?;
     Ok(())
 }
 
-/// The same by the plain program.
+/// Does the same by the plain program.
 fn left_plainly(alloc: Global, changes: &[Change], wanted: &[Change]) -> Result<bool, EditFault> {
     if !fits(changes) {
         return Ok(false);
@@ -164,7 +170,7 @@ fn indexed(alloc: Global) -> Result<IndexedText, AllocError> {
     IndexedText::new(alloc, text)
 }
 
-/// Changes a text that is kept, if it and the batch have the sizes that a call wants.
+/// Changes an indexed text, if it and the batch have the sizes that the call wants.
 fn change_text(kept: &mut IndexedText, changes: &[Change]) -> Result<(), TextFault> {
     if kept.text().len() > MAX_OLD_TEXT || !fits(changes) {
         return Err(TextFault::TooLong);
@@ -179,7 +185,7 @@ fn canonical_of(kept: &IndexedText, changes: &[Change]) -> Result<Vec<Change>, T
     kept.canonical(UTF16, changes, 100)
 }
 
-/// Changes a kept text from the first to the second, and again where memory ran out.
+/// Changes an indexed text from the first to the second, and again if it is out of memory.
 fn is_changed(
     kept: &mut IndexedText,
     changes: &[Change],

@@ -7,14 +7,14 @@ use lsp_text::Encoding;
 use std::alloc::{AllocError, Global};
 use std::test::Fail;
 
-/// The text that pieces leave, and the canonical batch.
+/// Returns the text of pieces and their canonical batch.
 fn meaning_of(pieces: &Pieces<'_>) -> Result<(String, Vec<Change>), AllocError> {
     let text = pieces.text()?;
     let canonical = pieces.canonical(Encoding::Utf16)?;
     Ok((text, canonical))
 }
 
-/// What a batch leaves of a text and its canonical batch, or its fault.
+/// Returns the text that a batch leaves and its canonical batch, or its fault.
 pub(super) fn left(alloc: Global, before: &str, changes: &[Change]) -> Outcome {
     if before.len() > MAX_OLD_TEXT || !fits(changes) {
         return Err(EditFault::NoMemory);
@@ -51,7 +51,7 @@ fn the_first_faulty_change_is_reported(rt: HostRuntime) -> Result<(), Fail> {
     Ok(())
 }
 
-/// Two batches, one after the other, are one batch of both.
+/// Returns whether two batches, one after the other, are one batch of both.
 fn is_one_batch(alloc: Global, row: &Pair) -> Result<bool, AllocError> {
     let (before, first, second, text, canonical, _) = *row;
     let changes = joined(alloc, first, second)?;
@@ -66,8 +66,8 @@ fn two_batches_are_one(rt: HostRuntime) -> Result<(), Fail> {
     Ok(())
 }
 
-/// What two batches, one after the other, leave of a text by what they mean together: the text, its canonical batch, how many spans it
-/// has.
+/// Composes two batches, one after the other: returns the text, the canonical batch, and how many
+/// spans there are.
 pub(super) fn left_by_both(
     alloc: Global,
     before: &str,
@@ -106,7 +106,7 @@ fn two_meanings_are_one(rt: HostRuntime) -> Result<(), Fail> {
     Ok(())
 }
 
-/// So many changes of `MADE_ANEW`, the text that they leave, and how many lines it has.
+/// Changes of `a\rX\nb`, the text that they leave, and how many lines it has.
 static HANDED_OVER: [(&[Edit], &str, usize); 3] = [
     (&[(1, 0, 1, 1, "")], "a\r\nb", 2),
     (&[(1, 0, 1, 1, ""), (1, 0, 1, 0, "Q\r")], "a\r\nQ\rb", 3),
@@ -117,7 +117,8 @@ static HANDED_OVER: [(&[Edit], &str, usize); 3] = [
     ),
 ];
 
-/// The text that a batch leaves of `a\rX\nb`, and how many lines the index has that is handed over with it.
+/// Returns the text that a batch leaves of `a\rX\nb`, and how many lines `into_text` returns with
+/// it.
 fn handed_over(alloc: Global, changes: &[Change]) -> Result<(String, usize), EditFault> {
     if !fits(changes) {
         return Err(EditFault::NoMemory);
@@ -133,7 +134,8 @@ fn is_handed_over(alloc: Global, edits: &[Edit], text: &str, lines: usize) -> Re
     Ok(after.as_str() == text && count == lines)
 }
 
-/// The lines of the text that is handed over are those of that text, whether it was changed in place or built at the end.
+/// `into_text` returns the lines of the text that it returns, whether that was changed in place or
+/// built at the end.
 #[test]
 fn a_text_is_handed_over_with_its_lines(rt: HostRuntime) -> Result<(), Fail> {
     for (edits, text, lines) in &HANDED_OVER {

@@ -1,4 +1,4 @@
-//! The plain program and `Pieces` on the same batches: tables, many changes, and batches that are made up.
+//! The plain program and `Pieces` on the same batches: tables, many changes, and generated batches.
 
 use super::pieces::left;
 use super::{
@@ -11,7 +11,8 @@ use lsp_text::{Encoding, Position, Range};
 use std::alloc::{AllocError, Global};
 use std::test::Fail;
 
-/// What the plain program says that a batch leaves of a text, and its canonical batch, or its fault.
+/// Returns, by the plain program, the text that a batch leaves and its canonical batch, or its
+/// fault.
 fn left_plainly(alloc: Global, before: &str, changes: &[Change]) -> Outcome {
     if before.len() > MAX_OLD_TEXT || !fits(changes) {
         return Err(EditFault::NoMemory);
@@ -55,7 +56,7 @@ fn the_first_faulty_change_is_reported_plainly(rt: HostRuntime) -> Result<(), Fa
     Ok(())
 }
 
-/// Two batches, one after the other, are one batch of both.
+/// Returns whether two batches, one after the other, are one batch of both.
 fn is_one_batch(alloc: Global, row: &Pair) -> Result<bool, AllocError> {
     let (before, first, second, text, canonical, _) = *row;
     let changes = joined(alloc, first, second)?;
@@ -75,7 +76,7 @@ fn two_batches_are_one_plainly(rt: HostRuntime) -> Result<(), Fail> {
     Ok(())
 }
 
-/// What two batches, one after the other, leave of a text by what they mean together, and the canonical batch of both.
+/// Composes two batches, one after the other: returns the text, and the canonical batch of both.
 fn left_by_both_plainly(
     alloc: Global,
     before: &str,
@@ -113,7 +114,7 @@ fn two_meanings_are_one_plainly(rt: HostRuntime) -> Result<(), Fail> {
     Ok(())
 }
 
-/// Do both say the same of a batch?
+/// Returns whether both have the same result for a batch.
 fn agree(alloc: Global, before: &str, changes: &[Change]) -> bool {
     match (
         left(alloc, before, changes),
@@ -164,7 +165,7 @@ fn position(numbers: &mut Numbers) -> Position {
     Position { line, character }
 }
 
-/// A change somewhere in the first lines, seldom one of the whole text.
+/// Makes a change somewhere in the first lines, seldom one of the whole text.
 fn made_up(alloc: Global, numbers: &mut Numbers) -> Result<Change, AllocError> {
     let text = String::from_str(alloc, word(numbers))?;
     if numbers.below(10) == 0 {
@@ -179,7 +180,7 @@ fn made_up(alloc: Global, numbers: &mut Numbers) -> Result<Change, AllocError> {
     Ok(Change { range, text })
 }
 
-/// A text of seven words.
+/// Makes a text of seven words.
 fn made_up_text(alloc: Global, numbers: &mut Numbers) -> Result<String, AllocError> {
     let mut text = String::new(alloc);
     for _ in 0..7 {
@@ -188,7 +189,7 @@ fn made_up_text(alloc: Global, numbers: &mut Numbers) -> Result<String, AllocErr
     Ok(text)
 }
 
-/// A batch of up to five changes.
+/// Makes a batch of up to five changes.
 fn made_up_batch(alloc: Global, numbers: &mut Numbers) -> Result<Vec<Change>, AllocError> {
     let mut changes = Vec::new(alloc);
     for _ in 0..numbers.below(6) {
@@ -197,7 +198,7 @@ fn made_up_batch(alloc: Global, numbers: &mut Numbers) -> Result<Vec<Change>, Al
     Ok(changes)
 }
 
-/// Do both say the same of the next text and batch?
+/// Returns whether both have the same result for the next text and batch.
 fn agree_on_next(alloc: Global, numbers: &mut Numbers) -> Result<bool, AllocError> {
     let before = made_up_text(alloc, numbers)?;
     let changes = made_up_batch(alloc, numbers)?;

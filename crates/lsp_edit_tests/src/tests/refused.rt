@@ -1,5 +1,5 @@
-//! Each call that can run out of memory, where one growth is refused: nothing changes, and the same call made again goes on. Each
-//! test prints how many growths were refused.
+//! Each call that can run out of memory, with one request for memory refused: nothing changes, and
+//! the same call succeeds the second time. Each test prints how many requests were refused.
 
 ghost use Rattle.std.specs.Prelude.{IfOk};
 ghost use Rattle.lsp_text.specs.LineStarts.{Indexes};
@@ -12,7 +12,8 @@ use std::test::Fail;
 
 const TEXT: &str = "abcdef\n";
 
-/// A change in the first line, from one character to another, or of the whole text: made again where it was refused.
+/// Makes a change in the first line, from one character to another, or of the whole text; and again
+/// if it is out of memory.
 fn change(
     alloc: Global,
     places: Option<(u32, u32)>,
@@ -39,7 +40,7 @@ fn change(
     Ok(Change { range, text })
 }
 
-/// Three changes, of which the second and third are resolved in the text that those before left.
+/// Makes three changes; the second and the third are resolved in the text that those before leave.
 fn changes(alloc: Global, refused: &mut usize) -> Result<[Change; 3], AllocError> {
     Ok([
         change(alloc, Some((1, 2)), "XY", refused)?,
@@ -82,7 +83,7 @@ static TEXTS: [(&str, &str); 3] = [
     ("aXYcf\n", "ZaXYcf\n"),
 ];
 
-/// Applies a change; where memory ran out the text is as before, and the same change is applied again.
+/// Applies a change. Out of memory leaves the text as before, and the same change is applied again.
 fn apply_again<'a>(
     pieces: &mut Pieces<'a>,
     change: &'a Change,
@@ -103,7 +104,7 @@ fn apply_again<'a>(
     Ok(pieces.apply(Encoding::Utf16, change) == Ok(()))
 }
 
-/// Is this the text as it is now? Asked again where it was refused.
+/// Returns whether this is the current text; it asks again if it is out of memory.
 fn is_text(pieces: &Pieces<'_>, wanted: &str, refused: &mut usize) -> Result<bool, AllocError> {
     let text = match pieces.text() {
         Ok(text) => text,
@@ -133,7 +134,7 @@ fn texts_are<'a>(
     Ok(changes.len() == texts.len())
 }
 
-/// Is this the text that is handed over, with an index of so many lines?
+/// Returns whether `into_text` returns this text, with so many lines.
 fn is_handed_over(pieces: Pieces<'_>, wanted: &str, lines: usize) -> Result<bool, AllocError> {
     let (text, index) = pieces.into_text()?;
     Ok(text.as_str() == wanted && index.count() == lines)
@@ -151,7 +152,7 @@ fn refused_apply(rt: HostRuntime) -> Result<(), Fail> {
     Ok(())
 }
 
-/// The canonical batch of changes of the text: made again where it was refused.
+/// Returns the canonical batch of changes of the text; it asks again if it is out of memory.
 fn canonical(
     alloc: Global,
     changes: &[Change],
@@ -187,7 +188,7 @@ fn refused_canonical(rt: HostRuntime) -> Result<(), Fail> {
     Ok(())
 }
 
-/// The text, how many canonical changes, and how many spans two batches leave.
+/// Returns the text, how many canonical changes, and how many spans two batches leave.
 fn left_by(
     alloc: Global,
     first: &[Change],

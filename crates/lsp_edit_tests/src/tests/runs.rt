@@ -1,4 +1,5 @@
-//! Batches of some thousand changes, which are composed in runs: the same canonical batch, and the same fault.
+//! Batches of some thousand changes, which are composed in runs: the same canonical batch, and the
+//! same fault.
 
 use lsp_edit::{Change, EditFault, IndexedText, MAX_OLD_TEXT, TextFault, compose_over, fits};
 use lsp_text::{Encoding, Position, Range};
@@ -7,7 +8,7 @@ use std::test::Fail;
 
 static LINES: &str = "one\ntwo \u{1F600} three\n\nfour, five, six, seven\nlast";
 
-/// One character replaced or put in, here and there in the first lines.
+/// Makes a change that replaces or inserts one character, here and there in the first lines.
 fn change(alloc: Global, number: u32) -> Result<Change, AllocError> {
     let spread = number.wrapping_mul(40_503) % 977;
     let start = Position {
@@ -75,7 +76,7 @@ fn a_long_batch_has_the_canonical_batch_of_its_changes(rt: HostRuntime) -> Resul
     Ok(())
 }
 
-/// A reversed range in the last run.
+/// Makes a change with a reversed range, for the last run.
 fn reversed(alloc: Global) -> Result<Change, AllocError> {
     let start = Position {
         line: 1,
@@ -110,7 +111,8 @@ fn a_long_batch_may_leave_too_much(rt: HostRuntime) -> Result<(), Fail> {
     Ok(())
 }
 
-/// The first character of the first line deleted, again and again, also where it has none.
+/// Makes a batch that deletes the first character of the first line, again and again, also when
+/// there is none left.
 fn deletions(alloc: Global) -> Result<Vec<Change>, AllocError> {
     let start = Position::default();
     let stop = Position {
@@ -158,7 +160,7 @@ fn in_runs_again(
     answer
 }
 
-/// Whether the batch deletes the first line's three characters, and the text is as it was.
+/// Returns whether the batch deletes the first line's three characters, and the text is unchanged.
 fn deletes_the_first_line(text: &IndexedText, answer: &[Change]) -> bool {
     let start = Position::default();
     let stop = Position {

@@ -7,7 +7,7 @@ use lsp_text::Encoding;
 use std::alloc::{AllocError, Global};
 use std::test::Fail;
 
-/// Applies a change where there is room for it.
+/// Applies a change, if there is room for it.
 fn apply<'a>(pieces: &mut Pieces<'a>, change: &'a Change) -> Result<(), EditFault> {
     if !pieces.has_room(change) {
         return Err(EditFault::NoMemory);
@@ -29,7 +29,8 @@ fn a_change_after_a_fault_is_applied(rt: HostRuntime) -> Result<(), Fail> {
     Ok(())
 }
 
-/// Applies the changes of the first letters, and counts the spans after each: two more after each but the last.
+/// Applies the changes of the first letters, and counts the spans after each: two more after each
+/// but the last.
 fn spans_grow<'a>(pieces: &mut Pieces<'a>, changes: &'a [Change]) -> bool {
     let mut spans = 2;
     for change in changes {
@@ -41,7 +42,7 @@ fn spans_grow<'a>(pieces: &mut Pieces<'a>, changes: &'a [Change]) -> bool {
     true
 }
 
-/// Has the canonical batch so many changes, of which these are the first and the last?
+/// Returns whether the canonical batch has so many changes, and these are the first and the last.
 fn is_canonical(
     alloc: Global,
     pieces: &Pieces<'_>,

@@ -1,4 +1,5 @@
-//! Text edits that all count in one old text: the text and the canonical batch that they leave, and their faults. In UTF-16.
+//! Text edits whose ranges all count in one old text: the text and the canonical batch that they
+//! leave, and their faults. In UTF-16.
 
 use lsp_edit::{Change, IndexedText, MAX_OLD_TEXT, Side, TextEdit, TextEditFault, TextFault, fits};
 use lsp_samples::edits::{Edit, batch, text_edits};
@@ -11,7 +12,7 @@ type Edited = (&'static str, &'static [Edit], &'static str, &'static [Edit]);
 
 static EDITED: [Edited; 13] = [
     ("abc", &[], "abc", &[]),
-    // texts at one place come in the order of the list
+    // insertions at one offset come in the order of the list
     (
         "abc",
         &[(0, 1, 0, 1, "X"), (0, 1, 0, 1, "Y")],
@@ -31,7 +32,7 @@ static EDITED: [Edited; 13] = [
         "aYXc",
         &[(0, 1, 0, 2, "YX")],
     ),
-    // the order of the list is of no account else
+    // otherwise the order of the list doesn't matter
     (
         "abc",
         &[(0, 2, 0, 3, "C"), (0, 0, 0, 1, "A")],
@@ -77,7 +78,7 @@ static EDITED: [Edited; 13] = [
         "a!\r\nb?",
         &[(1, 1, 1, 1, "?"), (0, 1, 0, 1, "!")],
     ),
-    // the same text again takes the place of the old one
+    // the same text again replaces the old one
     ("abc", &[(0, 0, 0, 1, "a")], "abc", &[(0, 0, 0, 1, "a")]),
     (
         "\u{1F600}b",
@@ -112,7 +113,7 @@ static FAULTS: [(&str, &[Edit], TextEditFault); 8] = [
             second: 2,
         },
     ),
-    // in the list, an insertion stands before what is replaced from there
+    // an insertion must come before a replacement from its offset in the list
     (
         "abcdef",
         &[(0, 1, 0, 2, "X"), (0, 1, 0, 1, "Y")],
@@ -172,7 +173,7 @@ static TEXTS: [(TextEditFault, &str); 4] = [
     (TextEditFault::NoMemory, "out of memory"),
 ];
 
-/// What edits of a text are as a batch.
+/// Returns the batch of text edits.
 fn as_batch(alloc: Global, text: &str, edits: &[TextEdit]) -> Result<Vec<Change>, TextEditFault> {
     if text.len() > MAX_OLD_TEXT {
         return Err(TextEditFault::NoMemory);
@@ -181,7 +182,7 @@ fn as_batch(alloc: Global, text: &str, edits: &[TextEdit]) -> Result<Vec<Change>
     kept.batch_of_edits(Encoding::Utf16, edits)
 }
 
-/// The text that a batch leaves of another.
+/// Returns the text that a batch leaves of another.
 fn left(alloc: Global, text: &str, changes: &[Change]) -> Result<String, TextFault> {
     if text.len() > MAX_OLD_TEXT || !fits(changes) {
         return Err(TextFault::TooLong);
@@ -240,7 +241,7 @@ fn each_fault_of_edits_has_its_text(rt: HostRuntime) -> Result<(), Fail> {
     Ok(())
 }
 
-/// Each character of the first line replaced, from the last to the first.
+/// Makes edits that replace each character of the first line, from the last to the first.
 fn all_replaced(alloc: Global, count: u32) -> Result<Vec<TextEdit>, AllocError> {
     let mut rows: Vec<Edit> = Vec::new(alloc);
     for number in 0..count {

@@ -3,7 +3,7 @@
 use lsp_frame::{BadLimits, Limits};
 use std::test::Fail;
 
-/// A body, a text, documents and changes.
+/// The limits on a body, a text, documents and changes.
 type Four = [usize; 4];
 
 fn limits(four: &Four) -> Result<Limits, BadLimits> {
@@ -11,7 +11,7 @@ fn limits(four: &Four) -> Result<Limits, BadLimits> {
     Limits::new(body, text, docs, changes)
 }
 
-/// Numbers that are no limits, and the first that is out of range.
+/// Numbers out of range, and which of them is the first.
 static BAD: [(Four, u8); 7] = [
     ([4_095, 0, 1, 1], 1),
     ([4_096, 1_073_741_825, 0, 1], 2),
@@ -37,7 +37,7 @@ static ENDS: [Four; 2] = [
     [1_073_741_824, 1_073_741_824, 65_536, 1_048_576],
 ];
 
-/// Are these four the limits that are made of them?
+/// Returns whether limits of these four numbers have these four numbers.
 fn are_kept(four: &Four) -> Result<bool, BadLimits> {
     let made = limits(four)?;
     let kept = [
@@ -54,5 +54,14 @@ fn limits_at_the_ends_of_their_ranges(rt: HostRuntime) -> Result<(), Fail> {
     for four in &ENDS {
         assert!(rt; are_kept(four)?, "{four:?}");
     }
+    Ok(())
+}
+
+/// The numbers that `docs/FORMATS.md` has as the defaults.
+const DEFAULT: Four = [16_777_216, 16_777_216, 1_024, 65_536];
+
+#[test]
+fn the_default_limits(rt: HostRuntime) -> Result<(), Fail> {
+    assert!(rt; limits(&DEFAULT) == Ok(Limits::default()));
     Ok(())
 }

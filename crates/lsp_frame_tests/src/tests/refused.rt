@@ -1,5 +1,5 @@
-//! Each call that can run out of memory, with one request for memory refused: the object reads as before, the same call again succeeds,
-//! and all goes on. `.ci/refused` runs these.
+//! Each call that can run out of memory, with one request for memory refused. The object reads as
+//! before, and the same call succeeds the second time. `.ci/refused` runs these.
 
 use super::narrow;
 use lsp_frame::{EncodeFault, FrameFault, Framer, encode, frame, read_frames};
@@ -12,14 +12,14 @@ const STREAM: &[u8] =
 /// Lengths of pieces.
 static SIZES: [usize; 3] = [1, 7, 200];
 
-/// What was fed: how many growths were refused, and the sum of the bodies' lengths.
+/// What was fed: how many requests for memory were refused, and the sum of the bodies' lengths.
 #[derive(Drop)]
 struct Fed {
     refused: usize,
     total: usize,
 }
 
-/// Feeds bytes; where memory ran out the framer is as it was, and the same bytes are fed again.
+/// Feeds bytes. Out of memory leaves the framer as it was, and the same bytes are fed again.
 fn feed_again(framer: &mut Framer, rest: &[u8], fed: &mut Fed) -> Option<usize> {
     let at_rest = framer.at_rest();
     match framer.feed(rest) {
@@ -35,7 +35,7 @@ fn feed_again(framer: &mut Framer, rest: &[u8], fed: &mut Fed) -> Option<usize> 
     }
 }
 
-/// Feeds a piece to its end. Is none of it refused twice?
+/// Feeds a piece to its end. Returns whether no feed of it failed twice.
 fn feed_piece(framer: &mut Framer, piece: &[u8], fed: &mut Fed) -> bool {
     let mut rest = piece;
     for _ in 0..4 {
@@ -51,7 +51,7 @@ fn feed_piece(framer: &mut Framer, piece: &[u8], fed: &mut Fed) -> bool {
     true
 }
 
-/// Feeds the stream in pieces of `size` bytes. Is the framer at rest then?
+/// Feeds the stream in pieces of `size` bytes. Returns whether the framer is at rest then.
 fn feed_all(framer: &mut Framer, size: usize, fed: &mut Fed) -> bool {
     if size == 0 {
         return false;
@@ -148,7 +148,8 @@ fn pieces(alloc: Global, refused: &mut usize) -> Result<Vec<Vec<u8>>, AllocError
     Ok(pieces)
 }
 
-/// How many frames the pieces have, if they end in no fault.
+/// Reads the frames of the pieces, and again if it is out of memory. Returns how many there are, if
+/// they end without a fault.
 fn frames_again(
     alloc: Global,
     pieces: &[Vec<u8>],

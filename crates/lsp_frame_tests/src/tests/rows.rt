@@ -1,4 +1,4 @@
-//! Streams that were worked out by hand, under a `max_body` of 4,096 bytes.
+//! Streams and what they are read as, worked out by hand, with `max_body` 4,096.
 
 use lsp_frame::FrameFault;
 
@@ -23,7 +23,7 @@ pub static FRAMES: [&[u8]; 17] = [
     b"Content-Type: x;charsets=latin1;acharset=latin1\r\nContent-Length: 2\r\n\r\n[]",
 ];
 
-/// Streams that begin with no header.
+/// Streams that don't begin with a header, and the offset of the first bad byte.
 pub static BAD_HEADERS: [(&[u8], u64); 23] = [
     (b"Content-Length 2", 14),
     (b"Content-Length : 2", 14),
@@ -50,7 +50,7 @@ pub static BAD_HEADERS: [(&[u8], u64); 23] = [
     (b"a:\xff", 2),
 ];
 
-/// Streams that begin with a header in which something is wrong.
+/// Streams that begin with a faulty header, and its fault.
 pub static FAULTS: [(&[u8], FrameFault); 24] = [
     (b"\r\n", FrameFault::MissingLength { place: 1 }),
     (b"a: 2\r\n\r\n", FrameFault::MissingLength { place: 7 }),
@@ -144,7 +144,7 @@ pub static FAULTS: [(&[u8], FrameFault); 24] = [
     ),
 ];
 
-/// A stream with one byte many times.
+/// A stream in which one byte is repeated many times.
 #[derive(Clone, Copy)]
 pub struct Run {
     pub before: &'static [u8],
@@ -184,7 +184,7 @@ pub static LONG_FRAMES: [(Run, usize); 3] = [
     ),
 ];
 
-/// Streams that begin with no frame.
+/// Streams that begin with no frame, and their fault.
 pub static LONG_FAULTS: [(Run, FrameFault); 5] = [
     (
         Run {

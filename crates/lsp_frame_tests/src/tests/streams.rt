@@ -1,4 +1,4 @@
-//! Streams that were worked out by hand, each whole, byte by byte, and cut at other places.
+//! Streams that were worked out by hand, each whole, byte by byte, and cut at other offsets.
 
 use super::narrow;
 use super::rows::{BAD_HEADERS, FAULTS, FRAMES, LONG_FAULTS, LONG_FRAMES, Run};
@@ -6,7 +6,8 @@ use lsp_frame::{BadLimits, FrameFault, Framer};
 use std::alloc::{AllocError, Global};
 use std::test::Fail;
 
-/// Pieces of `least` bytes, or of up to so many more, as a linear congruential generator tells.
+/// Lengths of pieces: `least` bytes, or up to so many more, as a linear congruential generator has
+/// it.
 #[derive(Clone, Copy)]
 struct Cuts {
     state: u64,
@@ -43,7 +44,8 @@ static LENGTHS: [(usize, usize); 12] = [
 
 static SEEDS: [u64; 2] = [1, 2];
 
-/// What a stream gives: how many frames, whether the last body is `[]`, the sum of the bodies' lengths, and the fault.
+/// What a stream was read as: how many frames, whether the last body is `[]`, the sum of the
+/// bodies' lengths, and the fault.
 #[derive(Clone, Copy)]
 struct Seen {
     frames: usize,
@@ -93,7 +95,7 @@ fn feed_all(framer: &mut Framer, stream: &[u8], mut cuts: Cuts) -> Seen {
     seen
 }
 
-/// Is nothing held, and all that is fed refused?
+/// Returns whether nothing is buffered, and each feed fails.
 fn is_failed(framer: &mut Framer) -> bool {
     framer.feed(b"") == Err(FrameFault::Failed)
         && framer.feed(b"Content-Length: 2\r\n\r\n[]") == Err(FrameFault::Failed)
@@ -102,7 +104,8 @@ fn is_failed(framer: &mut Framer) -> bool {
         && !framer.at_rest()
 }
 
-/// What a stream is to give: how many frames, the sum of the bodies' lengths, and a fault or none.
+/// What a stream should be read as: how many frames, the sum of the bodies' lengths, and a fault or
+/// none.
 #[derive(Clone, Copy)]
 struct Wanted {
     frames: usize,
@@ -117,8 +120,9 @@ fn is_wanted(seen: Seen, wanted: Wanted) -> bool {
         && (wanted.total != 2 || seen.ends_in_list)
 }
 
-/// Does the stream give what is wanted, cut so? After a fault the framer is failed, else it is at rest.
-fn gives(stream: &[u8], cuts: Cuts, wanted: Wanted, alloc: Global) -> Result<bool, BadLimits> {
+/// Returns whether the stream, cut so, is read as wanted. After a fault the framer has failed, else
+/// it is at rest.
+fn has_result(stream: &[u8], cuts: Cuts, wanted: Wanted, alloc: Global) -> Result<bool, BadLimits> {
     let mut framer = Framer::new(alloc, narrow()?);
     let seen = feed_all(&mut framer, stream, cuts);
     if !is_wanted(seen, wanted) {
@@ -130,7 +134,7 @@ fn gives(stream: &[u8], cuts: Cuts, wanted: Wanted, alloc: Global) -> Result<boo
     Ok(is_failed(&mut framer))
 }
 
-/// Does the stream give what is wanted, however it is cut?
+/// Returns whether the stream is read as wanted, however it is cut.
 fn gives_however_cut(alloc: Global, stream: &[u8], wanted: Wanted) -> Result<bool, BadLimits> {
     for (least, more) in &LENGTHS {
         for seed in &SEEDS {
@@ -139,7 +143,7 @@ fn gives_however_cut(alloc: Global, stream: &[u8], wanted: Wanted) -> Result<boo
                 least: *least,
                 more: *more,
             };
-            if !gives(stream, cuts, wanted, alloc)? {
+            if !has_result(stream, cuts, wanted, alloc)? {
                 return Ok(false);
             }
         }
@@ -161,7 +165,7 @@ fn has_frames(
     gives_however_cut(alloc, stream, wanted)
 }
 
-/// Has the stream this fault, before any frame?
+/// Returns whether the stream has this fault, before any frame.
 fn has_fault(alloc: Global, stream: &[u8], fault: FrameFault) -> Result<bool, BadLimits> {
     let wanted = Wanted {
         frames: 0,
@@ -174,7 +178,7 @@ fn has_fault(alloc: Global, stream: &[u8], fault: FrameFault) -> Result<bool, Ba
 const TWO_FRAMES: &[u8] =
     b"Content-Length:  012\r\n\r\n[10,2,3,4,5]content-type: text/x; charset=\"UTF8\"\r\nContent-Length: 2\r\n\r\n[]";
 
-/// Does the framer hold the first frame of [`TWO_FRAMES`]?
+/// Returns whether the framer has buffered the first frame of [`TWO_FRAMES`].
 fn holds_first(framer: &Framer) -> bool {
     framer.body() == Some(b"[10,2,3,4,5]".as_slice())
         && framer.spelling().unwrap_or(b"").len() == 36
@@ -194,7 +198,7 @@ fn two_frames_however_cut(rt: HostRuntime) -> Result<(), Fail> {
     Ok(())
 }
 
-/// All frames, one after another.
+/// Returns all frames, one after another.
 fn joined(alloc: Global) -> Result<Vec<u8>, AllocError> {
     let mut stream = Vec::new(alloc);
     for frame in &FRAMES {
@@ -239,7 +243,7 @@ fn faults_of_whole_headers(rt: HostRuntime) -> Result<(), Fail> {
     Ok(())
 }
 
-/// The stream itself.
+/// Returns the bytes of the stream.
 fn written(alloc: Global, run: &Run) -> Result<Vec<u8>, AllocError> {
     let mut stream = Vec::from_slice(alloc, run.before)?;
     for _ in 0..run.count {
@@ -282,7 +286,7 @@ fn after_a_fault(rt: HostRuntime) -> Result<(), Fail> {
     Ok(())
 }
 
-/// Is a cut frame neither a frame nor a fault, and not at rest?
+/// Returns whether a cut frame is neither a frame nor a fault, and leaves the framer not at rest.
 fn is_cut(alloc: Global, stream: &[u8]) -> Result<bool, BadLimits> {
     let cuts = Cuts {
         state: 0,

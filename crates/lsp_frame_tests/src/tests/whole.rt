@@ -14,7 +14,7 @@ struct Row {
     fault: FrameFault,
 }
 
-/// Bodies of at most 4,096 bytes.
+/// The streams, for bodies of at most 4,096 bytes.
 static STREAMS: [Row; 5] = [
     Row {
         stream: "Content-Length: 4097\r\n\r\n",
@@ -46,7 +46,7 @@ static STREAMS: [Row; 5] = [
 /// Lengths of pieces.
 static SIZES: [usize; 5] = [1, 20, 23, 24, 100];
 
-/// The stream in pieces of `size` bytes.
+/// Cuts the stream into pieces of `size` bytes.
 fn cut(alloc: Global, stream: &[u8], size: usize) -> Result<Vec<Vec<u8>>, AllocError>
     requires { 0 < size }
 {
@@ -66,7 +66,7 @@ fn are_bodies(bodies: &[Vec<u8>], wanted: &[&[u8]]) -> bool {
     bodies.len() == wanted.len()
 }
 
-/// Is the stream read as its row says, in pieces of `size` bytes?
+/// Returns whether the stream, in pieces of `size` bytes, is read as its row says.
 fn is_read(alloc: Global, row: &Row, size: usize) -> Result<bool, Fail> {
     if size == 0 {
         return Ok(false);

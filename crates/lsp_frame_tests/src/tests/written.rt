@@ -5,7 +5,7 @@ use lsp_frame::{EncodeFault, encode, frame};
 use std::alloc::{AllocError, Global};
 use std::test::Fail;
 
-/// The frame of a body of so many spaces.
+/// Returns the frame of a body of `len` spaces.
 fn framed(alloc: Global, len: usize) -> Result<Vec<u8>, AllocError> {
     let body = vec![in alloc; b' '; len]?;
     frame(alloc, &body)
@@ -26,7 +26,7 @@ fn the_frame_of_an_empty_body(rt: HostRuntime) -> Result<(), Fail> {
     Ok(())
 }
 
-/// What is written of a body of so many letters.
+/// Encodes a body of `len` letters.
 fn encoded(alloc: Global, len: usize) -> Result<Vec<u8>, EncodeFault> {
     let body = vec![in alloc; b'x'; len]?;
     let Ok(limits) = narrow() else {

@@ -9,7 +9,7 @@ fn shown(alloc: Global, body: &str) -> Result<String, AllocError> {
     format!(in alloc; "{outcome:?}")
 }
 
-/// Is a body read as this?
+/// Returns whether a body is read as this.
 fn is_read_as(alloc: Global, body: &str, wanted: &str) -> Result<bool, AllocError> {
     Ok(shown(alloc, body)?.as_str() == wanted)
 }
@@ -53,7 +53,7 @@ static WITHOUT_ID: [&str; 27] = [
     "{}",
     r#"{"id":null,"jsonrpc":"1.0","result":1}"#,
     r#"{"id":{},"method":"x"}"#,
-    // A method with an id that can't be found.
+    // A method with an id that is neither a whole number in range nor a string.
     r#"{"id":9223372036854775808,"jsonrpc":"2.0","method":"x"}"#,
     r#"{"id":-9223372036854775809,"jsonrpc":"2.0","method":"x"}"#,
     r#"{"id":null,"jsonrpc":"2.0","method":"x"}"#,
@@ -65,7 +65,7 @@ static WITHOUT_ID: [&str; 27] = [
     r#"{"id":[1],"jsonrpc":"2.0","method":"x"}"#,
     r#"{"id":true,"jsonrpc":"2.0","method":"x"}"#,
     r#"{"id":1,"jsonrpc":"2.0","id":null,"method":"x"}"#,
-    // Neither a call nor an answer.
+    // Neither a call nor a response.
     r#"{"id":null,"jsonrpc":"2.0"}"#,
     r#"{"error":null,"id":null,"jsonrpc":"2.0"}"#,
     r#"{"jsonrpc":"2.0","result":1}"#,
@@ -96,13 +96,13 @@ static WITH_ID: [(&str, &str); 9] = [
         r#"{"id":5,"jsonrpc":"2.0","method":null,"result":1}"#,
         "Whole(5)",
     ),
-    // Neither a call nor an answer.
+    // Neither a call nor a response.
     (r#"{"id":1,"jsonrpc":"2.0"}"#, "Whole(1)"),
     (r#"{"id":"","jsonrpc":"2.0","params":[]}"#, r#"Text("")"#),
     (r#"{"error":null,"id":1,"jsonrpc":"2.0"}"#, "Whole(1)"),
 ];
 
-/// Is a body no message, and is this its id?
+/// Returns whether a body is no message, with this id.
 fn has_id(alloc: Global, body: &str, id: &str) -> Result<bool, AllocError> {
     let wanted = format!(in alloc; "Err(NotAMessage {{ id: Some({id}) }})")?;
     is_read_as(alloc, body, &wanted)
@@ -260,7 +260,7 @@ fn bytes_are_utf8(rt: HostRuntime) {
     }
 }
 
-/// An array in arrays, this deep in all.
+/// Returns arrays in one another, to this depth.
 fn nested(alloc: Global, depth: usize) -> Result<String, AllocError> {
     let mut text = String::new(alloc);
     for _ in 0..depth {
@@ -272,7 +272,7 @@ fn nested(alloc: Global, depth: usize) -> Result<String, AllocError> {
     Ok(text)
 }
 
-/// Is a body of arrays, this deep, JSON? It is no message.
+/// Returns whether a body of arrays to this depth is JSON. It is no message.
 fn is_json(alloc: Global, depth: usize) -> Result<bool, Fail> {
     let arrays = nested(alloc, depth)?;
     match read(alloc, arrays.as_bytes()) {
@@ -290,7 +290,7 @@ fn a_body_nests_127_deep(rt: HostRuntime) -> Result<(), Fail> {
     Ok(())
 }
 
-/// Is a message read whose params are arrays, this deep?
+/// Returns whether a message is read whose params are arrays to this depth.
 fn is_message(alloc: Global, depth: usize) -> Result<bool, Fail> {
     let arrays = nested(alloc, depth)?;
     let body = format!(in alloc; "{{\"jsonrpc\":\"2.0\",\"method\":\"x\",\"params\":{arrays}}}")?;

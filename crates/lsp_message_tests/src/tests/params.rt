@@ -1,4 +1,4 @@
-//! What the parameters of the three document messages are read as, printed by `Debug`.
+//! What the params of the three document messages are read as, printed by `Debug`.
 
 use lsp_message::{ParamsFault, params_change, params_close, params_open};
 use serde_json::Value;

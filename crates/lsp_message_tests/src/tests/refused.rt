@@ -1,4 +1,4 @@
-//! Calls that run out of memory once, and are made again.
+//! Calls that run out of memory once, and are repeated.
 
 use super::{error_reply, text};
 use lsp_message::{
@@ -9,7 +9,7 @@ use serde_json::Value;
 use std::alloc::{AllocError, Global};
 use std::test::Fail;
 
-/// A body is read; again where it was refused, which is counted.
+/// Reads a body. Out of memory is counted, and the call repeated.
 fn read_again(alloc: Global, body: &[u8], refused: &mut usize) -> Result<Message, ReadFault> {
     let outcome = read(alloc, body);
     if outcome != Err(ReadFault::NoMemory) {
@@ -40,7 +40,7 @@ fn refused_read(rt: HostRuntime) -> Result<(), Fail> {
 const PARAMS: &str =
     "{\"contentChanges\":[{\"text\":\"a\"}],\"textDocument\":{\"uri\":\"u\",\"version\":2}}";
 
-/// The params as a value; built again where memory ran out, which is counted.
+/// Parses the params. Out of memory is counted, and the call repeated.
 fn value_again(alloc: Global, refused: &mut usize) -> Result<Value, Fail> {
     let outcome = Value::from_str(alloc, PARAMS);
     if outcome.as_ref().is_err_and(|error| error.is_memory()) {
@@ -50,7 +50,8 @@ fn value_again(alloc: Global, refused: &mut usize) -> Result<Value, Fail> {
     Ok(outcome?)
 }
 
-/// The params are read; again where they were refused. The value goes with a refused call, so it is built again.
+/// Reads the params. Out of memory is counted, and the call repeated, on newly parsed params: the
+/// call consumed them.
 fn params_again(alloc: Global, refused: &mut usize) -> Result<ChangeParams, Fail> {
     let outcome = params_change(alloc, Some(value_again(alloc, refused)?));
     if outcome != Err(ParamsFault::NoMemory) {
@@ -69,7 +70,7 @@ fn refused_params_change(rt: HostRuntime) -> Result<(), Fail> {
     Ok(())
 }
 
-/// An id that doesn't fit into the room that is made for a message at first.
+/// An id that doesn't fit into the buffer that a message starts with.
 const LONG_ID: &str = concat!(
     "0123456789012345678901234567890123456789012345678901234567890123456789",
     "0123456789012345678901234567890123456789012345678901234567890123456789",
@@ -77,7 +78,7 @@ const LONG_ID: &str = concat!(
     "0123456789012345678901234567890123456789012345678901234567890123456789",
 );
 
-/// The id; copied again where it was refused, which is counted.
+/// Copies the id. Out of memory is counted, and the call repeated.
 fn id_again(alloc: Global, refused: &mut usize) -> Result<Id, AllocError> {
     match text(alloc, LONG_ID) {
         Ok(id) => Ok(Id::Text(id)),
@@ -88,7 +89,7 @@ fn id_again(alloc: Global, refused: &mut usize) -> Result<Id, AllocError> {
     }
 }
 
-/// A message is written; again where it was refused, which is counted.
+/// Writes a message. Out of memory is counted, and the call repeated.
 fn write_again(
     alloc: Global,
     message: &Outgoing,

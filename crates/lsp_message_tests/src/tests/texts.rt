@@ -1,4 +1,4 @@
-//! The text of each message, and what it is read as.
+//! The body of each message, and what it is read as.
 
 use super::{changed, closed, error_reply, initialized, opened, text, unchanged};
 use lsp_message::{
@@ -10,7 +10,7 @@ use serde_json::Value;
 use std::alloc::Global;
 use std::test::Fail;
 
-/// Is a message written as this text, of so many bytes?
+/// Returns whether a message is written as this text of so many bytes.
 fn is_written(
     alloc: Global,
     message: &Outgoing,
@@ -21,7 +21,7 @@ fn is_written(
     Ok(body.as_slice() == wanted.as_bytes() && body.len() == length)
 }
 
-/// What an `initialize` offers, its length and its text.
+/// What an `initialize` offers, the length of its body, and its body.
 static INITIALIZE: [(bool, bool, usize, &str); 4] = [
     (
         false,
@@ -122,7 +122,7 @@ const DID_CHANGE_NOTHING: &str = concat!(
     r#""textDocument":{"uri":"file:///a","version":2}}}"#,
 );
 
-/// Is the message of this change written as this text?
+/// Returns whether the message of this change is written as this text.
 fn change_is_written(
     alloc: Global,
     params: ChangeParams,
@@ -144,7 +144,7 @@ fn changes_have_their_texts(rt: HostRuntime) -> Result<(), Fail> {
     Ok(())
 }
 
-/// What a changed text holds, and how it is written. Only quotes, backslashes and bytes below 32 are escaped.
+/// A new text, and how it is written. Only quotes, backslashes and bytes below 32 are escaped.
 static ESCAPES: [(&str, &str); 4] = [
     ("\"\\/", r#"\"\\/"#),
     ("\u{8}\t\n\u{c}\r", r"\b\t\n\f\r"),
@@ -152,7 +152,7 @@ static ESCAPES: [(&str, &str); 4] = [
     ("\u{e9}\u{2028}\u{1f600}", "\u{e9}\u{2028}\u{1f600}"),
 ];
 
-/// Does the message of a changed text hold this?
+/// Returns whether the message of a new text contains this.
 fn is_escaped(alloc: Global, given: &str, wanted: &str) -> Result<bool, Fail> {
     let message = Outgoing::DidChange(changed(alloc, None, given)?);
     let body = String::from_utf8(write(alloc, &message)?)?;
@@ -192,7 +192,7 @@ fn results_have_their_texts(rt: HostRuntime) -> Result<(), Fail> {
     Ok(())
 }
 
-/// An error, the number of the request, and the reply.
+/// An error, the id of the request, and the length and the body of the reply.
 type Refusal = (ErrorCode, Option<i64>, usize, &'static str);
 
 static ERRORS: [Refusal; 5] = [
@@ -256,7 +256,7 @@ fn errors_have_their_texts(rt: HostRuntime) -> Result<(), Fail> {
     Ok(())
 }
 
-/// The params of the call that a written message is read as.
+/// Returns the params of the call that a written message is read as.
 fn params_read(alloc: Global, message: &Outgoing) -> Result<Option<Value>, Fail> {
     let body = write(alloc, message)?;
     match read(alloc, &body)? {
@@ -297,7 +297,7 @@ fn written_params_are_read(rt: HostRuntime) -> Result<(), Fail> {
     Ok(())
 }
 
-/// The result that a written reply to request 1 is read as.
+/// Returns the result that a written reply to request 1 is read as.
 fn result_read(alloc: Global, message: &Outgoing) -> Result<Value, Fail> {
     let body = write(alloc, message)?;
     let (id, outcome) = match read(alloc, &body)? {

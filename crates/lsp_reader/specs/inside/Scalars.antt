@@ -14,28 +14,32 @@ use Rattle.lsp_reader.specs.declared.scalar.Scalar.TheVariants as sca
 
 -- ---- numbers
 
+-- A number, as far as the protocol needs it.
 pub data NumberData : Type 0 where
   natural : ℕ → NumberData
   negative : ℤ → NumberData
-  -- one that is not whole, or that 64 bits do not hold
+  -- a number that isn't whole, or that doesn't fit into 64 bits
   float : NumberData
 
+-- What is kept of a number of JSON.
 abbrev pub number_kind : Num → NumberData
 number_kind (data_of.unsigned n) = natural n
 number_kind (data_of.negative z) = negative z
 number_kind (data_of.float x) = float
 
+-- A `Number` of the code.
 abbrev pub number_view : Number → NumberData
 number_view (num.Natural n) = natural n
 number_view (num.Negative z) = negative z
 number_view num.Float = float
 
--- the whole number that 64 bits with a sign hold
+-- A whole number in the range of `i64`.
 abbrev pub number_whole : NumberData → Option ℤ
 number_whole (natural n) = if nat_lt n (2 ^ 63) then Some (pos n) else None
 number_whole (negative z) = Some z
 number_whole float = None
 
+-- A number that is a line or a character.
 abbrev pub number_coordinate : NumberData → Option ℕ
 number_coordinate (natural n) = within_position n
 number_coordinate (negative z) = None
@@ -43,6 +47,7 @@ number_coordinate float = None
 
 -- ---- scalars
 
+-- What is kept of a member.
 pub data ScalarData : Type 0 where
   missing : ScalarData
   null : ScalarData
@@ -50,6 +55,7 @@ pub data ScalarData : Type 0 where
   numeric : NumberData → ScalarData
   other : ScalarData
 
+-- What is kept of a value.
 abbrev pub scalar_of : Data → ScalarData
 scalar_of data_of.null = null
 scalar_of (data_of.boolean b) = other
@@ -58,10 +64,12 @@ scalar_of (data_of.string s) = text s
 scalar_of (data_of.array ds) = other
 scalar_of (data_of.object ms) = other
 
+-- What is kept of a member that may be missing.
 abbrev pub scalar_in : Option Data → ScalarData
 scalar_in None = missing
 scalar_in (Some d) = scalar_of d
 
+-- A `Scalar` of the code.
 abbrev pub scalar_view : Scalar → ScalarData
 scalar_view sca.Missing = missing
 scalar_view sca.Null = null
@@ -73,6 +81,7 @@ scalar_view sca.Other = other
 
 -- ---- what the protocol wants of a member
 
+-- The text of a string.
 abbrev pub scalar_text : ScalarData → Option (List ℕ)
 scalar_text missing = None
 scalar_text null = None
@@ -80,6 +89,7 @@ scalar_text (text s) = Some s
 scalar_text (numeric n) = None
 scalar_text other = None
 
+-- A whole number in the range of `i64`.
 abbrev pub scalar_whole : ScalarData → Option ℤ
 scalar_whole missing = None
 scalar_whole null = None
@@ -87,10 +97,11 @@ scalar_whole (text s) = None
 scalar_whole (numeric n) = number_whole n
 scalar_whole other = None
 
+-- The version of a document.
 abbrev pub scalar_version : ScalarData → Option ℤ
 scalar_version s = option_and_then within_version (scalar_whole s)
 
--- a line or a character
+-- A line or a character.
 abbrev pub scalar_coordinate : ScalarData → Option ℕ
 scalar_coordinate missing = None
 scalar_coordinate null = None
@@ -98,6 +109,7 @@ scalar_coordinate (text s) = None
 scalar_coordinate (numeric n) = number_coordinate n
 scalar_coordinate other = None
 
+-- The id of a message.
 abbrev pub scalar_id : ScalarData → Option IdData
 scalar_id missing = None
 scalar_id null = None
@@ -105,6 +117,6 @@ scalar_id (text s) = Some (text_id s)
 scalar_id (numeric n) = option_map whole (number_whole n)
 scalar_id other = None
 
--- the version of JSON-RPC
+-- Whether it names version 2.0 of JSON-RPC.
 abbrev pub is_scalar_two : ScalarData → Bool
 is_scalar_two s = option_map_or (λ t. bytes_eq t (codes "2.0")) (scalar_text s) false

@@ -1,4 +1,4 @@
-//! What bodies at the edges ask, printed by `Debug`.
+//! What unusual bodies ask, printed by `Debug`.
 
 use lsp_reader::Incoming;
 use std::alloc::{AllocError, Global};
@@ -9,12 +9,12 @@ fn shown(alloc: Global, body: &[u8]) -> Result<String, AllocError> {
     format!(in alloc; "{incoming:?}")
 }
 
-/// Does a body ask this?
+/// Returns whether a body asks this.
 fn asks(alloc: Global, body: &str, wanted: &str) -> Result<bool, AllocError> {
     Ok(shown(alloc, body.as_bytes())?.as_str() == wanted)
 }
 
-/// Do all bodies ask this?
+/// Returns whether all bodies ask this.
 fn all_ask(alloc: Global, bodies: &[&str], wanted: &str) -> Result<bool, AllocError> {
     for body in bodies {
         if !asks(alloc, body, wanted)? {
@@ -31,7 +31,7 @@ static NOT_JSON: [&str; 16] = [
     "null null",
     "7,",
     r#"{"jsonrpc":"2.0","method":"x"}]"#,
-    // In members that no one needs: numbers out of range, lone surrogates, wrong tokens.
+    // In members that are skipped: numbers out of range, lone surrogates, wrong tokens.
     r#"{"jsonrpc":"2.0","method":"x","y":1e400}"#,
     r#"{"jsonrpc":"2.0","method":"x","y":[{"z":-1e400}]}"#,
     r#"{"jsonrpc":"2.0","method":"x","params":{"y":1e400}}"#,
@@ -57,7 +57,7 @@ fn what_is_no_utf8(rt: HostRuntime) -> Result<(), Fail> {
     Ok(())
 }
 
-/// A notification with a member `y` of arrays in one another.
+/// Returns a notification with a member `y` of arrays in one another.
 fn nested(alloc: Global, open: &str, close: &str, count: u32) -> Result<String, AllocError> {
     let mut body = String::from_str(alloc, "{\"jsonrpc\":\"2.0\",\"method\":\"x\",\"y\":")?;
     for _ in 0..count {
@@ -104,7 +104,7 @@ static WANTED: [(&str, &str); 30] = [
         r#"{"jsonrpc":"2.0","method":"exit","id":1,"method":"shutdown"}"#,
         "Shutdown { id: Whole(1) }",
     ),
-    // Params come before the method too, and escaped names are names.
+    // Params may come before the method, and names may have escapes.
     (
         r#"{"params":{"textDocument":{"uri":"u","version":3},"contentChanges":[{"te\u0078t":"a"}]},"\u006dethod":"textDocument/didChange","jsonrpc":"2.0"}"#,
         r#"DidChange(Some(ChangeParams { uri: "u", version: 3, changes: [Change { range: None, text: "a" }] }))"#,

@@ -16,7 +16,7 @@ static MESSAGES: [&str; 8] = [
     r#" { "id" : 1 , "error" : { "code" : -32601 , "message" : "x" } , "jsonrpc" : "2.0" } "#,
 ];
 
-/// Is each beginning of a body read alike both ways?
+/// Returns whether each first part of a body is read alike both ways.
 fn is_same_cut(alloc: Global, body: &str, scratch: &mut Scratch) -> Result<bool, AllocError> {
     for end in 0..=body.len() {
         let beginning = body.as_bytes().get(..end).unwrap_or_default();
@@ -36,7 +36,7 @@ fn messages_cut_at_each_byte(rt: HostRuntime) -> Result<(), Fail> {
     Ok(())
 }
 
-/// A `didOpen` whose text is of `count` letters.
+/// Returns a `didOpen` whose text has `count` letters.
 fn opened(alloc: Global, count: u32) -> Result<String, AllocError> {
     let mut body = String::from_str(
         alloc,
@@ -49,7 +49,8 @@ fn opened(alloc: Global, count: u32) -> Result<String, AllocError> {
     Ok(body)
 }
 
-/// How long the text of a `didOpen` of so many letters is; `None` where the body is read as something else.
+/// Returns the length of the text of a `didOpen` of so many letters; `None` where the body is read
+/// as something else.
 fn opened_len(
     alloc: Global,
     count: u32,
@@ -62,7 +63,7 @@ fn opened_len(
     }
 }
 
-/// Long bodies have a scratch of their own: 65,536 bytes is the longest that has not.
+/// Long bodies have a scratch of their own. The longest that has none has 65,536 bytes.
 static LENGTHS: [(u32, usize); 4] = [
     (0, 1),
     (65_399, 65_400),

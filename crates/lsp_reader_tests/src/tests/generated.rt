@@ -1,4 +1,4 @@
-//! Bodies made by a seeded generator, read both ways.
+//! Bodies of a seeded generator, read both ways.
 
 use super::is_same;
 use lsp_reader::{Incoming, Scratch};
@@ -120,10 +120,10 @@ static VALUES: [&str; 12] = [
     "[1,[2,[3]]]",
 ];
 
-/// Bytes that are put in the place of another.
+/// Bytes that replace another.
 static DAMAGE: [u8; 10] = *b"\"\\{}[],:0\xff";
 
-/// Writes bodies. The same seed gives the same bodies.
+/// A generator of bodies. The same seed generates the same bodies.
 #[derive(Drop)]
 struct Generator {
     seed: u64,
@@ -138,7 +138,7 @@ impl Generator {
         }
     }
 
-    /// A number below the limit, by xorshift.
+    /// Returns a number below the limit, by xorshift.
     fn below(&mut self, limit: usize) -> usize {
         let mut seed = self.seed;
         seed ^= seed << 13;
@@ -160,7 +160,7 @@ impl Generator {
         self.put(text)
     }
 
-    /// Members of one table, from one to four.
+    /// Writes one to four members of one table.
     fn put_members(&mut self, table: &[&str]) -> Result<(), AllocError> {
         for _ in 0..self.below(4) {
             self.put_one(table)?;
@@ -169,7 +169,7 @@ impl Generator {
         self.put_one(table)
     }
 
-    /// The members of a position, which mostly are as they should be.
+    /// Writes the members of a position, most of which are valid.
     fn put_position(&mut self) -> Result<(), AllocError> {
         if self.below(8) == 0 {
             return self.put_one(&POSITION_MEMBERS);
@@ -247,7 +247,7 @@ impl Generator {
         self.put("}")
     }
 
-    /// One byte is another, or the body is cut.
+    /// Replaces one byte, or cuts the body.
     fn damage(&mut self) {
         let len = self.body.len();
         let index = self.below(len);
@@ -264,7 +264,7 @@ impl Generator {
         }
     }
 
-    /// The next body.
+    /// Writes the next body.
     fn next(&mut self) -> Result<(), AllocError> {
         self.body.clear();
         self.put_one(&OPENERS)?;
@@ -282,7 +282,7 @@ impl Generator {
     }
 }
 
-/// How many bodies of each kind there were.
+/// The number of bodies of each kind.
 #[derive(Clone, Copy, Debug, Drop)]
 struct Counts {
     not_json: u32,
@@ -302,13 +302,13 @@ impl Counts {
         }
     }
 
-    /// Were there many of each kind?
+    /// Returns whether there are many of each kind.
     fn are_many(&self) -> bool {
         self.not_json > 1_000 && self.changed > 1_000 && self.opened > 1_000 && self.faulty > 1_000
     }
 }
 
-/// Reads bodies both ways; `None` where one is read otherwise.
+/// Reads bodies both ways, and counts them; `None` where one isn't read alike.
 fn read_all(alloc: Global, seed: u64, count: u32) -> Result<Option<Counts>, AllocError> {
     let mut generator = Generator::new(alloc, seed);
     let mut scratch = Scratch::new(alloc);

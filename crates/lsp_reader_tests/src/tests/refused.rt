@@ -1,10 +1,10 @@
-//! Bodies whose reading runs out of memory once, and that are read again.
+//! Bodies whose reading runs out of memory once, and is repeated.
 
 use lsp_reader::{Incoming, Scratch};
 use std::alloc::{AllocError, Global};
 use std::test::Fail;
 
-/// Reads a body; again where it was refused, which is counted.
+/// Reads a body. Out of memory is counted, and the call repeated.
 fn read_again(
     alloc: Global,
     body: &str,
@@ -18,7 +18,7 @@ fn read_again(
     Incoming::read_with(alloc, body.as_bytes(), scratch)
 }
 
-/// Is the body read as a document message with params?
+/// Returns whether the body is read as a document message with params.
 fn is_read(
     alloc: Global,
     body: &str,
@@ -52,13 +52,13 @@ fn refused_read_with(rt: HostRuntime) -> Result<(), Fail> {
     Ok(())
 }
 
-/// A request with a text id, and a message that has one and is none.
+/// A request with a text id, and a body that is no message and has a text id.
 static IDS: [&str; 2] = [
     r#"{"id":"q","jsonrpc":"2.0","method":"textDocument/hover"}"#,
     r#"{"id":"q","jsonrpc":"2.0","method":7}"#,
 ];
 
-/// Does the body keep its id?
+/// Returns whether the id of the body is read.
 fn has_id(
     alloc: Global,
     body: &str,

@@ -1,4 +1,4 @@
-//! What `replay` reports and what `normalise` keeps.
+//! The report of `replay`, and what `normalise` keeps.
 
 use super::*;
 
@@ -37,7 +37,7 @@ fn documents_are_reported_in_order_of_opening(rt: HostRuntime) -> Result<(), Fai
     Ok(())
 }
 
-/// A change of the text `abc`, and how many bytes its canonical body has; none where it is refused.
+/// A change of the text `abc`, and how many bytes its canonical body has; `None` if it is refused.
 static CHANGES: [(i32, &str, Option<usize>); 6] = [
     (2, r#"{"text":"aXc"}"#, Some(217)),
     (1, r#"{"text":"aXc"}"#, None),
@@ -64,7 +64,8 @@ fn changed_log(alloc: Global, body: &str) -> Result<Vec<u8>, AllocError> {
     Ok(input)
 }
 
-/// Is this what `normalise` makes of the input: the first 340 bytes, and a frame of the canonical body?
+/// Is this the output of `normalise` for the input: the first 340 bytes, and a frame of the
+/// canonical body?
 fn is_normal(run: &Report, input: &[u8], length: Option<usize>) -> bool {
     match length {
         Some(length) => {
@@ -76,7 +77,7 @@ fn is_normal(run: &Report, input: &[u8], length: Option<usize>) -> bool {
     }
 }
 
-/// Does `normalise` write the same again, with the same answer?
+/// Does `normalise` write the same again, with the same result?
 fn is_written_again(alloc: Global, run: &Report) -> Result<bool, Fail> {
     let again = run_with(alloc, Command::Normalise, &run.output, settings()?, SMOOTH)?;
     Ok(again.output == run.output && again.answer == run.answer)
@@ -100,7 +101,8 @@ fn accepted_changes_alone_are_written_anew(rt: HostRuntime) -> Result<(), Fail> 
     Ok(())
 }
 
-/// A change of the whole text to so many letters. Its canonical body has 214 bytes more than they are.
+/// A change of the whole text to so many letters. Its canonical body has 214 bytes more than the
+/// letters.
 pub(super) fn letters(alloc: Global, count: usize, version: i32) -> Result<String, AllocError> {
     let mut whole = String::from_str(alloc, r#"{"text":""#)?;
     for _ in 0..count {
@@ -110,10 +112,12 @@ pub(super) fn letters(alloc: Global, count: usize, version: i32) -> Result<Strin
     change(alloc, version, &whole)
 }
 
-/// What a log that ends with such a change is written as: its answer, and how many of its first bytes are kept and how many come after.
+/// The output for a log that ends with such a change: the result, how many of its first bytes are
+/// kept, and how many follow.
 type Written = (End, usize, usize);
 
-/// A change of so many letters to a version, at the end of a log of version 1 and of one of version 2.
+/// A change of so many letters to a version, at the end of a log of version 1 and of one of version
+/// 2.
 struct Limit {
     letters: usize,
     version: i32,
@@ -121,7 +125,8 @@ struct Limit {
     of_2: Written,
 }
 
-/// A canonical frame at the limit has 24 bytes of header; a stale change of 3,883 letters keeps its frame, of a body of 4,023.
+/// A canonical frame at the limit has 24 bytes of header. A stale change of 3,883 letters keeps its
+/// frame, with a body of 4,023.
 static LIMITS: [Limit; 3] = [
     Limit {
         letters: 3_882,

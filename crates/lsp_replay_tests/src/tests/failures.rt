@@ -1,21 +1,21 @@
-//! Readers and writers that give little, are interrupted or fail.
+//! Readers and writers that move few bytes, are interrupted or fail.
 
 use super::squashed::{BOTH, TYPED};
 use super::*;
 
-/// A run of an engine, and how it goes on.
+/// A run of an engine, and its progress.
 struct Case {
     command: Command,
     input: Bytes,
     output: Bytes,
     end: End,
-    /// How many bytes were read and written when a record was handled, for each that gives something.
+    /// How many bytes were read and written when a record was handled, for each that has output.
     records: &'static [(usize, usize)],
-    /// Which of the writer's calls flush, where each write takes one byte.
+    /// Which of the writer's calls flush, if each write takes one byte.
     flushes: &'static [usize],
-    /// The reads, where the calls are counted.
+    /// The reads, if the calls are counted.
     reads: &'static [Call],
-    /// The calls in their order where each moves all that it can: reads, writes and flushes.
+    /// The order of the calls if each moves all that it can: reads, writes and flushes.
     order: &'static [u8],
 }
 
@@ -168,7 +168,7 @@ impl Case {
     }
 }
 
-/// What a run answers, how much it writes, and how many calls it makes where that is asked.
+/// The result of a run, how much it writes, and how many calls it makes if that is asked.
 #[derive(Clone, Copy)]
 struct Wanted {
     answer: Answer,
@@ -240,7 +240,8 @@ impl<'a> Runs<'a> {
         expected(self.case.end.answer(), self.output.len())
     }
 
-    /// How many reads of one byte it makes: one for each byte, and one that has the end, but for `serve`, which ends at the exit.
+    /// How many reads of one byte it makes: one for each byte, and one that comes to the end.
+    /// `serve` has no such read, since it ends at the exit.
     fn reads(&self) -> usize {
         let more = usize::from(self.case.command != Command::Serve);
         self.input.len().saturating_add(more)
@@ -251,7 +252,7 @@ impl<'a> Runs<'a> {
         self.output.len().saturating_add(self.case.flushes.len())
     }
 
-    /// Where the reader gives single bytes, and is interrupted before each.
+    /// Is the run as wanted if the reader returns single bytes, and is interrupted before each?
     fn reads_slowly(&self) -> Result<bool, Fail> {
         let reads = self.reads() as u64;
         let single = Wanted {
@@ -273,7 +274,7 @@ impl<'a> Runs<'a> {
         self.meets(calls, double)
     }
 
-    /// Where the read of this number fails.
+    /// Is the run as wanted if the read of this number fails?
     fn fails_at_read(&self, script: &[Call], number: usize) -> Result<bool, Fail> {
         let calls = Calls {
             reads: script,
@@ -298,7 +299,7 @@ impl<'a> Runs<'a> {
         Ok(true)
     }
 
-    /// Where the writer takes single bytes, and is interrupted before each.
+    /// Is the run as wanted if the writer takes single bytes, and is interrupted before each?
     fn writes_slowly(&self) -> Result<bool, Fail> {
         let twice = interrupted(self.alloc, self.writes())?;
         let calls = Calls {
@@ -323,7 +324,7 @@ impl<'a> Runs<'a> {
         flushed
     }
 
-    /// Where the writer's call of this number fails, or takes nothing.
+    /// Is the run as wanted if the writer's call of this number fails, or takes nothing?
     fn fails_at_write(&self, script: &[Call], number: usize) -> Result<bool, Fail> {
         let calls = Calls {
             writes: script,
@@ -352,7 +353,7 @@ impl<'a> Runs<'a> {
         Ok(true)
     }
 
-    /// With so many calls allowed, are these made?
+    /// Does a run with so many allowed calls make these?
     fn stops_after(&self, turns: usize, made: [usize; 3], answer: Answer) -> Result<bool, Fail> {
         let [reads, writes, flushes] = made;
         let calls = Calls {
@@ -370,7 +371,8 @@ impl<'a> Runs<'a> {
         self.meets(calls, stopped)
     }
 
-    /// With so many calls allowed as it needs, and with each smaller number: its calls come in their order.
+    /// With as many allowed calls as it needs, and with each smaller number: its calls come in
+    /// their order.
     fn calls_in_order(&self) -> Result<bool, Fail> {
         let mut made = [0usize; 3];
         for (turns, call) in self.case.order.iter().enumerate() {
@@ -419,7 +421,7 @@ fn script(alloc: Global, calls: usize) -> Result<Vec<Call>, AllocError> {
     Ok(script)
 }
 
-/// The reader gives little in each case, and then fails at each call in turn.
+/// The reader returns few bytes in each case, and then fails at each call in turn.
 fn reads_fail(alloc: Global, cases: &[Case]) -> Result<bool, Fail> {
     for case in cases {
         let runs = Runs::new(alloc, case)?;
@@ -448,7 +450,7 @@ fn each_read_of_version_2_fails_in_turn(rt: HostRuntime) -> Result<(), Fail> {
     Ok(())
 }
 
-/// The writer takes little in each case, and then fails, or takes nothing, at each call in turn.
+/// The writer takes few bytes in each case, and then fails, or takes nothing, at each call in turn.
 fn writes_fail(alloc: Global, cases: &[Case]) -> Result<bool, Fail> {
     for case in cases {
         let runs = Runs::new(alloc, case)?;
@@ -492,7 +494,7 @@ fn output_is_written_and_flushed_before_the_next_read(rt: HostRuntime) -> Result
     Ok(())
 }
 
-/// Is this the answer of the session, and how much of its replies is written?
+/// Is this the result of the session, and are so many bytes of its replies written?
 fn serves(alloc: Global, calls: Calls, answer: Answer, written: usize) -> Result<bool, Fail> {
     for case in &SERVED {
         if !Runs::new(alloc, case)?.meets(calls, expected(answer, written))? {
@@ -519,7 +521,8 @@ fn a_reader_and_a_writer_that_stop(rt: HostRuntime) -> Result<(), Fail> {
     Ok(())
 }
 
-/// A request that is none, again and again: each is answered, and the answer flushed, before the next is read.
+/// A request that is none, again and again: each is answered, and the answer flushed, before the
+/// next is read.
 fn is_answered_at_once(alloc: Global) -> Result<bool, Fail> {
     let bodies = ["[]"; 20];
     let endless = log(alloc, &bodies)?;

@@ -3,7 +3,8 @@
 use super::*;
 use lsp_replay::{Duplex, serve_on};
 
-/// What was written before the run and not passed on, how the calls go, and whether a read came too early.
+/// What was written before the run and not passed on, how the calls end, and whether a read came
+/// too early.
 static ROWS: [(&[u8], Calls<'static>, bool); 5] = [
     (b"", SMOOTH, false),
     (b"", SINGLE, false),
@@ -29,7 +30,7 @@ static ROWS: [(&[u8], Calls<'static>, bool); 5] = [
     ),
 ];
 
-/// Does `serve_on` leave both ends saying this?
+/// Do both ends report this after `serve_on`?
 fn leaves(alloc: Global, row: &(&[u8], Calls, bool)) -> Result<bool, Fail> {
     let (before, calls, read_early) = row;
     let input = log(alloc, SESSION)?;

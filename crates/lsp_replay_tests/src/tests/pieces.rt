@@ -209,7 +209,7 @@ static WAYS: [Calls<'static>; 3] = [
 fn give_in_pieces(alloc: Global, rows: &[Row]) -> Result<bool, Fail> {
     for row in rows {
         for calls in &WAYS {
-            if !gives(alloc, row, *calls)? {
+            if !has_result(alloc, row, *calls)? {
                 return Ok(false);
             }
         }
@@ -251,7 +251,7 @@ fn failing_script(alloc: Global, reads: usize) -> Result<Vec<Call>, AllocError> 
     Ok(script)
 }
 
-/// Does the run answer this, and write so many bytes of its whole output?
+/// Has the run this result, and does it write so many bytes of its whole output?
 fn writes_part(
     alloc: Global,
     command: Command,
@@ -264,7 +264,7 @@ fn writes_part(
     Ok(run.answer == answer && Some(run.output.as_slice()) == part)
 }
 
-/// Where the read of this number fails, is the first record written once it is whole?
+/// If the read of this number fails, is the first record written once it is complete?
 fn fails_at(alloc: Global, input: &[u8], first: usize, number: usize) -> Result<bool, Fail> {
     let script = failing_script(alloc, number)?;
     let calls = Calls {
@@ -296,7 +296,8 @@ const ALL: Call = Call::Take(999);
 
 const NONE: Call = Call::Take(0);
 
-/// The writer's calls, what is answered, and how much is written. Each reply is one write and one flush; a flush has nothing to take.
+/// The writer's calls, the result, and how much is written. Each reply is one write and one flush;
+/// a flush has nothing to take.
 static WRITES: [(&[Call], End, usize); 8] = [
     (&[Call::Fail], Fault(EngineFault::Write), 0),
     (&[NONE], Fault(EngineFault::Write), 0),
@@ -345,7 +346,7 @@ fn a_short_write_goes_on_with_the_rest(rt: HostRuntime) -> Result<(), Fail> {
     Ok(())
 }
 
-/// Are so many calls made and no more?
+/// Does a run make so many calls and no more?
 fn makes_calls(alloc: Global, turns: u64, answer: Answer) -> Result<bool, Fail> {
     let calls = Calls { turns, ..SMOOTH };
     let run = run_with(alloc, Command::Serve, TWO_FRAMES, settings()?, calls)?;
@@ -354,7 +355,7 @@ fn makes_calls(alloc: Global, turns: u64, answer: Answer) -> Result<bool, Fail> 
 
 #[test]
 fn no_call_is_made_beyond_those_allowed(rt: HostRuntime) -> Result<(), Fail> {
-    // One read, a write and a flush for each record, and one read that has the end.
+    // One read, a write and a flush for each record, and one read that comes to the end.
     for turns in 0..6 {
         let answer = Err(EngineFault::TooManyTurns);
         assert!(rt; makes_calls(rt.alloc(), turns, answer)?, "{turns}");

@@ -1,4 +1,4 @@
-//! Runs in which memory runs out once, and that are made again.
+//! Runs that are once out of memory, and are then repeated.
 
 use super::*;
 
@@ -13,14 +13,14 @@ const HEADER_OF_REPLY: &str = "Content-Length: 129\r\n\r\n";
 const EMPTY: &str =
     r#"{"jsonrpc":"2.0","method":"textDocument/didOpen","params":{"textDocument":{"languageId":"plaintext","text":"","uri":"file:///a","version":1}}}"#;
 
-/// Its text is taken away, and it had none.
+/// Its text is removed, and it had none.
 const NOTHING: &str =
     r#"{"jsonrpc":"2.0","method":"textDocument/didChange","params":{"contentChanges":[{"text":""}],"textDocument":{"uri":"file:///a","version":2}}}"#;
 
 const NO_CHANGE: &str =
     r#"{"jsonrpc":"2.0","method":"textDocument/didChange","params":{"contentChanges":[],"textDocument":{"uri":"file:///a","version":2}}}"#;
 
-/// A run: what is written, in parts, and how many bytes that is after each record.
+/// A run: its output, in parts, and how many bytes that is after each record.
 struct Wanted {
     command: Command,
     input: Bytes,
@@ -30,7 +30,7 @@ struct Wanted {
 }
 
 impl Wanted {
-    /// Is it what some first records give?
+    /// Is this the output of some first records?
     fn begins_with(&self, output: &[u8]) -> bool {
         let mut rest = output;
         for part in self.parts {
@@ -45,14 +45,15 @@ impl Wanted {
             && self.lengths.last() == Some(&run.output.len())
     }
 
-    /// Did memory run out after some records? The writer takes memory too, and fails where it gets none.
+    /// Was the run out of memory after some records? The writer takes memory too, and its write
+    /// fails if there is none.
     fn ran_out(&self, run: &Report) -> bool {
         let fault = run.answer.err();
         (fault == Some(EngineFault::NoMemory) || fault == Some(EngineFault::Write))
             && self.begins_with(&run.output)
     }
 
-    /// The input, and how often memory ran out until it was built.
+    /// The input, and how often memory was refused until it was built.
     fn input(&self, alloc: Global) -> Result<(Vec<u8>, u32), AllocError> {
         match self.input.get(alloc) {
             Ok(input) => Ok((input, 0)),
@@ -60,7 +61,8 @@ impl Wanted {
         }
     }
 
-    /// Runs the engine, and again where memory ran out. Answers how often it ran out, and nothing where a run was wrong.
+    /// Runs the engine, and again if it was out of memory. Returns how often that was, or `None` if
+    /// a run was wrong.
     fn runs_again(&self, alloc: Global) -> Result<Option<u32>, Fail> {
         let (input, refused) = self.input(alloc)?;
         let settings = settings()?;
@@ -236,7 +238,7 @@ static COPIED: [Wanted; 2] = [
     },
 ];
 
-/// How often memory ran out in all the runs; nothing where one was wrong.
+/// Returns how often all the runs were out of memory, or `None` if one was wrong.
 fn run_all_again(alloc: Global, runs: &[Wanted]) -> Result<Option<u32>, Fail> {
     let mut refused: u32 = 0;
     for wanted in runs {

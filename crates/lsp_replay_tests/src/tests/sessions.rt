@@ -1,4 +1,4 @@
-//! Worked sessions: what each engine writes and answers.
+//! Worked sessions: the output and the result of each engine.
 
 use super::*;
 use lsp_frame::FrameFault;
@@ -79,7 +79,7 @@ static SESSION_ROWS: [Row; 6] = [
         Bytes::Frames(REPLIES),
         2,
     ),
-    // A log command goes on after it, and takes no more of the client.
+    // A log command reads on after it, and accepts no more of the client.
     Row(
         Command::Normalise,
         Bytes::Frames(SESSION),
@@ -171,7 +171,7 @@ fn a_session_ends_with_its_exit_or_its_input(rt: HostRuntime) -> Result<(), Fail
     Ok(())
 }
 
-/// Inputs that no log is: their faults, and what `check` writes first.
+/// Inputs that are no log: their faults, and what `check` writes first.
 static FAULTS: [(Bytes, EngineFault, &[u8]); 7] = [
     (
         Bytes::Plain(b"Content-Length: 5\r\n\r\nab"),
@@ -220,11 +220,11 @@ fn has_fault(alloc: Global, row: &(Bytes, EngineFault, &'static [u8])) -> Result
         Bytes::Plain(lines),
         0,
     );
-    if !gives(alloc, &checked, SMOOTH)? {
+    if !has_result(alloc, &checked, SMOOTH)? {
         return Ok(false);
     }
     let replayed = Row(Command::Replay, *input, Fault(*fault), Bytes::Plain(b""), 0);
-    gives(alloc, &replayed, SMOOTH)
+    has_result(alloc, &replayed, SMOOTH)
 }
 
 #[test]
@@ -232,5 +232,11 @@ fn faults_have_their_places(rt: HostRuntime) -> Result<(), Fail> {
     for row in &FAULTS {
         assert!(rt; has_fault(rt.alloc(), row)?, "{:?}", row.1);
     }
+    Ok(())
+}
+
+#[test]
+fn the_default_settings(rt: HostRuntime) -> Result<(), Fail> {
+    assert!(rt; settings()? == Settings::default());
     Ok(())
 }

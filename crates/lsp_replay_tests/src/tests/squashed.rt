@@ -1,4 +1,4 @@
-//! Logs in which changes of one document follow each other, and what they are squashed to.
+//! Logs in which changes of one document follow each other, and their squashed form.
 
 use super::documents::letters;
 use super::*;
@@ -26,7 +26,7 @@ pub(super) const BOTH: &str =
 const BEFORE: &str =
     r#"{"jsonrpc":"2.0","method":"textDocument/didChange","params":{"contentChanges":[{"range":{"end":{"character":0,"line":0},"start":{"character":0,"line":0}},"text":"x"}],"textDocument":{"uri":"file:///a","version":2}}}"#;
 
-/// The letter is taken away.
+/// The letter is removed.
 const AWAY: &str =
     r#"{"jsonrpc":"2.0","method":"textDocument/didChange","params":{"contentChanges":[{"range":{"end":{"character":1,"line":0},"start":{"character":0,"line":0}},"text":""}],"textDocument":{"uri":"file:///a","version":3}}}"#;
 
@@ -46,11 +46,11 @@ const APART: &str =
 const STALE: &str =
     r#"{"jsonrpc":"2.0","method":"textDocument/didChange","params":{"contentChanges":[{"range":{"end":{"character":0,"line":0},"start":{"character":0,"line":0}},"text":"z"}],"textDocument":{"uri":"file:///a","version":2}}}"#;
 
-/// A place far past the end of `a\n`.
+/// A position far past the end of `a\n`.
 const LINE_END: &str =
     r#"{"jsonrpc":"2.0","method":"textDocument/didChange","params":{"contentChanges":[{"range":{"end":{"character":3,"line":7},"start":{"character":3,"line":7}},"text":"b"}],"textDocument":{"uri":"file:///a","version":2}}}"#;
 
-/// The same, by the place that it means.
+/// The same, by the exact position.
 const CANONICAL_B: &str =
     r#"{"jsonrpc":"2.0","method":"textDocument/didChange","params":{"contentChanges":[{"range":{"end":{"character":0,"line":1},"start":{"character":0,"line":1}},"text":"b"}],"textDocument":{"uri":"file:///a","version":2}}}"#;
 
@@ -66,7 +66,7 @@ const BC: &str =
 const OTHER: &str =
     r#"{"jsonrpc":"2.0","method":"textDocument/didChange","params":{"contentChanges":[{"range":{"end":{"character":0,"line":0},"start":{"character":0,"line":0}},"text":"x"}],"textDocument":{"uri":"file:///b","version":2}}}"#;
 
-/// A log, and what it is squashed to, with the greatest number of changes in a message.
+/// A log, its squashed form, and the greatest number of changes in a message.
 struct Squashed(Bytes, Bytes, usize);
 
 const MANY: usize = 65_536;
@@ -99,7 +99,7 @@ static LOGS: [Squashed; 12] = [
         Bytes::Frames(&[INITIALIZE, OPEN, APART]),
         2,
     ),
-    // The one message would have too many changes.
+    // The run's message would have too many changes.
     Squashed(
         Bytes::Frames(&[INITIALIZE, OPEN, BEFORE, AFTER]),
         Bytes::Frames(&[INITIALIZE, OPEN, BEFORE, AFTER]),
@@ -171,7 +171,7 @@ fn squash_settings(max_changes: usize) -> Result<Settings, Fail> {
     })
 }
 
-/// Is the log squashed so, and what was written to the same? Has it the same documents?
+/// Has the log this squashed form, and this form itself? Has it the same documents?
 fn is_squashed(alloc: Global, row: &Squashed) -> Result<bool, Fail> {
     let Squashed(input, output, max_changes) = row;
     let settings = squash_settings(*max_changes)?;
@@ -278,7 +278,8 @@ fn narrow() -> Result<Settings, Fail> {
     })
 }
 
-/// A change that puts so many letters in at the front. It is canonical, and its body has 214 bytes more than they are.
+/// A change that inserts so many letters at the front. It is canonical, and its body has 214 bytes
+/// more than the letters.
 fn put_letters(alloc: Global, count: usize, version: i32) -> Result<String, AllocError> {
     let mut put = String::from_str(
         alloc,
@@ -291,7 +292,8 @@ fn put_letters(alloc: Global, count: usize, version: i32) -> Result<String, Allo
     change(alloc, version, &put)
 }
 
-/// Is a run of two changes, which put so many letters in, written as one message? Else it is to stay as it is.
+/// Is a run of two changes, which insert so many letters, written as one message? Else it must stay
+/// as it is.
 fn is_one_message(alloc: Global, first: usize, second: usize, is_one: bool) -> Result<bool, Fail> {
     let both = put_letters(alloc, first.saturating_add(second), 3)?;
     let one = log(alloc, &[INITIALIZE, OPEN, &both])?;
@@ -311,7 +313,8 @@ fn the_body_of_a_run_reaches_the_limit(rt: HostRuntime) -> Result<(), Fail> {
     Ok(())
 }
 
-/// Bodies of records up to an open run, those of them that are written, and the place of the record after them.
+/// Bodies of records up to an open run, those of them that are written, and the byte offset of the
+/// record after them.
 type Open = (&'static [&'static str], &'static [&'static str], u64);
 
 /// The run is of the document of the faulty change, or of another one.
@@ -324,7 +327,7 @@ static OPEN_RUNS: [Open; 2] = [
     ),
 ];
 
-/// Is nothing of the run written where the message of the next change is too long?
+/// Is no byte of the run written if the message of the next change is too long?
 fn is_lost(alloc: Global, row: &Open) -> Result<bool, Fail> {
     let (before, written, place) = row;
     let mut input = log(alloc, before)?;

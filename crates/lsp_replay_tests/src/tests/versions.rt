@@ -175,7 +175,8 @@ const EDIT_AFTER: &str =
 /// A change that nobody could read.
 const EDIT_BAD: &str = r#"{"jsonrpc":"2.0","method":"textDocument/didChange","params":[]}"#;
 
-/// Records of a log of version 2, the lines of `check`, and the place of the record that belongs in no log.
+/// Records of a log of version 2, the lines of `check`, and the byte offset of the record that
+/// can't be in a log.
 struct Marks {
     records: &'static [(&'static str, &'static str)],
     lines: &'static str,
@@ -278,7 +279,7 @@ static LOGS: [Marks; 11] = [
     },
 ];
 
-/// Is this how `check` answers?
+/// Is this the result of `check`?
 fn is_checked(answer: Answer, bad: Option<u64>) -> bool {
     match bad {
         None => answer.is_ok(),
@@ -286,7 +287,7 @@ fn is_checked(answer: Answer, bad: Option<u64>) -> bool {
     }
 }
 
-/// The input up to the record that belongs in no log.
+/// The input up to the record that can't be in a log.
 fn good_part(input: &[u8], bad: Option<u64>) -> &[u8] {
     match bad {
         None => input,
@@ -294,7 +295,8 @@ fn good_part(input: &[u8], bad: Option<u64>) -> &[u8] {
     }
 }
 
-/// Does `check` write the lines, and `normalise` all that comes before the bad record, with the same answer?
+/// Does `check` write the lines, and `normalise` all that comes before the bad record, with the
+/// same result?
 fn is_read_so(alloc: Global, marks: &Marks) -> Result<bool, Fail> {
     let input = marked(alloc, marks.records)?;
     let checked = run_with(alloc, Command::Check, &input, settings()?, SMOOTH)?;
@@ -316,7 +318,8 @@ fn the_result_of_initialize_has_the_encoding(rt: HostRuntime) -> Result<(), Fail
     Ok(())
 }
 
-/// An encoding of the settings, a change, and how many are refused. Both changes that are accepted are canonical.
+/// An encoding of the settings, a change, and how many are refused. Both changes that are accepted
+/// are canonical.
 static ENCODINGS: [(Encoding, &str, u8); 4] = [
     (Encoding::Utf8, EDIT_AFTER, 0),
     (Encoding::Utf8, EDIT_WIDE, 1),
@@ -326,7 +329,7 @@ static ENCODINGS: [(Encoding, &str, u8); 4] = [
 
 static LOG_COMMANDS: [Command; 3] = [Command::Check, Command::Normalise, Command::Replay];
 
-/// Do the log commands take the change so?
+/// Do the log commands accept or refuse the change like this?
 fn is_taken(alloc: Global, row: &(Encoding, &str, u8)) -> Result<bool, Fail> {
     let (encoding, body, refused) = row;
     let input = log(alloc, &[INITIALIZE, OPEN_WIDE, body])?;

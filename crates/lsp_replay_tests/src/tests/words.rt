@@ -4,7 +4,8 @@ use super::*;
 
 const HOVER: &str = r#"{"id":"q","jsonrpc":"2.0","method":"textDocument/hover"}"#;
 
-/// A session of 27 bodies, with the word for each. Texts have at most 8 bytes; two documents and two changes are allowed.
+/// A session of 27 bodies, with the word for each. Texts have at most 8 bytes, with at most two
+/// documents and two changes.
 static WORDS: [(&str, &str); 27] = [
     (HOVER, "error -32002"),
     (OPEN, "dropped"),
@@ -95,7 +96,7 @@ fn lines(alloc: Global, rows: &[(&str, &str)]) -> Result<Vec<u8>, AllocError> {
     Ok(bytes)
 }
 
-/// Has each body its word, with this answer?
+/// Has each body its word, with this result?
 fn have_words(alloc: Global, rows: &[(&str, &str)], answer: Answer) -> Result<bool, Fail> {
     let settings = Settings {
         limits: Limits::new(4_096, 8, 2, 2)?,
@@ -108,7 +109,8 @@ fn have_words(alloc: Global, rows: &[(&str, &str)], answer: Answer) -> Result<bo
 
 #[test]
 fn every_answer_has_its_word(rt: HostRuntime) -> Result<(), Fail> {
-    // Five errors and three refusals up to the first document, then six refusals and an error; not the unknown method.
+    // Five errors and three refusals up to the first document, then six refusals and an error. The
+    // unknown method doesn't count.
     assert!(rt; have_words(rt.alloc(), &WORDS, Ended(1, 27, 15).answer())?);
     Ok(())
 }

@@ -1,4 +1,5 @@
-//! The encoding that is chosen, how changes are asked for, and what both do to the changes that follow.
+//! The encoding that is chosen, the kind of synchronisation, and the effect of both on later
+//! changes.
 
 use super::{Row, document, is_answer, server_with, wrong_row};
 use lsp_samples::bodies::{ACCEPTED, AFTER_ONE_UNIT, INITIALIZE, INITIALIZED, OPEN, OPEN_EMOJI};
@@ -19,7 +20,8 @@ const NEGOTIATED_32: EncodingChoice = EncodingChoice::Negotiated {
     prefer: Encoding::Utf32,
 };
 
-/// How a server chooses, the client's `general`, and the name of the encoding that is announced, or none for invalid params.
+/// How a server chooses, the client's `general`, and the name of the announced encoding; no name
+/// for invalid params.
 static OFFERS: [(EncodingChoice, &str, &str); 20] = [
     (
         EncodingChoice::Fixed(Encoding::Utf8),
@@ -82,14 +84,15 @@ static OFFERS: [(EncodingChoice, &str, &str); 20] = [
         r#"{"positionEncodings":["utf-8","x","utf-8"]}"#,
         "utf-8",
     ),
-    // Odd.
+    // Members of a wrong type.
     (NEGOTIATED_8, r#"{"positionEncodings":["utf-8",null]}"#, ""),
     (NEGOTIATED_8, r#"{"positionEncodings":"utf-8"}"#, ""),
     (NEGOTIATED_8, r#"{"positionEncodings":{"utf-8":true}}"#, ""),
     (NEGOTIATED_8, "[]", ""),
 ];
 
-/// Is the encoding of this name announced to a client with this `general`, and chosen?
+/// Returns whether a server announces and chooses the encoding of this name for a client with this
+/// `general`.
 fn is_chosen(
     alloc: Global,
     choice: EncodingChoice,
@@ -118,7 +121,8 @@ fn initialize(alloc: Global, general: &str) -> Result<String, AllocError> {
     )
 }
 
-/// The reply that announces an encoding of this name; with no name, that the params are invalid.
+/// Returns the reply that announces an encoding of this name; with no name, the reply to invalid
+/// params.
 fn accepted(alloc: Global, name: &str) -> Result<String, AllocError> {
     if name.is_empty() {
         return String::from_str(
@@ -131,7 +135,7 @@ fn accepted(alloc: Global, name: &str) -> Result<String, AllocError> {
     )
 }
 
-/// A session under full synchronisation: changes of the whole text and of a range are both applied as they are.
+/// A session under full synchronisation: changes of the whole text and of a range are both applied.
 static FULL: [Row; 5] = [
     (
         INITIALIZE,
@@ -157,7 +161,7 @@ fn a_range_under_full_synchronisation(rt: HostRuntime) -> Result<(), Fail> {
     Ok(())
 }
 
-/// An encoding that is settled, if any, the one in which changes count then, a body, and its answer.
+/// An encoding to set, if any, the encoding of changes then, a body, and its answer.
 type Settled = (
     Option<Encoding>,
     Option<Encoding>,
@@ -183,7 +187,8 @@ static SETTLED: [Settled; 5] = [
     ),
 ];
 
-/// Settles the encoding of a row, and hands its body in: are the encoding and the answer those that are wanted?
+/// Sets the encoding of a row, and passes its body to the server. Returns whether the encoding and
+/// the answer are the expected ones.
 fn is_settled(alloc: Global, server: &mut Server, row: &Settled) -> Result<bool, AllocError> {
     let (settled, encoding, body, wanted) = *row;
     if let Some(encoding) = settled {

@@ -1,28 +1,15 @@
-//! The two programs of the crate's front page.
+//! The two programs of the crate's head comment.
 
-use lsp_frame::{Framer, Limits, frame};
+use lsp_frame::{Framer, frame};
 use lsp_message::Id;
 use lsp_samples::bodies::{ACCEPTED, EXIT, INITIALIZE, OPEN, SHUT_DOWN, SHUTDOWN};
 use lsp_samples::logs::log;
-use lsp_server::{Answer, Config, EncodingChoice, Incoming, Phase, Server, ServerFault, Sync};
-use lsp_text::Encoding;
+use lsp_server::{Answer, Config, Incoming, Limits, Phase, Server, ServerFault};
 use std::alloc::{AllocError, Global};
 use std::test::Fail;
 
-fn new_server(alloc: Global) -> Result<Server, Fail> {
-    let limits = Limits::new(16_777_216, 16_777_216, 1_024, 65_536)?;
-    let choice = EncodingChoice::Negotiated {
-        prefer: Encoding::Utf8,
-    };
-    let sync = Sync::Incremental;
-    Ok(Server::new(
-        alloc,
-        Config {
-            limits,
-            choice,
-            sync,
-        },
-    ))
+fn new_server(alloc: Global) -> Server {
+    Server::new(alloc, Config::default())
 }
 
 /// Serves a stream that comes frame by frame.
@@ -32,7 +19,7 @@ fn serve(
     pieces: &[Vec<u8>],
     output: &mut Vec<u8>,
 ) -> Result<Option<u8>, Fail> {
-    let mut framer = Framer::new(alloc, Limits::new(16_777_216, 0, 1, 1)?);
+    let mut framer = Framer::new(alloc, Limits::default());
     for piece in pieces {
         let _taken = framer.feed(piece)?;
         if let Some(body) = framer.body() {
@@ -60,13 +47,13 @@ fn from_frames_to_replies(rt: HostRuntime) -> Result<(), Fail> {
     let alloc = rt.alloc();
     let pieces = frames(alloc, &[INITIALIZE, OPEN, SHUTDOWN, EXIT])?;
     let mut output = Vec::new(alloc);
-    let mut server = new_server(alloc)?;
+    let mut server = new_server(alloc);
     assert_eq!(rt; serve(alloc, &mut server, &pieces, &mut output)?, Some(0));
     assert!(rt; output == log(alloc, &[ACCEPTED, SHUT_DOWN])?);
     Ok(())
 }
 
-/// Answers hover with the length of the document's text, and hands all else on.
+/// Answers hover with the length of the document's text, and passes on all else.
 fn serve_hover(alloc: Global, server: &mut Server, body: &[u8]) -> Result<Option<Vec<u8>>, Fail> {
     let incoming = server.read(body)?;
     if server.phase() == Phase::Running && is_hover(&incoming) {
@@ -106,13 +93,13 @@ fn hover(alloc: Global, server: &Server, request: Incoming) -> Result<Option<Vec
 
 const HOVER: &str = r#"{"id":5,"jsonrpc":"2.0","method":"textDocument/hover"}"#;
 
-/// Is hover answered by a frame that begins so?
+/// Returns whether the answer to hover is a frame that begins so.
 fn hover_begins(alloc: Global, server: &mut Server, wanted: &[u8]) -> Result<bool, Fail> {
     let reply = serve_hover(alloc, server, HOVER.as_bytes())?;
     Ok(reply.is_some_and(|frame| frame.starts_with(wanted)))
 }
 
-/// Is hover answered by the frame of this body?
+/// Returns whether the answer to hover is the frame of this body.
 fn hover_is(alloc: Global, server: &mut Server, wanted: &[u8]) -> Result<bool, Fail> {
     let wanted = frame(alloc, wanted)?;
     Ok(serve_hover(alloc, server, HOVER.as_bytes())? == Some(wanted))
@@ -121,7 +108,7 @@ fn hover_is(alloc: Global, server: &mut Server, wanted: &[u8]) -> Result<bool, F
 #[test]
 fn a_feature_of_its_own(rt: HostRuntime) -> Result<(), Fail> {
     let alloc = rt.alloc();
-    let mut server = new_server(alloc)?;
+    let mut server = new_server(alloc);
     let early = b"Content-Length: 83\r\n\r\n{\"error\":{\"code\":-32002";
     assert!(rt; hover_begins(alloc, &mut server, early)?);
     for body in [INITIALIZE, OPEN] {

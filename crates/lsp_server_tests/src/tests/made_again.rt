@@ -1,4 +1,5 @@
-//! The messages of a whole session through one server, where a body whose handling runs out of memory is handed in again.
+//! The messages of a whole session through one server. A body whose handling runs out of memory is
+//! passed again.
 
 use super::{is_answer, new_server};
 use lsp_samples::bodies::{
@@ -9,7 +10,8 @@ use std::alloc::{AllocError, Global};
 use std::process::Abort;
 use std::test::Fail;
 
-/// A message, the body of its reply or the word of its answer, and the version and the text of the document after it.
+/// A message, the body of its reply or the word of its answer, and the version and the text of the
+/// document after it.
 type Message = (&'static str, &'static str, Option<(i32, &'static str)>);
 
 static MESSAGES: [Message; 7] = [
@@ -22,7 +24,7 @@ static MESSAGES: [Message; 7] = [
     (EXIT, "exit 0", None),
 ];
 
-/// Is this the document that is open, or is none where none is wanted?
+/// Returns whether this document is open, or none where none is expected.
 fn has_document(server: &Server, wanted: Option<(i32, &'static str)>) -> bool {
     let Some((version, text)) = wanted else {
         return server.store().len() == 0;
@@ -48,7 +50,8 @@ fn is_wanted(
     }
 }
 
-/// Is the message answered as it says? Where memory runs out the document is as before, and the same body is handed in again.
+/// Returns whether the message has its answer. Where memory runs out the document is unchanged, and
+/// the same body is passed again.
 fn is_answered(
     alloc: Global,
     server: &mut Server,

@@ -10,10 +10,11 @@ use std::test::Fail;
 
 static PHASES: [Phase; 4] = [Phase::New, Phase::Running, Phase::Down, Phase::Ended];
 
-/// What takes a server from each phase to the next. In Running one document is open; `initialized` didn't come.
+/// The bodies that lead a server from each phase to the next. In Running one document is open, and
+/// `initialized` didn't come.
 static WAY: [&[&str]; 4] = [&[], &[INITIALIZE, OPEN], &[SHUTDOWN], &[EXIT]];
 
-/// A new server in this phase.
+/// Returns a new server in this phase.
 fn server_in(alloc: Global, phase: Phase) -> Result<Server, Fail> {
     let mut server = new_server(alloc)?;
     for bodies in &WAY {
@@ -26,7 +27,7 @@ fn server_in(alloc: Global, phase: Phase) -> Result<Server, Fail> {
     Ok(server)
 }
 
-/// A body, and what is wanted of its answer in the phases New, Running, Down and Ended.
+/// A body, and the expected answers in the phases New, Running, Down and Ended.
 static TABLE: [(&str, [&str; 4]); 26] = [
     ("{", [PARSE_ERROR, PARSE_ERROR, PARSE_ERROR, "ended"]),
     ("7", [NO_ID, NO_ID, NO_ID, "ended"]),
@@ -133,7 +134,7 @@ const ACCEPTED: &str =
 
 const SHUT_DOWN: &str = r#"{"id":7,"jsonrpc":"2.0","result":null}"#;
 
-/// Is a body answered so in this phase?
+/// Returns whether a body has this answer in this phase.
 fn is_answered(alloc: Global, phase: Phase, body: &str, wanted: &str) -> Result<bool, Fail> {
     let mut server = server_in(alloc, phase)?;
     if server.phase() != phase {

@@ -1,4 +1,4 @@
-//! Bodies whose handling runs out of memory once, and that are handed in again.
+//! Bodies whose handling runs out of memory once, and that are passed again.
 
 use super::{document, new_server};
 use lsp_samples::bodies::{
@@ -9,10 +9,10 @@ use lsp_server::{Answer, Phase, Server, ServerFault};
 use lsp_text::Encoding;
 use std::test::Fail;
 
-/// The first body of a session, with few parts.
+/// The first body of a session, with few members.
 const SHORT: &str = r#"{"id":1,"jsonrpc":"2.0","method":"initialize","params":{}}"#;
 
-/// A session in which bodies are handed in twice where memory runs out.
+/// A session in which a body is passed again where memory runs out.
 #[derive(Drop)]
 struct Session {
     server: Server,
@@ -32,7 +32,8 @@ impl Session {
         )
     }
 
-    /// Handles a body. Where memory ran out the server is as before, and the same body is handled then; none where it isn't.
+    /// Handles a body. Where memory runs out, the server is unchanged and the same body is handled
+    /// again; `None` where it isn't.
     fn handle(&mut self, body: &str) -> Option<Result<Answer, ServerFault>> {
         let before = self.state();
         let answer = self.server.handle(body.as_bytes());
@@ -46,7 +47,7 @@ impl Session {
         Some(self.server.handle(body.as_bytes()))
     }
 
-    /// Is a body answered by a reply with this body?
+    /// Returns whether a body is answered by a reply with this body.
     fn is_replied(&mut self, body: &str, wanted: &str) -> bool {
         match self.handle(body) {
             Some(Ok(Answer::Reply { frame, .. })) => frame.ends_with(wanted.as_bytes()),
@@ -54,7 +55,7 @@ impl Session {
         }
     }
 
-    /// Is a body answered so?
+    /// Returns whether a body has this answer.
     fn is_answered(&mut self, body: &str, wanted: Answer) -> bool {
         self.handle(body) == Some(Ok(wanted))
     }

@@ -33,7 +33,7 @@ fn bodies_and_replies_have_these_lengths(rt: HostRuntime) {
     }
 }
 
-/// A body, its answer, the phase then, and the document.
+/// A body, its answer, the phase after it, and the document.
 type Step = (
     &'static str,
     &'static str,
@@ -53,7 +53,7 @@ static SESSION: [Step; 9] = [
     ("", "ended", Phase::Ended, None),
 ];
 
-/// Is the body of a step answered so, and what is left as the step says?
+/// Returns whether a step's body has its answer, and phase and document after it are the step's.
 fn is_taken(alloc: Global, server: &mut Server, step: &Step) -> Result<bool, AllocError> {
     let (body, wanted, phase, left) = *step;
     let given = server.handle(body.as_bytes());
@@ -66,7 +66,7 @@ fn is_taken(alloc: Global, server: &mut Server, step: &Step) -> Result<bool, All
     is_answer(alloc, &given, wanted)
 }
 
-/// Does the server hold this version and text of its one document, or no document?
+/// Returns whether the server's one document has this version and text, or there is no document.
 fn holds(server: &Server, wanted: Option<(i32, &str)>) -> bool {
     let count = if wanted.is_some() { 1 } else { 0 };
     document(server) == wanted && server.store().len() == count
@@ -141,7 +141,7 @@ static WHILE_RUNNING: [Row; 15] = [
         r#"{"jsonrpc":"2.0","method":"textDocument/didOpen","params":{"textDocument":{"languageId":"plaintext","text":"abc","uri":"file:///a","version":"1"}}}"#,
         "refused M4",
     ),
-    // A request of that name opens nothing, and one named `exit` ends nothing.
+    // A request of that name opens no document, and a request `exit` doesn't end the session.
     (
         r#"{"id":4,"jsonrpc":"2.0","method":"textDocument/didOpen","params":{"textDocument":{"languageId":"plaintext","text":"abc","uri":"file:///a","version":1}}}"#,
         r#"{"error":{"code":-32601,"message":"method not found"},"id":4,"jsonrpc":"2.0"}"#,

@@ -1,7 +1,7 @@
 //! Limits, hostile bodies, a message that is read first, and the texts of faults.
 
 use super::{Row, is_answer, new_server, wrong_row};
-use lsp_frame::Limits;
+use lsp_frame::{BadLimits, Limits};
 use lsp_message::{ErrorCode, Message, read};
 use lsp_samples::bodies::{ACCEPTED, CHANGE, INITIALIZE, OPEN, PARSE_ERROR};
 use lsp_server::{Answer, Config, EncodingChoice, Incoming, Phase, Server, ServerFault, Sync};
@@ -9,7 +9,8 @@ use lsp_text::Encoding;
 use std::alloc::{AllocError, Global};
 use std::test::Fail;
 
-/// What a server with the smallest limits refuses: no text of one byte, no second document, no second change.
+/// What a server with the smallest limits refuses: a text of one byte, a second document, a second
+/// change.
 static SMALLEST: [Row; 12] = [
     (INITIALIZE, ACCEPTED),
     (
@@ -71,6 +72,23 @@ fn the_smallest_limits(rt: HostRuntime) -> Result<(), Fail> {
     Ok(())
 }
 
+/// The numbers that `docs/FORMATS.md` has as the defaults, and the default of `serve`.
+fn documented() -> Result<Config, BadLimits> {
+    Ok(Config {
+        limits: Limits::new(16_777_216, 16_777_216, 1_024, 65_536)?,
+        choice: EncodingChoice::Negotiated {
+            prefer: Encoding::Utf16,
+        },
+        sync: Sync::Incremental,
+    })
+}
+
+#[test]
+fn the_default_config(rt: HostRuntime) -> Result<(), Fail> {
+    assert!(rt; documented()? == Config::default());
+    Ok(())
+}
+
 static REVERSED: [Row; 5] = [
     (INITIALIZE, ACCEPTED),
     (OPEN, "changed"),
@@ -107,7 +125,7 @@ fn hostile_bodies_are_parse_errors(rt: HostRuntime) -> Result<(), Fail> {
     Ok(())
 }
 
-/// So many opening brackets, and as many closing ones.
+/// Returns so many opening brackets, and as many closing ones.
 fn nested(alloc: Global, depth: usize) -> Result<String, AllocError> {
     let mut body = String::new(alloc);
     for _ in 0..depth {
@@ -121,7 +139,7 @@ fn nested(alloc: Global, depth: usize) -> Result<String, AllocError> {
 
 static OPENED: [Row; 2] = [(INITIALIZE, ACCEPTED), (OPEN, "changed")];
 
-/// Is the body of a change read as one to version 2, and changes it the document then?
+/// Returns whether the body of a change is read as one to version 2, and then changes the document.
 fn change_is_read_first(server: &mut Server) -> Result<bool, Fail> {
     let incoming = server.read(CHANGE.as_bytes())?;
     if !matches!(&incoming, Incoming::DidChange(Some(params)) if params.version == 2) {
@@ -130,7 +148,7 @@ fn change_is_read_first(server: &mut Server) -> Result<bool, Fail> {
     Ok(server.handle_incoming(incoming) == Ok(Answer::Changed))
 }
 
-/// A request that no server of ours knows, read as a message and then as what comes in.
+/// Returns a request that the server doesn't handle, read as a message and then as what it asks.
 fn hover(alloc: Global) -> Result<Incoming, Fail> {
     let body = b"{\"id\":7,\"jsonrpc\":\"2.0\",\"method\":\"hover\",\"params\":[]}";
     match read(alloc, body)? {
@@ -139,7 +157,8 @@ fn hover(alloc: Global) -> Result<Incoming, Fail> {
     }
 }
 
-/// Is that request read as such, and is the answer then that its method isn't found?
+/// Returns whether that request is read as such, and the answer is then that its method isn't
+/// found.
 fn request_is_read_first(alloc: Global, server: &mut Server) -> Result<bool, Fail> {
     let incoming = hover(alloc)?;
     if !matches!(&incoming, Incoming::OtherRequest { method, .. } if method.as_str() == "hover") {

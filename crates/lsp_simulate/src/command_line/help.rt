@@ -1,12 +1,14 @@
-//! The texts of help. They are returned by functions, so that proofs don't look into them.
+//! The texts of help. They are in functions, so that proofs don't unfold them.
 
-/// An option that bounds what an end takes.
+use lsp_frame::Limits;
+use std::alloc::{AllocError, Global};
+
+/// An option that sets a limit of an end.
 #[derive(Clone, Copy, Debug)]
 pub struct Limit {
     pub name: &'static str,
-    pub least: u64,
-    pub greatest: u64,
-    pub default: &'static str,
+    pub least: usize,
+    pub greatest: usize,
     pub help: &'static str,
 }
 
@@ -17,10 +19,12 @@ pub struct Offer {
     pub help: &'static str,
 }
 
+/// The text above the list of options.
 pub fn about() -> &'static str {
     PROGRAM
 }
 
+/// The text below the list of options.
 pub fn notes() -> &'static str {
     NOTES
 }
@@ -39,18 +43,22 @@ pub fn offers() -> [Offer; 2] {
     ]
 }
 
+/// The help of `--prefer`.
 pub fn prefer() -> &'static str {
     PREFER
 }
 
+/// The help of `--fixed`.
 pub fn fixed() -> &'static str {
     FIXED
 }
 
+/// The help of `--sync`.
 pub fn sync() -> &'static str {
     SYNC
 }
 
+/// The options that set the client's limits.
 pub fn client_limits() -> [Limit; 4] {
     [
         body("max-body", MAX_BODY),
@@ -58,6 +66,21 @@ pub fn client_limits() -> [Limit; 4] {
         documents("max-docs", MAX_DOCS),
         changes("max-changes", MAX_CHANGES),
     ]
+}
+
+/// The options that set the server's limits.
+pub fn defaults(alloc: Global) -> Result<[String; 4], AllocError> {
+    let default = Limits::default();
+    Ok([
+        digits(alloc, default.max_body())?,
+        digits(alloc, default.max_text())?,
+        digits(alloc, default.max_docs())?,
+        digits(alloc, default.max_changes())?,
+    ])
+}
+
+fn digits(alloc: Global, number: usize) -> Result<String, AllocError> {
+    format!(in alloc; "{number}")
 }
 
 pub fn server_limits() -> [Limit; 4] {
@@ -72,9 +95,8 @@ pub fn server_limits() -> [Limit; 4] {
 fn body(name: &'static str, help: &'static str) -> Limit {
     Limit {
         name,
-        least: 4_096,
-        greatest: 1_073_741_824,
-        default: "16777216",
+        least: Limits::LEAST_BODY,
+        greatest: Limits::GREATEST_BODY,
         help,
     }
 }
@@ -83,8 +105,7 @@ fn text(name: &'static str, help: &'static str) -> Limit {
     Limit {
         name,
         least: 0,
-        greatest: 1_073_741_824,
-        default: "16777216",
+        greatest: Limits::GREATEST_TEXT,
         help,
     }
 }
@@ -93,8 +114,7 @@ fn documents(name: &'static str, help: &'static str) -> Limit {
     Limit {
         name,
         least: 1,
-        greatest: 65_536,
-        default: "1024",
+        greatest: Limits::GREATEST_DOCS,
         help,
     }
 }
@@ -103,8 +123,7 @@ fn changes(name: &'static str, help: &'static str) -> Limit {
     Limit {
         name,
         least: 1,
-        greatest: 1_048_576,
-        default: "65536",
+        greatest: Limits::GREATEST_CHANGES,
         help,
     }
 }

@@ -1,9 +1,9 @@
-//! Lines of events, and what is written of each.
+//! Lines of events, and the line of output for each.
 
 use super::ran;
 use std::test::Fail;
 
-/// A session whose messages arrive late: the events, and what is written.
+/// A session whose messages arrive late: the events and the output.
 const LATE: &str = r#"{"event":"toClient"}
 {"event":"start"}
 {"event":"edit","textDocument":{"uri":"file:///a","version":2},"contentChanges":[]}
@@ -45,7 +45,8 @@ const LATE_OUTPUT: &str = "1 nothing
 waiting 0 0
 ";
 
-/// A document of one character, which has four bytes, and edits in and after it; the last line has no line end.
+/// A document of one character, which has four bytes, and edits in and after it. The last line has
+/// no line end.
 const FACE: &str = "{\"event\":\"start\"}
 {\"event\":\"toServer\"}
 {\"event\":\"toClient\"}

@@ -1,4 +1,4 @@
-//! Runs that end in a fault: the status, what was written before, and the line.
+//! Runs that end in a fault: the status, the output before it, and its line.
 
 use super::ran;
 use std::test::Fail;

@@ -8,7 +8,8 @@ use lsp_text::Encoding;
 use std::alloc::{AllocError, Global};
 use std::test::Fail;
 
-/// A text, a batch, the length of its canonical body, its canonical changes, and the text that both leave.
+/// A text, a batch, the length of its canonical body, its canonical changes, and the text after
+/// either.
 type Row = (
     &'static str,
     &'static [Edit],
@@ -89,7 +90,8 @@ static MESSAGES: [Row; 15] = [
     ("", &[(ALL, 0, 0, 0, "")], 129, &[], ""),
 ];
 
-/// A text as it is written: only the two ends of a line come among these texts, and each is written by its letter.
+/// Returns a text as it is written. Of the characters that are escaped, only the two line ends are
+/// in these texts.
 fn written(alloc: Global, text: &str) -> Result<String, AllocError> {
     let mut written = String::new(alloc);
     for character in text.chars() {
@@ -102,7 +104,7 @@ fn written(alloc: Global, text: &str) -> Result<String, AllocError> {
     Ok(written)
 }
 
-/// A change as it is written.
+/// Returns a change as it is written.
 fn written_change(alloc: Global, edit: &Edit) -> Result<String, AllocError> {
     let (line, character, stop_line, stop_character, text) = *edit;
     let text = written(alloc, text)?;
@@ -111,7 +113,7 @@ fn written_change(alloc: Global, edit: &Edit) -> Result<String, AllocError> {
     )
 }
 
-/// Changes as they are written.
+/// Returns changes as they are written.
 fn written_changes(alloc: Global, edits: &[Edit]) -> Result<String, AllocError> {
     let mut written = String::new(alloc);
     for edit in edits {
@@ -123,7 +125,7 @@ fn written_changes(alloc: Global, edits: &[Edit]) -> Result<String, AllocError> 
     Ok(written)
 }
 
-/// The frame with a body of this length, which holds these changes and this version.
+/// Returns the frame of a body of this length, with these changes and this version.
 pub(super) fn frame_of(
     alloc: Global,
     length: usize,
@@ -136,14 +138,14 @@ pub(super) fn frame_of(
     )
 }
 
-/// The message of a batch on a text.
+/// Returns the canonical message of a batch on a text.
 fn message_of(alloc: Global, text: &str, edits: &[Edit]) -> Result<Vec<u8>, StoreFault> {
     let store = store_of(alloc, narrow(1, 3)?, 1, text)?;
     let changes = batch(alloc, edits)?;
     store.canonical_message(URI, 2, Encoding::Utf16, &changes)
 }
 
-/// The store after a batch on a text.
+/// Returns the store after a batch on a text.
 fn changed(alloc: Global, text: &str, edits: &[Edit]) -> Result<Store, StoreFault> {
     let mut store = store_of(alloc, narrow(1, 3)?, 1, text)?;
     let changes = batch(alloc, edits)?;
@@ -151,7 +153,8 @@ fn changed(alloc: Global, text: &str, edits: &[Edit]) -> Result<Store, StoreFaul
     Ok(store)
 }
 
-/// Is this the message of a batch on a text, and does the batch leave this text?
+/// Returns whether this is the canonical message of a batch on a text, and the text after the
+/// batch.
 fn is_written_so(
     alloc: Global,
     text: &str,
@@ -167,7 +170,7 @@ fn is_written_so(
     Ok(current(&store) == Some((2, after)))
 }
 
-/// Do the batch of a row and its canonical changes have the message of the row?
+/// Returns whether the batch of a row and its canonical changes both have the row's message.
 fn has_its_bytes(alloc: Global, row: &Row) -> Result<bool, StoreFault> {
     let (text, edits, length, canonical, after) = *row;
     let frame = frame_of(alloc, length, canonical, 2)?;
@@ -187,7 +190,7 @@ fn messages_have_their_bytes(rt: HostRuntime) {
     }
 }
 
-/// The message of no changes under the greatest version.
+/// Returns the canonical message of no changes under the greatest version.
 fn message_of_nothing(alloc: Global) -> Result<Vec<u8>, StoreFault> {
     let store = store_of(alloc, narrow(1, 1)?, 5, "abc")?;
     store.canonical_message(URI, 2147483647, Encoding::Utf8, &[])
@@ -202,7 +205,7 @@ fn the_message_of_no_changes(rt: HostRuntime) -> Result<(), Fail> {
     Ok(())
 }
 
-/// A change that puts so many letters in at the front.
+/// Returns a change that inserts so many letters at the front.
 fn letters(alloc: Global, count: usize) -> Result<Change, AllocError> {
     let mut letters = change(alloc, (0, 0, 0, 0, ""))?;
     for _ in 0..count {
@@ -211,7 +214,7 @@ fn letters(alloc: Global, count: usize) -> Result<Change, AllocError> {
     Ok(letters)
 }
 
-/// A batch of a change that puts so many letters in at the front, and then others.
+/// Returns a batch of a change that inserts so many letters at the front, and then others.
 fn letters_first(alloc: Global, count: usize, others: &[Edit]) -> Result<Vec<Change>, AllocError> {
     let mut changes = Vec::new(alloc);
     changes.push(letters(alloc, count)?)?;
@@ -221,7 +224,7 @@ fn letters_first(alloc: Global, count: usize, others: &[Edit]) -> Result<Vec<Cha
     Ok(changes)
 }
 
-/// The length of the message that puts so many letters in, or its fault.
+/// Returns the length of the canonical message that inserts so many letters, or its fault.
 fn message_len(store: &Store, alloc: Global, count: usize) -> Result<usize, StoreFault> {
     let changes = letters_first(alloc, count, &[])?;
     let bytes = store.canonical_message(URI, 2, Encoding::Utf16, &changes)?;
@@ -235,7 +238,7 @@ static LENGTHS: [(usize, Result<usize, StoreFault>); 3] = [
     (4_000, Err(StoreFault::BodyTooLong { len: 4_214 })),
 ];
 
-/// Is this the answer for so many letters?
+/// Returns whether this is the result for so many letters.
 fn has_answer(
     alloc: Global,
     count: usize,
@@ -255,7 +258,7 @@ fn bodies_at_the_limit(rt: HostRuntime) {
     }
 }
 
-/// A body that is too long is reported last: the version and the changes besides, and what is reported before it.
+/// A version and changes beside a body that is too long, and the refusal that comes before it.
 type Before = (i32, &'static [Edit], StoreFault);
 
 static BEFORE_THE_BODY: [Before; 4] = [
@@ -273,7 +276,8 @@ static BEFORE_THE_BODY: [Before; 4] = [
     (2, &[], StoreFault::TextTooLong),
 ];
 
-/// Is a batch of many letters and these changes refused for this reason, and for a document that isn't open as such?
+/// Returns whether a batch of many letters and these changes is refused so, and with `NotOpen` for
+/// a document that isn't open.
 fn is_refused_before(alloc: Global, row: &Before) -> Result<bool, StoreFault> {
     let (version, edits, fault) = *row;
     let store = store_of(alloc, limits_of(4_096, 4_999, 1, 2)?, 1, "")?;

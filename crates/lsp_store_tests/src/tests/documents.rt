@@ -1,4 +1,4 @@
-//! What opens, changes and closes documents, and each refusal in its order.
+//! Calls that open, change and close documents, and each refusal in its order.
 
 use super::{URI, current, narrow, open, store_of};
 use lsp_edit::{EditFault, Side};
@@ -53,7 +53,7 @@ static REFUSALS: [Refusal; 9] = [
     ),
 ];
 
-/// Is the batch of a row refused, alike as a message, and is nothing changed?
+/// Returns whether the batch of a row is refused, as a message too, and nothing changes.
 fn is_refused(alloc: Global, row: &Refusal) -> Result<bool, StoreFault> {
     let (text, version, edits, fault) = *row;
     let mut store = store_of(alloc, narrow(1, 2)?, 5, text)?;
@@ -86,7 +86,7 @@ pub(super) enum Step {
     Close(&'static str),
 }
 
-/// A call, its answer, and the version and the text of the document of [`URI`] after it.
+/// A call, its result, and the version and the text of the document of [`URI`] after it.
 pub(super) type Row = (Step, Result<(), StoreFault>, Option<(i32, &'static str)>);
 
 fn answer(store: &mut Store, alloc: Global, step: &Step) -> Result<(), StoreFault> {
@@ -100,12 +100,13 @@ fn answer(store: &mut Store, alloc: Global, step: &Step) -> Result<(), StoreFaul
     }
 }
 
-/// Are these the version and the text of the document of [`URI`], or is it not open?
+/// Returns whether the document of [`URI`] has this version and text, or isn't open.
 fn is_current(store: &Store, wanted: Option<(i32, &str)>) -> bool {
     current(store) == wanted
 }
 
-/// The number of the first row whose call has another answer, or leaves another document.
+/// Returns the number of the first row with another result of its call, or another document after
+/// it.
 pub(super) fn wrong_row(store: &mut Store, alloc: Global, rows: &[Row]) -> Option<usize> {
     for (number, (step, wanted, left)) in rows.iter().enumerate() {
         if answer(store, alloc, step) != *wanted {
@@ -118,7 +119,8 @@ pub(super) fn wrong_row(store: &mut Store, alloc: Global, rows: &[Row]) -> Optio
     None
 }
 
-/// The number of the first wrong row on a store with such limits, and how many documents are open at the end.
+/// Returns the number of the first wrong row on a store with such limits, and the number of open
+/// documents at the end.
 pub(super) fn played(
     alloc: Global,
     limits: Result<Limits, StoreFault>,
@@ -287,7 +289,7 @@ static OPENED_AND_CLOSED: [Row; 11] = [
     (Step::Close(""), Ok(()), Some((0, "a"))),
 ];
 
-/// Is one of two documents open, and not the one whose URI is empty?
+/// Returns whether one of two documents is open, and not the one whose URI is empty.
 fn has_one_of_two(store: &Store) -> bool {
     store.len() == 1 && store.get("").is_none() && store.limits().max_docs() == 2
 }
@@ -346,7 +348,7 @@ fn one_document_and_one_change(rt: HostRuntime) {
     );
 }
 
-/// The URI and the language of the document at an index; empty where there is none.
+/// Returns the URI and the language of the document at an index; empty where there is none.
 pub(super) fn names_at(store: &Store, index: usize) -> (&str, &str) {
     match store.at(index) {
         Some(document) => (document.uri(), document.language()),
@@ -354,7 +356,7 @@ pub(super) fn names_at(store: &Store, index: usize) -> (&str, &str) {
     }
 }
 
-/// Are these the URIs of the documents from the first on, and is there no other?
+/// Returns whether these are the URIs of all open documents, in order.
 fn is_order(store: &Store, uris: &[&str]) -> bool {
     for (index, uri) in uris.iter().enumerate() {
         if names_at(store, index) != (*uri, "plaintext") {
@@ -364,7 +366,8 @@ fn is_order(store: &Store, uris: &[&str]) -> bool {
     store.len() == uris.len() && store.at(uris.len()).is_none() && is_order_of_iter(store, uris)
 }
 
-/// Does a `for` meet the documents of these URIs, and an iterator the last of them first from its end?
+/// Returns whether a `for` loop has the documents of these URIs, and an iterator the last of them
+/// from its end.
 fn is_order_of_iter(store: &Store, uris: &[&str]) -> bool {
     let mut wanted = uris.iter();
     for document in store {
@@ -387,7 +390,7 @@ static THREE_OPENED: [Row; 4] = [
 
 static OPENED_AGAIN: [Row; 1] = [(Step::Open(URI, 1, ""), Ok(()), Some((1, "")))];
 
-/// Does a document that is closed and opened again come after the others?
+/// Returns whether a document that is closed and opened again comes after the others.
 fn goes_last(store: &mut Store, alloc: Global) -> bool {
     if wrong_row(store, alloc, &THREE_OPENED).is_some() || !is_order(store, &["b", "c"]) {
         return false;

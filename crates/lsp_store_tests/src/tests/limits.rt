@@ -34,7 +34,7 @@ fn the_least_limits(rt: HostRuntime) {
     );
 }
 
-/// So many changes whose range is reversed.
+/// Returns so many changes whose range is reversed.
 fn reversed(alloc: Global, count: usize) -> Result<Vec<Change>, AllocError> {
     let mut changes = Vec::new(alloc);
     for _ in 0..count {
@@ -43,13 +43,14 @@ fn reversed(alloc: Global, count: usize) -> Result<Vec<Change>, AllocError> {
     Ok(changes)
 }
 
-/// The answer to a batch of so many reversed changes. The first one is faulty, so that the others need not be put in.
+/// Returns the result of a batch of so many reversed changes. The first one is faulty, so the
+/// others need not be applied.
 fn answer_to(store: &mut Store, alloc: Global, count: usize) -> Result<(), StoreFault> {
     let changes = reversed(alloc, count)?;
     store.change(URI, 2, Encoding::Utf16, &changes)
 }
 
-/// Are as many changes read as there may be, and one more refused?
+/// Returns whether the greatest number of changes is read, and one more refused as too many.
 fn takes_so_many(alloc: Global) -> Result<bool, StoreFault> {
     let greatest = limits_of(1_073_741_824, 1_073_741_824, 65_536, 1_048_576)?;
     let mut store = store_of(alloc, greatest, 1, "abc")?;
@@ -68,7 +69,7 @@ fn the_greatest_limits(rt: HostRuntime) {
     assert!(rt; takes_so_many(rt.alloc()) == Ok(true));
 }
 
-/// Opens so many documents, each with its number for a URI.
+/// Opens so many documents, each with its number as its URI.
 fn open_numbered(store: &mut Store, alloc: Global, count: u32) -> Result<(), StoreFault> {
     for number in 0..count {
         let uri = format!(in alloc; "{number}")?;
@@ -77,7 +78,7 @@ fn open_numbered(store: &mut Store, alloc: Global, count: u32) -> Result<(), Sto
     Ok(())
 }
 
-/// Are as many documents opened as there may be, and one more refused?
+/// Returns whether the greatest number of documents is opened, and one more refused.
 fn is_filled(store: &mut Store, alloc: Global) -> Result<bool, StoreFault> {
     open_numbered(store, alloc, 65_536)?;
     if open(store, alloc, "x", 1, "") != Err(StoreFault::TooManyDocuments) {
@@ -93,7 +94,7 @@ fn as_many_documents_as_there_may_be(rt: HostRuntime) -> Result<(), Fail> {
     Ok(())
 }
 
-/// A URI of so many bytes.
+/// Returns a URI of so many bytes.
 fn long_uri(alloc: Global, len: usize) -> Result<String, AllocError> {
     let mut uri = String::new(alloc);
     for _ in 0..len {
@@ -102,13 +103,14 @@ fn long_uri(alloc: Global, len: usize) -> Result<String, AllocError> {
     Ok(uri)
 }
 
-/// The length of the message of no changes, under this version.
+/// Returns the length of the canonical message of no changes, under this version.
 fn message_len(store: &Store, uri: &str, version: i32) -> Result<usize, StoreFault> {
     let bytes = store.canonical_message(uri, version, Encoding::Utf8, &[])?;
     Ok(bytes.len())
 }
 
-/// The answer of a store to the message of an open document, which is changed before and closed after it.
+/// Returns the length of the message of an open document, which is changed before and closed after
+/// it.
 fn changed_message_len(alloc: Global, limits: Limits, uri: &str) -> Result<usize, StoreFault> {
     let mut store = Store::new(alloc, limits);
     open(&mut store, alloc, uri, 1, "")?;
@@ -118,14 +120,14 @@ fn changed_message_len(alloc: Global, limits: Limits, uri: &str) -> Result<usize
     len
 }
 
-/// The length of the message of an open document.
+/// Returns the length of the message of an open document.
 fn opened_message_len(alloc: Global, limits: Limits, uri: &str) -> Result<usize, StoreFault> {
     let mut store = Store::new(alloc, limits);
     open(&mut store, alloc, uri, 1, "")?;
     message_len(&store, uri, 2)
 }
 
-/// Have the messages of a document with a URI of a million bytes their lengths?
+/// Returns whether the messages of a document with a URI of a million bytes have their lengths.
 fn has_long_messages(alloc: Global) -> Result<bool, StoreFault> {
     let uri = long_uri(alloc, 1_000_000)?;
     let refused = Err(StoreFault::BodyTooLong { len: 1_000_120 });

@@ -1,5 +1,5 @@
-//! Whole runs of calls on one store, in which a call that runs out of memory is made again. Each test prints how many growths were
-//! refused.
+//! Whole runs of calls on one store, in which a call that runs out of memory is repeated. Each test
+//! prints the number of refused allocations.
 
 use super::{URI, current, narrow, open};
 use lsp_edit::EditFault;
@@ -17,15 +17,15 @@ type Document = Option<(i32, &'static str)>;
 enum Call {
     Open(&'static str, i32, &'static str),
     Change(i32, &'static [Edit]),
-    /// Answers the number of the frame's bytes.
+    /// Its result is the number of the frame's bytes.
     Canonical(i32, &'static [Edit]),
     Close,
 }
 
-/// A call, what it answers (the bytes of a frame, or 0), and the document after it.
+/// A call, its result (the bytes of a frame, or 0), and the document after it.
 type Step = (Call, Result<usize, StoreFault>, Document);
 
-/// Is this the document that is open, or is none where none is wanted?
+/// Returns whether this document is open, or none where none is expected.
 fn has_document(store: &Store, wanted: Document) -> bool {
     let Some((version, text)) = wanted else {
         return store.len() == 0;
@@ -52,7 +52,8 @@ fn answer(alloc: Global, store: &mut Store, call: &Call) -> Result<usize, StoreF
     Ok(0)
 }
 
-/// Does a call answer as its step says, and leave the document so? Where memory runs out the document is as before, and it is made again.
+/// Returns whether the result of a call and the document after it are those of its step. Where
+/// memory runs out the document is unchanged, and the call repeated.
 fn is_answered(
     alloc: Global,
     store: &mut Store,
@@ -71,7 +72,7 @@ fn is_answered(
     given == step.1 && has_document(store, step.2)
 }
 
-/// Are all calls on one store answered as their steps say?
+/// Returns whether all calls on one store have the results of their steps.
 fn are_answered(alloc: Global, limits: Limits, steps: &[Step], refused: &mut usize) -> bool {
     let mut store = Store::new(alloc, limits);
     let mut before = None;

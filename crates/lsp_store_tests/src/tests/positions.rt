@@ -1,4 +1,4 @@
-//! Positions and offsets of a document that was changed.
+//! Positions and byte offsets of a document that was changed.
 
 use super::{URI, narrow, store_of};
 use lsp_samples::edits::{Edit, batch};
@@ -6,10 +6,10 @@ use lsp_store::{Document, Store, StoreFault};
 use lsp_text::{Encoding, Position};
 use std::alloc::Global;
 
-/// What makes `a\r\n😀b` of `ab`.
+/// Changes `ab` to `a\r\n😀b`.
 static EDIT: &[Edit] = &[(0, 1, 0, 1, "\r\n\u{1F600}")];
 
-/// A position, and the offset that it denotes in that text.
+/// A position, and the byte offset that it denotes in that text.
 static DENOTED: [(Encoding, u32, u32, Option<usize>); 8] = [
     (Encoding::Utf16, 0, 0, Some(0)),
     (Encoding::Utf16, 0, 9, Some(1)),
@@ -21,7 +21,7 @@ static DENOTED: [(Encoding, u32, u32, Option<usize>); 8] = [
     (Encoding::Utf16, 2, 0, Some(8)),
 ];
 
-/// An offset of that text, and its exact position.
+/// A byte offset of that text, and its exact position.
 static EXACT: [(Encoding, usize, Option<(u32, u32)>); 8] = [
     (Encoding::Utf16, 0, Some((0, 0))),
     (Encoding::Utf16, 1, Some((0, 1))),
@@ -33,7 +33,7 @@ static EXACT: [(Encoding, usize, Option<(u32, u32)>); 8] = [
     (Encoding::Utf8, 9, None),
 ];
 
-/// A store whose document has that text.
+/// Returns a store whose document has that text.
 fn edited(alloc: Global) -> Result<Store, StoreFault> {
     let mut store = store_of(alloc, narrow(1, 1)?, 1, "ab")?;
     store.change(URI, 2, Encoding::Utf16, &batch(alloc, EDIT)?)?;
@@ -48,7 +48,7 @@ fn is_denoted(document: &Document<'_>, row: (Encoding, u32, u32, Option<usize>))
         == offset
 }
 
-/// The number of the first row of [`DENOTED`] that is wrong.
+/// Returns the number of the first row of [`DENOTED`] that is wrong.
 fn wrong_denoted(document: &Document<'_>) -> Option<usize> {
     for (number, row) in DENOTED.iter().enumerate() {
         if !is_denoted(document, *row) {
@@ -64,7 +64,7 @@ fn is_exact(document: &Document<'_>, row: (Encoding, usize, Option<(u32, u32)>))
     found.map(|position| (position.line, position.character)) == wanted
 }
 
-/// The number of the first row of [`EXACT`] that is wrong.
+/// Returns the number of the first row of [`EXACT`] that is wrong.
 fn wrong_exact(document: &Document<'_>) -> Option<usize> {
     for (number, row) in EXACT.iter().enumerate() {
         if !is_exact(document, *row) {
@@ -74,7 +74,7 @@ fn wrong_exact(document: &Document<'_>) -> Option<usize> {
     None
 }
 
-/// The number of the first wrong row of each table, if the document is open.
+/// Returns the number of the first wrong row of each table, if the document is open.
 fn wrong_rows(alloc: Global) -> Result<(Option<usize>, Option<usize>), StoreFault> {
     let store = edited(alloc)?;
     let Some(document) = store.get(URI) else {

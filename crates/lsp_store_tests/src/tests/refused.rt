@@ -1,4 +1,4 @@
-//! Calls that run out of memory once, and are made again.
+//! Calls that run out of memory once, and are repeated.
 
 use super::{URI, current, narrow, open, store_of};
 use lsp_edit::Change;
@@ -8,7 +8,7 @@ use lsp_text::Encoding;
 use std::alloc::Global;
 use std::test::Fail;
 
-/// Opens a document; where memory ran out none is open, and the same call is made again, which is counted.
+/// Opens a document. Where memory runs out none is open; that is counted, and the call repeated.
 fn opens_again(store: &mut Store, alloc: Global, refused: &mut usize) -> Result<bool, StoreFault> {
     if open(store, alloc, URI, 1, "a\nb") == Err(StoreFault::NoMemory) {
         *refused = refused.saturating_add(1);
@@ -29,7 +29,7 @@ fn refused_open(rt: HostRuntime) -> Result<(), Fail> {
     Ok(())
 }
 
-/// A store with one open document: made again where it was refused, which is counted.
+/// Returns a store with one open document. Out of memory is counted, and the call repeated.
 fn store_again(alloc: Global, text: &str, refused: &mut usize) -> Result<Store, StoreFault> {
     match store_of(alloc, narrow(1, 2)?, 1, text) {
         Ok(store) => Ok(store),
@@ -40,7 +40,7 @@ fn store_again(alloc: Global, text: &str, refused: &mut usize) -> Result<Store, 
     }
 }
 
-/// Changes the document; where memory ran out it is as it was, and the same call is made again.
+/// Changes the document. Where memory runs out it is unchanged, and the call is repeated.
 fn change_again(
     store: &mut Store,
     text: &str,
@@ -58,7 +58,8 @@ fn change_again(
     Ok(true)
 }
 
-/// Does a batch on a text leave this text, whichever request was refused? Counts the refusals.
+/// Returns whether a text after a batch is this text, whichever allocation was refused. Counts the
+/// refusals.
 fn leaves(
     alloc: Global,
     text: &str,
@@ -83,7 +84,7 @@ fn refused_change_of_a_range(rt: HostRuntime) -> Result<(), Fail> {
     Ok(())
 }
 
-/// The length of the message of a batch: written again where it was refused, which is counted.
+/// Returns the length of the message of a batch. Out of memory is counted, and the call repeated.
 fn message_len(
     store: &Store,
     changes: &[Change],
@@ -97,7 +98,7 @@ fn message_len(
     Ok(outcome?.len())
 }
 
-/// The length of the message of a change of the whole text to none.
+/// Returns the length of the message of a change of the whole text to none.
 fn message_len_again(alloc: Global, refused: &mut usize) -> Result<usize, StoreFault> {
     let store = store_again(alloc, "ab", refused)?;
     let changes = batch_again(alloc, &[(ALL, 0, 0, 0, "")], refused)?;

@@ -1,4 +1,5 @@
-//! Batches on one document as one: the message of each run, byte for byte, and what is refused.
+//! Batches on one document as one batch: the message of each run, byte for byte, and what is
+//! refused.
 
 use super::canonical::frame_of;
 use super::{URI, limits_of, narrow, store_of};
@@ -10,7 +11,8 @@ use lsp_text::Encoding;
 use std::alloc::{AllocError, Global};
 use std::test::Fail;
 
-/// A text, batches under the versions from 2 on, the length of the body of their one message, and its changes.
+/// A text, batches under the versions from 2 on, the length of the body of their one message, and
+/// its changes.
 type Run = (
     &'static str,
     &'static [&'static [Edit]],
@@ -66,7 +68,7 @@ static RUNS: [Run; 9] = [
         302,
         &[(0, 2, 0, 2, "y"), (0, 0, 0, 0, "x")],
     ),
-    // Nine batches at two places in turn: deltas of many ranks are joined.
+    // Nine batches at two offsets in turn: deltas of many ranks are joined.
     (
         "ab",
         &[
@@ -83,7 +85,7 @@ static RUNS: [Run; 9] = [
         310,
         &[(0, 2, 0, 2, "2468"), (0, 0, 0, 0, "97531")],
     ),
-    // What came before a change of the whole text is gone.
+    // A change of the whole text removes what came before it.
     (
         "ab",
         &[
@@ -97,7 +99,7 @@ static RUNS: [Run; 9] = [
     ),
 ];
 
-/// A squash of a document of version 1 with this text.
+/// Returns a squash of a document of version 1 with this text.
 fn squash_of(alloc: Global, limits: Limits, text: &str) -> Result<Squash, StoreFault> {
     let store = store_of(alloc, limits, 1, text)?;
     let Some(document) = store.get(URI) else {
@@ -110,7 +112,7 @@ fn add(squash: &mut Squash, alloc: Global, version: i32, edits: &[Edit]) -> Resu
     squash.add(version, &batch(alloc, edits)?)
 }
 
-/// Is the message of a squash the one of this length, with these changes and this version?
+/// Returns whether the message of a squash has this length, these changes and this version.
 fn is_written_so(
     squash: &Squash,
     alloc: Global,
@@ -149,7 +151,7 @@ fn runs_are_one_message(rt: HostRuntime) {
     }
 }
 
-/// A call on a squash, and its answer.
+/// A call on a squash, and its result.
 enum Step {
     /// A version, and a batch.
     Add(i32, &'static [Edit], Result<(), StoreFault>),
@@ -158,7 +160,7 @@ enum Step {
     NoMessage(StoreFault),
 }
 
-/// Is a call answered as its step says?
+/// Returns whether the result of a call is that of its step.
 fn is_answered(squash: &mut Squash, alloc: Global, step: &Step) -> Result<bool, StoreFault> {
     match step {
         Step::Add(version, edits, answer) => Ok(add(squash, alloc, *version, edits) == *answer),
@@ -169,7 +171,7 @@ fn is_answered(squash: &mut Squash, alloc: Global, step: &Step) -> Result<bool, 
     }
 }
 
-/// The number of the first step that is answered otherwise.
+/// Returns the number of the first step with another result.
 fn wrong_step(
     squash: &mut Squash,
     alloc: Global,
@@ -183,13 +185,14 @@ fn wrong_step(
     Ok(None)
 }
 
-/// The same on a document of at most 8 bytes, with the text `abc`, and with messages of at most one change.
+/// The same on a document of at most 8 bytes, with the text `abc`, and with messages of at most one
+/// change.
 fn wrong_step_on_abc(alloc: Global, steps: &[Step]) -> Result<Option<usize>, StoreFault> {
     let mut squash = squash_of(alloc, narrow(1, 1)?, "abc")?;
     wrong_step(&mut squash, alloc, steps)
 }
 
-/// A batch under a version that is refused, once a batch of version 2 was added that leaves `xabc`.
+/// A batch under a version that is refused, after a batch of version 2 whose result is `xabc`.
 type Refused = (i32, &'static [Edit], StoreFault);
 
 static REFUSED: [Refused; 7] = [
@@ -207,21 +210,21 @@ static REFUSED: [Refused; 7] = [
     ),
     (3, &[(0, 4, 0, 4, "defgh")], StoreFault::TextTooLong),
     (3, &[(ALL, 0, 0, 0, "123456789")], StoreFault::TextTooLong),
-    // On the old text it would have room.
+    // On the old text it would be within the limit.
     (3, &[(0, 3, 0, 3, "defgh")], StoreFault::TextTooLong),
 ];
 
-/// What comes before a batch that is refused.
+/// What comes before a refused batch.
 static ONE_BATCH: [Step; 1] = [Step::Add(2, &[(0, 0, 0, 0, "x")], Ok(()))];
 
-/// What comes after it: the squash goes on as if nothing had been added.
+/// What comes after a refused batch: the squash is as if it had not been added.
 static GOES_ON: [Step; 3] = [
     Step::Message(215, &[(0, 0, 0, 0, "x")], 2),
     Step::Add(3, &[(0, 1, 0, 1, "y")], Ok(())),
     Step::Message(216, &[(0, 0, 0, 0, "xy")], 3),
 ];
 
-/// Is the batch refused so, and is nothing changed?
+/// Returns whether the batch is refused so, and nothing changes.
 fn refuses(squash: &mut Squash, alloc: Global, refused: &Refused) -> Result<bool, StoreFault> {
     let (version, edits, fault) = *refused;
     if wrong_step(squash, alloc, &ONE_BATCH)?.is_some() {
@@ -268,7 +271,7 @@ fn too_many_changes_and_one_again(rt: HostRuntime) {
     assert_eq!(rt; wrong_step_on_abc(rt.alloc(), &TOO_MANY), Ok(None));
 }
 
-/// A batch of one change that puts so many letters in at the front.
+/// Returns a batch of one change that inserts so many letters at the front.
 fn letters(alloc: Global, count: usize) -> Result<Vec<Change>, AllocError> {
     let mut changes = batch(alloc, &[(0, 0, 0, 0, "")])?;
     for change in &mut changes {
@@ -288,7 +291,7 @@ static LONG: [Long; 3] = [
     (2_000, 2_000, Err(StoreFault::BodyTooLong { len: 4_214 })),
 ];
 
-/// The length of the message of a squash.
+/// Returns the length of the message of a squash.
 fn message_len(squash: &Squash) -> Result<usize, StoreFault> {
     Ok(squash.message()?.len())
 }
@@ -314,7 +317,7 @@ static TOO_MANY_AND_LONG: [Step; 3] = [
     Step::NoMessage(StoreFault::TooManyChanges),
 ];
 
-/// The number of the first step that is answered otherwise, after a batch of 4,000 letters.
+/// Returns the number of the first step with another result, after a batch of 4,000 letters.
 fn wrong_step_on_letters(alloc: Global, steps: &[Step]) -> Result<Option<usize>, StoreFault> {
     let mut squash = squash_of(alloc, limits_of(4_096, 8_192, 1, 1)?, "a")?;
     squash.add(2, &letters(alloc, 4_000)?)?;
@@ -329,7 +332,7 @@ fn too_many_changes_before_a_long_body(rt: HostRuntime) {
     );
 }
 
-/// A squash made again where it was refused, which is counted.
+/// Starts a squash. Out of memory is counted, and the call repeated.
 fn squash_again(alloc: Global, refused: &mut usize) -> Result<Squash, StoreFault> {
     match squash_of(alloc, narrow(1, 2)?, "ab") {
         Ok(squash) => Ok(squash),
@@ -340,7 +343,7 @@ fn squash_again(alloc: Global, refused: &mut usize) -> Result<Squash, StoreFault
     }
 }
 
-/// Adds a batch; where memory ran out the same call is made again, which is counted.
+/// Adds a batch. Out of memory is counted, and the call repeated.
 fn add_again(
     squash: &mut Squash,
     version: i32,
@@ -356,7 +359,7 @@ fn add_again(
     }
 }
 
-/// The message of a squash, asked again where memory ran out, which is counted.
+/// Returns the message of a squash. Out of memory is counted, and the call repeated.
 fn message_again(squash: &Squash, refused: &mut usize) -> Result<Vec<u8>, StoreFault> {
     match squash.message() {
         Err(StoreFault::NoMemory) => {
@@ -388,7 +391,7 @@ fn add_all_again(
     Ok(())
 }
 
-/// Has a frame the two changes that the batches come to, and version 4?
+/// Returns whether a frame has the two changes that the batches mean together, and version 4.
 fn is_of_batches(frame: &[u8]) -> bool {
     let parts =
         "\"text\":\"y\"},{\"range\":{\"end\":{\"character\":0,\"line\":0},\"start\":{\"character\":0,\"line\":0}},\"text\":\"xz\"}]";
@@ -400,7 +403,8 @@ fn is_of_batches(frame: &[u8]) -> bool {
     }
 }
 
-/// Have three batches their one message, whichever request was refused? Counts the refusals.
+/// Returns whether three batches have their one message, whichever allocation was refused. Counts
+/// the refusals.
 fn runs_again(alloc: Global, refused: &mut usize) -> Result<bool, StoreFault> {
     let mut squash = squash_again(alloc, refused)?;
     add_all_again(&mut squash, alloc, refused)?;

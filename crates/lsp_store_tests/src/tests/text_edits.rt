@@ -11,7 +11,7 @@ static EDITS: [Edit; 3] = [(1, 2, 1, 2, "!"), (0, 0, 0, 1, ""), (1, 0, 1, 1, "X"
 
 static OVERLAP: [Edit; 2] = [(0, 0, 0, 2, ""), (0, 1, 1, 0, "")];
 
-/// Changes the document as text edits say, if they mean something.
+/// Changes the document by text edits, or returns why they are refused.
 fn edit(
     store: &mut Store,
     alloc: Global,
@@ -30,7 +30,7 @@ fn edit(
     }
 }
 
-/// Whether edits are refused so, or accepted, and leave that text.
+/// Returns whether edits are refused so, or accepted, and whether the text after them is this one.
 fn leave(
     alloc: Global,
     edits: &[Edit],

@@ -11,7 +11,7 @@ enum Step {
     Flush,
 }
 
-/// What is done, and whether a read came too early.
+/// The steps of a row, and whether a read came too early.
 static ROWS: [(&[Step], bool); 6] = [
     (&[], false),
     (&[Step::Read, Step::Read], false),
@@ -34,7 +34,7 @@ fn take<R: Source, W: Sink>(ends: &mut Duplex<'_, R, W>, step: Step) -> Result<(
     Ok(())
 }
 
-/// Is this what the two ends say after these steps?
+/// Do the two ends report this after these steps?
 fn says(alloc: Global, steps: &[Step], read_early: bool) -> Result<bool, Error> {
     let mut from = Told::new(StopReader::new(b"abc", &[], Call::Take(1)));
     let mut to = Told::new(StopWriter::new(alloc, &[], Call::Take(1)));

@@ -8,7 +8,8 @@ use std::test::Fail;
 /// Characters of 1, 2, 3, 4 bytes and 1 byte.
 const LINE: &str = "a\u{E9}\u{20AC}\u{1F600}b";
 
-/// The places that its characters 0, 1, 2 .. denote in an encoding; `None` inside a character.
+/// The byte offsets that its characters 0, 1, 2 .. denote in an encoding; `None` inside a
+/// character.
 static PLACES: [(Encoding, &[Option<usize>]); 3] = [
     (
         UTF8,
@@ -55,7 +56,7 @@ static PLACES: [(Encoding, &[Option<usize>]); 3] = [
     ),
 ];
 
-/// Do the characters of the line denote these places?
+/// Returns whether the characters of the line denote these byte offsets.
 fn denote(alloc: Global, encoding: Encoding, places: &[Option<usize>]) -> Result<bool, AllocError> {
     let mut character = 0;
     for place in places {
@@ -75,10 +76,10 @@ fn a_line_in_three_encodings(rt: HostRuntime) -> Result<(), Fail> {
     Ok(())
 }
 
-/// A CRLF, a lone CR and a LF: four lines.
+/// A CRLF, a lone CR and an LF: four lines.
 const ENDS: &str = "a\r\nb\rc\n";
 
-/// Line, character, and the place that they denote.
+/// A line, a character, and the byte offset that they denote.
 static ENDS_PLACES: [(u32, u32, usize); 13] = [
     (0, 0, 0),
     (0, 1, 1),
@@ -95,7 +96,7 @@ static ENDS_PLACES: [(u32, u32, usize); 13] = [
     (9, 9, 7),
 ];
 
-/// A place, and its exact position where it has one.
+/// A byte offset, and its exact position if it has one.
 static ENDS_POSITIONS: [(usize, Option<(u32, u32)>); 8] = [
     (0, Some((0, 0))),
     (1, Some((0, 1))),
@@ -107,7 +108,8 @@ static ENDS_POSITIONS: [(usize, Option<(u32, u32)>); 8] = [
     (7, Some((3, 0))),
 ];
 
-/// Do the lines and characters denote these places, and have the places these positions?
+/// Returns whether the lines and characters denote these byte offsets, and the offsets have these
+/// positions.
 fn has_places(alloc: Global, encoding: Encoding) -> Result<bool, AllocError> {
     for (line, character, place) in &ENDS_PLACES {
         if resolved(alloc, ENDS, encoding, *line, *character)? != Some(*place) {

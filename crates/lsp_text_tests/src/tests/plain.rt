@@ -1,4 +1,4 @@
-//! Positions of many small texts, beside the plain program.
+//! Positions of many small texts, compared with the plain program.
 ghost use Rattle.std.specs.Prelude.{◌≡◌, ◌≤◌, IfOk, length, encode_utf8_all};
 ghost use Rattle.lsp_text.specs.LineStarts.{Indexes};
 
@@ -7,7 +7,8 @@ use lsp_text::{Encoding, Lines, Position, plain};
 use std::alloc::{AllocError, Global};
 use std::test::Fail;
 
-/// What the texts are made of: line ends of one and of two characters, and characters of 1, 2, 3 and 4 bytes.
+/// The parts of the texts: line ends of one and of two characters, and characters of 1, 2, 3 and 4
+/// bytes.
 static PARTS: [&str; 7] = ["a", "\n", "\r", "\r\n", "e\u{301}", "\u{20AC}", "\u{1F600}"];
 
 static ENCODINGS: [Encoding; 3] = [UTF8, UTF16, UTF32];
@@ -17,7 +18,7 @@ const PARTS_OF_A_TEXT: u32 = 3;
 /// How many texts there are: 7 * 7 * 7.
 const TEXTS: u32 = 343;
 
-/// The part of a number's last digit to the base of 7.
+/// Returns the part of a number's last digit to the base of 7.
 fn part(number: u32) -> &'static str {
     match PARTS.get((number % 7) as usize) {
         Some(part) => part,
@@ -35,14 +36,15 @@ fn text_of(alloc: Global, number: u32) -> Result<String, AllocError> {
     Ok(text)
 }
 
-/// The characters of a text.
+/// Returns the characters of a text.
 fn characters(alloc: Global, text: &str) -> Result<Vec<char>, AllocError>
-    ensures { IfOk result (λ characters. length (encode_utf8_all characters.items) ≡ length text.now) }
+    ensures { IfOk result
+        (λ characters. length (encode_utf8_all characters.items) ≡ length text.now) }
 {
     text.chars().collect(alloc)
 }
 
-/// Whether all positions up to line 4, character 9 are resolved as by the plain program.
+/// Returns whether all positions up to line 4, character 9 are resolved as by the plain program.
 fn resolves_plainly(lines: &Lines, text: &str, chars: &[char], encoding: Encoding) -> bool
     requires indexed { Indexes lines.now text.now }
     requires size { length (encode_utf8_all chars.now) ≤ 2147483648 }
@@ -60,15 +62,16 @@ fn resolves_plainly(lines: &Lines, text: &str, chars: &[char], encoding: Encodin
     true
 }
 
-/// Whether each place has a position that the plain program takes back to it, and only what lies inside a character or a CRLF is no place.
+/// Returns whether each byte offset has a position from which the plain program finds it again.
+/// Only offsets inside a character or a CRLF have none.
 fn has_plain_places(lines: &Lines, text: &str, chars: &[char], encoding: Encoding) -> bool
     requires indexed { Indexes lines.now text.now }
     requires size { length (encode_utf8_all chars.now) ≤ 2147483648 }
 {
     for place in 0..text.len().saturating_add(2) {
         let bytes = text.as_bytes();
-        let (before, behind) = (bytes.get(place.wrapping_sub(1)), bytes.get(place));
-        let in_crlf = before == Some(&b'\r') && behind == Some(&b'\n');
+        let (before, rest_after) = (bytes.get(place.wrapping_sub(1)), bytes.get(place));
+        let in_crlf = before == Some(&b'\r') && rest_after == Some(&b'\n');
         if lines.is_place(text, place) != (text.is_char_boundary(place) && !in_crlf) {
             return false;
         }
@@ -82,7 +85,8 @@ fn has_plain_places(lines: &Lines, text: &str, chars: &[char], encoding: Encodin
     true
 }
 
-/// Whether the indexes that split no CRLF have the plain program's positions, and only these are at places.
+/// Returns whether the indexes that split no CRLF have the plain program's positions, and only they
+/// have any.
 fn has_plain_positions(lines: &Lines, text: &str, chars: &[char], encoding: Encoding) -> bool
     requires indexed { Indexes lines.now text.now }
     requires size { length (encode_utf8_all chars.now) ≤ 2147483648 }
@@ -102,12 +106,12 @@ fn has_plain_positions(lines: &Lines, text: &str, chars: &[char], encoding: Enco
     true
 }
 
-/// Whether there are as many lines as the plain program finds.
+/// Returns whether there are as many lines as the plain program finds.
 fn has_plain_lines(lines: &Lines, chars: &[char]) -> bool {
     lines.count() == plain::line_ends(chars).saturating_add(1)
 }
 
-/// Whether all is as in the plain program, in each encoding.
+/// Returns whether all is as in the plain program, in each encoding.
 fn is_plain(lines: &Lines, text: &str, chars: &[char]) -> bool
     requires indexed { Indexes lines.now text.now }
     requires size { length (encode_utf8_all chars.now) ≤ 2147483648 }

@@ -1,4 +1,4 @@
-//! Calls that run out of memory once, and are made again.
+//! Calls that run out of memory once, and are called again.
 ghost use Rattle.std.specs.Prelude.{◌≤◌, length};
 
 use super::edited;
@@ -65,7 +65,7 @@ static EDITS: [Edit; 3] = [
     },
 ];
 
-/// Whether these are the line starts.
+/// Returns whether these are the line starts.
 fn starts_are(lines: &Lines, starts: &[usize]) -> bool {
     let mut looks = lines.looks();
     if looks.len() != starts.len() {
@@ -79,7 +79,7 @@ fn starts_are(lines: &Lines, starts: &[usize]) -> bool {
     true
 }
 
-/// The lines of a text; made again where memory ran out, which is counted.
+/// Finds the lines of a text, and again if it is out of memory, which is counted.
 fn made(alloc: Global, text: &str, refused: &mut usize) -> Result<Lines, AllocError>
     requires { length text.now ≤ 1000 }
 {
@@ -92,7 +92,7 @@ fn made(alloc: Global, text: &str, refused: &mut usize) -> Result<Lines, AllocEr
     }
 }
 
-/// Has a text these line starts?
+/// Returns whether a text has these line starts.
 fn has_starts(
     alloc: Global,
     text: &str,
@@ -118,7 +118,8 @@ fn refused_lines_new(rt: HostRuntime) -> Result<(), Fail> {
     Ok(())
 }
 
-/// Does an edit leave its line starts? Where `splice` runs out of memory nothing changes, and it is called again.
+/// Returns whether `splice` leaves the line starts of an edit. Out of memory changes nothing, and
+/// it is called again.
 fn is_spliced(alloc: Global, edit: &Edit, refused: &mut usize) -> Result<bool, AllocError> {
     let (old, from, to, len) = (edit.text, edit.from, edit.to, edit.inserted.len());
     if old.len() > 1000 || len > 1000 {
@@ -136,7 +137,7 @@ fn is_spliced(alloc: Global, edit: &Edit, refused: &mut usize) -> Result<bool, A
     Ok(starts_are(&lines, edit.then))
 }
 
-/// The same; all is made again where anything else runs out of memory.
+/// Does the same, and once more from the start if anything else is out of memory.
 fn is_spliced_again(alloc: Global, edit: &Edit, refused: &mut usize) -> Result<bool, AllocError> {
     match is_spliced(alloc, edit, refused) {
         Ok(answer) => Ok(answer),

@@ -1,39 +1,45 @@
-//! The texts of help. They are in functions, so that proofs don't look into them.
+//! The texts of help. They are in functions, so that proofs don't unfold them.
 
-/// What help says of a command.
+use lsp_frame::Limits;
+use std::alloc::{AllocError, Global};
+
+/// The help of a command.
 #[derive(Clone, Copy, Debug)]
 pub struct Page {
     pub name: &'static str,
     pub about: &'static str,
-    /// More on the command, and an example to paste.
+    /// A note on the command, and an example to paste.
     pub example: &'static str,
-    /// What `--encoding` is for.
+    /// The meaning of `--encoding`.
     pub encoding: &'static str,
-    /// What `--sync` is for, where the command takes it.
+    /// The meaning of `--sync`, if the command has it.
     pub sync: Option<&'static str>,
-    /// What `--squash` is for, where the command takes it.
+    /// The meaning of `--squash`, if the command has it.
     pub squash: Option<&'static str>,
 }
 
-/// An option that bounds what is taken.
-#[derive(Clone, Copy, Debug)]
+/// An option that sets a limit.
+#[derive(Debug, Drop)]
 pub struct Limit {
     pub name: &'static str,
-    pub least: u64,
-    pub greatest: u64,
-    pub default: &'static str,
+    pub least: usize,
+    pub greatest: usize,
+    /// The default, in decimal digits.
+    pub default: String,
     pub help: &'static str,
 }
 
+/// The text above the list of commands.
 pub fn about() -> &'static str {
     PROGRAM
 }
 
+/// The text below the list of commands.
 pub fn notes() -> &'static str {
     NOTES
 }
 
-/// Of the commands, in the order in which help lists them.
+/// The pages of the commands, in the order in which help lists them.
 pub fn pages() -> [Page; 5] {
     [
         Page {
@@ -54,7 +60,7 @@ pub fn pages() -> [Page; 5] {
     ]
 }
 
-/// Of a command that reads a log.
+/// The page of a command that reads a log.
 fn log_page(name: &'static str, about: &'static str, example: &'static str) -> Page {
     Page {
         name,
@@ -66,38 +72,43 @@ fn log_page(name: &'static str, about: &'static str, example: &'static str) -> P
     }
 }
 
-/// The options that all commands take.
-pub fn limits() -> [Limit; 4] {
-    [
+/// The options that all commands have.
+pub fn limits(alloc: Global) -> Result<[Limit; 4], AllocError> {
+    let default = Limits::default();
+    Ok([
         Limit {
             name: "max-body",
-            least: 4_096,
-            greatest: 1_073_741_824,
-            default: "16777216",
+            least: Limits::LEAST_BODY,
+            greatest: Limits::GREATEST_BODY,
+            default: digits(alloc, default.max_body())?,
             help: MAX_BODY,
         },
         Limit {
             name: "max-text",
             least: 0,
-            greatest: 1_073_741_824,
-            default: "16777216",
+            greatest: Limits::GREATEST_TEXT,
+            default: digits(alloc, default.max_text())?,
             help: MAX_TEXT,
         },
         Limit {
             name: "max-docs",
             least: 1,
-            greatest: 65_536,
-            default: "1024",
+            greatest: Limits::GREATEST_DOCS,
+            default: digits(alloc, default.max_docs())?,
             help: MAX_DOCS,
         },
         Limit {
             name: "max-changes",
             least: 1,
-            greatest: 1_048_576,
-            default: "65536",
+            greatest: Limits::GREATEST_CHANGES,
+            default: digits(alloc, default.max_changes())?,
             help: MAX_CHANGES,
         },
-    ]
+    ])
+}
+
+fn digits(alloc: Global, number: usize) -> Result<String, AllocError> {
+    format!(in alloc; "{number}")
 }
 
 static PROGRAM: &str =
@@ -114,7 +125,7 @@ error says what, and for 5 where: `lspsync: truncated at 505` is byte 505 of the
 
 `lspsync COMMAND --help` has the options of a command and an example to paste.
 
-lspsync 0.1.0, proved with rattle-kit-13b";
+lspsync 0.1.0, proved with rattle-kit-13f";
 
 static SERVE: &str =
     "Be a language server that keeps the editor's documents and offers no other feature";

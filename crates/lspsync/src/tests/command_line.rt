@@ -1,6 +1,9 @@
-//! What the words of a call may be.
+//! The words of a call: which are accepted, and which are refused.
 
 use super::*;
+use crate::command_line::{self, parse};
+use lsp_replay::Settings;
+use lsp_server::Config;
 use std::str;
 use std::test::Fail;
 
@@ -63,7 +66,7 @@ fn status_of(alloc: Global, words: &[&str]) -> Result<u8, AllocError> {
     Ok(ran(alloc, words, b"")?.status)
 }
 
-/// Are both ends of the range of an option taken? `serve` ends with status 1 where no `exit` came.
+/// Are both ends of the range of an option accepted? `serve` ends with status 1 if no `exit` came.
 fn takes_both<'a>(
     alloc: Global,
     command: &'a str,
@@ -90,6 +93,23 @@ fn both_ends_of_each_range_are_taken(rt: HostRuntime) -> Result<(), Fail> {
     }
     let words = ["lspsync", "serve", "--sync", "full"];
     assert_eq!(rt; status_of(rt.alloc(), &words)?, 1);
+    Ok(())
+}
+
+/// Are these words this call?
+fn is_call(alloc: Global, words: &[&str], wanted: command_line::Call) -> bool {
+    match parse(alloc, words) {
+        Ok(found) => found == Some(wanted),
+        Err(_) => false,
+    }
+}
+
+#[test]
+fn a_call_without_options_has_the_defaults(rt: HostRuntime) -> Result<(), Fail> {
+    let serve = command_line::Call::Serve(Config::default());
+    assert!(rt; is_call(rt.alloc(), &["lspsync", "serve"], serve));
+    let check = command_line::Call::Check(Settings::default());
+    assert!(rt; is_call(rt.alloc(), &["lspsync", "check"], check));
     Ok(())
 }
 
@@ -139,7 +159,10 @@ static OPTIONS: [&str; 5] = [
     "--max-changes",
 ];
 
-/// Does the help of a command have its options, and an example of its call?
+/// How help shows the defaults of the limits.
+static DEFAULTS: [&str; 3] = ["[default: 16777216]", "[default: 1024]", "[default: 65536]"];
+
+/// Does the help of a command have its options with their defaults, and an example of its call?
 fn has_options(alloc: Global, command: &str, words: &[&str]) -> Result<bool, Fail> {
     let example = format!(in alloc; "  ./lspsync {command} < examples/")?;
     let output = help(alloc, words)?;
@@ -147,7 +170,7 @@ fn has_options(alloc: Global, command: &str, words: &[&str]) -> Result<bool, Fai
     if !text.contains(example.as_str()) || !has_all(text, &OPTIONS) {
         return Ok(false);
     }
-    Ok(text.contains("--sync") == (command == "serve"))
+    Ok(has_all(text, &DEFAULTS) && text.contains("--sync") == (command == "serve"))
 }
 
 #[test]

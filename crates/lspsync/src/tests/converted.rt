@@ -1,4 +1,4 @@
-//! Logs of version 2: how they are converted, and what the commands on logs write of them.
+//! Logs of version 2: their conversion, and what the commands on logs write of them.
 
 use super::*;
 use lsp_frame::frame;
@@ -42,10 +42,18 @@ fn a_converted_log_has_the_replies(rt: HostRuntime) -> Result<(), Fail> {
 fn a_converted_log_is_normalised(rt: HostRuntime) -> Result<(), Fail> {
     let alloc = rt.alloc();
     let both = recorded(alloc, &[INITIALIZE, OPEN, WHOLE], &[ACCEPTED])?;
-    let normal = recorded(alloc, &[INITIALIZE, OPEN, CANONICAL], &[ACCEPTED])?;
-    assert_eq!(rt; normal.len(), 754);
-    assert!(rt; answers(alloc, &["lspsync", "normalise"], &both, 0, &normal)?);
-    assert!(rt; answers(alloc, &["lspsync", "normalise"], &normal, 0, &normal)?);
+    let canonical_log = recorded(alloc, &[INITIALIZE, OPEN, CANONICAL], &[ACCEPTED])?;
+    assert_eq!(rt; canonical_log.len(), 754);
+    assert!(rt; answers(alloc, &["lspsync", "normalise"], &both, 0, &canonical_log)?);
+    assert!(rt;
+        answers(
+            alloc,
+            &["lspsync", "normalise"],
+            &canonical_log,
+            0,
+            &canonical_log
+        )?
+    );
     Ok(())
 }
 
@@ -79,7 +87,8 @@ fn a_change_before_the_result_of_initialize(rt: HostRuntime) -> Result<(), Fail>
     Ok(())
 }
 
-/// The encoding that a log records, the word of a change in the middle of a character, and the status.
+/// The encoding that a log records, the word of a change in the middle of a character, and the
+/// status.
 static RECORDED: [(&str, &str, u8); 2] = [("utf-32", "changed", 0), ("utf-8", "refused E1", 1)];
 
 /// A log whose server chose the encoding of this name.

@@ -43,7 +43,7 @@ fn is_reported(alloc: Global, fault: EngineFault, status: u8, line: &str) -> boo
     report(fault, &mut errors).status == status && errors.as_slice() == line.as_bytes()
 }
 
-/// Are words that are no words refused with this status, in this line?
+/// Are words that can't be read refused with this status, in this line?
 fn is_refused(alloc: Global, kind: ErrorKind, status: u8, line: &str) -> bool {
     let mut errors = Vec::new(alloc);
     refuse(kind, &mut errors).status == status && errors.as_slice() == line.as_bytes()
@@ -125,7 +125,7 @@ fn a_faulty_input_is_reported_with_its_place(rt: HostRuntime) -> Result<(), Fail
     Ok(())
 }
 
-/// How many of so many bytes of a log are whole records.
+/// How many of so many first bytes of a log are complete records.
 fn whole_len(len: usize) -> usize {
     if len < 172 {
         0
@@ -136,7 +136,8 @@ fn whole_len(len: usize) -> usize {
     }
 }
 
-/// Is a log that is cut after so many bytes written as far as its records are whole, and the cut reported?
+/// Is a log that is cut after so many bytes written as far as its records are complete, and the cut
+/// reported?
 fn is_cut(alloc: Global, input: &[u8], len: usize) -> Result<bool, AllocError> {
     let (Some(cut), Some(whole)) = (input.get(..len), input.get(..whole_len(len))) else {
         return Ok(false);

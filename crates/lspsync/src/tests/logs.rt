@@ -10,9 +10,10 @@ use std::test::Fail;
 const REPORT: &str =
     "{\"languageId\":\"plaintext\",\"text\":\"aXc\",\"uri\":\"file:///a\",\"version\":2}\n";
 
-/// Does a log of a change of the whole text have these outputs of `normalise`, `check` and `replay`?
-fn is_worked(alloc: Global, input: &[u8], normal: &[u8]) -> Result<bool, AllocError> {
-    if !answers(alloc, &["lspsync", "normalise"], input, 0, normal)? {
+/// Does a log of a change of the whole text have these outputs of `normalise`, `check` and
+/// `replay`?
+fn is_worked(alloc: Global, input: &[u8], canonical_log: &[u8]) -> Result<bool, AllocError> {
+    if !answers(alloc, &["lspsync", "normalise"], input, 0, canonical_log)? {
         return Ok(false);
     }
     let words = b"1 reply\n2 changed\n3 changed\n";
@@ -25,10 +26,10 @@ fn is_worked(alloc: Global, input: &[u8], normal: &[u8]) -> Result<bool, AllocEr
 #[test]
 fn a_change_of_the_whole_text(rt: HostRuntime) -> Result<(), Fail> {
     let input = log(rt.alloc(), &[INITIALIZE, OPEN, WHOLE])?;
-    let normal = log(rt.alloc(), &[INITIALIZE, OPEN, CANONICAL])?;
-    assert_eq!(rt; (input.len(), normal.len()), (506, 580));
-    assert!(rt; is_worked(rt.alloc(), &input, &normal)?);
-    assert!(rt; is_worked(rt.alloc(), &normal, &normal)?);
+    let canonical_log = log(rt.alloc(), &[INITIALIZE, OPEN, CANONICAL])?;
+    assert_eq!(rt; (input.len(), canonical_log.len()), (506, 580));
+    assert!(rt; is_worked(rt.alloc(), &input, &canonical_log)?);
+    assert!(rt; is_worked(rt.alloc(), &canonical_log, &canonical_log)?);
     Ok(())
 }
 
@@ -127,7 +128,7 @@ fn what_is_refused_has_status_1_and_keeps_its_bytes(rt: HostRuntime) -> Result<(
     Ok(())
 }
 
-/// A request that isn't known, and what other servers' clients send besides, is no refusal.
+/// A request that isn't known, and what clients of other servers send besides, is no refusal.
 #[test]
 fn what_is_not_known_is_no_refusal(rt: HostRuntime) -> Result<(), Fail> {
     let hover = r#"{"id":7,"jsonrpc":"2.0","method":"textDocument/hover","params":{}}"#;
@@ -138,7 +139,8 @@ fn what_is_not_known_is_no_refusal(rt: HostRuntime) -> Result<(), Fail> {
     Ok(())
 }
 
-/// An option, a character of the line that has one character of four bytes, and the status of a change there.
+/// An option, a character of the line that has one character of four bytes, and the status of a
+/// change there.
 static ENCODINGS: [(&str, u32, u8); 5] = [
     ("--encoding=utf-8", 4, 0),
     ("--encoding=utf-8", 1, 1),

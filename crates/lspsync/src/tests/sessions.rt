@@ -1,4 +1,4 @@
-//! `serve`: what it replies, and the status that it ends with.
+//! `serve`: its replies, and its status.
 
 use super::*;
 use lsp_samples::bodies::{

@@ -68,7 +68,7 @@ fn a_stream_that_fails_has_its_line_and_status_3(rt: HostRuntime) -> Result<(), 
 
 static COMMANDS: [&str; 5] = ["serve", "check", "replay", "normalise", "convert"];
 
-/// Is the answer the same where reader and writer are slow?
+/// Is the result the same if reader and writer are slow?
 fn is_the_same(
     alloc: Global,
     command: &str,

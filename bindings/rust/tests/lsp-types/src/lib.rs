@@ -1,4 +1,4 @@
-//! Three types of the crate lsp-types, with the public fields that it has from 0.94 to 0.97.
+//! Four types of the crate lsp-types, with the public fields that it has from 0.94 to 0.97.
 
 #[derive(Clone, Copy, Debug, Default, PartialEq, Eq, PartialOrd, Ord, Hash)]
 pub struct Position {
@@ -17,4 +17,10 @@ pub struct TextDocumentContentChangeEvent {
     pub range: Option<Range>,
     pub range_length: Option<u32>,
     pub text: String,
+}
+
+#[derive(Clone, Debug, Default, PartialEq, Eq)]
+pub struct TextEdit {
+    pub range: Range,
+    pub new_text: String,
 }

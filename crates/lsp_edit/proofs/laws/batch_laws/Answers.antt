@@ -22,14 +22,14 @@ returns c = record {
     a_line_end_replaced = refl;
     a_line_end_by_itself = refl;
     past_the_line = refl;
-    behind_the_line_end = refl;
+    after_the_line_end = refl;
     past_the_last_line = refl;
     a_reversed_range = refl;
     inside_the_start = refl;
     inside_the_stop = refl;
     past_the_end_twice = refl;
     a_deletion_and_an_end = refl;
-    behind_the_last_line_end = refl;
+    after_the_last_line_end = refl;
     two_batches = refl;
   };
 }

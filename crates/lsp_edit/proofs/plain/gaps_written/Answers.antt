@@ -2,7 +2,8 @@ use Rattle.std.proofs.Common.{ℕ, List, ◌+◌, ◌++◌, length, map, ap, ap�
 use Rattle.std.specs.Str.{chars}
 use Rattle.lsp_text.specs.Units.{units_in}
 use Rattle.lsp_edit.specs.Items.{Old, New}
-use Rattle.lsp_edit.specs.Plain.{item_of, items_in_order, gap_at, change_at}
+use Rattle.lsp_edit.specs.Plain.{item_of, items_in_order}
+use Rattle.lsp_edit.specs.inside.Plain.{gap_at, change_at}
 use Rattle.lsp_edit.specs.Edited.{edit_of}
 use Rattle.lsp_edit.proofs.PlainLemmas.{write_begins, write_new, write_old, write_end, item_rest, item_none}
 use Rattle.lsp_edit.proofs.WalkLemmas.{walk_turned}

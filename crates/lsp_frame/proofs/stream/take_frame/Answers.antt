@@ -1,5 +1,5 @@
 use Rattle.std.proofs.Common.{◌≡◌, List, [], ◌∷◌, ◌++◌, ℕ, ap, sym, subst, ◌∙◌, map, Vec, Global}
-use Rattle.lsp_frame.specs.Frame.{Spells}
+use Rattle.lsp_frame.specs.Frame.{IsFrameOf}
 use Rattle.std.proofs.lemmas.List.{map_push}
 use Rattle.lsp_frame.proofs.StreamLemmas.{given_none, given_behind}
 use Rattle.lsp_frame.proofs.FaultLemmas.{frame_of}
@@ -16,10 +16,10 @@ returns-in_ok-push-clause-taken c = λ max_body stream at.
     given_behind max_body stream _ _ c.args.framer.now c.next.new.self c.in-Some.body.now at (c.next.ensures.given c.requires.sound (frame_of _ _ c.in-Some.body.now c.in-Some.ensures.1)) c.in-Some.ensures.1 pushed
 
 pub returns-in_default-clause-none : goal.returns-in_default-clause-none
-returns-in_default-clause-none c = (λ frame. c.in_default.ensures c.requires.sound frame.body frame.spells, c.requires.sound)
+returns-in_default-clause-none c = (λ frame. c.in_default.ensures c.requires.sound frame.body frame.is_frame_of, c.requires.sound)
 
 pub returns-in_default-clause-taken : goal.returns-in_default-clause-taken
 returns-in_default-clause-taken c = λ max_body stream at. record {
   holding = at;
-  none = λ frame. c.in_default.ensures c.requires.sound frame.body (subst (λ (n : ℕ). Spells n c.args.framer.now.held frame.body) (sym at.limit) frame.spells);
+  none = λ frame. c.in_default.ensures c.requires.sound frame.body (subst (λ (n : ℕ). IsFrameOf n c.args.framer.now.buffered frame.body) (sym at.limit) frame.is_frame_of);
 }

@@ -1,6 +1,6 @@
 use Rattle.std.proofs.Common.{◌≡◌, ◌-◌, ◌++◌, List, ℕ, length, take, drop, map, Vec, Global, subst, refl, arith}
 use Rattle.std.proofs.lemmas.List.{take_all, length-take, length-drop}
-use Rattle.lsp_frame.specs.Stream.{IsBehind}
+use Rattle.lsp_frame.specs.inside.Stream.{HasTaken}
 use Rattle.lsp_frame.proofs.ProgressLemmas.{taken_more}
 use Rattle.lsp_frame.proofs.StreamLemmas.{fault_behind, fed_holding}
 use Rattle.lsp_frame.proofs.stream.take_frames.Goals as goal
@@ -13,8 +13,8 @@ loop-at-preserved c = record {
   taken = λ max_body stream at.
       let before : List ℕ = stream ++ take c.loop-at.at c.args.piece.now in
       let more : List ℕ = take c.in-Ok.taken (take (length c.args.piece.now - c.loop-at.at) (drop c.loop-at.at c.args.piece.now)) in
-      let holding = fed_holding max_body (stream ++ take c.loop-at.at c.args.piece.now) _ c.loop-at.framer c.feed.new.self more (c.loop-at.invariant.taken max_body stream at) c.in-Ok.ensures.held c.in-Ok.ensures.part in
-      subst (λ (z : List ℕ). IsBehind max_body z (map (λ (v : Vec ℕ Global). v.items) c.take_frame.new.bodies.items) c.take_frame.new.framer)
+      let holding = fed_holding max_body (stream ++ take c.loop-at.at c.args.piece.now) _ c.loop-at.framer c.feed.new.self more (c.loop-at.invariant.taken max_body stream at) c.in-Ok.ensures.buffered c.in-Ok.ensures.part in
+      subst (λ (z : List ℕ). HasTaken max_body z (map (λ (v : Vec ℕ Global). v.items) c.take_frame.new.bodies.items) c.take_frame.new.framer)
       (taken_more stream c.args.piece.now (stream ++ take c.loop-at.at c.args.piece.now) _ c.loop-at.at c.in-Ok.taken refl refl)
       (c.in_ok-take_frame.ensures.taken max_body _ holding);
 }
@@ -22,7 +22,7 @@ loop-at-preserved c = record {
 pub returns-clause-taken : goal.returns-clause-taken
 returns-clause-taken c = λ max_body stream at.
     let all : take c.loop-at.at c.args.piece.now ≡ c.args.piece.now = take_all c.loop-at.at c.args.piece.now c.loop-at-test.false in
-    subst (λ (z : List ℕ). IsBehind max_body (stream ++ z) (map (λ (v : Vec ℕ Global). v.items) c.loop-at.bodies.items) c.loop-at.framer) all (c.loop-at.invariant.taken max_body stream at)
+    subst (λ (z : List ℕ). HasTaken max_body (stream ++ z) (map (λ (v : Vec ℕ Global). v.items) c.loop-at.bodies.items) c.loop-at.framer) all (c.loop-at.invariant.taken max_body stream at)
 
 pub returns-in-Err-clause-taken : goal.returns-in-Err-clause-taken
 returns-in-Err-clause-taken c = λ max_body stream at.

@@ -12,8 +12,8 @@ returns-in_err-fault-clause-some c =
 
 pub returns-in-Some-clause-read : goal.returns-in-Some-clause-read
 returns-in-Some-clause-read c = λ max_body at.
-    let told = c.in_ok-fault.ensures.taken max_body _ (c.loop-piece.invariant.behind max_body at) in
-    piece_faulty max_body (λ (p : Vec ℕ Global). p.items) c.args.pieces.now c.loop-piece.piece-index c.piece-item.result c.deref.result.now _ c.in-Some.fault c.loop-piece-test.true c.piece-item.is c.deref.ensures.value (rw c.in-Some.is at told)
+    let error = c.in_ok-fault.ensures.taken max_body _ (c.loop-piece.invariant.rest_after max_body at) in
+    piece_faulty max_body (λ (p : Vec ℕ Global). p.items) c.args.pieces.now c.loop-piece.piece-index c.piece-item.result c.deref.result.now _ c.in-Some.fault c.loop-piece-test.true c.piece-item.is c.deref.ensures.value (rw c.in-Some.is at error)
 
 pub loop-piece-preserved : goal.loop-piece-preserved
 loop-piece-preserved c =
@@ -21,13 +21,13 @@ loop-piece-preserved c =
     record {
       none = none.0;
       sound = none.1;
-      behind = λ max_body at.
-          let told = c.in_ok-fault.ensures.taken max_body _ (c.loop-piece.invariant.behind max_body at) in
-          piece_behind max_body (λ (p : Vec ℕ Global). p.items) c.args.pieces.now c.loop-piece.piece-index c.piece-item.result c.deref.result.now _ c.take_frames.new.framer c.loop-piece-test.true c.piece-item.is c.deref.ensures.value (rw c.in_default.is at told);
+      rest_after = λ max_body at.
+          let error = c.in_ok-fault.ensures.taken max_body _ (c.loop-piece.invariant.rest_after max_body at) in
+          piece_behind max_body (λ (p : Vec ℕ Global). p.items) c.args.pieces.now c.loop-piece.piece-index c.piece-item.result c.deref.result.now _ c.take_frames.new.framer c.loop-piece-test.true c.piece-item.is c.deref.ensures.value (rw c.in_default.is at error);
     }
 
 pub returns-clause-read : goal.returns-clause-read
 returns-clause-read c = λ max_body at.
     let all : take c.loop-piece.piece-index c.args.pieces.now ≡ c.args.pieces.now = take_all c.loop-piece.piece-index c.args.pieces.now c.loop-piece-test.false in
     subst (λ (ps : List (Vec ℕ Global)). IsRead max_body (flat_map (λ (p : Vec ℕ Global). p.items) ps) (map (λ (v : Vec ℕ Global). v.items) c.loop-piece.bodies.items) None) all
-    (behind_read max_body _ _ c.loop-piece.framer (c.loop-piece.invariant.behind max_body at))
+    (behind_read max_body _ _ c.loop-piece.framer (c.loop-piece.invariant.rest_after max_body at))

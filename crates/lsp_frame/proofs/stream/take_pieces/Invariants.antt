@@ -1,12 +1,13 @@
 use Rattle.std.proofs.Common.{◌≡◌, [], ℕ, false, take, map, Vec, Global}
 use Rattle.std.specs.List.{flat_map}
-use Rattle.lsp_frame.specs.Stream.{IsBehind, IsFrame}
+use Rattle.lsp_frame.specs.Stream.{IsFrame}
+use Rattle.lsp_frame.specs.inside.Stream.{HasTaken}
 use Rattle.lsp_frame.proofs.stream.take_pieces.Given as goal
 
 abbrev pub invariant-loop-piece : goal.invariant-loop-piece
 invariant-loop-piece l = record {
-  none : IsFrame l.framer.limits.max_body l.framer.held → ⊥;
+  none : IsFrame l.framer.limits.max_body l.framer.buffered → ⊥;
   sound : l.framer.failed ≡ false;
-  behind : (max_body : ℕ) → IsBehind max_body [] (map (λ (v : Vec ℕ Global). v.items) l.fn.bodies.items) l.fn.framer →
-      IsBehind max_body (flat_map (λ (p : Vec ℕ Global). p.items) (take l.piece-index l.pieces)) (map (λ (v : Vec ℕ Global). v.items) l.bodies.items) l.framer;
+  rest_after : (max_body : ℕ) → HasTaken max_body [] (map (λ (v : Vec ℕ Global). v.items) l.fn.bodies.items) l.fn.framer →
+      HasTaken max_body (flat_map (λ (p : Vec ℕ Global). p.items) (take l.piece-index l.pieces)) (map (λ (v : Vec ℕ Global). v.items) l.bodies.items) l.framer;
 }

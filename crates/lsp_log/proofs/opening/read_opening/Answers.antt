@@ -24,15 +24,15 @@ opening-preserved g c =
       front = front;
       unread = λ no. absurd (let two : false ≡ true = sym no ∙ c.is_undecided.ensures.looked_for c.if-not-is_undecided.false in cc);
       read = next_read _ _ _ c.opening.len c.in_ok-n.n c.opening.buf c.read_piece.new.buf within long c.in_ok-n.ensures.bound c.opening.invariant.read c.in_ok-n.ensures.read;
-      not_ended = λ _. false_from_ne_true _ (λ told.
-          let zero : nat_eq c.in_ok-n.n 0 ≡ true = ap (λ k. nat_eq k 0) (c.in_ok-n.ensures.ended.0 told) in
+      not_ended = λ _. false_from_ne_true _ (λ error.
+          let zero : nat_eq c.in_ok-n.n 0 ≡ true = ap (λ k. nat_eq k 0) (c.in_ok-n.ensures.ended.0 error) in
           let other = c.is_undecided.ensures.not_ended c.if-not-is_undecided.false in
           cc);
-      well = λ before. c.in_ok-n.ensures.well (c.opening.invariant.well before);
+      well = λ before. c.in_ok-n.ensures.calls.well (c.opening.invariant.well before);
       spent = record {
-        within = omega (arith, c.opening.invariant.spent.within, c.in_ok-n.ensures.spent.within);
-        least = omega (arith, c.opening.invariant.spent.least, c.in_ok-n.ensures.spent.least);
-        most = omega (arith, c.opening.invariant.spent.most, c.in_ok-n.ensures.spent.most);
-        exact = λ h. omega (arith, h, c.opening.invariant.spent.exact, c.in_ok-n.ensures.spent.exact, c.in_ok-n.ensures.spent.least);
+        within = omega (arith, c.opening.invariant.spent.within, c.in_ok-n.ensures.calls.spent.within);
+        least = omega (arith, c.opening.invariant.spent.least, c.in_ok-n.ensures.calls.spent.least);
+        most = omega (arith, c.opening.invariant.spent.most, c.in_ok-n.ensures.calls.spent.most);
+        exact = λ h. omega (arith, h, c.opening.invariant.spent.exact, c.in_ok-n.ensures.calls.spent.exact, c.in_ok-n.ensures.calls.spent.least);
       };
     }

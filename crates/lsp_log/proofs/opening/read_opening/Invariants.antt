@@ -9,10 +9,10 @@ invariant-opening g l = record {
   within : l.len < 18;
   front : IsLineFront (take l.len l.buf);
   unread : l.fn.versions ≡ false → l.len ≡ 0;
-  read : Consumes (g.R.Source.left l.fn.reader) (g.R.Source.left l.reader) (take l.len l.buf);
-  not_ended : g.R.Source.has_ended l.fn.reader ≡ false → g.R.Source.has_ended l.reader ≡ false;
-  well : StaysWell (g.R.Source.has_failed l.fn.reader) (g.R.Source.has_failed l.reader);
-  spent : Spends (g.R.Source.count l.fn.reader) (g.R.Source.count l.reader) l.fn.turns.left l.turns.left;
+  read : Consumes (g.R.Source.seen l.fn.reader).left (g.R.Source.seen l.reader).left (take l.len l.buf);
+  not_ended : (g.R.Source.seen l.fn.reader).ended ≡ false → (g.R.Source.seen l.reader).ended ≡ false;
+  well : StaysWell (g.R.Source.seen l.fn.reader).failed (g.R.Source.seen l.reader).failed;
+  spent : Spends (g.R.Source.seen l.fn.reader).calls (g.R.Source.seen l.reader).calls l.fn.turns.left l.turns.left;
 }
 
 abbrev pub decreases-opening : goal.decreases-opening

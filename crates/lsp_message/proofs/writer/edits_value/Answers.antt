@@ -4,7 +4,7 @@ use Rattle.std.specs.List.{flat_map}
 use Rattle.json.specs.Token as token
 use Rattle.lsp_message.specs.Outgoing as spec
 use Rattle.lsp_message.specs.Seen.{edit_view}
-use Rattle.lsp_message.specs.Tokens.{Appends, tokens_of}
+use Rattle.lsp_message.specs.inside.Tokens.{Appends, tokens_of}
 use Rattle.lsp_message.proofs.Tokens.{add, ending, items_in_turn}
 use Rattle.lsp_message.proofs.writer.edits_value.Goals as goal
 

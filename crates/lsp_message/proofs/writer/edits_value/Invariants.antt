@@ -3,7 +3,7 @@ use Rattle.std.specs.List.{flat_map}
 use Rattle.json.specs.Token as token
 use Rattle.lsp_message.specs.Outgoing as spec
 use Rattle.lsp_message.specs.Seen.{edit_view}
-use Rattle.lsp_message.specs.Tokens.{Appends, tokens_of}
+use Rattle.lsp_message.specs.inside.Tokens.{Appends, tokens_of}
 use Rattle.lsp_message.proofs.writer.edits_value.Given as goal
 
 -- the tokens of the changes so far

@@ -3,7 +3,7 @@ use Rattle.json.specs.Print.{print}
 use Rattle.serde_json.proofs.Texts.{print-outline}
 use Rattle.lsp_message.specs.Outgoing.{value_of}
 use Rattle.lsp_message.specs.Seen.{outgoing_view}
-use Rattle.lsp_message.specs.Tokens.{tokens_of}
+use Rattle.lsp_message.specs.inside.Tokens.{tokens_of}
 use Rattle.lsp_message.proofs.ReadBack.{reading-body_of, is_read_back, body_of-unique}
 use Rattle.lsp_message.proofs.writer.write.Goals as goal
 

@@ -1,13 +1,13 @@
 use Rattle.std.proofs.Common.{◌≡◌, ◌++◌, List, ap, ◌∙◌}
 use Rattle.lsp_frame.specs.Stream.{IsFrame}
-use Rattle.lsp_frame.specs.Frame.{Spells}
+use Rattle.lsp_frame.specs.Frame.{IsFrameOf}
 use Rattle.std.proofs.Common.{true}
 use Rattle.lsp_client.specs.Step.{is_listening}
 use Rattle.lsp_store.specs.Opened.{StoreData}
 use Rattle.lsp_frame.specs.Limits.{Bounds}
 use Rattle.std.proofs.Common.{subst, sym, ℕ}
 use Rattle.lsp_pair.specs.Seen.{frames}
-use Rattle.lsp_pair.specs.Inside.{frames_in_delivery}
+use Rattle.lsp_pair.specs.inside.Ends.{frames_in_delivery}
 use Rattle.lsp_client.specs.Seen.{delivered_view}
 use Rattle.lsp_pair.proofs.FramerLemmas.{first_out}
 use Rattle.lsp_pair.proofs.ServeLemmas.{first_there, hear_is}
@@ -19,15 +19,15 @@ unreachable-requires c =
     let limits : c.in_ok-framer.framer.limits ≡ c.args.client.now.limits = c.in_ok-framer.ensures.2 ∙ (c.limits.ensures ∙ ap (λ (d : StoreData). d.limits) c.store.ensures) in
     let kept = c.in_ok-framer.ensures.0 ∙ c.deref.ensures.value in
     c.in_default-body.ensures c.in_ok-framer.ensures.1 whole.0.body
-    (subst (λ (l : Bounds). Spells l.max_body c.in_ok-framer.framer.held whole.0.body) (sym limits)
-    (subst (λ (b : List ℕ). Spells c.args.client.now.limits.max_body b whole.0.body) (sym kept) whole.0.spells))
+    (subst (λ (l : Bounds). IsFrameOf l.max_body c.in_ok-framer.framer.buffered whole.0.body) (sym limits)
+    (subst (λ (b : List ℕ). IsFrameOf c.args.client.now.limits.max_body b whole.0.body) (sym kept) whole.0.is_frame_of))
 
 pub returns-clause-step : goal.returns-clause-step
 returns-clause-step c other =
     let whole = first_there (λ first. IsFrame c.args.client.now.limits.max_body first × (is_listening c.args.client.now.phase ≡ true)) c.args.replies.now.items c.in-Some.first.now c.in-Some.ensures.item.3.0 c.in-Some.ensures.lookup c.requires in
     let limits : c.in_ok-framer.framer.limits ≡ c.args.client.now.limits = c.in_ok-framer.ensures.2 ∙ (c.limits.ensures ∙ ap (λ (d : StoreData). d.limits) c.store.ensures) in
     hear_is other c.args.client.now c.deliver.new.self c.in_ok-framer.framer.limits c.args.replies.now.items c.pop_front.new.self.items
-    (frames c.args.sent.now.items) (frames c.push_sent.new.sent.items) c.in-Some.first.now c.in-Some-body.body.now c.in_ok-framer.framer.held (delivered_view c.in-Ok.delivered) _
+    (frames c.args.sent.now.items) (frames c.push_sent.new.sent.items) c.in-Some.first.now c.in-Some-body.body.now c.in_ok-framer.framer.buffered (delivered_view c.in-Ok.delivered) _
     (first_out c.args.replies.now.items c.pop_front.new.self.items c.in-Some.first.now c.in-Some.ensures.item.3.0 c.in-Some.ensures.lookup c.pop_front.ensures.rest)
     c.in-Some-body.ensures.1 (c.in_ok-framer.ensures.0 ∙ c.deref.ensures.value) limits whole.1 c.in-Ok.ensures.ok
     c.push_sent.ensures.heard (c.push_sent.ensures.pushed ∙ ap (λ items. frames items ++ frames_in_delivery (delivered_view c.in-Ok.delivered)) c.in_ok-reserve.ensures.items)

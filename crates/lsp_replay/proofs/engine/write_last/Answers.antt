@@ -9,19 +9,19 @@ use Rattle.lsp_replay.proofs.engine.write_last.Goals as goal
 pub returns-in_err-write_given-clause-front : goal.returns-in_err-write_given-clause-front
 returns-in_err-write_given-clause-front g c =
     let p = err_from_is_err_and c.from_residual-in_err-write_given.result c.from_residual-in_err-write_given.ensures.1 in
-    let part = part_is c.in_ok-end.end ((g.H.Handler.course c.parts.handler []).last c.parts.due) c.finish.new.made.items _ _ _ _ c.in_ok-end.ensures.ok in
+    let part = part_is c.in_ok-end.end ((g.H.Handler.run_output c.parts.handler []).last c.parts.due) c.finish.new.buffer.items _ _ _ _ c.in_ok-end.ensures.ok in
     let before = c.parts.invariant.wrote in
-    rw p.1 (part_cut _ _ _ _ before.0 c.finish.new.made.items part.0 (before.1 ∙ ap (λ z. before.0 ++ z) part.1) before.2
-    (subst (λ (z : List ℕ). AppendsFront (g.W.Sink.held c.parts.writer) (g.W.Sink.held c.write_given.new.writer) z) c.deref.ensures.value c.in_err-write_given.ensures.front))
+    rw p.1 (part_cut _ _ _ _ before.0 c.finish.new.buffer.items part.0 (before.1 ∙ ap (λ z. before.0 ++ z) part.1) before.2
+    (subst (λ (z : List ℕ). AppendsFront (g.W.Sink.seen c.parts.writer).written (g.W.Sink.seen c.write_given.new.writer).written z) c.deref.ensures.value c.in_err-write_given.ensures.front))
 
 pub returns-in_err-write_given-clause-short : goal.returns-in_err-write_given-clause-short
 returns-in_err-write_given-clause-short g c =
     let p = err_from_is_err_and c.from_residual-in_err-write_given.result c.from_residual-in_err-write_given.ensures.1 in
-    let part = part_is c.in_ok-end.end ((g.H.Handler.course c.parts.handler []).last c.parts.due) c.finish.new.made.items _ _ _ _ c.in_ok-end.ensures.ok in
+    let part = part_is c.in_ok-end.end ((g.H.Handler.run_output c.parts.handler []).last c.parts.due) c.finish.new.buffer.items _ _ _ _ c.in_ok-end.ensures.ok in
     let before = c.parts.invariant.wrote in
-    rw (p.1, p.2) (λ is. part_short _ _ _ _ _ before.0 c.finish.new.made.items part.0 (before.1 ∙ ap (λ z. before.0 ++ z) part.1) before.2
-    (subst (λ (z : List ℕ). AppendsShort (g.H.Handler.FLUSHES && not (g.W.Sink.has_flushed c.write_given.new.writer)) (g.W.Sink.held c.parts.writer) (g.W.Sink.held c.write_given.new.writer) z) c.deref.ensures.value
-    (subst (λ (asked : Bool). AppendsShort (asked && not (g.W.Sink.has_flushed c.write_given.new.writer)) (g.W.Sink.held c.parts.writer) (g.W.Sink.held c.write_given.new.writer) c.deref.result.now) c.FLUSHES.ensures (c.in_err-write_given.ensures.short is))))
+    rw (p.1, p.2) (λ is. part_short _ _ _ _ _ before.0 c.finish.new.buffer.items part.0 (before.1 ∙ ap (λ z. before.0 ++ z) part.1) before.2
+    (subst (λ (z : List ℕ). AppendsShort (g.H.Handler.FLUSHES && not (g.W.Sink.seen c.write_given.new.writer).flushed) (g.W.Sink.seen c.parts.writer).written (g.W.Sink.seen c.write_given.new.writer).written z) c.deref.ensures.value
+    (subst (λ (asked : Bool). AppendsShort (asked && not (g.W.Sink.seen c.write_given.new.writer).flushed) (g.W.Sink.seen c.parts.writer).written (g.W.Sink.seen c.write_given.new.writer).written c.deref.result.now) c.FLUSHES.ensures (c.in_err-write_given.ensures.short is))))
 
 pub parts-preserved : goal.parts-preserved
 parts-preserved g c =
@@ -29,19 +29,19 @@ parts-preserved g c =
     let before = c.parts.invariant.wrote in
     record {
       wrote = (
-        before.0 ++ c.finish.new.made.items,
-        before.1 ∙ ap (λ z. before.0 ++ z) part.0 ∙ sym (append_assoc before.0 c.finish.new.made.items ((g.H.Handler.course c.finish.new.self []).last _)),
-        Appends-trans _ _ _ before.0 c.finish.new.made.items before.2
-            (subst (λ (z : List ℕ). Appends (g.W.Sink.held c.parts.writer) (g.W.Sink.held c.write_given.new.writer) z) c.deref.ensures.value c.in_ok-write_given.ensures.wrote),
+        before.0 ++ c.finish.new.buffer.items,
+        before.1 ∙ ap (λ z. before.0 ++ z) part.0 ∙ sym (append_assoc before.0 c.finish.new.buffer.items ((g.H.Handler.run_output c.finish.new.self []).last _)),
+        Appends-trans _ _ _ before.0 c.finish.new.buffer.items before.2
+            (subst (λ (z : List ℕ). Appends (g.W.Sink.seen c.parts.writer).written (g.W.Sink.seen c.write_given.new.writer).written z) c.deref.ensures.value c.in_ok-write_given.ensures.wrote),
       );
       first = λ one. absurd (omega (arith, part.2, (c.parts.invariant.first one).0));
       outcome = part.1 ∙ c.parts.invariant.outcome;
-      well = λ before. c.in_ok-write_given.ensures.well (c.parts.invariant.well before);
+      well = λ before. c.in_ok-write_given.ensures.calls.well (c.parts.invariant.well before);
       flushed = λ holds _. c.in_ok-write_given.ensures.flushed (c.FLUSHES.ensures ∙ holds);
       spent = record {
-        within = omega (arith, c.parts.invariant.spent.within, c.in_ok-write_given.ensures.spent.within);
-        least = omega (arith, c.parts.invariant.spent.least, c.in_ok-write_given.ensures.spent.least);
-        most = omega (arith, c.parts.invariant.spent.most, c.in_ok-write_given.ensures.spent.most);
-        exact = λ h. omega (arith, h, c.parts.invariant.spent.exact, c.in_ok-write_given.ensures.spent.exact, c.in_ok-write_given.ensures.spent.least);
+        within = omega (arith, c.parts.invariant.spent.within, c.in_ok-write_given.ensures.calls.spent.within);
+        least = omega (arith, c.parts.invariant.spent.least, c.in_ok-write_given.ensures.calls.spent.least);
+        most = omega (arith, c.parts.invariant.spent.most, c.in_ok-write_given.ensures.calls.spent.most);
+        exact = λ h. omega (arith, h, c.parts.invariant.spent.exact, c.in_ok-write_given.ensures.calls.spent.exact, c.in_ok-write_given.ensures.calls.spent.least);
       };
     }

@@ -1,13 +1,12 @@
-use Rattle.std.proofs.Common.{false}
-use Rattle.lsp_replay.specs.Engine.{state_of}
+use Rattle.std.proofs.Common.{false, refl}
 use Rattle.lsp_replay.specs.Session.{opened}
-use Rattle.lsp_replay.specs.Engines.{as_log, checking, log_config}
-use Rattle.lsp_replay.proofs.ToldLemmas.{ran_over}
+use Rattle.lsp_replay.specs.Engines.{checking, log_config}
+use Rattle.lsp_replay.proofs.RunReportLemmas.{run_of}
 use Rattle.lsp_replay.proofs.engines.check.Goals as goal
 
-pub returns-clause-told : goal.returns-clause-told
-returns-clause-told g c =
-    let course = rw c.config.ensures at c.new-check.ensures.session in
-    let ran = rw (c.rules-rules.ensures, course) at c.run_engine.ensures.ran in
-    ran_over c.run_engine.ensures.first c.run_engine.ensures.version (as_log c.args.settings) checking (opened (log_config c.args.settings)) (state_of (g.R.Source.has_ended c.args.reader.now) (g.R.Source.has_ended c.run_engine.new.reader) false) (g.R.Source.left c.args.reader.now) (g.R.Source.left c.run_engine.new.reader)
-    (g.W.Sink.held c.args.writer.now) (g.W.Sink.held c.run_engine.new.writer) c.run_engine.result ran
+pub returns : goal.returns
+returns g c =
+    let run_output = rw c.config.ensures at c.new-check.ensures.session in
+    let run = rw (c.rules-rules.ensures, run_output) at c.run_engine.ensures.run in
+    let whole = rw (c.rules-rules.ensures, run_output) at c.run_engine.ensures.whole in
+    record { run = run_of c.run_engine.ensures.first c.run_engine.ensures.version checking (opened (log_config c.args.settings)) false run (λ _. whole (λ _. refl)) }

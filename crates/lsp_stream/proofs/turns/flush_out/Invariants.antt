@@ -5,10 +5,10 @@ use Rattle.lsp_stream.proofs.turns.flush_out.Given as goal
 
 abbrev pub invariant-flushes : goal.invariant-flushes
 invariant-flushes g l = record {
-  kept : Keeps (g.W.Sink.held l.fn.writer) (g.W.Sink.held l.writer);
-  well : StaysWell (g.W.Sink.has_failed l.fn.writer) (g.W.Sink.has_failed l.writer);
-  flushed : g.W.Sink.has_flushed l.writer ≡ g.W.Sink.has_flushed l.fn.writer;
-  spent : Spends (g.W.Sink.count l.fn.writer) (g.W.Sink.count l.writer) l.fn.turns.left l.turns.left;
+  kept : Keeps (g.W.Sink.seen l.fn.writer).written (g.W.Sink.seen l.writer).written;
+  well : StaysWell (g.W.Sink.seen l.fn.writer).failed (g.W.Sink.seen l.writer).failed;
+  flushed : (g.W.Sink.seen l.writer).flushed ≡ (g.W.Sink.seen l.fn.writer).flushed;
+  spent : Spends (g.W.Sink.seen l.fn.writer).calls (g.W.Sink.seen l.writer).calls l.fn.turns.left l.turns.left;
 }
 
 abbrev pub decreases-flushes : goal.decreases-flushes

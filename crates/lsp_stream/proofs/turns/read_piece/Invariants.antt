@@ -5,10 +5,10 @@ use Rattle.lsp_stream.proofs.turns.read_piece.Given as goal
 
 abbrev pub invariant-reads : goal.invariant-reads
 invariant-reads g l = record {
-  kept : Keeps (g.R.Source.left l.fn.reader) (g.R.Source.left l.reader);
-  well : StaysWell (g.R.Source.has_failed l.fn.reader) (g.R.Source.has_failed l.reader);
-  not_ended : g.R.Source.has_ended l.fn.reader ≡ false → g.R.Source.has_ended l.reader ≡ false;
-  spent : Spends (g.R.Source.count l.fn.reader) (g.R.Source.count l.reader) l.fn.turns.left l.turns.left;
+  kept : Keeps (g.R.Source.seen l.fn.reader).left (g.R.Source.seen l.reader).left;
+  well : StaysWell (g.R.Source.seen l.fn.reader).failed (g.R.Source.seen l.reader).failed;
+  not_ended : (g.R.Source.seen l.fn.reader).ended ≡ false → (g.R.Source.seen l.reader).ended ≡ false;
+  spent : Spends (g.R.Source.seen l.fn.reader).calls (g.R.Source.seen l.reader).calls l.fn.turns.left l.turns.left;
 }
 
 abbrev pub decreases-reads : goal.decreases-reads

@@ -6,9 +6,9 @@ use Rattle.lsp_stream.proofs.turns.write_out.Given as goal
 abbrev pub invariant-writes : goal.invariant-writes
 invariant-writes g l = record {
   within : l.at ≤ length l.bytes;
-  wrote : Appends (g.W.Sink.held l.fn.writer) (g.W.Sink.held l.writer) (take l.at l.bytes);
-  well : StaysWell (g.W.Sink.has_failed l.fn.writer) (g.W.Sink.has_failed l.writer);
-  spent : Spends (g.W.Sink.count l.fn.writer) (g.W.Sink.count l.writer) l.fn.turns.left l.turns.left;
+  wrote : Appends (g.W.Sink.seen l.fn.writer).written (g.W.Sink.seen l.writer).written (take l.at l.bytes);
+  well : StaysWell (g.W.Sink.seen l.fn.writer).failed (g.W.Sink.seen l.writer).failed;
+  spent : Spends (g.W.Sink.seen l.fn.writer).calls (g.W.Sink.seen l.writer).calls l.fn.turns.left l.turns.left;
 }
 
 abbrev pub decreases-writes : goal.decreases-writes

@@ -1,4 +1,4 @@
-use Rattle.std.specs.Prelude.{◌≡◌, true, not}
+use Rattle.std.specs.Prelude.{◌≡◌, true}
 use Rattle.lspsync.proofs.RunLemmas.{status_after}
 use Rattle.lspsync.proofs.run.perform.Goals as goal
 
@@ -6,9 +6,7 @@ pub returns-clause-performed : goal.returns-clause-performed
 returns-clause-performed g c = record {
   result = c.obey-ran.result;
   flushed = c.flush-flushed.result;
-  held = g.W.Sink.held c.obey-ran.new.output;
-  count = g.W.Sink.count c.obey-ran.new.output;
-  unflushed = not (g.W.Sink.has_flushed c.obey-ran.new.output);
+  writer = g.W.Sink.seen c.obey-ran.new.output;
   ran = c.obey-ran.ensures;
   kept = c.flush-flushed.ensures.kept;
   flush = c.flush-flushed.ensures.flushed;
@@ -17,4 +15,4 @@ returns-clause-performed g c = record {
 
 pub returns-clause-passed_on : goal.returns-clause-passed_on
 returns-clause-passed_on g c =
-    rw c.answer_with.ensures (status_after (g.W.Sink.has_flushed c.flush-flushed.new.output ≡ true) c.obey-ran.result c.flush-flushed.result c.flush-flushed.ensures.passed_on)
+    rw c.answer_with.ensures (status_after ((g.W.Sink.seen c.flush-flushed.new.output).flushed ≡ true) c.obey-ran.result c.flush-flushed.result c.flush-flushed.ensures.passed_on)

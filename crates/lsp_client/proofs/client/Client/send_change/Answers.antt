@@ -16,7 +16,7 @@ returns-in_err-frame-clause-error c =
     rw (p.1, p.2)
     (change_refused c.self.inside.store.limits c.self.inside.store.table s c.agreement-encoding.result c.args.uri.now c.args.version (map edit_of c.args.changes.now) c.in_err-frame.field-0.0
     (ap (λ (x : State). x.limits) c.self.view_is) (ap (λ (x : State). x.table) c.self.view_is) c.agreement-encoding.ensures c.requires
-    (rw version at c.in_err-frame.ensures.told))
+    (rw version at c.in_err-frame.ensures.error))
 
 pub returns-clause-ok : goal.returns-clause-ok
 returns-clause-ok c =

@@ -20,7 +20,7 @@ returns-in_err-may_open-clause-error c =
     let p = err_from_is_err_and c.from_residual.result c.from_residual.ensures.1 in
     rw (p.1, p.2)
     (refused_first (command_refusal s.limits s.table (documents.opens entry)) _ _
-    (inr (rw (c.deref.ensures, c.deref-2.ensures, ap (λ (x : State). x.limits) c.self.view_is, ap (λ (x : State). x.table) c.self.view_is) at (c.in_err-may_open.ensures.told entry.language entry.version))))
+    (inr (rw (c.deref.ensures, c.deref-2.ensures, ap (λ (x : State). x.limits) c.self.view_is, ap (λ (x : State). x.table) c.self.view_is) at (c.in_err-may_open.ensures.error entry.language entry.version))))
 
 pub returns-in_err-frame-clause-error : goal.returns-in_err-frame-clause-error
 returns-in_err-frame-clause-error c =

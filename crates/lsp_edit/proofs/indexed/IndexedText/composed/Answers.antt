@@ -4,8 +4,8 @@ use Rattle.std.proofs.lemmas.Str.{IsUtf8-string_bytes}
 use Rattle.lsp_edit.proofs.IndexedLemmas.{too_long, left_within}
 use Rattle.lsp_edit.proofs.indexed.IndexedText.composed.Goals as goal
 
-pub returns-in_err-may_have_len-clause-told : goal.returns-in_err-may_have_len-clause-told
-returns-in_err-may_have_len-clause-told c =
+pub returns-in_err-may_have_len-clause-error : goal.returns-in_err-may_have_len-clause-error
+returns-in_err-may_have_len-clause-error c =
     let p = err_from_is_err_and c.from_residual-in_err-may_have_len.result c.from_residual-in_err-may_have_len.ensures.1 in
     rw (p.1, p.2, c.in_err-may_have_len.ensures.error.0)
     (inr (too_long c.args.self.now _ _ c.args.max_len c.in_ok-pieces.pieces.edited (rw (c.deref.ensures, c.self.view_is) at c.in_ok-pieces.ensures) c.in_err-may_have_len.ensures.error.1))

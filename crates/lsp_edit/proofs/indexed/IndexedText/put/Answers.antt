@@ -7,8 +7,8 @@ use Rattle.lsp_edit.specs.Faults.{ends_of, places_at}
 use Rattle.lsp_edit.proofs.InPlaceLemmas.{places_of_bytes, range_fault, range_order, range_start, range_stop, range_too_long, range_within, replaced_len}
 use Rattle.lsp_edit.proofs.indexed.IndexedText.put.Goals as goal
 
-pub returns-in_err-start-clause-told : goal.returns-in_err-start-clause-told
-returns-in_err-start-clause-told c =
+pub returns-in_err-start-clause-error : goal.returns-in_err-start-clause-error
+returns-in_err-start-clause-error c =
     let p = err_from_is_err_and c.from_residual.result c.from_residual.ensures.1 in
     rw (p.1, p.2)
     (range_fault (units_in c.args.encoding) c.args.self.now (subst IsUtf8 c.self.view_is (IsUtf8-string_bytes c.self.inside.text)) c.args.range c.args.new.now c.utf8.new c.args.max_len _
@@ -23,15 +23,15 @@ overflow_sub-len c =
     let stop = range_stop (units_in c.args.encoding) (string_bytes c.self.inside.text) (IsUtf8-string_bytes c.self.inside.text) c.args.range c.args.new.now c.utf8.new c.in_ok-start.start c.in_ok-start.stop (places_of_bytes (units_in c.args.encoding) c.args.range _ _ _ c.deref.ensures c.in_ok-start.ensures) in
     omega (arith, stop.0, c.len.ensures, c.self.inside.text.bytes.ok.0)
 
-pub returns-then-len-stop-clause-told : goal.returns-then-len-stop-clause-told
-returns-then-len-stop-clause-told c =
+pub returns-then-len-stop-clause-error : goal.returns-then-len-stop-clause-error
+returns-then-len-stop-clause-error c =
     let utf8 : IsUtf8 c.args.self.now = subst IsUtf8 c.self.view_is (IsUtf8-string_bytes c.self.inside.text) in
-    let told : Ok (c.in_ok-start.start, c.in_ok-start.stop) ≡ places_at 0 (chars c.args.self.now) (ends_of (units_in c.args.encoding) (chars c.args.self.now) c.args.range) = places_of_bytes (units_in c.args.encoding) c.args.range _ _ _ (c.deref.ensures ∙ c.self.view_is) c.in_ok-start.ensures in
-    let order = range_order (units_in c.args.encoding) c.args.self.now utf8 c.args.range c.args.new.now c.utf8.new c.in_ok-start.start c.in_ok-start.stop told in
-    let start = range_start (units_in c.args.encoding) c.args.self.now utf8 c.args.range c.args.new.now c.utf8.new c.in_ok-start.start c.in_ok-start.stop told in
-    let stop = range_stop (units_in c.args.encoding) c.args.self.now utf8 c.args.range c.args.new.now c.utf8.new c.in_ok-start.start c.in_ok-start.stop told in
+    let error : Ok (c.in_ok-start.start, c.in_ok-start.stop) ≡ places_at 0 (chars c.args.self.now) (ends_of (units_in c.args.encoding) (chars c.args.self.now) c.args.range) = places_of_bytes (units_in c.args.encoding) c.args.range _ _ _ (c.deref.ensures ∙ c.self.view_is) c.in_ok-start.ensures in
+    let order = range_order (units_in c.args.encoding) c.args.self.now utf8 c.args.range c.args.new.now c.utf8.new c.in_ok-start.start c.in_ok-start.stop error in
+    let start = range_start (units_in c.args.encoding) c.args.self.now utf8 c.args.range c.args.new.now c.utf8.new c.in_ok-start.start c.in_ok-start.stop error in
+    let stop = range_stop (units_in c.args.encoding) c.args.self.now utf8 c.args.range c.args.new.now c.utf8.new c.in_ok-start.start c.in_ok-start.stop error in
     inr
-    (range_too_long (units_in c.args.encoding) c.args.self.now utf8 c.args.range c.args.new.now c.utf8.new c.in_ok-start.start c.in_ok-start.stop told c.args.max_len
+    (range_too_long (units_in c.args.encoding) c.args.self.now utf8 c.args.range c.args.new.now c.utf8.new c.in_ok-start.start c.in_ok-start.stop error c.args.max_len
     (omega (arith, replaced_len c.args.self.now utf8 c.in_ok-start.start c.in_ok-start.stop c.args.new.now c.utf8.new order start stop, order, stop.0, c.if-len-stop.true, c.len.ensures, ap length c.self.view_is, c.self.inside.text.bytes.ok.0)))
 
 pub put_in_place-requires-clause-order : goal.put_in_place-requires-clause-order
@@ -49,22 +49,22 @@ put_in_place-requires-clause-at_stop c =
 pub returns-clause-changed : goal.returns-clause-changed
 returns-clause-changed c =
     let utf8 : IsUtf8 c.args.self.now = subst IsUtf8 c.self.view_is (IsUtf8-string_bytes c.self.inside.text) in
-    let told : Ok (c.in_ok-start.start, c.in_ok-start.stop) ≡ places_at 0 (chars c.args.self.now) (ends_of (units_in c.args.encoding) (chars c.args.self.now) c.args.range) = places_of_bytes (units_in c.args.encoding) c.args.range _ _ _ (c.deref.ensures ∙ c.self.view_is) c.in_ok-start.ensures in
-    let order = range_order (units_in c.args.encoding) c.args.self.now utf8 c.args.range c.args.new.now c.utf8.new c.in_ok-start.start c.in_ok-start.stop told in
-    let start = range_start (units_in c.args.encoding) c.args.self.now utf8 c.args.range c.args.new.now c.utf8.new c.in_ok-start.start c.in_ok-start.stop told in
-    let stop = range_stop (units_in c.args.encoding) c.args.self.now utf8 c.args.range c.args.new.now c.utf8.new c.in_ok-start.start c.in_ok-start.stop told in
+    let error : Ok (c.in_ok-start.start, c.in_ok-start.stop) ≡ places_at 0 (chars c.args.self.now) (ends_of (units_in c.args.encoding) (chars c.args.self.now) c.args.range) = places_of_bytes (units_in c.args.encoding) c.args.range _ _ _ (c.deref.ensures ∙ c.self.view_is) c.in_ok-start.ensures in
+    let order = range_order (units_in c.args.encoding) c.args.self.now utf8 c.args.range c.args.new.now c.utf8.new c.in_ok-start.start c.in_ok-start.stop error in
+    let start = range_start (units_in c.args.encoding) c.args.self.now utf8 c.args.range c.args.new.now c.utf8.new c.in_ok-start.start c.in_ok-start.stop error in
+    let stop = range_stop (units_in c.args.encoding) c.args.self.now utf8 c.args.range c.args.new.now c.utf8.new c.in_ok-start.start c.in_ok-start.stop error in
     let bytes = rw c.self.view_is at c.in_ok-put_in_place.ensures.bytes in
-    range_within (units_in c.args.encoding) c.args.self.now utf8 c.args.range c.args.new.now c.utf8.new c.in_ok-start.start c.in_ok-start.stop told c.args.max_len
+    range_within (units_in c.args.encoding) c.args.self.now utf8 c.args.range c.args.new.now c.utf8.new c.in_ok-start.start c.in_ok-start.stop error c.args.max_len
     (omega (arith, replaced_len c.args.self.now utf8 c.in_ok-start.start c.in_ok-start.stop c.args.new.now c.utf8.new order start stop, order, stop.0, c.if-len-stop.false, c.len.ensures, ap length c.self.view_is, c.self.inside.text.bytes.ok.0))
     ∙ ap Ok (sym bytes)
 
 pub returns-in_err-put_in_place-clause-memory : goal.returns-in_err-put_in_place-clause-memory
 returns-in_err-put_in_place-clause-memory c = λ e.
     let utf8 : IsUtf8 c.args.self.now = subst IsUtf8 c.self.view_is (IsUtf8-string_bytes c.self.inside.text) in
-    let told : Ok (c.in_ok-start.start, c.in_ok-start.stop) ≡ places_at 0 (chars c.args.self.now) (ends_of (units_in c.args.encoding) (chars c.args.self.now) c.args.range) = places_of_bytes (units_in c.args.encoding) c.args.range _ _ _ (c.deref.ensures ∙ c.self.view_is) c.in_ok-start.ensures in
-    let order = range_order (units_in c.args.encoding) c.args.self.now utf8 c.args.range c.args.new.now c.utf8.new c.in_ok-start.start c.in_ok-start.stop told in
-    let start = range_start (units_in c.args.encoding) c.args.self.now utf8 c.args.range c.args.new.now c.utf8.new c.in_ok-start.start c.in_ok-start.stop told in
-    let stop = range_stop (units_in c.args.encoding) c.args.self.now utf8 c.args.range c.args.new.now c.utf8.new c.in_ok-start.start c.in_ok-start.stop told in
-    let left = range_within (units_in c.args.encoding) c.args.self.now utf8 c.args.range c.args.new.now c.utf8.new c.in_ok-start.start c.in_ok-start.stop told c.args.max_len
+    let error : Ok (c.in_ok-start.start, c.in_ok-start.stop) ≡ places_at 0 (chars c.args.self.now) (ends_of (units_in c.args.encoding) (chars c.args.self.now) c.args.range) = places_of_bytes (units_in c.args.encoding) c.args.range _ _ _ (c.deref.ensures ∙ c.self.view_is) c.in_ok-start.ensures in
+    let order = range_order (units_in c.args.encoding) c.args.self.now utf8 c.args.range c.args.new.now c.utf8.new c.in_ok-start.start c.in_ok-start.stop error in
+    let start = range_start (units_in c.args.encoding) c.args.self.now utf8 c.args.range c.args.new.now c.utf8.new c.in_ok-start.start c.in_ok-start.stop error in
+    let stop = range_stop (units_in c.args.encoding) c.args.self.now utf8 c.args.range c.args.new.now c.utf8.new c.in_ok-start.start c.in_ok-start.stop error in
+    let left = range_within (units_in c.args.encoding) c.args.self.now utf8 c.args.range c.args.new.now c.utf8.new c.in_ok-start.start c.in_ok-start.stop error c.args.max_len
     (omega (arith, replaced_len c.args.self.now utf8 c.in_ok-start.start c.in_ok-start.stop c.args.new.now c.utf8.new order start stop, order, stop.0, c.if-len-stop.false, c.len.ensures, ap length c.self.view_is, c.self.inside.text.bytes.ok.0)) in
     rw left refl

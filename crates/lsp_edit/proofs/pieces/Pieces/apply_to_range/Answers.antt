@@ -4,7 +4,8 @@ use Rattle.std.specs.List.{replace_range}
 use Rattle.std.proofs.lemmas.List.{length-map}
 use Rattle.std.proofs.lemmas.Result.{err_from_is_err_and}
 use Rattle.lsp_text.specs.Units.{units_in}
-use Rattle.lsp_edit.specs.Parts.{Part, part_of, parts_of, bytes_of, replaced_parts}
+use Rattle.lsp_edit.specs.Parts.{Part, part_of, parts_of, bytes_of}
+use Rattle.lsp_edit.specs.inside.Parts.{replaced_parts}
 use Rattle.lsp_edit.specs.Spans.{spans_in}
 use Rattle.lsp_edit.specs.Edited.{IsCurrent, lines_of}
 use Rattle.lsp_edit.proofs.CurrentLemmas.{current_is, current_utf8}
@@ -13,8 +14,8 @@ use Rattle.lsp_edit.proofs.SpannedLemmas.{same_edited}
 use Rattle.lsp_edit.proofs.pieces.Pieces.apply_to_range.Goals as goal
 use Rattle.lsp_edit.proofs.pieces.Pieces.apply_to_range.Goals.{in-None, in-Some+in_ok-replaced-in-Some}
 
-pub returns-in_err-start-clause-told : goal.returns-in_err-start-clause-told
-returns-in_err-start-clause-told c =
+pub returns-in_err-start-clause-error : goal.returns-in_err-start-clause-error
+returns-in_err-start-clause-error c =
     let p = err_from_is_err_and c.from_residual.result c.from_residual.ensures.1 in
     rw (p.1, p.2) (fault_told (units_in c.args.encoding) c.args.self.now.edited.before c.args.self.now.edited.items (chars c.args.text.now) c.args.range c.args.self.now.edited.changes _ c.in_err-start.ensures.places)
 

@@ -1,7 +1,7 @@
 use Rattle.std.proofs.Common.{◌≡◌, ℕ, List, IfOk, string_bytes, sym, ap, subst, ◌∙◌}
 use Rattle.lsp_text.specs.LineStarts.{Indexes}
 use Rattle.lsp_edit.specs.Parts.{bytes_of, parts_of}
-use Rattle.lsp_edit.specs.declared.span.Span.{Span}
+use Rattle.lsp_edit.specs.declared.pieces.span.Span.{Span}
 use Rattle.lsp_edit.specs.Edited.{edited_bytes}
 use Rattle.lsp_edit.proofs.CurrentLemmas.{current_is}
 use Rattle.lsp_edit.proofs.EditedLemmas.{now_bytes}

@@ -2,7 +2,8 @@ use Rattle.std.proofs.Common.{ℕ, ◌≡◌, List, length, Ok, ap, ◌∙◌, s
 use Rattle.std.proofs.lemmas.List.{length-map}
 use Rattle.lsp_edit.specs.Batch.{meaning}
 use Rattle.lsp_edit.specs.Edited.{lines_of}
-use Rattle.lsp_edit.specs.Parts.{part_of, parts_of, through_parts}
+use Rattle.lsp_edit.specs.Parts.{part_of, parts_of}
+use Rattle.lsp_edit.specs.inside.Parts.{through_parts}
 use Rattle.lsp_edit.specs.Spans.{spans_in}
 use Rattle.lsp_edit.proofs.ComposeLemmas.{then_means, then_associative}
 use Rattle.lsp_edit.proofs.ThenLemmas.{AreOver, over_seen, over_through, over_order, then_holds, then_told}

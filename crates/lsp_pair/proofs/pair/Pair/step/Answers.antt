@@ -1,6 +1,6 @@
 use Rattle.lsp_pair.specs.World.{to_server, to_client}
 use Rattle.std.proofs.Common.{ap}
-use Rattle.lsp_pair.specs.Inside.{both_ends}
+use Rattle.lsp_pair.specs.inside.Ends.{both_ends}
 use Rattle.lsp_pair.specs.Seen.{event_view, happened_view, frames}
 use Rattle.lsp_pair.proofs.pair.Pair.step.Goals as goal
 use Rattle.lsp_pair.proofs.ReachLemmas.{reached_serves, reached_hears, reach_or_same, at_if, step_from, same_at_server, same_at_client, same_from}

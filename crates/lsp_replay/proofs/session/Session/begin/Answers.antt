@@ -4,7 +4,7 @@ use Rattle.lsp_message.specs.Seen.{change_view}
 use Rattle.lsp_store.specs.Squash.{squash_of}
 use Rattle.lsp_server.specs.Step.{encoding_of}
 use Rattle.lsp_replay.proofs.JoiningLemmas.{accepts, begun_open, is_begun}
-use Rattle.lsp_replay.proofs.NormalLemmas.{edits_of}
+use Rattle.lsp_replay.proofs.CanonicalLogLemmas.{edits_of}
 use Rattle.lsp_replay.proofs.session.Session.begin.Goals as goal
 
 pub add-requires-clause-accepted : goal.add-requires-clause-accepted

@@ -7,11 +7,11 @@ use Rattle.lsp_store.specs.Faults.{IsRefusal}
 use Rattle.lsp_store.specs.Message.{canonical_frame, message_refusal}
 use Rattle.lsp_server.specs.Step.{encoding_of}
 use Rattle.lsp_replay.proofs.JoiningLemmas.{not_refused, too_long_accepted}
-use Rattle.lsp_replay.proofs.NormalLemmas.{edits_of, within, over}
+use Rattle.lsp_replay.proofs.CanonicalLogLemmas.{edits_of, within, over}
 use Rattle.lsp_replay.proofs.session.Session.canonical_change.Goals as goal
 
-pub returns-in-Ok-clause-told : goal.returns-in-Ok-clause-told
-returns-in-Ok-clause-told c = λ none.
+pub returns-in-Ok-clause-canonical : goal.returns-in-Ok-clause-canonical
+returns-in-Ok-clause-canonical c = λ none.
     let version : to_z w32 (of_z w32 c.args.params.now.version) ≡ c.args.params.now.version = to_z-of_z w32 c.args.params.now.version (search rules) in
     let server : c.self.inside.server ≡ c.args.self.now.server = ap (λ s. s.server) c.self.view_is in
     let encoding : c.unwrap_or-encoding.result ≡ encoding_of c.args.self.now.server = rw (c.unwrap_or-encoding.ensures, c.encoding.ensures.value, server) refl in
@@ -23,16 +23,16 @@ returns-in-Ok-clause-told c = λ none.
     rw (encoding, limits, table, c.deref.ensures, version, c.deref-2.ensures.value) at c.in-Ok.ensures.accepted in
     rw (edits_of c.args.params.now.changes.items) (framed, within c.args.self.now.server.config.limits _ _ none accepted)
 
-pub returns-in-BodyTooLong-clause-told : goal.returns-in-BodyTooLong-clause-told
-returns-in-BodyTooLong-clause-told c = λ none.
+pub returns-in-BodyTooLong-clause-canonical : goal.returns-in-BodyTooLong-clause-canonical
+returns-in-BodyTooLong-clause-canonical c = λ none.
     let version : to_z w32 (of_z w32 c.args.params.now.version) ≡ c.args.params.now.version = to_z-of_z w32 c.args.params.now.version (search rules) in
     let server : c.self.inside.server ≡ c.args.self.now.server = ap (λ s. s.server) c.self.view_is in
     let encoding : c.unwrap_or-encoding.result ≡ encoding_of c.args.self.now.server = rw (c.unwrap_or-encoding.ensures, c.encoding.ensures.value, server) refl in
     let limits : c.store.result.now.limits ≡ c.args.self.now.server.config.limits = rw (c.store.ensures, server) refl in
     let table : c.store.result.now.table ≡ c.args.self.now.server.table = rw (c.store.ensures, server) refl in
-    let told : IsRefusal (message_refusal c.args.self.now.server.config.limits (units_in (encoding_of c.args.self.now.server)) c.args.self.now.server.table (string_bytes c.args.params.now.uri) c.args.params.now.version (map edit_of c.args.params.now.changes.items)) c.in-Err.fault =
-    rw (encoding, limits, table, c.deref.ensures, version, c.deref-2.ensures.value) at c.in-Err.ensures.told in
-    rw (edits_of c.args.params.now.changes.items) (over c.args.self.now.server.config.limits _ _ c.in-Err.fault none (λ (e : c.in-Err.fault ≡ NoMemory). cc) told).0
+    let error : IsRefusal (message_refusal c.args.self.now.server.config.limits (units_in (encoding_of c.args.self.now.server)) c.args.self.now.server.table (string_bytes c.args.params.now.uri) c.args.params.now.version (map edit_of c.args.params.now.changes.items)) c.in-Err.fault =
+    rw (encoding, limits, table, c.deref.ensures, version, c.deref-2.ensures.value) at c.in-Err.ensures.error in
+    rw (edits_of c.args.params.now.changes.items) (over c.args.self.now.server.config.limits _ _ c.in-Err.fault none (λ (e : c.in-Err.fault ≡ NoMemory). cc) error).0
 
 pub returns-in-Ok-clause-accepted : goal.returns-in-Ok-clause-accepted
 returns-in-Ok-clause-accepted c = λ some.
@@ -52,6 +52,6 @@ returns-in-BodyTooLong-clause-accepted c = λ some.
     let encoding : c.unwrap_or-encoding.result ≡ encoding_of c.args.self.now.server = rw (c.unwrap_or-encoding.ensures, c.encoding.ensures.value, server) refl in
     let limits : c.store.result.now.limits ≡ c.args.self.now.server.config.limits = rw (c.store.ensures, server) refl in
     let table : c.store.result.now.table ≡ c.args.self.now.server.table = rw (c.store.ensures, server) refl in
-    let told : IsRefusal (message_refusal c.args.self.now.server.config.limits (units_in (encoding_of c.args.self.now.server)) c.args.self.now.server.table (string_bytes c.args.params.now.uri) c.args.params.now.version (map edit_of c.args.params.now.changes.items)) c.in-Err.fault =
-    rw (encoding, limits, table, c.deref.ensures, version, c.deref-2.ensures.value) at c.in-Err.ensures.told in
-    rw (edits_of c.args.params.now.changes.items) (too_long_accepted c.args.self.now.server.config.limits _ c.args.self.now.server.table _ _ _ _ _ (rw c.in-BodyTooLong.is at told))
+    let error : IsRefusal (message_refusal c.args.self.now.server.config.limits (units_in (encoding_of c.args.self.now.server)) c.args.self.now.server.table (string_bytes c.args.params.now.uri) c.args.params.now.version (map edit_of c.args.params.now.changes.items)) c.in-Err.fault =
+    rw (encoding, limits, table, c.deref.ensures, version, c.deref-2.ensures.value) at c.in-Err.ensures.error in
+    rw (edits_of c.args.params.now.changes.items) (too_long_accepted c.args.self.now.server.config.limits _ c.args.self.now.server.table _ _ _ _ _ (rw c.in-BodyTooLong.is at error))

@@ -1,4 +1,4 @@
-use Rattle.lsp_replay.proofs.NormalLemmas.{same_server}
+use Rattle.lsp_replay.proofs.CanonicalLogLemmas.{same_server}
 use Rattle.lsp_replay.proofs.session.Session.judge_and_join.Goals as goal
 
 pub returns-clause-writing : goal.returns-clause-writing

@@ -12,4 +12,4 @@ returns-clause-error c =
     let is = few_refusal (string_bytes c.self.inside.uri) c.self.inside.limits c.self.inside.encoding c.self.inside.joined c.self.inside.reached.version c.args.self.now c.self.view_is (map edit_of c.in_ok-batch.batch.items) c.in_ok-batch.ensures
     (omega (arith, length-map c.in_ok-batch.batch.items edit_of, c.in_ok-may_be_written.ensures.ok)) in
     let version : to_z w32 (of_z w32 c.self.inside.reached.version) ≡ c.self.inside.reached.version = to_z-of_z w32 c.self.inside.reached.version (search rules) in
-    subst (λ (r : Option Refusal). IfErr c.framed_change.result (IsRefusal r)) is (rw (c.deref-2.ensures, version) at c.framed_change.ensures.told)
+    subst (λ (r : Option Refusal). IfErr c.framed_change.result (IsRefusal r)) is (rw (c.deref-2.ensures, version) at c.framed_change.ensures.error)

@@ -6,14 +6,14 @@ use Rattle.lsp_store.proofs.squash.Squash.start.Goals as goal
 
 pub invariant_of-result : goal.invariant_of-result
 invariant_of-result c =
-    let before : string_bytes c.in_ok-before.before ≡ c.document.inside.held.now.text = c.in_ok-before.ensures.ok ∙ c.text.ensures in
-    let text : c.in_ok-reached.reached.text ≡ c.document.inside.held.now.text = ap (λ (e : Entry). e.text) (c.in_ok-reached.ensures (string_bytes c.in_ok-uri.uri)) ∙ (c.in_ok-text.ensures.ok ∙ c.text-2.ensures) in
+    let before : string_bytes c.in_ok-before.before ≡ c.document.inside.stored.now.text = c.in_ok-before.ensures.ok ∙ c.text.ensures in
+    let text : c.in_ok-reached.reached.text ≡ c.document.inside.stored.now.text = ap (λ (e : Entry). e.text) (c.in_ok-reached.ensures (string_bytes c.in_ok-uri.uri)) ∙ (c.in_ok-text.ensures.ok ∙ c.text-2.ensures) in
     start_reached c.in_ok-joined.joined (string_bytes c.in_ok-before.before) c.in_ok-reached.reached.text c.in_ok-joined.ensures.joined (text ∙ sym before) (subst IsUtf8 (c.text-2.ensures ∙ sym text) c.text-2.utf8)
 
 pub returns : goal.returns
 returns c =
-    let before : string_bytes c.in_ok-before.before ≡ c.document.inside.held.now.text = c.in_ok-before.ensures.ok ∙ c.text.ensures in
-    let version : c.in_ok-reached.reached.version ≡ c.document.inside.held.now.version = ap (λ (e : Entry). e.version) (c.in_ok-reached.ensures (string_bytes c.in_ok-uri.uri)) ∙ to_z-of_z w32 c.document.inside.held.now.version (search rules) in
+    let before : string_bytes c.in_ok-before.before ≡ c.document.inside.stored.now.text = c.in_ok-before.ensures.ok ∙ c.text.ensures in
+    let version : c.in_ok-reached.reached.version ≡ c.document.inside.stored.now.version = ap (λ (e : Entry). e.version) (c.in_ok-reached.ensures (string_bytes c.in_ok-uri.uri)) ∙ to_z-of_z w32 c.document.inside.stored.now.version (search rules) in
     start_seen (string_bytes c.in_ok-uri.uri) c.args.limits c.args.encoding c.in_ok-joined.joined (string_bytes c.in_ok-before.before) c.in_ok-reached.reached.version c.args.document.now c.in_ok-joined.ensures.joined
     (c.in_ok-uri.ensures.ok ∙ ap (λ (e : Entry). e.uri) c.document.view_is)
     (before ∙ ap (λ (e : Entry). e.text) c.document.view_is)

@@ -2,8 +2,8 @@ use Rattle.std.proofs.Common.{refl}
 use Rattle.lsp_store.proofs.StoreLemmas.{close_absent, closed}
 use Rattle.lsp_store.proofs.store.Store.close.Goals as goal
 
-pub returns-in_default-clause-told : goal.returns-in_default-clause-told
-returns-in_default-clause-told c = (refl, close_absent c.self.inside.limits c.self.inside.documents.entries c.args.self.now c.self.view_is c.args.uri.now c.in_default.ensures.value)
+pub returns-in_default-clause-error : goal.returns-in_default-clause-error
+returns-in_default-clause-error c = (refl, close_absent c.self.inside.limits c.self.inside.documents.entries c.args.self.now c.self.view_is c.args.uri.now c.in_default.ensures.value)
 
 pub returns-clause-taken : goal.returns-clause-taken
 returns-clause-taken c = closed c.self.inside.limits c.self.inside.documents.entries c.args.self.now c.self.view_is c.args.uri.now _ c.in-Some.ensures.value _ c.in-Some.ensures.entries

@@ -5,15 +5,15 @@ use Rattle.lsp_store.specs.declared.fault.StoreFault.TheVariants.{NoMemory}
 use Rattle.lsp_store.proofs.StoreLemmas.{opened}
 use Rattle.lsp_store.proofs.store.Store.open.Goals as goal
 
-pub returns-in_err-may_open-clause-told : goal.returns-in_err-may_open-clause-told
-returns-in_err-may_open-clause-told c =
+pub returns-in_err-may_open-clause-error : goal.returns-in_err-may_open-clause-error
+returns-in_err-may_open-clause-error c =
     let p = err_from_is_err_and c.from_residual.result c.from_residual.ensures.1 in
-    rw (p.1, p.2) (inr (rw (c.deref.ensures, c.deref-2.ensures) at (c.in_err-may_open.ensures.told (string_bytes c.args.language) c.args.version)))
+    rw (p.1, p.2) (inr (rw (c.deref.ensures, c.deref-2.ensures) at (c.in_err-may_open.ensures.error (string_bytes c.args.language) c.args.version)))
 
 pub returns-clause-taken : goal.returns-clause-taken
 returns-clause-taken c =
     let version : to_z w32 (of_z w32 c.args.version) ≡ c.args.version = to_z-of_z w32 c.args.version (search rules) in
-    opened c.self.inside.limits c.self.inside.documents.entries c.args.self.now c.self.view_is c.args.uri c.in_ok-held.held _ (rw version at (c.in_ok-held.ensures (string_bytes c.args.uri)))
+    opened c.self.inside.limits c.self.inside.documents.entries c.args.self.now c.self.view_is c.args.uri c.in_ok-stored.stored _ (rw version at (c.in_ok-stored.ensures (string_bytes c.args.uri)))
     (rw (c.deref.ensures, c.deref-2.ensures) at (c.in_ok-may_open.ensures.may (string_bytes c.args.language) c.args.version))
     c.insert.new.self.entries c.in_ok-insert.ensures.entries
 
@@ -26,8 +26,8 @@ returns-in_err-may_open-clause-memory c = λ e.
     let no_memory : c.may_open.result ≡ Err NoMemory = cc in
     absurd (c.may_open.ensures.memory no_memory)
 
-pub returns-in_err-held-clause-memory : goal.returns-in_err-held-clause-memory
-returns-in_err-held-clause-memory c = λ e.
+pub returns-in_err-stored-clause-memory : goal.returns-in_err-stored-clause-memory
+returns-in_err-stored-clause-memory c = λ e.
     rw (c.deref.ensures, c.deref-2.ensures) at (c.in_ok-may_open.ensures.may (string_bytes c.args.language) c.args.version)
 
 pub returns-in_err-insert-clause-memory : goal.returns-in_err-insert-clause-memory

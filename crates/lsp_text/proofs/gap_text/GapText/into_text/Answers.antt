@@ -1,6 +1,7 @@
 use Rattle.std.proofs.Common.{◌≡◌, ◌∙◌, ℕ, List, length, string_bytes, sym, ap, subst}
 use Rattle.std.specs.Str.{IsUtf8}
-use Rattle.lsp_text.specs.Gapped.{AreWithin, without_gap, starts_of_both}
+use Rattle.lsp_text.specs.Gapped.{without_gap, starts_of_both}
+use Rattle.lsp_text.specs.inside.Gapped.{AreWithin}
 use Rattle.lsp_text.specs.LineStarts.{Indexes}
 use Rattle.lsp_text.specs.Starts.{AreStarts}
 use Rattle.lsp_text.proofs.GapTextLemmas.{gap_are, gap_within, gap_back_within, gap_indexes, gap_utf8}

@@ -1,0 +1,278 @@
+//! The functions on text edits.
+
+ghost use Rattle.std.specs.Prelude.{◌≡◌, ◌≢◌, ◌≤◌, ◌⊎◌, None, IfErr, IfOk, Ok, OnErr, OnOk, Some, length, map, true};
+ghost use Rattle.std.specs.Str.{is_utf8};
+ghost use Rattle.laspidru.specs.Batches.{refused_edit};
+ghost use Rattle.laspidru.specs.Codes.{IsAnswerOrNoMemory, unless};
+ghost use Rattle.laspidru.specs.Edits.{AreApplied, AreBatched, AreFaulty, IsBatchOfAsked, IsEditsReport, IsUnlessFaulty, IsTooMuch, edits_asked, edits_on, fitting_edits, range_or, replacement_of, replacement_with, replacements_of, text_left};
+ghost use Rattle.laspidru.specs.Objects.{document_in, document_of, in_use};
+
+use crate::changes::{encoding_of, fits, position_of, refusal_of};
+use crate::codes::{
+    BAD_ENCODING, EMPTY, IN_USE, INSIDE_CHARACTER, OK, OTHER_KIND, OUT_OF_MEMORY, OVERLAP,
+    REVERSED_RANGE, TOO_LONG,
+};
+use crate::handle::Handle;
+use crate::object::Object;
+use crate::place::{Edit, EditsFault, Place};
+use lsp_edit::{Change, IndexedText, MAX_OLD_TEXT, Side, TextEdit, TextEditFault, TextFault};
+use lsp_text::{Encoding, Range};
+use std::alloc::{AllocError, Global};
+
+/// The range of an edit. One of the whole text ends after its last line.
+fn range_of(is_whole: bool, start: Place, end: Place) -> Range
+    ensures { result ≡ range_or is_whole start end }
+{
+    let (start, end) = if is_whole {
+        let after_all = Place {
+            line: u32::MAX,
+            character: u32::MAX,
+        };
+        let zero = Place {
+            line: 0,
+            character: 0,
+        };
+        (zero, after_all)
+    } else {
+        (start, end)
+    };
+    Range {
+        start: position_of(start),
+        stop: position_of(end),
+    }
+}
+
+/// An edit with its text.
+fn text_edit_of(alloc: Global, edit: Edit, own: &[u8]) -> Result<TextEdit, AllocError>
+    requires { is_utf8 own.now ≡ true }
+    ensures { IfOk result (λ passed. replacement_of passed ≡ replacement_with edit own.now) }
+{
+    // SAFETY: `refusal_of` has read each text.
+    let new_text = unsafe { std::str::from_utf8_unchecked(own) }.to_string(alloc)?;
+    let range = range_of(edit.is_whole, edit.start, edit.end);
+    Ok(TextEdit { range, new_text })
+}
+
+/// The text edits, each with its part of the texts.
+fn text_edits_of(alloc: Global, edits: &[Edit], texts: &[u8]) -> Result<Vec<TextEdit>, AllocError>
+    requires { refused_edit edits.now texts.now ≡ None }
+    ensures { IfOk result (λ passed.
+        map replacement_of passed.items ≡ replacements_of edits.now texts.now) }
+{
+    let mut passed = Vec::new(alloc);
+    let mut rest = texts;
+    for edit in edits {
+        let (own, more) = rest.split_at(edit.len);
+        rest = more;
+        passed.push(text_edit_of(alloc, *edit, own)?)?;
+    }
+    Ok(passed)
+}
+
+/// The code of a fault. A fault of an edit is written to `out`, another leaves it as it is.
+fn report_edits(fault: TextEditFault, out: &mut EditsFault) -> u32
+    ensures report { IsEditsReport fault result out.new }
+    ensures unchanged { IsUnlessFaulty result (out.new ≡ out.old) }
+{
+    let (code, edit, other, at_end) = match fault {
+        TextEditFault::InsideCharacter { edit, side } => {
+            (INSIDE_CHARACTER, edit, 0, side == Side::Stop)
+        }
+        TextEditFault::ReversedRange { edit } => (REVERSED_RANGE, edit, 0, false),
+        TextEditFault::Overlap { first, second } => (OVERLAP, first, second, false),
+        TextEditFault::NoMemory => return OUT_OF_MEMORY,
+    };
+    *out = EditsFault {
+        edit,
+        other,
+        at_end,
+    };
+    code
+}
+
+/// The canonical batch of what edits mean on a text, or the code of their fault.
+fn batch_of(
+    alloc: Global,
+    document: &IndexedText,
+    encoding: Encoding,
+    edits: &[Edit],
+    texts: &[u8],
+    fault: &mut EditsFault,
+) -> Result<Vec<Change>, u32>
+    requires { refused_edit edits.now texts.now ≡ None }
+    ensures ok { IfOk result (λ changes.
+        IsBatchOfAsked (edits_on encoding edits.now texts.now document.now) changes.items) }
+    ensures error { IfErr result (λ code. (code ≡ OUT_OF_MEMORY)
+        ⊎ AreFaulty (edits_on encoding edits.now texts.now document.now) code fault.new) }
+    ensures same { IfOk result (λ changes. fault.new ≡ fault.old) }
+    ensures unchanged { IfErr result (λ code. IsUnlessFaulty code (fault.new ≡ fault.old)) }
+{
+    let Ok(passed) = text_edits_of(alloc, edits, texts) else {
+        return Err(OUT_OF_MEMORY);
+    };
+    match document.batch_of_edits(encoding, &passed) {
+        Ok(changes) => Ok(changes),
+        Err(error) => Err(report_edits(error, fault)),
+    }
+}
+
+/// Puts the batch of text edits on an object's text into an empty handle.
+fn object_batch_of_edits(
+    alloc: Global,
+    object: &Object,
+    encoding: Encoding,
+    edits: &[Edit],
+    texts: &[u8],
+    batch: &mut Handle,
+    fault: &mut EditsFault,
+) -> u32
+    requires checked { refused_edit edits.now texts.now ≡ None }
+    requires empty { batch.old.value ≡ None }
+    ensures answer { IsAnswerOrNoMemory
+        (fitting_edits encoding edits.now texts.now (document_of object.now)) result
+        (λ asked. AreBatched asked result batch.new.value fault.new) }
+    ensures unchanged { result ≢ OK → batch.new.value ≡ None }
+    ensures fault { IsUnlessFaulty result (fault.new ≡ fault.old) }
+{
+    let Object::Document(document) = object else {
+        return OTHER_KIND;
+    };
+    if !fits(edits) || document.text().len() > MAX_OLD_TEXT {
+        return TOO_LONG;
+    }
+    let changes = match batch_of(alloc, document, encoding, edits, texts, fault) {
+        Ok(changes) => changes,
+        Err(code) => return code,
+    };
+    let Ok(object) = Box::new(alloc, Object::Batch(changes)) else {
+        return OUT_OF_MEMORY;
+    };
+    batch.put(object);
+    OK
+}
+
+/// Puts the canonical batch of what text edits mean on the text into an empty handle (LSP 3.17,
+/// TextEdit[]). All their ranges count in the text as it is. The document stays as it is.
+///
+/// Codes, in this order: BAD_ENCODING; BAD_LENGTH or NOT_UTF8 of the first such edit; IN_USE of
+/// `batch`; EMPTY, OTHER_KIND, TOO_LONG; OUT_OF_MEMORY, or the fault. That is INSIDE_CHARACTER or
+/// REVERSED_RANGE of the first such edit, else OVERLAP. With these three `fault` says which edits
+/// they are. Costs a pass over the texts, their copy, and [`IndexedText::batch_of_edits`].
+#[unsafe(no_mangle)]
+pub extern "C" fn laspidru_document_batch_of_edits(
+    alloc: Global,
+    handle: &mut Handle,
+    encoding: u32,
+    edits: &[Edit],
+    texts: &[u8],
+    batch: &mut Handle,
+    fault: &mut EditsFault,
+) -> u32
+    ensures answer { let text = unless (in_use batch.old.value) (document_in handle.old.value) in
+        IsAnswerOrNoMemory (edits_asked encoding edits.now texts.now text) result
+        (λ asked. AreBatched asked result batch.new.value fault.new) }
+    ensures handle { handle.new.value ≡ handle.old.value }
+    ensures unchanged { result ≢ OK → batch.new.value ≡ batch.old.value }
+    ensures fault { IsUnlessFaulty result (fault.new ≡ fault.old) }
+{
+    let Some(encoding) = encoding_of(encoding) else {
+        return BAD_ENCODING;
+    };
+    if let Some(code) = refusal_of(edits, texts) {
+        return code;
+    }
+    if let Some(stored) = batch.take(alloc) {
+        batch.put(stored);
+        return IN_USE;
+    }
+    let Some(object) = handle.take(alloc) else {
+        return EMPTY;
+    };
+    let code = object_batch_of_edits(alloc, &object, encoding, edits, texts, batch, fault);
+    handle.put(object);
+    code
+}
+
+/// Makes a batch without a faulty change on a text, or answers why there is none.
+fn change_by(document: &mut IndexedText, encoding: Encoding, batch: &[Change]) -> Result<(), u32>
+    requires { length document.old ≤ MAX_OLD_TEXT }
+    ensures ok { OnOk result (text_left encoding document.old batch.now ≡ Ok document.new) }
+    ensures error { IfErr result (λ code. (code ≡ OUT_OF_MEMORY)
+        ⊎ ((code ≡ TOO_LONG) × IsTooMuch encoding document.old batch.now)) }
+    ensures unchanged { OnErr result (document.new ≡ document.old) }
+{
+    if !lsp_edit::fits(batch) {
+        return Err(TOO_LONG);
+    }
+    match document.change(encoding, batch, MAX_OLD_TEXT) {
+        Ok(()) => Ok(()),
+        Err(TextFault::TooLong) => Err(TOO_LONG),
+        Err(TextFault::Edit(_) | TextFault::NoMemory) => Err(OUT_OF_MEMORY),
+    }
+}
+
+/// Makes text edits on an object.
+fn object_apply_edits(
+    alloc: Global,
+    object: &mut Object,
+    encoding: Encoding,
+    edits: &[Edit],
+    texts: &[u8],
+    fault: &mut EditsFault,
+) -> u32
+    requires { refused_edit edits.now texts.now ≡ None }
+    ensures answer { IsAnswerOrNoMemory
+        (fitting_edits encoding edits.now texts.now (document_of object.old)) result
+        (λ asked. AreApplied asked result (Some object.new) fault.new) }
+    ensures unchanged { result ≢ OK → object.new ≡ object.old }
+    ensures fault { IsUnlessFaulty result (fault.new ≡ fault.old) }
+{
+    let Object::Document(document) = object else {
+        return OTHER_KIND;
+    };
+    if !fits(edits) || document.text().len() > MAX_OLD_TEXT {
+        return TOO_LONG;
+    }
+    let batch = match batch_of(alloc, document, encoding, edits, texts, fault) {
+        Ok(batch) => batch,
+        Err(code) => return code,
+    };
+    match change_by(document, encoding, &batch) {
+        Ok(()) => OK,
+        Err(code) => code,
+    }
+}
+
+/// Makes text edits, or none of them (LSP 3.17, TextEdit[]). All their ranges count in the text as
+/// it
+/// is. Codes are those of [`laspidru_document_batch_of_edits`] without IN_USE, and TOO_LONG where
+/// the
+/// text that would be left is too long. Costs that call and [`IndexedText::change`].
+#[unsafe(no_mangle)]
+pub extern "C" fn laspidru_document_apply_edits(
+    alloc: Global,
+    handle: &mut Handle,
+    encoding: u32,
+    edits: &[Edit],
+    texts: &[u8],
+    fault: &mut EditsFault,
+) -> u32
+    ensures answer { IsAnswerOrNoMemory
+        (edits_asked encoding edits.now texts.now (document_in handle.old.value)) result
+        (λ asked. AreApplied asked result handle.new.value fault.new) }
+    ensures unchanged { result ≢ OK → handle.new.value ≡ handle.old.value }
+    ensures fault { IsUnlessFaulty result (fault.new ≡ fault.old) }
+{
+    let Some(encoding) = encoding_of(encoding) else {
+        return BAD_ENCODING;
+    };
+    if let Some(code) = refusal_of(edits, texts) {
+        return code;
+    }
+    let Some(mut object) = handle.take(alloc) else {
+        return EMPTY;
+    };
+    let code = object_apply_edits(alloc, &mut object, encoding, edits, texts, fault);
+    handle.put(object);
+    code
+}

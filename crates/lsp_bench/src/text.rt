@@ -1,0 +1,124 @@
+//! A made text, and keystrokes all over it: as changes of a document, and in a plain program that
+//! keeps the text's line starts.
+
+use lsp_edit::Change;
+use lsp_text::{Position, Range};
+use std::alloc::{AllocError, Global};
+
+pub const URI: &str = "file:///home/user/project/src/main.rs";
+
+/// A line of 40 bytes.
+const LINE: &str = "    let answer = question.map(|x| x+1);\n";
+
+/// Where in its line a letter is put in.
+const COLUMN: u32 = 8;
+
+/// So many bytes of equal lines.
+pub fn made_text(alloc: Global, size: usize) -> Result<String, AllocError> {
+    let mut text = String::with_capacity(alloc, size.saturating_add(LINE.len()))?;
+    for _ in 0..lines_of(size) {
+        text.push_str(LINE)?;
+    }
+    Ok(text)
+}
+
+/// How many lines a text of so many bytes has.
+pub fn lines_of(size: usize) -> usize {
+    size / LINE.len()
+}
+
+/// The line of a keystroke in a text of so many lines, from its middle on.
+fn line_at(turn: u32, lines: usize) -> usize {
+    (turn as usize / 2)
+        .wrapping_mul(7_919)
+        .wrapping_add(lines / 2)
+        % lines.max(1)
+}
+
+/// A keystroke of a text of so many lines: a letter is put in on an even turn, and taken out again
+/// on the next.
+pub fn keystroke(alloc: Global, turn: u32, lines: usize) -> Result<Change, AllocError> {
+    let line = u32::try_from(line_at(turn, lines)).unwrap_or(u32::MAX);
+    let (stop, text) = if turn % 2 == 0 {
+        (COLUMN, "x")
+    } else {
+        (COLUMN + 1, "")
+    };
+    let range = Range {
+        start: Position {
+            line,
+            character: COLUMN,
+        },
+        stop: Position {
+            line,
+            character: stop,
+        },
+    };
+    let text = String::from_str(alloc, text)?;
+    Ok(Change {
+        range: Some(range),
+        text,
+    })
+}
+
+/// So many keystrokes, with so many turns from each to the next: with two each puts a letter in.
+pub fn keystrokes(
+    alloc: Global,
+    count: u32,
+    step: u32,
+    lines: usize,
+) -> Result<Vec<Change>, AllocError> {
+    let mut changes = Vec::new(alloc);
+    for index in 0..count {
+        changes.push(keystroke(alloc, index.wrapping_mul(step), lines)?)?;
+    }
+    Ok(changes)
+}
+
+/// A text whose line starts are kept, as a plain program keeps it.
+#[derive(Drop)]
+pub struct Plain {
+    text: String,
+    starts: Vec<usize>,
+}
+
+impl Plain {
+    pub fn new(alloc: Global, size: usize) -> Result<Self, AllocError> {
+        let mut starts = Vec::new(alloc);
+        for line in 0..lines_of(size) {
+            starts.push(line.wrapping_mul(LINE.len()))?;
+        }
+        let text = made_text(alloc, size)?;
+        Ok(Plain { text, starts })
+    }
+
+    /// Does what [`keystroke`] says, by `String::replace_range`. The result is the length that the
+    /// text then has.
+    pub fn keystroke(&mut self, turn: u32) -> Result<usize, AllocError> {
+        let line = line_at(turn, self.starts.len());
+        let start = self.starts.get(line).copied().unwrap_or(0);
+        let from = start.saturating_add(COLUMN as usize);
+        if turn % 2 == 0 {
+            self.replace(from, from, "x")?;
+            self.move_starts(line, 1);
+        } else {
+            self.replace(from, from.saturating_add(1), "")?;
+            self.move_starts(line, usize::MAX);
+        }
+        Ok(self.text.len())
+    }
+
+    fn replace(&mut self, from: usize, to: usize, text: &str) -> Result<(), AllocError> {
+        if from <= to && self.text.is_char_boundary(from) && self.text.is_char_boundary(to) {
+            self.text.replace_range(from..to, text)?;
+        }
+        Ok(())
+    }
+
+    /// Adds to the starts of the lines after this one, modulo 2 to the 64.
+    fn move_starts(&mut self, line: usize, by: usize) {
+        for start in self.starts.iter_mut().skip(line.saturating_add(1)) {
+            *start = start.wrapping_add(by);
+        }
+    }
+}

@@ -1,0 +1,60 @@
+//! Times work in rounds, and prints a row for it.
+
+use anyhow::Result;
+use std::rt::Runtime;
+use std::time::{Duration, Instant};
+
+/// The least time of so many rounds is printed.
+const ROUNDS: u32 = 5;
+
+/// Work that is timed.
+pub trait Work {
+    /// Does it once more. The results of a round are added up, and their sum is the same on every
+    /// machine.
+    fn once(&mut self) -> Result<usize>;
+}
+
+/// What a row is of.
+#[derive(Clone, Copy)]
+pub struct Row<'a> {
+    pub what: &'a str,
+    /// How much is worked on, in bytes, lines, entries or changes.
+    pub size: usize,
+    /// How often the work is done in a round.
+    pub repeats: u32,
+}
+
+/// Times work. The sum of a round goes to standard output. The time of doing the work once goes to
+/// standard error, with what is added to
+/// the sum in a microsecond: megabytes a second, if the work results in a number of bytes.
+pub fn time<R: Runtime, W: Work>(rt: &R, row: Row<'_>, work: &mut W) -> Result<()> {
+    let mut least = Duration::MAX;
+    let mut sum: usize = 0;
+    for _ in 0..ROUNDS {
+        let start = Instant::now(rt)?;
+        sum = repeated(work, row.repeats)?;
+        least = least.min(start.elapsed(rt)?);
+    }
+    report(rt, row, sum, least.as_nanos())
+}
+
+fn repeated<W: Work>(work: &mut W, repeats: u32) -> Result<usize> {
+    let mut sum: usize = 0;
+    for _ in 0..repeats {
+        sum = sum.wrapping_add(work.once()?);
+    }
+    Ok(sum)
+}
+
+fn report<R: Runtime>(rt: &R, row: Row<'_>, sum: usize, nanoseconds: u128) -> Result<()> {
+    let Row {
+        what,
+        size,
+        repeats,
+    } = row;
+    let each = nanoseconds / u128::from(repeats.max(1));
+    let rate = (sum as u128).saturating_mul(1_000) / nanoseconds.max(1);
+    println!(rt; "{what}, {size}: {repeats} times, {sum}")?;
+    eprintln!(rt; "{what}, {size}: {each} ns, {rate} a microsecond")?;
+    Ok(())
+}

@@ -1,0 +1,9 @@
+use Rattle.std.proofs.Common.{◌++◌, drop, string_bytes}
+use Rattle.lsp_edit.specs.Deltas.{owned_parts}
+use Rattle.lsp_edit.specs.inside.Deltas.{AreSameItems}
+use Rattle.lsp_edit.specs.Parts.{new_parts, parts_of}
+use Rattle.lsp_edit.proofs.joined.delta.owned.Given as goal
+
+abbrev pub invariant-loop-span : goal.invariant-loop-span
+invariant-loop-span l =
+    AreSameItems (owned_parts l.owned.items ++ (new_parts (string_bytes l.text) ++ parts_of (drop l.span-index l.spans))) (parts_of l.spans)

@@ -1,0 +1,8 @@
+-- Definitions that only private contracts speak of.
+pub mod Gaps
+pub mod TextBatch
+pub mod Deltas
+pub mod Faults
+pub mod Joined
+pub mod Parts
+pub mod Plain

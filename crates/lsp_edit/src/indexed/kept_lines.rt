@@ -1,0 +1,25 @@
+//! The lines of the old text, which may be borrowed from a caller.
+
+ghost use Rattle.std.specs.Prelude.{◌≡◌};
+ghost use Rattle.lsp_edit.specs.Edited.{lines_of};
+
+use lsp_text::Lines;
+
+/// The lines that were found for the old text, or those that a caller has.
+#[derive(Drop)]
+pub enum KeptLines<'a> {
+    Own(Lines),
+    Lent(&'a Lines),
+}
+
+impl<'a> KeptLines<'a> {
+    /// Returns the lines.
+    pub fn get(&self) -> &Lines
+        ensures { result.now ≡ lines_of self.now }
+    {
+        match self {
+            KeptLines::Own(lines) => lines,
+            KeptLines::Lent(lines) => lines,
+        }
+    }
+}

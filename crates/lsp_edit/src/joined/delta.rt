@@ -1,0 +1,113 @@
+//! The result of some batches of changes, in spans that own their texts.
+
+ghost use Rattle.std.specs.Prelude.{◌≡◌, IfOk, OnOk, length, string_bytes, ◌++◌};
+ghost use Rattle.lsp_edit.specs.Deltas.{delta_parts, owned_part, owned_parts};
+ghost use Rattle.lsp_edit.specs.inside.Deltas.{AreSameItems};
+ghost use Rattle.lsp_edit.specs.Parts.{Ascend, new_parts, part_of, parts_of};
+ghost use Rattle.lsp_edit.specs.inside.Parts.{AreThrough, through_parts};
+
+use crate::pieces::span::Span;
+use crate::pieces::through::spans_through;
+use std::alloc::{AllocError, Global};
+use std::mem;
+
+/// A run of a text after changes, which owns the text of a change.
+#[derive(Debug, Drop)]
+pub enum OwnedSpan {
+    /// The bytes of the old text from one byte offset to another.
+    Old { from: usize, to: usize },
+    /// The text of changes.
+    New(String),
+}
+
+/// The result of some batches on a text. `rank` is how often two deltas of one rank were joined for
+/// it.
+#[derive(Debug, Drop)]
+pub struct Delta {
+    pub rank: u32,
+    pub spans: Vec<OwnedSpan>,
+}
+
+/// Appends the span of a text, if that isn't empty.
+fn push_new(spans: &mut Vec<OwnedSpan>, text: String) -> Result<(), AllocError>
+    ensures { OnOk result
+        (owned_parts spans.new.items
+        ≡ owned_parts spans.old.items ++ new_parts (string_bytes text)) }
+{
+    if !text.is_empty() {
+        spans.push(OwnedSpan::New(text))?;
+    }
+    Ok(())
+}
+
+/// Copies the texts of spans; neighbouring texts become one. Costs the spans and a copy of their
+/// texts.
+fn owned(alloc: Global, spans: &[Span<'_>]) -> Result<Vec<OwnedSpan>, AllocError>
+    ensures { IfOk result (λ owned. AreSameItems (owned_parts owned.items) (parts_of spans.now)) }
+{
+    let mut owned = Vec::new(alloc);
+    let mut text = String::new(alloc);
+    for span in spans {
+        match *span {
+            Span::Old { from, to } => {
+                let filled = mem::replace(&mut text, String::new(alloc));
+                push_new(&mut owned, filled)?;
+                owned.push(OwnedSpan::Old { from, to })?;
+            }
+            Span::New(new) => text.push_str(new)?,
+        }
+    }
+    push_new(&mut owned, text)?;
+    Ok(owned)
+}
+
+impl OwnedSpan {
+    /// Returns the same span with its text borrowed.
+    fn borrowed(&self) -> Span<'_>
+        ensures { part_of result ≡ owned_part self.now }
+    {
+        match self {
+            OwnedSpan::Old { from, to } => Span::Old {
+                from: *from,
+                to: *to,
+            },
+            OwnedSpan::New(text) => Span::New(text),
+        }
+    }
+}
+
+impl Delta {
+    /// Makes the delta of spans, with their texts copied.
+    pub fn of_spans(alloc: Global, rank: u32, spans: &[Span<'_>]) -> Result<Self, AllocError>
+        ensures { IfOk result (λ delta. AreSameItems (delta_parts delta) (parts_of spans.now)) }
+    {
+        let spans = owned(alloc, spans)?;
+        Ok(Delta { rank, spans })
+    }
+
+    /// Returns the spans with their texts borrowed. Costs one step for each.
+    pub fn borrowed(&self, alloc: Global) -> Result<Vec<Span<'_>>, AllocError>
+        ensures { IfOk result (λ spans. parts_of spans.items ≡ delta_parts self.now) }
+    {
+        let mut spans = Vec::with_capacity(alloc, self.spans.len())?;
+        for span in &self.spans {
+            spans.push(span.borrowed())?;
+        }
+        Ok(spans)
+    }
+
+    /// Composes this delta and `next`, which is over the text that this one leaves. Costs the spans
+    /// of both, and a copy of the texts that are left of them.
+    pub fn then(&self, alloc: Global, next: &Delta) -> Result<Self, AllocError>
+        requires through { AreThrough (delta_parts self.now) (delta_parts next.now) }
+        requires order { Ascend 0 (delta_parts next.now) }
+        ensures { IfOk result (λ both.
+            AreSameItems (delta_parts both)
+            (through_parts (delta_parts self.now) (delta_parts next.now))) }
+    {
+        let first = self.borrowed(alloc)?;
+        let second = next.borrowed(alloc)?;
+        let both = spans_through(alloc, &first, &second)?;
+        Self::of_spans(alloc, self.rank.saturating_add(1), &both)
+    }
+}

@@ -1,0 +1,89 @@
+//! The canonical batch of spans, written in one pass.
+
+ghost use Rattle.std.specs.Prelude.{◌≡◌, ◌++◌, ◌<◌, ◌⊎◌, ℕ, IfOk, OnOk, IsCharBoundary, length, map, reverse, string_bytes};
+ghost use Rattle.std.specs.Str.{chars};
+ghost use Rattle.lsp_text.specs.LineStarts.{Indexes, IsPlace};
+ghost use Rattle.lsp_text.specs.Units.{units_in};
+ghost use Rattle.lsp_edit.specs.Canonical.{canonical, gaps};
+ghost use Rattle.lsp_edit.specs.Edited.{edit_of};
+ghost use Rattle.lsp_edit.specs.inside.Gaps.{gap_change};
+ghost use Rattle.lsp_edit.specs.Laws.{AllHaveExactEnds};
+ghost use Rattle.lsp_edit.specs.Parts.{AreParts, items_of, parts_of};
+
+use crate::change::Change;
+use crate::pieces::span::Span;
+use lsp_text::{Encoding, Lines, Range};
+use std::alloc::{AllocError, Global};
+use std::mem;
+
+/// Appends the change of a gap, if the gap is changed: `text` replaces the old text's bytes from
+/// `low` to `high`.
+fn put_gap(
+    changes: &mut Vec<Change>,
+    lines: &Lines,
+    before: &str,
+    encoding: Encoding,
+    low: usize,
+    high: usize,
+    text: String,
+) -> Result<(), AllocError>
+    requires indexed { Indexes lines.now before.now }
+    requires low { IsCharBoundary before.now low }
+    requires high { IsCharBoundary before.now high }
+    requires ends { (low < high) ⊎ (0 < length (string_bytes text)) → IsPlace (chars before.now) low
+        × IsPlace (chars before.now) high }
+    ensures { OnOk result (map edit_of changes.new.items ≡ map edit_of changes.old.items
+        ++ gap_change (units_in encoding) before.now low high (string_bytes text)) }
+{
+    if low < high || !text.is_empty() {
+        let start = lines.position(before, encoding, low);
+        let stop = lines.position(before, encoding, high);
+        let range = Some(Range { start, stop });
+        changes.push(Change { range, text })?;
+    }
+    Ok(())
+}
+
+/// Returns the canonical batch of spans: one change for each changed gap between kept characters,
+/// from the last gap to the first. Costs the spans, and one exact position for each end of a
+/// changed gap.
+pub fn canonical_of<'a>(
+    alloc: Global,
+    before: &'a str,
+    lines: &Lines,
+    spans: &[Span<'a>],
+    encoding: Encoding,
+) -> Result<Vec<Change>, AllocError>
+    requires indexed { Indexes lines.now before.now }
+    requires parts { AreParts before.now (parts_of spans.now) }
+    requires ends { AllHaveExactEnds (chars before.now)
+        (gaps (chars before.now) (items_of (chars before.now) (parts_of spans.now))) }
+    ensures { IfOk result (λ changes. map edit_of changes.items
+        ≡ canonical (units_in encoding) (chars before.now)
+        (items_of (chars before.now) (parts_of spans.now))) }
+{
+    let mut changes = Vec::new(alloc);
+    let mut low = 0;
+    let mut text = String::new(alloc);
+    for span in spans {
+        match *span {
+            Span::Old { from, to } => {
+                let filled = mem::replace(&mut text, String::new(alloc));
+                put_gap(&mut changes, lines, before, encoding, low, from, filled)?;
+                low = to;
+            }
+            Span::New(new) => text.push_str(new)?,
+        }
+    }
+    put_gap(
+        &mut changes,
+        lines,
+        before,
+        encoding,
+        low,
+        before.len(),
+        text,
+    )?;
+    changes.reverse();
+    Ok(changes)
+}

@@ -1,0 +1,69 @@
+//! The current text of spans, in one copy.
+
+ghost use Rattle.std.specs.Prelude.{◌≡◌, ◌≤◌, IfOk, MatchOption, length, string_bytes};
+ghost use Rattle.lsp_text.specs.LineStarts.{Indexes};
+ghost use Rattle.lsp_edit.specs.Parts.{AreParts, bytes_of, parts_of};
+
+use crate::pieces::span::Span;
+use lsp_text::{GapText, Lines};
+use std::alloc::{AllocError, Global};
+
+/// The room, in bytes, that a text with a gap has for new text before it grows.
+const ROOM: usize = 4096;
+
+/// Returns the current text, if there is one already, or else copies the text of the spans into a
+/// text with a gap.
+pub fn current_or_new<'a>(
+    made: Option<GapText>,
+    alloc: Global,
+    before: &'a str,
+    spans: &[Span<'a>],
+    len: usize,
+) -> Result<GapText, AllocError>
+    requires parts { AreParts before.now (parts_of spans.now) }
+    requires room { length (bytes_of before.now (parts_of spans.now)) ≤ 2147483648 }
+    requires made { MatchOption made (Unit {0})
+        (λ current. current ≡ bytes_of before.now (parts_of spans.now)) }
+    ensures { IfOk result (λ current. current ≡ bytes_of before.now (parts_of spans.now)) }
+{
+    if let Some(current) = made {
+        return Ok(current);
+    }
+    let (text, lines) = text_with_lines(alloc, before, spans, len)?;
+    GapText::new(alloc, &text, lines, ROOM)
+}
+
+/// Returns the text of spans, of `len` bytes, with its lines.
+pub fn text_with_lines<'a>(
+    alloc: Global,
+    before: &'a str,
+    spans: &[Span<'a>],
+    len: usize,
+) -> Result<(String, Lines), AllocError>
+    requires parts { AreParts before.now (parts_of spans.now) }
+    requires room { length (bytes_of before.now (parts_of spans.now)) ≤ 2147483648 }
+    ensures { IfOk result (λ made.
+        (string_bytes made.0 ≡ bytes_of before.now (parts_of spans.now))
+        × Indexes made.1 (string_bytes made.0)) }
+{
+    let text = text_of_spans(alloc, before, spans, len)?;
+    let lines = Lines::new(alloc, &text)?;
+    Ok((text, lines))
+}
+
+/// Returns the text of spans, of `len` bytes.
+pub fn text_of_spans<'a>(
+    alloc: Global,
+    before: &'a str,
+    spans: &[Span<'a>],
+    len: usize,
+) -> Result<String, AllocError>
+    requires { AreParts before.now (parts_of spans.now) }
+    ensures { IfOk result (λ text. string_bytes text ≡ bytes_of before.now (parts_of spans.now)) }
+{
+    let mut text = String::with_capacity(alloc, len)?;
+    for span in spans {
+        text.push_str(span.read(before))?;
+    }
+    Ok(text)
+}

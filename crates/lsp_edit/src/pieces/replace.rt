@@ -1,0 +1,189 @@
+//! Spans of a text in which some bytes are replaced: at most two spans are cut, and one is
+//! inserted.
+
+ghost use Rattle.std.specs.Prelude.{◌≡◌, ◌++◌, ◌-◌, ◌≤◌, ◌<◌, ℕ, OnOk, OnErr, IfOk, length, take, drop};
+ghost use Rattle.lsp_edit.specs.Parts.{new_parts, part_of, parts_of};
+ghost use Rattle.lsp_edit.specs.inside.Parts.{AreBefore, AreCut, AreOrdered, ArePassed, EndAfter, IsFirstCut, IsMark, first_front, front_parts, put_first_back, put_part, replaced_parts};
+
+use crate::pieces::span::Span;
+use std::alloc::{AllocError, Global};
+
+/// Appends a span. Two runs of the old text that touch become one.
+pub fn put<'a>(spans: &mut Vec<Span<'a>>, span: Span<'a>) -> Result<(), AllocError>
+    ensures { OnOk result
+        (parts_of spans.new.items ≡ put_part (parts_of spans.old.items) (part_of span.entry)) }
+{
+    match spans.pop() {
+        None => spans.push(span)?,
+        Some(last) => match last.joined(span) {
+            Some(one) => spans.push(one)?,
+            None => {
+                spans.push(last)?;
+                spans.push(span)?;
+            }
+        },
+    }
+    Ok(())
+}
+
+/// Appends to `out` the spans of the first bytes, up to a byte offset. A span with the offset
+/// inside is cut there.
+pub fn push_front<'a>(
+    out: &mut Vec<Span<'a>>,
+    spans: &[Span<'a>],
+    place: usize,
+) -> Result<(), AllocError>
+    requires { AreCut (parts_of spans.now) place }
+    ensures { OnOk result
+        (parts_of out.new.items
+        ≡ parts_of out.old.items ++ front_parts (parts_of spans.now) place) }
+{
+    let mut left = place;
+    for span in spans {
+        if left == 0 {
+            return Ok(());
+        }
+        if left < span.len() {
+            out.push(span.front(left))?;
+            return Ok(());
+        }
+        left -= span.len();
+        out.push(*span)?;
+    }
+    Ok(())
+}
+
+/// Walks back to a span that begins before an offset. The walk begins at the span with this index,
+/// which has `passed` bytes before it.
+fn back_to(spans: &[Span], index: usize, passed: usize, place: usize) -> (usize, usize)
+    requires marked { IsMark spans.now index passed }
+    requires ordered { AreOrdered (parts_of spans.now) }
+    requires some { 0 < place }
+    ensures marked { IsMark spans.now result.0 result.1 }
+    ensures before { result.1 < place }
+{
+    let mut index = index;
+    let mut passed = passed;
+    while index > 0 && passed >= place {
+        index -= 1;
+        passed -= spans[index].len();
+    }
+    (index, passed)
+}
+
+/// Returns how many spans end at or before the offset `low`, and how many bytes those have. The
+/// walk begins at a span that begins there or before.
+fn passed_by(spans: &[Span], index: usize, passed: usize, low: usize) -> (usize, usize)
+    requires marked { IsMark spans.now index passed }
+    requires order { passed ≤ low }
+    requires ordered { AreOrdered (parts_of spans.now) }
+    ensures marked { IsMark spans.now result.0 result.1 }
+    ensures passed { ArePassed (parts_of spans.now) (parts_of (drop result.0 spans.now))
+        result.1 low }
+    ensures before { AreBefore (parts_of spans.now) (parts_of (take result.0 spans.now))
+        (parts_of (drop result.0 spans.now)) result.1 low }
+    ensures rest_after { EndAfter (parts_of (drop result.0 spans.now)) (low - result.1) }
+{
+    let mut passed = passed;
+    for next in index..spans.len() {
+        let len = spans[next].len();
+        if low - passed < len {
+            return (next, passed);
+        }
+        passed += len;
+    }
+    (spans.len(), passed)
+}
+
+/// Returns how many spans end before an offset, and how many bytes those have. The next span is cut
+/// there, or ends there. The walk begins at the span with this index, which has `passed` bytes
+/// before it.
+fn ended_by(spans: &[Span], index: usize, passed: usize, place: usize) -> (usize, usize)
+    requires marked { IsMark spans.now index passed }
+    requires ordered { AreOrdered (parts_of spans.now) }
+    requires cut { AreCut (parts_of spans.now) place }
+    ensures marked { IsMark spans.now result.0 result.1 }
+    ensures passed { ArePassed (parts_of spans.now) (parts_of (drop result.0 spans.now)) result.1
+        place }
+    ensures front { front_parts (parts_of spans.now) place ≡ parts_of (take result.0 spans.now)
+        ++ first_front (parts_of (drop result.0 spans.now)) (place - result.1) }
+    ensures first { place - result.1 ≡ 0 → result.0 ≡ 0 }
+    ensures cut { IsFirstCut (parts_of (drop result.0 spans.now)) (place - result.1) }
+{
+    if place == 0 {
+        return (0, 0);
+    }
+    let (index, passed) = back_to(spans, index, passed, place);
+    passed_by(spans, index, passed, place - 1)
+}
+
+/// Returns the spans that replace those from the first to the one with the index `last`. They are
+/// what the first has before `start`, the new text, and what the last has after `stop`. Both
+/// offsets are counted from the start of their spans.
+fn between<'a>(
+    alloc: Global,
+    spans: &[Span<'a>],
+    start: usize,
+    last: usize,
+    stop: usize,
+    text: &'a str,
+) -> Result<Vec<Span<'a>>, AllocError>
+    requires start { IsFirstCut (parts_of spans.now) start }
+    requires stop { IsFirstCut (parts_of (drop last spans.now)) stop }
+    ensures { IfOk result (λ made. parts_of made.items
+        ≡ put_first_back (first_front (parts_of spans.now) start ++ new_parts text.now)
+        (parts_of (drop last spans.now)) stop) }
+{
+    let mut made = Vec::with_capacity(alloc, 3)?;
+    if start > 0 && !spans.is_empty() {
+        made.push(spans[0].front(start))?;
+    }
+    if !text.is_empty() {
+        made.push(Span::New(text))?;
+    }
+    if last < spans.len() {
+        put(&mut made, spans[last].back(stop))?;
+    }
+    Ok(made)
+}
+
+/// Replaces the bytes between two byte offsets by a new text, which adds at most two spans. Out of
+/// memory changes nothing.
+///
+/// Returns the span that is there now, by how many spans come before it and how many bytes those
+/// have. Costs a walk from the span `near`, which has `before` bytes before it, and one move of the
+/// spans that follow.
+pub fn replace<'a>(
+    spans: &mut Vec<Span<'a>>,
+    near: usize,
+    before: usize,
+    start: usize,
+    stop: usize,
+    text: &'a str,
+) -> Result<(usize, usize), AllocError>
+    requires marked { IsMark spans.old.items near before }
+    requires at_start { AreCut (parts_of spans.old.items) start }
+    requires at_stop { AreCut (parts_of spans.old.items) stop }
+    requires order { start ≤ stop }
+    requires ordered { AreOrdered (parts_of spans.old.items) }
+    ensures ok { OnOk result
+        (parts_of spans.new.items ≡ replaced_parts (parts_of spans.old.items) start stop text.now) }
+    ensures marked { IfOk result (λ mark. IsMark spans.new.items mark.0 mark.1) }
+    ensures err { OnErr result (spans.new.items ≡ spans.old.items) }
+{
+    let (first, passed) = ended_by(spans, near, before, start);
+    let rest = &spans[first..];
+    let (last, more) = passed_by(rest, 0, 0, stop - passed);
+    let alloc = *spans.allocator();
+    let made = between(
+        alloc,
+        rest,
+        start - passed,
+        last,
+        stop - passed - more,
+        text,
+    )?;
+    let past = first + rest.len().min(last + 1);
+    let _ = spans.splice(first..past, made)?;
+    Ok((first, passed))
+}

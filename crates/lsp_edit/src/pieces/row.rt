@@ -1,0 +1,71 @@
+//! Spans in a row, with the one at which the next walk over them begins.
+
+ghost use Rattle.std.specs.Prelude.{◌≡◌, ◌≤◌, OnErr, OnOk, length};
+ghost use Rattle.lsp_edit.specs.Parts.{parts_of};
+ghost use Rattle.lsp_edit.specs.inside.Parts.{AreCut, AreOrdered, replaced_parts};
+
+use crate::pieces::replace::replace;
+use crate::pieces::span::Span;
+use std::alloc::AllocError;
+use std::marker::Model;
+
+/// Spans in a row. It keeps the span of the last change, by two numbers: how many spans come before
+/// it, and how many bytes those have.
+#[derive(Drop)]
+pub struct Row<'a> {
+    spans: Vec<Span<'a>>,
+    near: usize,
+    before: usize,
+}
+
+impl<'a> Model for Row<'a> {
+    ghost use Rattle.std.specs.Prelude.{List};
+    ghost use Rattle.lsp_edit.specs.declared.pieces.span.Span.{Span};
+    ghost use Rattle.lsp_edit.specs.inside.Parts.{IsMark};
+
+    ghost Value = { List Span };
+
+    ghost view = { λ row. row.spans.items };
+
+    ghost invariant = { λ row. IsMark row.spans.items row.near row.before };
+}
+
+impl<'a> Row<'a> {
+    /// Makes a row of spans that were not changed yet.
+    pub fn new(spans: Vec<Span<'a>>) -> Self
+        ensures { result ≡ spans.entry.items }
+    {
+        Row {
+            spans,
+            near: 0,
+            before: 0,
+        }
+    }
+
+    /// Returns the spans in order.
+    pub fn as_slice(&self) -> &[Span<'a>]
+        ensures { result.now ≡ self.now }
+    {
+        &self.spans
+    }
+
+    /// Replaces the bytes between two byte offsets by a new text. Out of memory changes nothing.
+    ///
+    /// Costs a walk over the spans from the last change to this one, and one move of the spans that
+    /// follow.
+    pub fn replace(&mut self, start: usize, stop: usize, text: &'a str) -> Result<(), AllocError>
+        requires at_start { AreCut (parts_of self.old) start }
+        requires at_stop { AreCut (parts_of self.old) stop }
+        requires order { start ≤ stop }
+        requires ordered { AreOrdered (parts_of self.old) }
+        ensures ok { OnOk result
+            (parts_of self.new ≡ replaced_parts (parts_of self.old) start stop text.now) }
+        ensures few { OnOk result (length self.new ≤ usize.MAX) }
+        ensures err { OnErr result (self.new ≡ self.old) }
+    {
+        let (near, before) = replace(&mut self.spans, self.near, self.before, start, stop, text)?;
+        self.near = near;
+        self.before = before;
+        Ok(())
+    }
+}

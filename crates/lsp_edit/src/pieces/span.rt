@@ -1,0 +1,87 @@
+//! A span: a run of a text after changes, without a copy of its characters.
+
+ghost use Rattle.std.specs.Prelude.{◌≡◌, ◌++◌, ◌≤◌, ◌<◌, ℕ, IfOk, OnOk, length, MatchOption, ◌∷◌, []};
+ghost use Rattle.lsp_edit.specs.Parts.{IsPartOf, bytes_in, part_len, part_of, parts_of};
+ghost use Rattle.lsp_edit.specs.inside.Parts.{IsCutAt, joined, back_part, front_part, put_part, IsOrdered};
+
+use std::alloc::AllocError;
+
+/// A run of a text after changes. It isn't empty.
+#[derive(Clone, Copy, Debug, PartialEq, Eq)]
+pub enum Span<'a> {
+    /// The bytes of the old text from one byte offset to another.
+    Old { from: usize, to: usize },
+    /// The text of a change, or a part of it.
+    New(&'a str),
+}
+
+impl<'a> Span<'a> {
+    /// Returns how many bytes it has.
+    pub(crate) fn len(self) -> usize
+        requires { IsOrdered (part_of self) }
+        ensures { result ≡ part_len (part_of self.entry) }
+    {
+        match self {
+            Span::Old { from, to } => to - from,
+            Span::New(text) => text.len(),
+        }
+    }
+
+    /// Returns its first `count` bytes as a span.
+    pub(crate) fn front(self, count: usize) -> Self
+        requires { IsCutAt (part_of self) count }
+        ensures { part_of result ≡ front_part (part_of self.entry) count }
+    {
+        match self {
+            Span::Old { from, .. } => Span::Old {
+                from,
+                to: from + count,
+            },
+            Span::New(text) => Span::New(&text[..count]),
+        }
+    }
+
+    /// Returns what comes after its first `count` bytes as a span.
+    pub(crate) fn back(self, count: usize) -> Self
+        requires { IsCutAt (part_of self) count }
+        ensures { part_of result ≡ back_part (part_of self.entry) count }
+    {
+        match self {
+            Span::Old { from, to } => Span::Old {
+                from: from + count,
+                to,
+            },
+            Span::New(text) => Span::New(&text[count..]),
+        }
+    }
+
+    /// Returns one span for this and the next, if both are of the old text and touch there.
+    pub(crate) fn joined(self, next: Self) -> Option<Self>
+        ensures { MatchOption result
+            (joined (part_of self.entry) (part_of next.entry)
+            ≡ part_of self.entry ∷ part_of next.entry ∷ [])
+            (λ one. joined (part_of self.entry) (part_of next.entry) ≡ part_of one ∷ []) }
+    {
+        match (self, next) {
+            (
+                Span::Old { from, to },
+                Span::Old {
+                    from: next,
+                    to: end,
+                },
+            ) if to == next => Some(Span::Old { from, to: end }),
+            _ => None,
+        }
+    }
+
+    /// Returns its bytes; `before` is the old text.
+    pub(crate) fn read(self, before: &'a str) -> &'a str
+        requires { IsPartOf before.now (part_of self) }
+        ensures { result.now ≡ bytes_in before.now (part_of self.entry) }
+    {
+        match self {
+            Span::Old { from, to } => &before[from..to],
+            Span::New(text) => text,
+        }
+    }
+}

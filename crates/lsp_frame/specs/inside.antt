@@ -1,0 +1,3 @@
+-- Definitions that only private contracts speak of.
+pub mod Progress
+pub mod Stream

@@ -1,0 +1,15 @@
+-- What only proofs and private contracts use of `Seen`.
+use Rattle.std.specs.Prelude.{◌≡◌, ◌≢◌, ◌<◌, ℕ, ℤ, option_map, Result, Ok, Err}
+use Rattle.lsp_message.specs.declared.message.Message.{Message}
+use Rattle.lsp_message.specs.declared.message.ReadFault.{ReadFault}
+use Rattle.lsp_message.specs.declared.message.ReadFault.TheVariants.{NotJson, NotAMessage, NoMemory}
+use Rattle.lsp_message.specs.Message as spec
+use Rattle.lsp_message.specs.Outgoing as out
+use Rattle.lsp_message.specs.Seen.{id_view, message_view}
+
+-- The result of a private part of reading is exactly this reading.
+abbrev pub Answers : Result Message ReadFault → spec.Reading → Type 0
+Answers (Ok m) reading = reading ≡ spec.message (message_view m)
+Answers (Err NotJson) reading = ⊥
+Answers (Err (NotAMessage id)) reading = reading ≡ spec.not_a_message (option_map id_view id)
+Answers (Err NoMemory) reading = ⊥

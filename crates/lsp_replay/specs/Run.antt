@@ -1,0 +1,114 @@
+-- What each engine does between a reader and a writer.
+use Rattle.std.specs.Prelude.{ℕ, ◌≡◌, ◌≢◌, ◌&&◌, not, Bool, true, false, List, Result, Err, IfOk}
+use Rattle.lsp_server.specs.declared.config.Config.{Config}
+use Rattle.lsp_stream.specs.declared.fault.EngineFault.{EngineFault}
+use Rattle.lsp_stream.specs.declared.fault.EngineFault.TheVariants.{NoMemory, TooManyTurns, Write}
+use Rattle.lsp_stream.specs.Ports.{Ports}
+use Rattle.lsp_stream.specs.Turns.{StaysFlushed}
+use Rattle.lsp_log.specs.Log.{LogRules, Record}
+use Rattle.lsp_replay.specs.declared.engines.Settings.{Settings}
+use Rattle.lsp_replay.specs.declared.outcome.Outcome.{Outcome}
+use Rattle.lsp_replay.specs.RunOutput.{RunOutput}
+use Rattle.lsp_replay.specs.Engine.{Called, NonePassedOver, Ran, WroteRecords, state_of}
+use Rattle.lsp_replay.specs.Engines.{as_converted, as_log, as_stream, converted, replies, report, verdicts}
+use Rattle.lsp_replay.specs.Laws.{Wrote}
+use Rattle.lsp_replay.specs.Squashed.{normalised}
+use Rattle.lsp_replay.specs.AllRecords.{RanOver}
+
+-- An engine, as its contract names it.
+pub record Engine : Type 0 where
+  -- how it reads its input
+  pub reading : LogRules
+  -- its output for the records of an input, and for the input's end
+  pub run_output : List Record → RunOutput
+  -- Does it pass each output on before it reads on?
+  pub flushes : Bool
+  -- Does it write the output of the input's end in several parts?
+  pub in_parts : Bool
+
+-- An engine that ran between a reader and a writer.
+pub record IsEngineRun (engine : Engine) (max_turns : ℕ) (before after : Ports)
+    (result : Result Outcome EngineFault) : Type 0 where
+  -- What was written and answered, by some first records of the bytes that were read.
+  pub ran : Ran engine.reading engine.run_output
+      (state_of before.reader.ended after.reader.ended (engine.flushes && not after.writer.flushed))
+      before.reader.left after.reader.left before.writer.written after.writer.written result
+  -- The same, by all records that are whole in these bytes.
+  pub all_records : RanOver engine.reading engine.run_output
+      (state_of before.reader.ended after.reader.ended (engine.flushes && not after.writer.flushed))
+      before.reader.left after.reader.left before.writer.written after.writer.written result
+  -- Where memory runs out, what was written is the output of records, each whole; `replay` may have
+  -- written a part of its report.
+  pub whole : engine.in_parts ≡ false → result ≡ Err NoMemory →
+      WroteRecords engine.reading engine.run_output before.reader.left after.reader.left
+      before.writer.written after.writer.written
+  -- Which calls were made.
+  pub called : Called before.reader.calls after.reader.calls before.writer.calls after.writer.calls
+      max_turns
+      after.reader.failed after.writer.failed after.reader.ended after.reader.left result
+  -- No failure was passed over.
+  pub none_passed_over : NonePassedOver before.reader.failed after.reader.failed
+      before.writer.failed after.writer.failed result
+  -- After an outcome, and after each fault but those of writing and of too many turns, `serve` has
+  -- passed on all that was written.
+  pub passed_on : engine.flushes ≡ true → result ≢ Err Write → result ≢ Err TooManyTurns →
+      StaysFlushed before.writer.flushed after.writer.flushed
+
+-- ---- the five engines
+
+-- `serve` reads frames and no log, and flushes each reply.
+abbrev pub serve_engine : Config → Engine
+serve_engine config
+    = record {
+      reading = as_stream config;
+      run_output = replies config;
+      flushes = true;
+      in_parts = false;
+    }
+
+abbrev pub check_engine : Settings → Engine
+check_engine settings
+    = record {
+      reading = as_log settings;
+      run_output = verdicts settings;
+      flushes = false;
+      in_parts = false;
+    }
+
+-- `replay` writes its report document by document.
+abbrev pub replay_engine : Settings → Engine
+replay_engine settings
+    = record {
+      reading = as_log settings;
+      run_output = report settings;
+      flushes = false;
+      in_parts = true;
+    }
+
+abbrev pub normalise_engine : Settings → Engine
+normalise_engine settings
+    = record {
+      reading = as_log settings;
+      run_output = normalised settings;
+      flushes = false;
+      in_parts = false;
+    }
+
+-- `convert` takes version 1 alone.
+abbrev pub convert_engine : Settings → Engine
+convert_engine settings
+    = record {
+      reading = as_converted settings;
+      run_output = converted settings;
+      flushes = false;
+      in_parts = false;
+    }
+
+-- ---- what `normalise` and `convert` write
+
+-- An engine that came to the end of a log wrote a log of which this holds.
+abbrev pub WritesLog : Settings → (List Record → List ℕ → Type 0) → Ports → Ports →
+    Result Outcome EngineFault → Type 0
+WritesLog settings Holds before after result =
+    IfOk result (Wrote settings Holds before.reader.left after.reader.left before.writer.written
+    after.writer.written)

@@ -1,0 +1,8 @@
+-- Definitions that only private contracts speak of.
+pub mod Joining
+pub mod Progress
+pub mod Verdicts
+pub mod Engine
+pub mod Run
+pub mod RunOutput
+pub mod Squashed

@@ -1,0 +1,114 @@
+-- How a record is written with squash, and which batches are open after it.
+use Rattle.std.specs.Prelude.{ℕ, ◌≡◌, ◌≢◌, ◌≤◌, ◌<◌, ⊤, true, false, List, length, map, Option, Some, None}
+use Rattle.std.specs.Str.{bytes_eq}
+use Rattle.lsp_frame.specs.Frame.{frame}
+use Rattle.lsp_message.specs.Params.{ChangeData}
+use Rattle.lsp_store.specs.Squash.{SquashData, HasReached, squash_of}
+use Rattle.lsp_store.specs.Table.{Entry, Refusal, after_change, change_refusal, entry_at}
+use Rattle.lsp_text.specs.Units.{units_in}
+use Rattle.lsp_server.specs.Answer.{changed}
+use Rattle.lsp_server.specs.Step.{State, edit_from_data, encoding_of}
+use Rattle.lsp_replay.specs.declared.session.Writing.{Writing}
+use Rattle.lsp_replay.specs.declared.session.Writing.TheVariants.{AsItIs, TooLong, Continues, Begins}
+use Rattle.lsp_replay.specs.Engines.{canonical_if, canonical_change_body}
+use Rattle.lsp_replay.specs.Session.{Verdict, answered}
+use Rattle.lsp_replay.specs.Squashed.{joined_by}
+
+-- The batches of a run lead to the document that is open now, with the server's limits and
+-- encoding.
+pub record IsOpenIn (server : State) (squash : SquashData) : Type 0 where
+  pub entry : Entry
+  pub is_open : entry_at server.table squash.uri ≡ Some entry
+  pub reached : HasReached squash entry
+  pub limits : squash.limits ≡ server.config.limits
+  pub encoding : squash.encoding ≡ encoding_of server
+
+-- No batches are open, or they lead to the document that is open now.
+abbrev pub MayBeOpenIn : State → Option SquashData → Type 0
+MayBeOpenIn server None = ⊤
+MayBeOpenIn server (Some squash) = IsOpenIn server squash
+
+-- ---- a change that a running server receives
+
+-- Why a running server refuses a change, if it does.
+abbrev pub refusal_of : State → ChangeData → Option Refusal
+refusal_of server p
+    = change_refusal server.config.limits (units_in (encoding_of server)) server.table p.uri
+    p.version (map edit_from_data p.changes)
+
+-- The server after the change.
+abbrev pub server_after : State → ChangeData → State
+server_after server p
+    = record server {
+      table
+          = after_change (units_in (encoding_of server)) server.table p.uri p.version
+          (map edit_from_data p.changes);
+    }
+
+-- ---- a record
+
+-- The canonical body of a change is within the limit, and this is its frame.
+pub record IsFramed (server : State) (p : ChangeData) (canonical : List ℕ) : Type 0 where
+  pub is : canonical ≡ frame (canonical_change_body server p)
+  pub within : length (canonical_change_body server p) ≤ server.config.limits.max_body
+
+-- A record is an accepted change with this canonical frame.
+pub record IsChange (server : State) (change : Option ChangeData) (verdict : Verdict)
+    (canonical : List ℕ) : Type 0 where
+  pub params : ChangeData
+  pub is : change ≡ Some params
+  pub accepted : verdict ≡ answered changed
+  pub framed : IsFramed server params canonical
+
+-- The open run is of the same document, and the change joins it.
+pub record IsLonger (run : Option SquashData) (p : ChangeData) (batches : SquashData) : Type 0 where
+  pub before : SquashData
+  pub open_one : run ≡ Some before
+  pub same : bytes_eq p.uri before.uri ≡ true
+  pub joined : batches ≡ joined_by p before
+
+-- No run is open, or the open run is of another document.
+abbrev pub IsOther : Option SquashData → ChangeData → Type 0
+IsOther None p = ⊤
+IsOther (Some squash) p = bytes_eq p.uri squash.uri ≡ false
+
+-- These batches begin with a change of a document that is open.
+pub record IsBegun (server : State) (p : ChangeData) (batches : SquashData) : Type 0 where
+  pub entry : Entry
+  pub is_open : entry_at server.table p.uri ≡ Some entry
+  pub joined : batches ≡ joined_by p (squash_of server.config.limits (encoding_of server) entry)
+
+-- How a record is written: as it is, as part of the open run, or as the first of a new one.
+abbrev pub IsWriting : State → Option SquashData → Option ChangeData → Verdict → Writing → Type 0
+IsWriting server run change verdict (AsItIs ended) = (canonical_if server change verdict ≡ None)
+    × (ended ≡ run)
+IsWriting server run change verdict TooLong =
+    (p : ChangeData) × (change ≡ Some p) × (verdict ≡ answered changed)
+    × (server.config.limits.max_body < length (canonical_change_body server p))
+IsWriting server run change verdict (Continues canonical batches) =
+    (is : IsChange server change verdict canonical.items) × IsLonger run is.params batches
+IsWriting server run change verdict (Begins canonical ended batches) =
+    (is : IsChange server change verdict canonical.items) × IsOther run is.params × (ended ≡ run)
+    × IsBegun server is.params batches
+
+-- The batches that are open afterwards lead to the document that is open then.
+abbrev pub IsOpenAfter : State → Writing → Type 0
+IsOpenAfter server (AsItIs ended) = ⊤
+IsOpenAfter server TooLong = ⊤
+IsOpenAfter server (Continues canonical batches) = IsOpenIn server batches
+IsOpenAfter server (Begins canonical ended batches) = IsOpenIn server batches
+
+-- ---- the same of a change that a running server receives
+
+-- How a change is written, by whether the server refuses it.
+abbrev pub IsChangeWriting : State → Option SquashData → ChangeData → Writing → Type 0
+IsChangeWriting server run p (AsItIs ended) = (refusal_of server p ≢ None) × (ended ≡ run)
+IsChangeWriting server run p TooLong = (refusal_of server p ≡ None)
+    × (server.config.limits.max_body < length (canonical_change_body server p))
+IsChangeWriting server run p (Continues canonical batches) =
+    (refusal_of server p ≡ None) × IsFramed server p canonical.items × IsLonger run p batches
+    × IsOpenIn (server_after server p) batches
+IsChangeWriting server run p (Begins canonical ended batches) =
+    (refusal_of server p ≡ None) × IsFramed server p canonical.items × IsOther run p × (ended ≡ run)
+    × IsBegun server p batches
+    × IsOpenIn (server_after server p) batches

@@ -1,0 +1,195 @@
+//! `normalise`: writes a log in which each accepted change is its canonical message.
+
+ghost use Rattle.std.specs.Prelude.{ℕ, ◌≡◌, ◌≤◌, ◌-◌, ◌⊎◌, ◌++◌, List, [], length, drop, vec_len, Option, false, refl, IfOk, IfErr, OnOk, Err};
+ghost use Rattle.lsp_frame.specs.Frame.{frame};
+ghost use Rattle.lsp_log.specs.Log.{mark_of};
+ghost use Rattle.lsp_replay.specs.inside.RunOutput.{output_of};
+ghost use Rattle.lsp_replay.specs.Session.{opened};
+ghost use Rattle.lsp_replay.specs.Engines.{normalising, run_output_in, line_if, written, writes, ends};
+ghost use Rattle.lsp_replay.specs.inside.Verdicts.{IsAppended};
+
+use crate::handler::{Given, Handler, Output};
+use crate::outcome::Outcome;
+use crate::session::{Appended, Session, Verdict};
+use lsp_frame::put_header;
+use lsp_log::{Head, Side, VERSION_LINE, Version};
+use lsp_server::Config;
+use lsp_stream::EngineFault;
+use std::alloc::{AllocError, Global};
+
+/// Writes each record as it is, and an accepted change as its canonical message.
+#[derive(Drop)]
+pub struct Normalise {
+    pub session: Session,
+}
+
+impl Normalise {
+    /// Starts before the first record, over a new server.
+    pub fn new(alloc: Global, config: Config) -> Normalise
+        ensures session { result.session ≡ opened config }
+    {
+        let session = Session::new(alloc, config);
+        Normalise { session }
+    }
+}
+
+impl Handler for Normalise {
+    ghost run_output = { λ normalise. run_output_in normalising normalise.session };
+
+    ghost FLUSHES = { false };
+
+    const FLUSHES: bool = false;
+
+    ghost parts = { λ normalise. 0 };
+
+    ghost silent = { λ _. refl };
+
+    ghost unstopped = { λ _. refl };
+
+    fn handle(
+        &mut self,
+        head: Head,
+        spelling: &[u8],
+        body: &[u8],
+        buffer: &mut Vec<u8>,
+    ) -> Result<Given, EngineFault> {
+        buffer.resize(FRONT_ROOM, 0)?;
+        let (verdict, appended) = self.session.judge_and_write(head, body, buffer)?;
+        if verdict == Verdict::Bad {
+            return Err(EngineFault::BadLog { place: head.place });
+        }
+        let version = self.session.version();
+        let output = push_record(buffer, head, version, spelling, appended)?;
+        Ok(Given::more(output))
+    }
+
+    fn finish(
+        &mut self,
+        line_due: bool,
+        buffer: &mut Vec<u8>,
+    ) -> Result<Option<Outcome>, EngineFault> {
+        push_line(buffer, line_due)?;
+        Ok(Some(self.session.outcome()))
+    }
+}
+
+/// Room before a body for what is written there: the line of version 2, a mark and a header.
+const FRONT_ROOM: usize = 64;
+
+/// Writes a record with its mark: as it is, or as its canonical message, whose body is in `buffer`
+/// after the room.
+#[tactic(auto, using(crate::proofs::CanonicalLogLemmas::appended_none, crate::proofs::CanonicalLogLemmas::appended_framed, crate::proofs::CanonicalLogLemmas::appended_too_long))]
+fn push_record(
+    buffer: &mut Vec<u8>,
+    head: Head,
+    version: Version,
+    spelling: &[u8],
+    appended: Option<Appended>,
+) -> Result<Output, EngineFault>
+    requires { FRONT_ROOM ≤ vec_len buffer.old }
+    ensures ok { IfOk result
+        (λ output. (max_body : ℕ) (canonical_log : Option (List ℕ)) (body room : List ℕ) →
+        length room ≡ FRONT_ROOM →
+        IsAppended max_body canonical_log appended room buffer.old.items →
+        written max_body (record { head = head; spelling = spelling.now; body = body })
+        (line_if head.line_due ++ mark_of version head.side) canonical_log
+        ≡ writes (output_of output spelling.now buffer.new.items)) }
+    ensures err { IfErr result
+        (λ fault. (fault ≡ EngineFault.NoMemory) ⊎ ((fault ≡ EngineFault.BodyTooLong head.place)
+        × ((max_body : ℕ) (canonical_log : Option (List ℕ)) (body room : List ℕ) →
+        length room ≡ FRONT_ROOM →
+        IsAppended max_body canonical_log appended room buffer.old.items →
+        written max_body (record { head = head; spelling = spelling.now; body = body })
+        (line_if head.line_due ++ mark_of version head.side) canonical_log
+        ≡ ends [] (Err (EngineFault.BodyTooLong head.place))))) }
+{
+    let Some(appended) = appended else {
+        return Ok(push_as_it_is(buffer, head, version, spelling)?);
+    };
+    match appended {
+        Appended::TooLong => Err(EngineFault::BodyTooLong { place: head.place }),
+        Appended::Body => {
+            let start = put_front(buffer, head, version);
+            Ok(Output::BytesFrom(start))
+        }
+    }
+}
+
+/// Writes a record with its mark, as it is.
+fn push_as_it_is(
+    buffer: &mut Vec<u8>,
+    head: Head,
+    version: Version,
+    spelling: &[u8],
+) -> Result<Output, AllocError>
+    ensures { IfOk result (λ output. output_of output spelling.now buffer.new.items
+        ≡ (line_if head.line_due ++ mark_of version head.side) ++ spelling.now) }
+{
+    buffer.clear();
+    push_line(buffer, head.line_due)?;
+    push_mark(buffer, version, head.side)?;
+    if buffer.is_empty() {
+        return Ok(Output::Frame);
+    }
+    buffer.extend_from_slice(spelling)?;
+    Ok(Output::Bytes)
+}
+
+/// Writes the line of version 2, if it is due, the mark and the header into the room right before a
+/// body. Returns the index where they begin.
+fn put_front(buffer: &mut [u8], head: Head, version: Version) -> usize
+    requires { FRONT_ROOM ≤ length buffer.old }
+    ensures { drop result buffer.new ≡ line_if head.line_due
+        ++ (mark_of version head.side ++ frame (drop FRONT_ROOM buffer.old)) }
+{
+    let header = put_header(buffer, FRONT_ROOM);
+    let mark = put_before(buffer, header, mark_bytes(version, head.side));
+    put_before(buffer, mark, line_bytes(head.line_due))
+}
+
+/// Writes some bytes right before an index, over what is there. Returns the index where they begin.
+fn put_before(buffer: &mut [u8], index: usize, bytes: &[u8]) -> usize
+    requires room { length bytes.now ≤ index }
+    requires within { index ≤ length buffer.old }
+    ensures put { drop result buffer.new ≡ bytes.now ++ drop index buffer.old }
+    ensures len { length buffer.new ≡ length buffer.old }
+    ensures begins { result ≡ index - length bytes.now }
+{
+    let start = index - bytes.len();
+    buffer[start..index].copy_from_slice(bytes);
+    start
+}
+
+/// The line of version 2, if it is due.
+fn line_bytes(line_due: bool) -> &'static [u8]
+    ensures is { result.now ≡ line_if line_due }
+    ensures short { length result.now ≤ 18 }
+{
+    if line_due { VERSION_LINE } else { b"" }
+}
+
+/// The mark of a record.
+fn mark_bytes(version: Version, side: Side) -> &'static [u8]
+    ensures is { result.now ≡ mark_of version side }
+    ensures short { length result.now ≤ 1 }
+{
+    match (version, side) {
+        (Version::One, _) => b"",
+        (Version::Two, Side::Client) => b">",
+        (Version::Two, Side::Server) => b"<",
+    }
+}
+
+/// Writes the line of version 2, if it is due.
+pub fn push_line(buffer: &mut Vec<u8>, line_due: bool) -> Result<(), AllocError>
+    ensures { OnOk result (buffer.new.items ≡ buffer.old.items ++ line_if line_due) }
+{
+    buffer.extend_from_slice(line_bytes(line_due))
+}
+
+/// Writes the mark of a record.
+pub fn push_mark(buffer: &mut Vec<u8>, version: Version, side: Side) -> Result<(), AllocError>
+    ensures { OnOk result (buffer.new.items ≡ buffer.old.items ++ mark_of version side) }
+{
+    buffer.extend_from_slice(mark_bytes(version, side))
+}

@@ -1,0 +1,211 @@
+//! `normalise` with squash: writes accepted changes of one document, one after another, as one
+//! message.
+
+ghost use Rattle.std.specs.Prelude.{◌≡◌, ◌++◌, refl, OnOk, None, Some, false};
+ghost use Rattle.lsp_log.specs.Log.{mark_of};
+ghost use Rattle.lsp_replay.specs.Session.{opened};
+ghost use Rattle.lsp_replay.specs.Engines.{line_if};
+ghost use Rattle.lsp_replay.specs.Squashed.{squashed_in, end_bytes};
+ghost use Rattle.lsp_replay.specs.inside.Squashed.{run_of};
+
+use crate::commands::normalising::{push_line, push_mark};
+use crate::handler::{Given, Handler, Output};
+use crate::outcome::Outcome;
+use crate::session::{Session, Verdict, Writing};
+use lsp_log::{Head, Version};
+use lsp_server::Config;
+use lsp_store::{Batches, StoreFault};
+use lsp_stream::EngineFault;
+use std::alloc::{AllocError, Global};
+use std::marker::Model;
+
+/// The output of a record that doesn't end the run of the command.
+const WRITTEN: Given = Given {
+    output: Output::Bytes,
+    end: None,
+};
+
+/// The bytes of a run, beside the canonical message of its batches.
+#[derive(Drop)]
+struct Texts {
+    // The bytes before its first record's frame.
+    front: Vec<u8>,
+    // Its records as they are written without squash.
+    singles: Vec<u8>,
+}
+
+impl Texts {
+    /// Starts with the record that begins a run, and its canonical frame.
+    fn begin(&mut self, head: Head, version: Version, frame: &[u8]) -> Result<(), AllocError>
+        ensures front { OnOk result
+            (self.new.front.items ≡ line_if head.line_due ++ mark_of version head.side) }
+        ensures singles { OnOk result
+            (self.new.singles.items ≡ (line_if head.line_due ++ mark_of version head.side)
+            ++ frame.now) }
+    {
+        self.front.clear();
+        push_front(&mut self.front, head, version)?;
+        self.singles.clear();
+        self.continue_with(head, version, frame)
+    }
+
+    /// Adds a record, with its canonical frame.
+    fn continue_with(
+        &mut self,
+        head: Head,
+        version: Version,
+        frame: &[u8],
+    ) -> Result<(), AllocError>
+        ensures front { OnOk result (self.new.front.items ≡ self.old.front.items) }
+        ensures singles { OnOk result (self.new.singles.items
+            ≡ self.old.singles.items
+            ++ ((line_if head.line_due ++ mark_of version head.side) ++ frame.now)) }
+    {
+        push_front(&mut self.singles, head, version)?;
+        self.singles.extend_from_slice(frame)
+    }
+
+    /// Writes a run that has ended, as the one canonical message of its batches. If that has too
+    /// many changes or is too long, the run is written as without squash.
+    fn push_run(&self, output: &mut Vec<u8>, batches: &Batches) -> Result<(), AllocError>
+        ensures { OnOk result (output.new.items ≡ output.old.items
+            ++ end_bytes (run_of self.now.front.items self.now.singles.items (Some batches.now))) }
+    {
+        match batches.message() {
+            Ok(frame) => {
+                output.extend_from_slice(&self.front)?;
+                output.extend_from_slice(&frame)
+            }
+            Err(StoreFault::NoMemory) => Err(AllocError),
+            Err(_) => output.extend_from_slice(&self.singles),
+        }
+    }
+
+    /// Writes the run that has ended, if there is one.
+    fn push_end(&self, output: &mut Vec<u8>, ended: &Option<Batches>) -> Result<(), AllocError>
+        ensures { OnOk result (output.new.items ≡ output.old.items
+            ++ end_bytes (run_of self.now.front.items self.now.singles.items ended.now)) }
+    {
+        match ended {
+            Some(batches) => self.push_run(output, batches),
+            None => Ok(()),
+        }
+    }
+}
+
+/// Writes each record as it is, and each run of accepted changes of one document as one message,
+/// once the run has ended.
+#[derive(Drop)]
+pub struct Squashing {
+    session: Session,
+    texts: Texts,
+    // The batches of the open run, if there is one. They lead to the document that is open now.
+    batches: Option<Batches>,
+}
+
+impl Model for Squashing {
+    ghost use Rattle.lsp_replay.specs.Squashed as spec;
+    ghost use Rattle.lsp_replay.specs.inside.Squashed.{run_of};
+    ghost use Rattle.lsp_replay.specs.inside.Joining.{MayBeOpenIn};
+
+    ghost Value = { spec.Squashing };
+
+    ghost view = { λ h. record {
+      session = h.session;
+      run = run_of h.texts.front.items h.texts.singles.items h.batches;
+    } };
+
+    ghost invariant = { λ h. MayBeOpenIn h.session.server h.batches };
+}
+
+impl Squashing {
+    /// Starts before the first record, over a new server.
+    pub fn new(alloc: Global, config: Config) -> Squashing
+        ensures { result ≡ record { session = opened config; run = None } }
+    {
+        Squashing {
+            session: Session::new(alloc, config),
+            texts: Texts {
+                front: Vec::new(alloc),
+                singles: Vec::new(alloc),
+            },
+            batches: None,
+        }
+    }
+
+    /// Writes the open run, if there is one.
+    fn push_open(&self, output: &mut Vec<u8>) -> Result<(), AllocError>
+        ensures { OnOk result (output.new.items ≡ output.old.items ++ end_bytes self.now.run) }
+    {
+        self.texts.push_end(output, &self.batches)
+    }
+}
+
+impl Handler for Squashing {
+    ghost run_output = { λ squashing. squashed_in squashing.session squashing.run };
+
+    ghost FLUSHES = { false };
+
+    const FLUSHES: bool = false;
+
+    ghost parts = { λ squashing. 0 };
+
+    ghost silent = { λ _. refl };
+
+    ghost unstopped = { λ _. refl };
+
+    fn handle(
+        &mut self,
+        head: Head,
+        spelling: &[u8],
+        body: &[u8],
+        buffer: &mut Vec<u8>,
+    ) -> Result<Given, EngineFault> {
+        let run = self.batches.take();
+        let (verdict, writing) = self.session.judge_and_join(head, body, run)?;
+        if verdict == Verdict::Bad {
+            return Err(EngineFault::BadLog { place: head.place });
+        }
+        let version = self.session.version();
+        match writing {
+            Writing::AsItIs(ended) => {
+                self.texts.push_end(buffer, &ended)?;
+                push_front(buffer, head, version)?;
+                buffer.extend_from_slice(spelling)?;
+                Ok(WRITTEN)
+            }
+            Writing::TooLong => Err(EngineFault::BodyTooLong { place: head.place }),
+            Writing::Continues(frame, batches) => {
+                self.texts.continue_with(head, version, &frame)?;
+                self.batches = Some(batches);
+                Ok(WRITTEN)
+            }
+            Writing::Begins(frame, ended, batches) => {
+                self.texts.push_end(buffer, &ended)?;
+                self.texts.begin(head, version, &frame)?;
+                self.batches = Some(batches);
+                Ok(WRITTEN)
+            }
+        }
+    }
+
+    fn finish(
+        &mut self,
+        line_due: bool,
+        buffer: &mut Vec<u8>,
+    ) -> Result<Option<Outcome>, EngineFault> {
+        self.push_open(buffer)?;
+        push_line(buffer, line_due)?;
+        Ok(Some(self.session.outcome()))
+    }
+}
+
+/// Writes the bytes before a record's frame: the line of version 2, if it is due, and the mark.
+fn push_front(output: &mut Vec<u8>, head: Head, version: Version) -> Result<(), AllocError>
+    ensures { OnOk result
+        (output.new.items
+        ≡ output.old.items ++ (line_if head.line_due ++ mark_of version head.side)) }
+{
+    push_line(output, head.line_due)?;
+    push_mark(output, version, head.side)
+}

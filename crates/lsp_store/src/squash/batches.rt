@@ -1,0 +1,132 @@
+//! Batches of changes on one document, as one batch, for a caller who keeps the document.
+
+ghost use Rattle.std.specs.Prelude.{◌≡◌, None, IfErr, IfOk, OnErr, OnOk, map, string_bytes};
+ghost use Rattle.lsp_text.specs.Units.{units_in};
+ghost use Rattle.lsp_edit.specs.declared.indexed.TextFault.TheVariants.{NoMemory};
+ghost use Rattle.lsp_edit.specs.Edited.{edit_of};
+ghost use Rattle.lsp_store.specs.Faults.{IsRefusal};
+ghost use Rattle.lsp_store.specs.Squash.{HasReached, IsSquashAfter, squash_frame, squash_of, squash_refusal};
+ghost use Rattle.lsp_store.specs.Table.{changed, entry_refusal};
+
+use crate::fault::StoreFault;
+use crate::store::canonical::{framed_change, may_be_written};
+use crate::store::document::Document;
+use lsp_edit::{Change, Joined, TextFault};
+use lsp_frame::Limits;
+use lsp_text::Encoding;
+use std::alloc::{AllocError, Global};
+use std::marker::Model;
+
+/// What [`crate::Squash`] is, for a caller who has the document that the batches lead to. It keeps
+/// the old text with its lines and what became of it, and no second copy of the text reached.
+#[derive(Debug, Drop)]
+pub struct Batches {
+    uri: String,
+    limits: Limits,
+    encoding: Encoding,
+    version: i32,
+    joined: Joined,
+}
+
+/// Converts the fault of an accepted batch, which fails only where memory runs out.
+fn out_of_memory(_fault: TextFault) -> AllocError
+    requires { _fault ≡ NoMemory }
+{
+    AllocError
+}
+
+impl Model for Batches {
+    ghost use Rattle.std.specs.Prelude.{string_bytes};
+    ghost use Rattle.lsp_store.specs.Squash.{SquashData};
+
+    ghost Value = { SquashData };
+
+    ghost view = { λ batches. record {
+      uri = string_bytes batches.uri;
+      limits = batches.limits;
+      encoding = batches.encoding;
+      text = batches.joined.before;
+      items = batches.joined.items;
+      version = batches.version;
+    } };
+}
+
+impl Batches {
+    /// Starts at a document before any batch, within limits.
+    ///
+    /// Fails only where memory runs out. Costs a copy of the text and a search through it for its
+    /// lines.
+    pub fn start(
+        alloc: Global,
+        limits: Limits,
+        document: &Document<'_>,
+        encoding: Encoding,
+    ) -> Result<Self, AllocError>
+        ensures ok { IfOk result (λ batches. batches ≡ squash_of limits encoding document.now) }
+        ensures reached { IfOk result (λ batches. HasReached batches document.now) }
+    {
+        let stored = document.stored;
+        let uri = String::from_str(alloc, document.uri)?;
+        let before = String::from_str(alloc, stored.text.text())?;
+        let joined = Joined::new(alloc, before)?;
+        Ok(Batches {
+            uri,
+            limits,
+            encoding,
+            version: stored.version,
+            joined,
+        })
+    }
+
+    /// Returns the document's URI.
+    pub fn uri(&self) -> &str
+        ensures { result.now ≡ self.now.uri }
+    {
+        &self.uri
+    }
+
+    /// Adds a batch on `document`, to which the batches before it lead and which accepts it. The
+    /// document stays as it is.
+    ///
+    /// Fails only where memory runs out, and then nothing changes. Costs what the batch costs to
+    /// apply, without a move of the text, and a share in the joins of earlier batches. There k
+    /// changes cost some k log k steps on spans.
+    pub fn add(
+        &mut self,
+        document: &Document<'_>,
+        version: i32,
+        changes: &[Change],
+    ) -> Result<(), AllocError>
+        requires reached { HasReached self.old document.now }
+        requires accepted { entry_refusal self.old.limits (units_in self.old.encoding) document.now
+            version
+            (map edit_of changes.now) ≡ None }
+        ensures ok { OnOk result
+            (IsSquashAfter self.old version (map edit_of changes.now) self.new) }
+        ensures reached { OnOk result (HasReached self.new
+            (changed (units_in self.old.encoding) document.now version (map edit_of changes.now))) }
+        ensures unchanged { OnErr result (self.new ≡ self.old) }
+    {
+        document.show_utf8();
+        let max_text = self.limits.max_text();
+        let reached = &document.stored.text;
+        if let Err(fault) = self.joined.add(self.encoding, reached, changes, max_text) {
+            return Err(out_of_memory(fault));
+        }
+        self.version = version;
+        Ok(())
+    }
+
+    /// Returns the frame of the one message that means all added batches, as
+    /// [`crate::Squash::message`] does, with its refusals and costs.
+    pub fn message(&self) -> Result<Vec<u8>, StoreFault>
+        ensures ok { IfOk result (λ bytes. bytes.items ≡ squash_frame self.now) }
+        ensures accepted { OnOk result (squash_refusal self.now ≡ None) }
+        ensures error { IfErr result (IsRefusal (squash_refusal self.now)) }
+    {
+        let batch = self.joined.canonical(self.encoding)?;
+        may_be_written(&self.limits, &batch)?;
+        let alloc = *self.uri.allocator();
+        framed_change(alloc, &self.limits, &self.uri, self.version, batch)
+    }
+}

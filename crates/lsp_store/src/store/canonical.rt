@@ -1,0 +1,197 @@
+//! The canonical message of an accepted batch of changes.
+
+ghost use Rattle.std.specs.Prelude.{◌≡◌, ◌<◌, ◌≤◌, ◌↔◌, ◌++◌, List, None, Err, IfErr, IfOk, OnErr, OnOk, length, map};
+ghost use Rattle.lsp_frame.specs.Frame.{frame};
+ghost use Rattle.lsp_text.specs.Units.{units_in};
+ghost use Rattle.lsp_edit.specs.Batch.{Edit};
+ghost use Rattle.lsp_edit.specs.Edited.{edit_of};
+ghost use Rattle.lsp_message.specs.Outgoing.{OutgoingData, body_of};
+ghost use Rattle.lsp_message.specs.Sent.{IsProper, IsReadAsSent, IsReadBack};
+ghost use Rattle.lsp_store.specs.declared.fault.StoreFault.TheVariants.{NoMemory, TooManyChanges};
+ghost use Rattle.lsp_store.specs.Faults.{IsRefusal};
+ghost use Rattle.lsp_store.specs.Opened.{MayTakeMemory};
+ghost use Rattle.lsp_store.specs.Table.{change_refusal};
+ghost use Rattle.lsp_store.specs.Message.{AreTexts, DoAlike, IsCanonicalOn, IsReadAgain, IsCanonicalOf};
+ghost use Rattle.lsp_store.specs.Message.{body_refusal, canonical_batch, canonical_body, canonical_frame, change_body, message_refusal};
+
+use crate::fault::StoreFault;
+use crate::store::Store;
+use lsp_edit::Change;
+use lsp_frame::{Limits, encode};
+use lsp_message::push_change;
+use lsp_text::Encoding;
+use std::alloc::Global;
+
+/// Refuses a batch with more changes than the limit allows. Takes no memory.
+pub fn may_be_written(limits: &Limits, changes: &[Change]) -> Result<(), StoreFault>
+    ensures ok { OnOk result (length changes.now ≤ limits.now.max_changes) }
+    ensures error { IfErr result (λ fault. (fault ≡ TooManyChanges)
+        × (limits.now.max_changes < length changes.now)) }
+{
+    if changes.len() > limits.max_changes() {
+        return Err(StoreFault::TooManyChanges);
+    }
+    Ok(())
+}
+
+/// Most messages fit into this many bytes.
+const USUAL_LENGTH: usize = 256;
+
+/// Returns the frame of the `textDocument/didChange` of a batch.
+pub fn framed_change(
+    alloc: Global,
+    limits: &Limits,
+    uri: &str,
+    version: i32,
+    changes: Vec<Change>,
+) -> Result<Vec<u8>, StoreFault>
+    ensures framed { IfOk result
+        (λ bytes. bytes.items ≡ frame (change_body uri.now version (map edit_of changes.items))) }
+    ensures within { OnOk result
+        (body_refusal limits.now (change_body uri.now version (map edit_of changes.items)) ≡ None) }
+    ensures error { IfErr result
+        (IsRefusal (body_refusal limits.now
+        (change_body uri.now version (map edit_of changes.items)))) }
+    ensures read_as { OnOk result ((m : OutgoingData) → IsProper m → IsReadAsSent m) }
+    ensures read_back { OnOk result ((m : OutgoingData) → IsProper m → IsReadBack m) }
+    ensures unique { OnOk result ((m n : OutgoingData) → IsProper m → IsProper n →
+        body_of m ≡ body_of n → m ≡ n) }
+{
+    let mut body = Vec::with_capacity(alloc, USUAL_LENGTH)?;
+    push_change(&mut body, uri, version, &changes)?;
+    framed(alloc, limits, &body)
+}
+
+/// Appends the body of the `textDocument/didChange` of a batch, unless it is too long.
+fn push_body(
+    bytes: &mut Vec<u8>,
+    limits: &Limits,
+    uri: &str,
+    version: i32,
+    changes: Vec<Change>,
+) -> Result<(), StoreFault>
+    ensures body { OnOk result (bytes.new.items
+        ≡ bytes.old.items ++ change_body uri.now version (map edit_of changes.items)) }
+    ensures within { OnOk result
+        (body_refusal limits.now (change_body uri.now version (map edit_of changes.items)) ≡ None) }
+    ensures error { IfErr result
+        (IsRefusal (body_refusal limits.now
+        (change_body uri.now version (map edit_of changes.items)))) }
+    ensures unchanged { OnErr result (bytes.new.items ≡ bytes.old.items) }
+{
+    let start = bytes.len();
+    push_change(bytes, uri, version, &changes)?;
+    let len = bytes.len() - start;
+    if len > limits.max_body() {
+        bytes.truncate(start);
+        return Err(StoreFault::BodyTooLong { len });
+    }
+    Ok(())
+}
+
+/// Returns the frame of a body. Out of memory only where the body isn't too long.
+fn framed(alloc: Global, limits: &Limits, body: &[u8]) -> Result<Vec<u8>, StoreFault>
+    ensures framed { IfOk result (λ bytes. bytes.items ≡ frame body.now) }
+    ensures within { OnOk result (body_refusal limits.now body.now ≡ None) }
+    ensures error { IfErr result (IsRefusal (body_refusal limits.now body.now)) }
+    ensures memory { result ≡ Err NoMemory → body_refusal limits.now body.now ≡ None }
+{
+    Ok(encode(alloc, limits, body)?)
+}
+
+impl Store {
+    /// Returns the frame of the canonical message of a batch on an open document (LSP 3.17,
+    /// DidChangeTextDocument). Its canonical batch keeps the same old characters and inserts the
+    /// same texts between them. Its positions are in the units of `encoding`.
+    ///
+    /// Refuses as [`Store::change`] does, then with [`StoreFault::BodyTooLong`] where the body has
+    /// more than `max_body` bytes; and with [`StoreFault::NoMemory`]. Changes nothing. Costs a hash
+    /// look-up, what the batch costs to apply (for one change its two positions, whatever the
+    /// text's length), and the message's bytes.
+    pub fn canonical_message(
+        &self,
+        uri: &str,
+        version: i32,
+        encoding: Encoding,
+        changes: &[Change],
+    ) -> Result<Vec<u8>, StoreFault>
+        ensures framed { IfOk result
+            (λ bytes. bytes.items
+            ≡ canonical_frame (units_in encoding) self.now.table uri.now version
+            (map edit_of changes.now)) }
+        ensures accepted { OnOk result
+            (message_refusal self.now.limits (units_in encoding) self.now.table uri.now version
+            (map edit_of changes.now) ≡ None) }
+        ensures error { IfErr result
+            (IsRefusal (message_refusal self.now.limits (units_in encoding) self.now.table uri.now
+            version (map edit_of changes.now))) }
+        // Memory is taken only once nothing but what the batch means, or its message's length, can
+        // refuse it.
+        ensures memory { result ≡ Err NoMemory
+            → MayTakeMemory self.now uri.now version (map edit_of changes.now) }
+        // What holds of the canonical batch.
+        ensures canonical { OnOk result
+            (IsCanonicalOn (units_in encoding) self.now.table uri.now (map edit_of changes.now)) }
+        // Every other batch that is accepted here has the same canonical message exactly if both
+        // batches do the same.
+        ensures exactly { OnOk result ((other : List Edit) → AreTexts other
+            → change_refusal self.now.limits (units_in encoding) self.now.table uri.now version
+            other ≡ None
+            → (canonical_frame (units_in encoding) self.now.table uri.now version
+            (map edit_of changes.now)
+            ≡ canonical_frame (units_in encoding) self.now.table uri.now version other)
+            ↔ DoAlike (units_in encoding) self.now.table uri.now (map edit_of changes.now) other) }
+        // The canonical batch is accepted here, has the same result, and has the same canonical
+        // message.
+        ensures again { OnOk result
+            (IsCanonicalOf self.now.limits (units_in encoding) self.now.table uri.now version
+            (map edit_of changes.now)
+            (canonical_batch (units_in encoding) self.now.table uri.now
+            (map edit_of changes.now))) }
+        // The receiver reads that batch, under this URI and version.
+        ensures read { OnOk result
+            (IsReadAgain uri.now version
+            (canonical_batch (units_in encoding) self.now.table uri.now
+            (map edit_of changes.now))) }
+    {
+        let Some(stored) = self.documents.get(uri) else {
+            return Err(StoreFault::NotOpen);
+        };
+        let changes = stored.canonical(&self.limits, version, encoding, changes)?;
+        let alloc = *self.documents.allocator();
+        let bytes = framed_change(alloc, &self.limits, uri, version, changes)?;
+        Ok(bytes)
+    }
+    /// Appends the body of that message, so that a caller can put its header before it
+    /// ([`lsp_frame::put_header`]).
+    ///
+    /// Refuses as [`Store::canonical_message`] does, and then the bytes are unchanged. Costs the
+    /// same, with no copy of the message.
+    pub fn push_canonical_body(
+        &self,
+        bytes: &mut Vec<u8>,
+        uri: &str,
+        version: i32,
+        encoding: Encoding,
+        changes: &[Change],
+    ) -> Result<(), StoreFault>
+        ensures body { OnOk result (bytes.new.items ≡ bytes.old.items
+            ++ canonical_body (units_in encoding) self.now.table uri.now version
+            (map edit_of changes.now)) }
+        ensures accepted { OnOk result
+            (message_refusal self.now.limits (units_in encoding) self.now.table
+            uri.now version (map edit_of changes.now) ≡ None) }
+        ensures error { IfErr result (IsRefusal (message_refusal self.now.limits (units_in encoding)
+            self.now.table uri.now version (map edit_of changes.now))) }
+        ensures unchanged { OnErr result (bytes.new.items ≡ bytes.old.items) }
+        ensures memory { result ≡ Err NoMemory
+            → MayTakeMemory self.now uri.now version (map edit_of changes.now) }
+    {
+        let Some(stored) = self.documents.get(uri) else {
+            return Err(StoreFault::NotOpen);
+        };
+        let batch = stored.canonical(&self.limits, version, encoding, changes)?;
+        push_body(bytes, &self.limits, uri, version, batch)?;
+        Ok(())
+    }
+}

@@ -1,0 +1,148 @@
+//! The language, version and text of an open document.
+
+ghost use Rattle.std.specs.Prelude.{◌≤◌, length, sum_by};
+
+use crate::fault::StoreFault;
+use lsp_edit::{Change, IndexedText, fits};
+use lsp_frame::Limits;
+use lsp_text::Encoding;
+use std::alloc::{AllocError, Global};
+
+/// An open document without its URI.
+#[derive(Debug, Drop)]
+pub struct Stored {
+    pub language: String,
+    pub version: i32,
+    pub text: IndexedText,
+    ghost short: { length text ≤ 1073741824 },
+}
+
+impl Stored {
+    ghost use Rattle.std.specs.Prelude.{◌≡◌, ◌≢◌, ℕ, List, Some, None, Err, IfErr, IfOk, OnErr, OnOk, map, option_map, string_bytes, string_len};
+    ghost use Rattle.std.specs.Str.{chars};
+    ghost use Rattle.lsp_text.specs.Units.{units_in};
+    ghost use Rattle.lsp_edit.specs.Batch.{meaning};
+    ghost use Rattle.lsp_edit.specs.Edited.{edit_of};
+    ghost use Rattle.lsp_edit.specs.Indexed.{IsCanonicalBatch};
+    ghost use Rattle.lsp_store.specs.declared.fault.StoreFault.TheVariants.{NoMemory};
+    ghost use Rattle.lsp_store.specs.Table.{IsLeftToMeaning, changed, entry_refusal, meaning_refusal};
+    ghost use Rattle.lsp_store.specs.Faults.{fault_of, IsRefusal};
+    ghost use Rattle.lsp_store.specs.Opened.{entry_under};
+
+    /// Opens a document. The texts are moved in. Costs a search through the text for its lines.
+    pub fn new(
+        alloc: Global,
+        language: String,
+        version: i32,
+        text: String,
+    ) -> Result<Self, AllocError>
+        requires { string_len text ≤ 1073741824 }
+        ensures { IfOk result (λ stored. (uri : List ℕ) →
+            entry_under uri stored
+            ≡ record {
+              uri = uri;
+              language = string_bytes language;
+              version = version;
+              text = string_bytes text;
+            }) }
+    {
+        let text = IndexedText::new(alloc, text)?;
+        Ok(Stored {
+            language,
+            version,
+            text,
+        })
+    }
+
+    /// Checks a batch apart from its meaning: its version, and the limits on its changes. Takes no
+    /// memory.
+    pub fn may_change(
+        &self,
+        limits: &Limits,
+        version: i32,
+        changes: &[Change],
+    ) -> Result<(), StoreFault>
+        ensures may { OnOk result ((units : ℕ → ℕ) (uri : List ℕ) →
+            entry_refusal limits.now units (entry_under uri self.now) version
+            (map edit_of changes.now)
+            ≡ meaning_refusal limits.now self.now.text
+            (meaning units (chars self.now.text) (map edit_of changes.now))) }
+        ensures error { IfErr result (λ fault. (units : ℕ → ℕ) (uri : List ℕ) →
+            option_map fault_of
+            (entry_refusal limits.now units (entry_under uri self.now) version
+            (map edit_of changes.now)) ≡ Some fault) }
+        ensures fits { OnOk result
+            (sum_by (λ change. string_len change.text) changes.now ≤ 1073741824) }
+        ensures memory { result ≢ Err NoMemory }
+    {
+        if version <= self.version {
+            return Err(StoreFault::StaleVersion { held: self.version });
+        }
+        if changes.len() > limits.max_changes() || !fits(changes) {
+            return Err(StoreFault::TooManyChanges);
+        }
+        Ok(())
+    }
+
+    /// Applies a batch of changes to the document, and sets its version. A refused batch changes
+    /// nothing.
+    pub fn change(
+        &mut self,
+        limits: &Limits,
+        version: i32,
+        encoding: Encoding,
+        changes: &[Change],
+    ) -> Result<(), StoreFault>
+        ensures accepted { OnOk result ((uri : List ℕ) →
+            entry_refusal limits.now (units_in encoding) (entry_under uri self.old) version
+            (map edit_of changes.now) ≡ None) }
+        ensures changed { OnOk result ((uri : List ℕ) →
+            entry_under uri self.new
+            ≡ changed (units_in encoding) (entry_under uri self.old) version
+            (map edit_of changes.now)) }
+        ensures same { OnErr result (self.new ≡ self.old) }
+        ensures error { IfErr result (λ fault. (uri : List ℕ) →
+            IsRefusal (entry_refusal limits.now (units_in encoding) (entry_under uri self.old)
+            version (map edit_of changes.now)) fault) }
+        // Memory is taken only once nothing but the meaning can refuse the batch.
+        ensures memory { result ≡ Err NoMemory → (uri : List ℕ)
+            → IsLeftToMeaning limits.now (entry_under uri self.old) version
+            (map edit_of changes.now) }
+    {
+        self.may_change(limits, version, changes)?;
+        self.text.change(encoding, changes, limits.max_text())?;
+        self.version = version;
+        Ok(())
+    }
+
+    /// Returns the canonical batch of a batch on the document's text. Refuses as `change` does.
+    pub fn canonical(
+        &self,
+        limits: &Limits,
+        version: i32,
+        encoding: Encoding,
+        changes: &[Change],
+    ) -> Result<Vec<Change>, StoreFault>
+        ensures accepted { OnOk result ((uri : List ℕ) →
+            entry_refusal limits.now (units_in encoding) (entry_under uri self.now) version
+            (map edit_of changes.now) ≡ None) }
+        ensures batch { IfOk result (λ made.
+            IsCanonicalBatch (units_in encoding) limits.now.max_text self.now.text
+            (map edit_of changes.now) (map edit_of made.items)) }
+        ensures short { (length self.now.text ≤ 1073741824) × (limits.now.max_text ≤ 1073741824) }
+        ensures error { IfErr result (λ fault. (uri : List ℕ) →
+            IsRefusal (entry_refusal limits.now (units_in encoding) (entry_under uri self.now)
+            version (map edit_of changes.now)) fault) }
+        // Memory is taken only once nothing but the meaning can refuse the batch.
+        ensures memory { result ≡ Err NoMemory → (uri : List ℕ)
+            → IsLeftToMeaning limits.now (entry_under uri self.now) version
+            (map edit_of changes.now) }
+        ensures left { OnOk result ((uri : List ℕ)
+            → IsLeftToMeaning limits.now (entry_under uri self.now) version
+            (map edit_of changes.now)) }
+    {
+        let max_text = limits.max_text();
+        self.may_change(limits, version, changes)?;
+        Ok(self.text.canonical(encoding, changes, max_text)?)
+    }
+}

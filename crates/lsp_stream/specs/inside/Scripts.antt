@@ -1,0 +1,13 @@
+-- What only proofs and private contracts use of `Scripts`.
+use Rattle.std.specs.Prelude.{ℕ, ◌≡◌, ◌≢◌, ◌+◌, ◌-◌, ◌^◌, [], ◌∷◌}
+use Rattle.std.specs.declared.io.Error.{Error}
+use Rattle.std.specs.declared.io.ErrorKind.TheVariants.{Interrupted}
+use Rattle.std.specs.IoError.{error_kind}
+use Rattle.lsp_stream.specs.declared.stop.Call.{Call}
+use Rattle.lsp_stream.specs.declared.stop.Call.TheVariants.{Take, Interrupt, Fail}
+
+-- The error of a call that moves no byte: an interruption, or another error.
+abbrev pub IsStop : Call → Error → Type 0
+IsStop (Take most) e = error_kind e ≢ Interrupted
+IsStop Interrupt e = error_kind e ≡ Interrupted
+IsStop Fail e = error_kind e ≢ Interrupted

@@ -1,0 +1,29 @@
+use Rattle.std.proofs.Common.{◌∙◌, arith, ℕ, ◌<◌, ◌^◌, length}
+use Rattle.lsp_text.proofs.SearchLemmas.{looks_one, looked_low, looked_high}
+use Rattle.lsp_text.proofs.lines.starts.line_of.Goals as goal
+
+pub loop-high-preserved-then-at-place : goal.loop-high-preserved-then-at-place
+loop-high-preserved-then-at-place g c =
+    let kept = c.loop-high.invariant in
+    record {
+      same = c.at.ensures.same ∙ kept.same;
+      order = omega (arith, c.loop-high-test.true);
+      within = kept.within;
+      at_most = looked_low _ _ _ _ _ kept.same c.at.ensures.start c.if-at-place.true;
+      above = kept.above;
+      looks = λ (digits : ℕ) (few : length (g.S.Starts.starts c.args.starts.now) < 2 ^ digits).
+          looks_one _ _ _ _ _ c.loop-high-test.true (omega arith) (omega (arith, c.at.ensures.counted)) (kept.looks digits few);
+    }
+
+pub loop-high-preserved : goal.loop-high-preserved
+loop-high-preserved g c =
+    let kept = c.loop-high.invariant in
+    record {
+      same = c.at.ensures.same ∙ kept.same;
+      order = omega (arith, c.loop-high-test.true);
+      within = omega (arith, kept.within, kept.order);
+      at_most = kept.at_most;
+      above = looked_high _ _ _ _ _ kept.same c.at.ensures.start c.if-at-place.false (g.met.S.Starts.are_starts _);
+      looks = λ (digits : ℕ) (few : length (g.S.Starts.starts c.args.starts.now) < 2 ^ digits).
+          looks_one _ _ _ _ _ c.loop-high-test.true (omega arith) (omega (arith, c.at.ensures.counted)) (kept.looks digits few);
+    }

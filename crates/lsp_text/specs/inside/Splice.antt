@@ -1,0 +1,10 @@
+-- What only proofs and private contracts use of `Splice`.
+use Rattle.std.specs.Prelude.{ℕ, ◌≡◌, ◌+◌, ◌≤◌, List}
+use Rattle.lsp_text.specs.LineStarts.{line_starts}
+use Rattle.lsp_text.specs.Splice.{IsReplaced}
+
+-- The same of line starts in bytes.
+pub record Replaces (starts bytes : List ℕ) (from to len : ℕ) : Type 0 where
+  pub old : List ℕ
+  pub starts_are : starts ≡ line_starts old
+  pub replaced : IsReplaced old bytes from to len

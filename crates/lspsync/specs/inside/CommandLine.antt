@@ -1,0 +1,81 @@
+-- The call of the program, by what `clap` found in its words.
+use Rattle.std.specs.Prelude.{ℕ, ◌≡◌, Bool, true, false, List, Option, Some, None, codes, option_map, option_and_then, if◌then◌else◌}
+use Rattle.std.specs.Str.{bytes_eq}
+use Rattle.std.specs.Str.Parse.{digits_value, without_leading_plus}
+use Rattle.clap.specs.Matches.{found_of, first_value, one_text, subcommand_name_of}
+use Rattle.clap.specs.Simple.{subcommand_rows_of}
+use Rattle.clap.specs.Walk.{rows_of}
+use Rattle.clap.specs.declared.parser.matches.ArgMatches.{ArgMatches}
+use Rattle.lsp_frame.specs.Limits.{Bounds}
+use Rattle.lsp_text.specs.Units.{encoding_named}
+use Rattle.lsp_text.specs.declared.encoding.Encoding.{Encoding}
+use Rattle.lsp_server.specs.declared.config.Config.{Config}
+use Rattle.lsp_server.specs.declared.config.EncodingChoice.TheVariants.{Negotiated}
+use Rattle.lsp_server.specs.declared.config.Sync.{Sync}
+use Rattle.lsp_server.specs.declared.config.Sync.TheVariants.{Incremental, Full}
+use Rattle.lsp_replay.specs.declared.engines.Settings.{Settings}
+use Rattle.lspsync.specs.declared.command_line.Call.{Call}
+use Rattle.lspsync.specs.declared.command_line.Call.TheVariants as call
+
+-- An option has this number, in decimal digits.
+abbrev pub HasNumber : ArgMatches → List ℕ → ℕ → Type 0
+HasNumber options id n =
+    (text : List ℕ) × (one_text (found_of options) id ≡ Some text)
+    × (n ≡ digits_value 10 (without_leading_plus text))
+
+-- The four limits are those of the options.
+pub record AreLimits (options : ArgMatches) (limits : Bounds) : Type 0 where
+  pub max_body : HasNumber options (codes "max-body") limits.max_body
+  pub max_text : HasNumber options (codes "max-text") limits.max_text
+  pub max_docs : HasNumber options (codes "max-docs") limits.max_docs
+  pub max_changes : HasNumber options (codes "max-changes") limits.max_changes
+
+-- The encoding that the options name.
+abbrev pub encoding_given : ArgMatches → Option Encoding
+encoding_given options
+    = option_and_then encoding_named (first_value (found_of options) (codes "encoding"))
+
+-- The meaning of a name of `--sync`.
+abbrev pub sync_named : List ℕ → Sync
+sync_named name = if bytes_eq name (codes "full") then Full else Incremental
+
+-- The kind of synchronisation that the options name.
+abbrev pub sync_given : ArgMatches → Option Sync
+sync_given options = option_map sync_named (first_value (found_of options) (codes "sync"))
+
+-- A flag is set exactly if its option is there: `clap` finds the text `true` then, else `false`.
+pub record IsFlag (options : ArgMatches) (id : List ℕ) (flag : Bool) : Type 0 where
+  pub missing : one_text (found_of options) id ≡ None → flag ≡ false
+  pub set : one_text (found_of options) id ≡ Some (codes "true") → flag ≡ true
+  pub not_set : one_text (found_of options) id ≡ Some (codes "false") → flag ≡ false
+
+-- The settings of a command that reads a log.
+pub record AreSettings (options : ArgMatches) (settings : Settings) : Type 0 where
+  pub limits : AreLimits options settings.limits
+  pub encoding : encoding_given options ≡ Some settings.encoding
+
+-- The set-up of `serve`.
+pub record IsConfig (options : ArgMatches) (config : Config) : Type 0 where
+  pub limits : AreLimits options config.limits
+  pub choice : option_map Negotiated (encoding_given options) ≡ Some config.choice
+  pub sync : sync_given options ≡ Some config.sync
+
+-- The call of a subcommand with this name and these options.
+abbrev pub IsCallNamed : List ℕ → ArgMatches → Call → Type 0
+IsCallNamed name options (call.Serve config) = (name ≡ codes "serve") × IsConfig options config
+IsCallNamed name options (call.Check settings) = (name ≡ codes "check")
+    × AreSettings options settings
+IsCallNamed name options (call.Replay settings) = (name ≡ codes "replay")
+    × AreSettings options settings
+IsCallNamed name options (call.Normalise settings) = (name ≡ codes "normalise")
+    × AreSettings options settings × IsFlag options (codes "squash") settings.squash
+IsCallNamed name options (call.Convert settings) = (name ≡ codes "convert")
+    × AreSettings options settings
+
+-- The call that was found in the words: that of the subcommand.
+pub record IsCall (found : ArgMatches) (asked : Call) : Type 0 where
+  pub name : List ℕ
+  pub options : ArgMatches
+  pub named : subcommand_name_of found ≡ Some name
+  pub rows : option_map (λ p. p.1) (subcommand_rows_of found) ≡ Some (rows_of (found_of options))
+  pub call : IsCallNamed name options asked
