@@ -152,9 +152,11 @@ static void set_number(napi_env env, napi_value object, const char *name, double
     napi_set_named_property(env, object, name, value);
 }
 
-/* Throws a RangeError with the numbers of the faulty edits. */
-static napi_value refuse_edits(napi_env env, laspidru_u32 code, laspidru_edits_fault fault) {
+/* Throws a RangeError, with the numbers of the edits where some are faulty. */
+static napi_value refuse_text_edits(napi_env env, laspidru_u32 code, laspidru_edits_fault fault) {
     napi_value word, error;
+    if (code != LASPIDRU_INSIDE_CHARACTER && code != LASPIDRU_REVERSED_RANGE && code != LASPIDRU_OVERLAP)
+        return refuse(env, code);
     napi_create_string_utf8(env, word_of(code), NAPI_AUTO_LENGTH, &word);
     napi_create_range_error(env, word, word, &error);
     set_number(env, error, "edit", (double)fault.edit);
@@ -172,9 +174,72 @@ static napi_value apply_edits(napi_env env, napi_callback_info info) {
         return NULL;
     laspidru_u32 code = laspidru_document_apply_edits(it.document, it.encoding, it.edits, it.count, it.texts, it.texts_len, &fault);
     free_batch(&it);
-    if (code == LASPIDRU_INSIDE_CHARACTER || code == LASPIDRU_REVERSED_RANGE || code == LASPIDRU_OVERLAP)
-        return refuse_edits(env, code, fault);
-    return code == LASPIDRU_OK ? NULL : refuse(env, code);
+    return code == LASPIDRU_OK ? NULL : refuse_text_edits(env, code, fault);
+}
+
+/* A change of a batch: [start's line, its character, end's line, its character, is it of the whole text, its text]. NULL where
+   there is no memory. */
+static napi_value change_of(napi_env env, laspidru_handle *changes, size_t index) {
+    enum { MEMBERS = 6 };
+    napi_value out, members[MEMBERS];
+    unsigned char none[1];
+    laspidru_edit edit;
+    laspidru_size copied;
+    if (laspidru_batch_edit(changes, index, &edit, none, 0, &copied) != LASPIDRU_OK)
+        return NULL;
+    unsigned char *bytes = malloc(edit.len + 1);
+    if (bytes == NULL)
+        return NULL;
+    laspidru_batch_edit(changes, index, &edit, bytes, edit.len, &copied);
+    const laspidru_u32 places[] = {edit.start.line, edit.start.character, edit.end.line, edit.end.character};
+    int is_made = napi_create_array_with_length(env, MEMBERS, &out) == napi_ok &&
+                  napi_get_boolean(env, edit.is_whole, &members[4]) == napi_ok &&
+                  napi_create_string_utf8(env, (char *)bytes, copied, &members[5]) == napi_ok;
+    free(bytes);
+    for (size_t i = 0; is_made && i < 4; i++)
+        is_made = napi_create_uint32(env, places[i], &members[i]) == napi_ok;
+    for (size_t i = 0; is_made && i < MEMBERS; i++)
+        is_made = napi_set_element(env, out, (uint32_t)i, members[i]) == napi_ok;
+    return is_made ? out : NULL;
+}
+
+/* The changes of a batch, which it closes: an array of what change_of gives. */
+static napi_value changes_of(napi_env env, laspidru_handle *changes) {
+    napi_value out = NULL;
+    laspidru_size len = 0;
+    int is_made = laspidru_batch_len(changes, &len) == LASPIDRU_OK && napi_create_array_with_length(env, len, &out) == napi_ok;
+    for (size_t i = 0; is_made && i < len; i++) {
+        napi_value change = change_of(env, changes, i);
+        is_made = change != NULL && napi_set_element(env, out, (uint32_t)i, change) == napi_ok;
+    }
+    laspidru_close(changes);
+    return is_made ? out : refuse(env, LASPIDRU_OUT_OF_MEMORY);
+}
+
+/* canonical(document, encoding, numbers, texts): the canonical batch of a batch */
+static napi_value canonical(napi_env env, napi_callback_info info) {
+    laspidru_handle changes = {0};
+    laspidru_fault fault = {0, 0};
+    batch it;
+    if (!read_batch(env, info, &it))
+        return NULL;
+    laspidru_u32 code =
+        laspidru_document_canonical(it.document, it.encoding, it.edits, it.count, it.texts, it.texts_len, &changes, &fault);
+    free_batch(&it);
+    return code == LASPIDRU_OK ? changes_of(env, &changes) : refuse(env, code);
+}
+
+/* batchOfEdits(document, encoding, numbers, texts): the canonical batch of text edits */
+static napi_value batch_of_edits(napi_env env, napi_callback_info info) {
+    laspidru_handle changes = {0};
+    laspidru_edits_fault fault = {0, 0, 0};
+    batch it;
+    if (!read_batch(env, info, &it))
+        return NULL;
+    laspidru_u32 code =
+        laspidru_document_batch_of_edits(it.document, it.encoding, it.edits, it.count, it.texts, it.texts_len, &changes, &fault);
+    free_batch(&it);
+    return code == LASPIDRU_OK ? changes_of(env, &changes) : refuse_text_edits(env, code, fault);
 }
 
 /* The document of the first argument and how long its text is. */
@@ -345,6 +410,8 @@ NAPI_MODULE_INIT() {
         {"open", 0, open_document, 0, 0, 0, napi_default, 0}, {"change", 0, change, 0, 0, 0, napi_default, 0},
         {"text", 0, text, 0, 0, 0, napi_default, 0},          {"lineCount", 0, line_count, 0, 0, 0, napi_default, 0},
         {"line", 0, line, 0, 0, 0, napi_default, 0},          {"applyEdits", 0, apply_edits, 0, 0, 0, napi_default, 0},
+        {"canonical", 0, canonical, 0, 0, 0, napi_default, 0},
+        {"batchOfEdits", 0, batch_of_edits, 0, 0, 0, napi_default, 0},
         {"log", 0, run_log, 0, 0, 0, napi_default, 0},
         {"offset", 0, offset, 0, 0, 0, napi_default, 0},      {"position", 0, position, 0, 0, 0, napi_default, 0},
     };

@@ -18,6 +18,15 @@ function passed(changes) {
   return [numbers, texts];
 }
 
+/** Text edits as the addon takes them. */
+const passedEdits = (edits) => passed(edits.map(({ range, newText }) => ({ range, text: newText })));
+
+/** A change as LSP writes it, from what the addon returns. */
+function written([line, character, endLine, endCharacter, isWhole, text]) {
+  if (isWhole) return { text };
+  return { range: { start: { line, character }, end: { line: endLine, character: endCharacter } }, text };
+}
+
 class TextDocument {
   #document;
   #text;
@@ -48,8 +57,18 @@ class TextDocument {
   /** The text that text edits leave, as a formatter returns them. All count in the text as it is, and `document` stays as it is. */
   static applyEdits(document, edits) {
     const copy = addon.open(document.getText());
-    addon.applyEdits(copy, UTF16, ...passed(edits.map(({ range, newText }) => ({ range, text: newText }))));
+    addon.applyEdits(copy, UTF16, ...passedEdits(edits));
     return addon.text(copy);
+  }
+
+  /** The one canonical batch that means the same as these changes of a didChange. `document` stays as it is. */
+  static canonical(document, changes) {
+    return addon.canonical(document.#document, UTF16, ...passed(changes)).map(written);
+  }
+
+  /** The canonical batch of what text edits mean: the changes of the didChange that reports them. `document` stays as it is. */
+  static batchOfEdits(document, edits) {
+    return addon.batchOfEdits(document.#document, UTF16, ...passedEdits(edits)).map(written);
   }
 
   get lineCount() {

@@ -36,8 +36,18 @@ const edit = (start, end, newText) => ({ range: { start, end }, newText });
 const formatted = TextDocument.create('file:///b', 'plain', 1, 'abc');
 assert.strictEqual(TextDocument.applyEdits(formatted, [edit(at(0, 0), at(0, 0), '1'), edit(at(0, 1), at(0, 2), '2')]), '1a2c');
 assert.strictEqual(TextDocument.applyEdits(formatted, [edit(at(0, 1), at(0, 1), '1'), edit(at(0, 1), at(0, 1), '2')]), 'a12bc');
-assert.throws(() => TextDocument.applyEdits(formatted, [edit(at(0, 1), at(0, 3), ''), edit(at(0, 0), at(0, 2), '')]),
-  { code: 'OVERLAP', edit: 1, other: 0 });
+for (const refusing of [TextDocument.applyEdits, TextDocument.batchOfEdits]) {
+  assert.throws(() => refusing(formatted, [edit(at(0, 1), at(0, 3), ''), edit(at(0, 0), at(0, 2), '')]),
+    { code: 'OVERLAP', edit: 1, other: 0 });
+}
+const separate = [edit(at(0, 0), at(0, 0), '1'), edit(at(0, 1), at(0, 2), '2\u{1F600}')];
+assert.deepStrictEqual(TextDocument.batchOfEdits(formatted, separate),
+  [change(at(0, 1), at(0, 2), '2\u{1F600}'), change(at(0, 0), at(0, 0), '1')]);
+assert.deepStrictEqual(TextDocument.batchOfEdits(formatted, []), []);
+assert.deepStrictEqual(TextDocument.canonical(formatted, [change(at(0, 1), at(0, 2), 'X'), change(at(0, 2), at(0, 3), '')]),
+  [change(at(0, 1), at(0, 3), 'X')]);
+assert.deepStrictEqual(TextDocument.canonical(formatted, [{ text: 'abcd' }]), [change(at(0, 0), at(0, 3), 'abcd')]);
+assert.throws(() => TextDocument.canonical(formatted, [change(at(0, 1), at(0, 0), '')]), { code: 'REVERSED_RANGE' });
 assert.throws(() => TextDocument.applyEdits(formatted, [edit(at(0, 0), at(0, 1), ''), edit(at(0, 3), at(0, 2), '')]),
   { code: 'REVERSED_RANGE', edit: 1 });
 assert.strictEqual(formatted.getText(), 'abc');
