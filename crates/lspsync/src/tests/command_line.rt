@@ -97,7 +97,7 @@ fn both_ends_of_each_range_are_taken(rt: HostRuntime) -> Result<(), Fail> {
 }
 
 /// Are these words this call?
-fn is_call(alloc: Global, words: &[&str], wanted: command_line::Call) -> bool {
+fn is_call<'a>(alloc: Global, words: &'a [&'a str], wanted: command_line::Call) -> bool {
     match parse(alloc, words) {
         Ok(found) => found == Some(wanted),
         Err(_) => false,
