@@ -12,8 +12,11 @@ mod runs;
 mod spans;
 mod text_edits;
 
-use lsp_edit::{Change, EditFault, Side};
+ghost use Rattle.std.specs.Prelude.{◌≡◌, IfOk};
+
+use lsp_edit::{Change, EditFault, IndexedText, MAX_OLD_TEXT, Pieces, Side, TextFault, fits};
 use lsp_samples::edits::{ALL, Edit, batch, change};
+use lsp_text::Encoding;
 use std::alloc::{AllocError, Global};
 
 /// A text, a batch, the text that it leaves, and its canonical batch.
@@ -240,4 +243,189 @@ pub(super) fn first_letters(alloc: Global, count: u32) -> Result<Vec<Change>, Al
         character = character.saturating_add(2);
     }
     Ok(changes)
+}
+
+/// Returns a text that is kept with its lines.
+pub(super) fn kept(alloc: Global, text: &str) -> Result<IndexedText, AllocError>
+    ensures { IfOk result (λ kept. kept ≡ text.now) }
+{
+    if text.len() > MAX_OLD_TEXT {
+        return Err(AllocError);
+    }
+    IndexedText::new(alloc, String::from_str(alloc, text)?)
+}
+
+/// Returns a kept text, made again where memory ran out.
+pub(super) fn kept_again(
+    alloc: Global,
+    text: &str,
+    refused: &mut usize,
+) -> Result<IndexedText, AllocError> {
+    match kept(alloc, text) {
+        Ok(kept) => Ok(kept),
+        Err(AllocError) => {
+            *refused = refused.saturating_add(1);
+            kept(alloc, text)
+        }
+    }
+}
+
+/// Changes a kept text by a batch.
+pub(super) fn applied(
+    kept: &mut IndexedText,
+    changes: &[Change],
+    max_len: usize,
+) -> Result<(), TextFault> {
+    if kept.text().len() > MAX_OLD_TEXT || !fits(changes) {
+        return Err(TextFault::TooLong);
+    }
+    kept.change(Encoding::Utf16, changes, max_len)
+}
+
+/// Returns the canonical batch of a batch on a kept text.
+pub(super) fn canonical_of(
+    kept: &IndexedText,
+    changes: &[Change],
+    max_len: usize,
+) -> Result<Vec<Change>, TextFault> {
+    if kept.text().len() > MAX_OLD_TEXT || !fits(changes) {
+        return Err(TextFault::TooLong);
+    }
+    kept.canonical(Encoding::Utf16, changes, max_len)
+}
+
+/// The same, and again where memory ran out.
+pub(super) fn canonical_again(
+    kept: &IndexedText,
+    changes: &[Change],
+    max_len: usize,
+    refused: &mut usize,
+) -> Result<Vec<Change>, TextFault> {
+    let answer = canonical_of(kept, changes, max_len);
+    if answer == Err(TextFault::NoMemory) {
+        *refused = refused.saturating_add(1);
+        return canonical_of(kept, changes, max_len);
+    }
+    answer
+}
+
+/// Returns whether pieces have this text. Out of memory is counted, and the call repeated.
+fn has_text(pieces: &Pieces<'_>, wanted: &str, refused: &mut usize) -> Result<bool, AllocError> {
+    let text = match pieces.text() {
+        Ok(text) => text,
+        Err(AllocError) => {
+            *refused = refused.saturating_add(1);
+            pieces.text()?
+        }
+    };
+    Ok(text.as_str() == wanted)
+}
+
+/// Makes pieces of a text, and again where memory ran out.
+pub(super) fn start_again<'a>(
+    alloc: Global,
+    before: &'a str,
+    refused: &mut usize,
+) -> Result<Pieces<'a>, AllocError> {
+    if before.len() > MAX_OLD_TEXT {
+        return Err(AllocError);
+    }
+    match Pieces::start(alloc, before) {
+        Ok(pieces) => Ok(pieces),
+        Err(AllocError) => {
+            *refused = refused.saturating_add(1);
+            Pieces::start(alloc, before)
+        }
+    }
+}
+
+/// Applies a change, if there is room for it.
+pub(super) fn apply<'a>(pieces: &mut Pieces<'a>, change: &'a Change) -> Result<(), EditFault> {
+    if !pieces.has_room(change) {
+        return Err(EditFault::NoMemory);
+    }
+    pieces.apply(Encoding::Utf16, change)
+}
+
+/// Applies a change to pieces of the first text. Out of memory leaves that text and its spans, and
+/// the same change is applied again. Returns whether the result is the second text.
+fn apply_again<'a>(
+    pieces: &mut Pieces<'a>,
+    change: &'a Change,
+    texts: &(&str, &str),
+    refused: &mut usize,
+) -> Result<bool, EditFault> {
+    let spans = pieces.spans().len();
+    match apply(pieces, change) {
+        Err(EditFault::NoMemory) => {
+            *refused = refused.saturating_add(1);
+            if pieces.spans().len() != spans || !has_text(pieces, texts.0, refused)? {
+                return Ok(false);
+            }
+            apply(pieces, change)?;
+        }
+        answer => answer?,
+    }
+    Ok(has_text(pieces, texts.1, refused)?)
+}
+
+/// Applies changes so, each with the text before and after it.
+pub(super) fn are_applied<'a>(
+    pieces: &mut Pieces<'a>,
+    changes: &'a [Change],
+    texts: &[(&str, &str)],
+    refused: &mut usize,
+) -> Result<bool, EditFault> {
+    for (change, texts) in changes.iter().zip(texts) {
+        if !apply_again(pieces, change, texts, refused)? {
+            return Ok(false);
+        }
+    }
+    Ok(changes.len() == texts.len())
+}
+
+/// Which of the two programs composes a batch.
+#[derive(Clone, Copy)]
+pub(super) enum Program {
+    Pieces,
+    Plain,
+}
+
+/// Returns the text that a batch leaves and its canonical batch, or its fault.
+fn left(alloc: Global, program: Program, before: &str, changes: &[Change]) -> Outcome {
+    match program {
+        Program::Pieces => pieces::left(alloc, before, changes),
+        Program::Plain => plain::left(alloc, before, changes),
+    }
+}
+
+pub(super) fn has_its_batch(
+    alloc: Global,
+    program: Program,
+    row: &Batch,
+) -> Result<bool, AllocError> {
+    let (before, edits, text, canonical) = *row;
+    let outcome = left(alloc, program, before, &batch(alloc, edits)?);
+    is_left(alloc, outcome, text, canonical)
+}
+
+pub(super) fn has_its_fault(
+    alloc: Global,
+    program: Program,
+    row: &Faulty,
+) -> Result<bool, AllocError> {
+    let (before, edits, fault) = *row;
+    let changes = batch(alloc, edits)?;
+    Ok(left(alloc, program, before, &changes).err() == Some(fault))
+}
+
+/// Returns whether two batches, one after the other, are one batch of both.
+pub(super) fn is_one_batch(
+    alloc: Global,
+    program: Program,
+    row: &Pair,
+) -> Result<bool, AllocError> {
+    let (before, first, second, text, canonical, _) = *row;
+    let outcome = left(alloc, program, before, &joined(alloc, first, second)?);
+    is_left(alloc, outcome, text, canonical)
 }

@@ -1,8 +1,9 @@
 //! Two batches that are joined by `Joined`.
 
-ghost use Rattle.std.specs.Prelude.{◌≡◌, IfOk, OnOk};
+ghost use Rattle.std.specs.Prelude.{IfOk, OnOk};
 ghost use Rattle.lsp_edit.specs.Joined.{IsReached};
 
+use super::kept;
 use lsp_edit::{Change, IndexedText, Joined, MAX_OLD_TEXT, TextFault, fits};
 use lsp_samples::edits::{Edit, batch};
 use lsp_text::Encoding;
@@ -33,16 +34,6 @@ static ROWS: [Row; 4] = [
         &[(0, 1, 0, 2, "Y")],
     ),
 ];
-
-/// A text that is kept with its lines.
-fn kept(alloc: Global, text: &str) -> Result<IndexedText, TextFault>
-    ensures { IfOk result (λ kept. kept ≡ text.now) }
-{
-    if text.len() > MAX_OLD_TEXT {
-        return Err(TextFault::TooLong);
-    }
-    Ok(IndexedText::new(alloc, String::from_str(alloc, text)?)?)
-}
 
 /// No batch yet, on a copy of a text.
 fn no_batch(alloc: Global, before: &str) -> Result<Joined, TextFault>

@@ -1,7 +1,8 @@
 //! Batches of several changes on a text with its lines: the texts that they leave, and that nothing
 //! changes where they fail. Ranges are counted in UTF-16.
 
-use lsp_edit::{Change, EditFault, IndexedText, MAX_OLD_TEXT, MAX_TEXT, Side, TextFault, fits};
+use super::{applied, kept, kept_again};
+use lsp_edit::{Change, EditFault, IndexedText, MAX_OLD_TEXT, MAX_TEXT, Side, TextFault};
 use lsp_samples::edits::{ALL, Edit, batch, batch_again};
 use lsp_text::{Encoding, Lines, Position};
 use std::alloc::{AllocError, Global};
@@ -84,21 +85,6 @@ static FAULTS: [Faulty; 3] = [
 
 const MAX_LEN: usize = 14;
 
-fn kept(alloc: Global, text: &str) -> Result<IndexedText, AllocError> {
-    let text = String::from_str(alloc, text)?;
-    if text.len() > MAX_TEXT {
-        return Err(AllocError);
-    }
-    IndexedText::new(alloc, text)
-}
-
-fn applied(text: &mut IndexedText, changes: &[Change], max_len: usize) -> Result<(), TextFault> {
-    if text.text().len() > MAX_OLD_TEXT || !fits(changes) {
-        return Err(TextFault::TooLong);
-    }
-    text.change(Encoding::Utf16, changes, max_len)
-}
-
 /// Returns whether the stored lines are those of the text, by the offset where each starts.
 fn has_its_lines(alloc: Global, text: &IndexedText) -> Result<bool, AllocError> {
     if text.text().len() > MAX_TEXT {
@@ -158,17 +144,6 @@ static SEVERAL: [Edit; 3] = [
     (4, 0, 4, 0, "x"),
 ];
 
-/// The text of three lines, made again where memory ran out.
-fn kept_again(alloc: Global, refused: &mut usize) -> Result<IndexedText, AllocError> {
-    match kept(alloc, THREE_LINES) {
-        Ok(text) => Ok(text),
-        Err(AllocError) => {
-            *refused = refused.saturating_add(1);
-            kept(alloc, THREE_LINES)
-        }
-    }
-}
-
 /// Whether the batch is applied to the three lines. Where memory runs out they stay, and it is
 /// applied again.
 fn is_applied(text: &mut IndexedText, changes: &[Change], refused: &mut usize) -> bool {
@@ -184,7 +159,7 @@ fn is_applied(text: &mut IndexedText, changes: &[Change], refused: &mut usize) -
 fn refused_long_batch(rt: HostRuntime) -> Result<(), Fail> {
     let mut refused: usize = 0;
     let changes = batch_again(rt.alloc(), &SEVERAL, &mut refused)?;
-    let mut text = kept_again(rt.alloc(), &mut refused)?;
+    let mut text = kept_again(rt.alloc(), THREE_LINES, &mut refused)?;
     assert!(rt; is_applied(&mut text, &changes, &mut refused));
     assert_eq!(rt; text.text(), "A\nB\nBB\nBBB\nxc\n");
     assert_eq!(rt; text.lines().count(), 6);

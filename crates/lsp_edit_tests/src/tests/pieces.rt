@@ -1,6 +1,9 @@
 //! `Pieces` on the tables: texts, canonical batches, faults, and two batches that are one.
 
-use super::{BATCHES, Batch, FAULTS, Faulty, Outcome, PAIRS, Pair, is_left, joined};
+use super::{
+    BATCHES, FAULTS, Outcome, PAIRS, Pair, Program, has_its_batch, has_its_fault, is_left,
+    is_one_batch,
+};
 use lsp_edit::{Change, EditFault, MAX_OLD_TEXT, Pieces, compose, fits};
 use lsp_samples::edits::{Edit, batch};
 use lsp_text::Encoding;
@@ -23,45 +26,38 @@ pub(super) fn left(alloc: Global, before: &str, changes: &[Change]) -> Outcome {
     Ok(meaning_of(&pieces)?)
 }
 
-fn has_its_batch(alloc: Global, row: &Batch) -> Result<bool, AllocError> {
-    let (before, edits, text, canonical) = *row;
-    let changes = batch(alloc, edits)?;
-    is_left(alloc, left(alloc, before, &changes), text, canonical)
-}
-
 #[test]
 fn batches_have_canonical_batches(rt: HostRuntime) -> Result<(), Fail> {
     for row in &BATCHES {
-        assert!(rt; has_its_batch(rt.alloc(), row)?, "{:?}", row.0);
+        assert!(rt;
+            has_its_batch(rt.alloc(), Program::Pieces, row)?,
+            "{:?}",
+            row.0
+        );
     }
     Ok(())
-}
-
-fn has_its_fault(alloc: Global, row: &Faulty) -> Result<bool, AllocError> {
-    let (before, edits, fault) = *row;
-    let changes = batch(alloc, edits)?;
-    Ok(left(alloc, before, &changes).err() == Some(fault))
 }
 
 #[test]
 fn the_first_faulty_change_is_reported(rt: HostRuntime) -> Result<(), Fail> {
     for row in &FAULTS {
-        assert!(rt; has_its_fault(rt.alloc(), row)?, "{:?}", row.0);
+        assert!(rt;
+            has_its_fault(rt.alloc(), Program::Pieces, row)?,
+            "{:?}",
+            row.0
+        );
     }
     Ok(())
-}
-
-/// Returns whether two batches, one after the other, are one batch of both.
-fn is_one_batch(alloc: Global, row: &Pair) -> Result<bool, AllocError> {
-    let (before, first, second, text, canonical, _) = *row;
-    let changes = joined(alloc, first, second)?;
-    is_left(alloc, left(alloc, before, &changes), text, canonical)
 }
 
 #[test]
 fn two_batches_are_one(rt: HostRuntime) -> Result<(), Fail> {
     for row in &PAIRS {
-        assert!(rt; is_one_batch(rt.alloc(), row)?, "{:?}", row.0);
+        assert!(rt;
+            is_one_batch(rt.alloc(), Program::Pieces, row)?,
+            "{:?}",
+            row.0
+        );
     }
     Ok(())
 }

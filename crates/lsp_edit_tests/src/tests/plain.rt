@@ -1,77 +1,65 @@
 //! The plain program and `Pieces` on the same batches: tables, many changes, and generated batches.
 
-use super::pieces::left;
 use super::{
-    BATCHES, Batch, FAULTS, Faulty, Outcome, PAIRS, Pair, first_letters, is_left, joined,
-    pairs_of_letters,
+    BATCHES, FAULTS, Outcome, PAIRS, Pair, Program, first_letters, has_its_batch, has_its_fault,
+    is_left, is_one_batch, pairs_of_letters, pieces,
 };
+use lsp_edit::plain::Plain;
 use lsp_edit::{Change, EditFault, MAX_OLD_TEXT, fits, plain};
 use lsp_samples::edits::batch;
 use lsp_text::{Encoding, Position, Range};
 use std::alloc::{AllocError, Global};
 use std::test::Fail;
 
-/// Returns, by the plain program, the text that a batch leaves and its canonical batch, or its
-/// fault.
-fn left_plainly(alloc: Global, before: &str, changes: &[Change]) -> Outcome {
-    if before.len() > MAX_OLD_TEXT || !fits(changes) {
-        return Err(EditFault::NoMemory);
-    }
-    let plain = plain::compose(alloc, before, Encoding::Utf16, changes)?;
+/// Returns the text of a plain composition and its canonical batch.
+fn meaning_of(plain: &Plain) -> Result<(String, Vec<Change>), AllocError> {
     let text = plain.text()?;
     let canonical = plain.canonical(Encoding::Utf16)?;
     Ok((text, canonical))
 }
 
-fn has_its_batch(alloc: Global, row: &Batch) -> Result<bool, AllocError> {
-    let (before, edits, text, canonical) = *row;
-    let changes = batch(alloc, edits)?;
-    is_left(
-        alloc,
-        left_plainly(alloc, before, &changes),
-        text,
-        canonical,
-    )
+/// Returns, by the plain program, the text that a batch leaves and its canonical batch, or its
+/// fault.
+pub(super) fn left(alloc: Global, before: &str, changes: &[Change]) -> Outcome {
+    if before.len() > MAX_OLD_TEXT || !fits(changes) {
+        return Err(EditFault::NoMemory);
+    }
+    let plain = plain::compose(alloc, before, Encoding::Utf16, changes)?;
+    Ok(meaning_of(&plain)?)
 }
 
 #[test]
 fn batches_have_canonical_batches_plainly(rt: HostRuntime) -> Result<(), Fail> {
     for row in &BATCHES {
-        assert!(rt; has_its_batch(rt.alloc(), row)?, "{:?}", row.0);
+        assert!(rt;
+            has_its_batch(rt.alloc(), Program::Plain, row)?,
+            "{:?}",
+            row.0
+        );
     }
     Ok(())
-}
-
-fn has_its_fault(alloc: Global, row: &Faulty) -> Result<bool, AllocError> {
-    let (before, edits, fault) = *row;
-    let changes = batch(alloc, edits)?;
-    Ok(left_plainly(alloc, before, &changes).err() == Some(fault))
 }
 
 #[test]
 fn the_first_faulty_change_is_reported_plainly(rt: HostRuntime) -> Result<(), Fail> {
     for row in &FAULTS {
-        assert!(rt; has_its_fault(rt.alloc(), row)?, "{:?}", row.0);
+        assert!(rt;
+            has_its_fault(rt.alloc(), Program::Plain, row)?,
+            "{:?}",
+            row.0
+        );
     }
     Ok(())
-}
-
-/// Returns whether two batches, one after the other, are one batch of both.
-fn is_one_batch(alloc: Global, row: &Pair) -> Result<bool, AllocError> {
-    let (before, first, second, text, canonical, _) = *row;
-    let changes = joined(alloc, first, second)?;
-    is_left(
-        alloc,
-        left_plainly(alloc, before, &changes),
-        text,
-        canonical,
-    )
 }
 
 #[test]
 fn two_batches_are_one_plainly(rt: HostRuntime) -> Result<(), Fail> {
     for row in &PAIRS {
-        assert!(rt; is_one_batch(rt.alloc(), row)?, "{:?}", row.0);
+        assert!(rt;
+            is_one_batch(rt.alloc(), Program::Plain, row)?,
+            "{:?}",
+            row.0
+        );
     }
     Ok(())
 }
@@ -93,9 +81,7 @@ fn left_by_both_plainly(
     }
     let two = plain::compose(alloc, &middle, Encoding::Utf16, second)?;
     let both = one.then(&two)?;
-    let text = both.text()?;
-    let canonical = both.canonical(Encoding::Utf16)?;
-    Ok((text, canonical))
+    Ok(meaning_of(&both)?)
 }
 
 fn is_one_meaning(alloc: Global, row: &Pair) -> Result<bool, AllocError> {
@@ -117,8 +103,8 @@ fn two_meanings_are_one_plainly(rt: HostRuntime) -> Result<(), Fail> {
 /// Returns whether both have the same result for a batch.
 fn agree(alloc: Global, before: &str, changes: &[Change]) -> bool {
     match (
+        pieces::left(alloc, before, changes),
         left(alloc, before, changes),
-        left_plainly(alloc, before, changes),
     ) {
         (Ok((text, canonical)), Ok((other, plainly))) => {
             text.as_str() == other.as_str() && canonical.as_slice() == plainly.as_slice()
@@ -132,9 +118,7 @@ fn agree(alloc: Global, before: &str, changes: &[Change]) -> bool {
 fn many_changes_are_the_same_plainly(rt: HostRuntime) -> Result<(), Fail> {
     let before = pairs_of_letters(rt.alloc(), 500)?;
     let changes = first_letters(rt.alloc(), 500)?;
-    assert!(rt;
-        left_plainly(rt.alloc(), &before, &changes).is_ok_and(|outcome| outcome.1.len() == 500)
-    );
+    assert!(rt; left(rt.alloc(), &before, &changes).is_ok_and(|outcome| outcome.1.len() == 500));
     assert!(rt; agree(rt.alloc(), &before, &changes));
     Ok(())
 }

@@ -1,6 +1,7 @@
 //! Batches of some thousand changes, which are composed in runs: the same canonical batch, and the
 //! same fault.
 
+use super::{canonical_again, canonical_of, kept, kept_again};
 use lsp_edit::{Change, EditFault, IndexedText, MAX_OLD_TEXT, TextFault, compose_over, fits};
 use lsp_text::{Encoding, Position, Range};
 use std::alloc::{AllocError, Global};
@@ -34,21 +35,6 @@ fn changes(alloc: Global, count: u32) -> Result<Vec<Change>, AllocError> {
     Ok(changes)
 }
 
-fn kept(alloc: Global) -> Result<IndexedText, AllocError> {
-    IndexedText::new(alloc, String::from_str(alloc, LINES)?)
-}
-
-fn in_runs(
-    text: &IndexedText,
-    changes: &[Change],
-    max_len: usize,
-) -> Result<Vec<Change>, TextFault> {
-    if text.text().len() > MAX_OLD_TEXT || !fits(changes) {
-        return Err(TextFault::TooLong);
-    }
-    text.canonical(Encoding::Utf16, changes, max_len)
-}
-
 fn at_once(
     alloc: Global,
     text: &IndexedText,
@@ -62,9 +48,9 @@ fn at_once(
 }
 
 fn is_the_same(alloc: Global, count: u32) -> Result<bool, AllocError> {
-    let text = kept(alloc)?;
+    let text = kept(alloc, LINES)?;
     let changes = changes(alloc, count)?;
-    let answer = in_runs(&text, &changes, MAX_OLD_TEXT);
+    let answer = canonical_of(&text, &changes, MAX_OLD_TEXT);
     Ok(answer.is_ok() && answer == at_once(alloc, &text, &changes))
 }
 
@@ -94,10 +80,10 @@ fn reversed(alloc: Global) -> Result<Change, AllocError> {
 
 #[test]
 fn a_fault_of_a_long_batch_has_its_number(rt: HostRuntime) -> Result<(), Fail> {
-    let text = kept(rt.alloc())?;
+    let text = kept(rt.alloc(), LINES)?;
     let mut changes = changes(rt.alloc(), 2_500)?;
     changes.push(reversed(rt.alloc())?)?;
-    let answer = in_runs(&text, &changes, MAX_OLD_TEXT);
+    let answer = canonical_of(&text, &changes, MAX_OLD_TEXT);
     let fault = TextFault::Edit(EditFault::ReversedRange { change: 2_500 });
     assert!(rt; answer == Err(fault));
     Ok(())
@@ -105,9 +91,9 @@ fn a_fault_of_a_long_batch_has_its_number(rt: HostRuntime) -> Result<(), Fail> {
 
 #[test]
 fn a_long_batch_may_leave_too_much(rt: HostRuntime) -> Result<(), Fail> {
-    let text = kept(rt.alloc())?;
+    let text = kept(rt.alloc(), LINES)?;
     let changes = changes(rt.alloc(), 2_500)?;
-    assert!(rt; in_runs(&text, &changes, 100) == Err(TextFault::TooLong));
+    assert!(rt; canonical_of(&text, &changes, 100) == Err(TextFault::TooLong));
     Ok(())
 }
 
@@ -138,28 +124,6 @@ fn deletions_again(alloc: Global, refused: &mut usize) -> Result<Vec<Change>, Al
     made
 }
 
-fn kept_again(alloc: Global, refused: &mut usize) -> Result<IndexedText, AllocError> {
-    let made = kept(alloc);
-    if made.is_err() {
-        *refused = refused.saturating_add(1);
-        return kept(alloc);
-    }
-    made
-}
-
-fn in_runs_again(
-    text: &IndexedText,
-    changes: &[Change],
-    refused: &mut usize,
-) -> Result<Vec<Change>, TextFault> {
-    let answer = in_runs(text, changes, MAX_OLD_TEXT);
-    if answer == Err(TextFault::NoMemory) {
-        *refused = refused.saturating_add(1);
-        return in_runs(text, changes, MAX_OLD_TEXT);
-    }
-    answer
-}
-
 /// Returns whether the batch deletes the first line's three characters, and the text is unchanged.
 fn deletes_the_first_line(text: &IndexedText, answer: &[Change]) -> bool {
     let start = Position::default();
@@ -180,9 +144,9 @@ fn deletes_the_first_line(text: &IndexedText, answer: &[Change]) -> bool {
 #[test]
 fn refused_canonical_in_runs(rt: HostRuntime) -> Result<(), Fail> {
     let mut refused: usize = 0;
-    let text = kept_again(rt.alloc(), &mut refused)?;
+    let text = kept_again(rt.alloc(), LINES, &mut refused)?;
     let changes = deletions_again(rt.alloc(), &mut refused)?;
-    let answer = in_runs_again(&text, &changes, &mut refused)?;
+    let answer = canonical_again(&text, &changes, MAX_OLD_TEXT, &mut refused)?;
     assert!(rt; deletes_the_first_line(&text, &answer));
     println!(rt; "refused {refused}")?;
     Ok(())

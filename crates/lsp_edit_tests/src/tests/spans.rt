@@ -1,31 +1,33 @@
 //! Changes that are applied one after another, and how many spans they leave.
 
-use super::{first_letters, pairs_of_letters};
+use super::{apply, first_letters, pairs_of_letters};
 use lsp_edit::{Change, EditFault, MAX_OLD_TEXT, Pieces};
 use lsp_samples::edits::{Edit, batch, change};
 use lsp_text::Encoding;
 use std::alloc::{AllocError, Global};
 use std::test::Fail;
 
-/// Applies a change, if there is room for it.
-fn apply<'a>(pieces: &mut Pieces<'a>, change: &'a Change) -> Result<(), EditFault> {
-    if !pieces.has_room(change) {
-        return Err(EditFault::NoMemory);
+static CHANGES: [Edit; 2] = [(0, 2, 0, 1, ""), (0, 0, 0, 1, "Z")];
+
+/// Returns whether the second change is applied to `abc`, after the fault of the first.
+fn goes_on_after_a_fault(alloc: Global, changes: &[Change]) -> Result<bool, AllocError> {
+    let [first, second] = changes else {
+        return Ok(false);
+    };
+    let mut pieces = Pieces::start(alloc, "abc")?;
+    if !matches!(
+        apply(&mut pieces, first),
+        Err(EditFault::ReversedRange { change: 0 })
+    ) {
+        return Ok(false);
     }
-    pieces.apply(Encoding::Utf16, change)
+    Ok(apply(&mut pieces, second).is_ok() && pieces.text()?.as_str() == "Zbc")
 }
 
 #[test]
 fn a_change_after_a_fault_is_applied(rt: HostRuntime) -> Result<(), Fail> {
-    let first = change(rt.alloc(), (0, 2, 0, 1, ""))?;
-    let second = change(rt.alloc(), (0, 0, 0, 1, "Z"))?;
-    let mut pieces = Pieces::start(rt.alloc(), "abc")?;
-    assert_eq!(rt;
-        apply(&mut pieces, &first),
-        Err(EditFault::ReversedRange { change: 0 })
-    );
-    assert_eq!(rt; apply(&mut pieces, &second), Ok(()));
-    assert_eq!(rt; pieces.text()?.as_str(), "Zbc");
+    let changes = batch(rt.alloc(), &CHANGES)?;
+    assert!(rt; goes_on_after_a_fault(rt.alloc(), &changes)?);
     Ok(())
 }
 
@@ -34,7 +36,7 @@ fn a_change_after_a_fault_is_applied(rt: HostRuntime) -> Result<(), Fail> {
 fn spans_grow<'a>(pieces: &mut Pieces<'a>, changes: &'a [Change]) -> bool {
     let mut spans = 2;
     for change in changes {
-        if apply(pieces, change) != Ok(()) || pieces.spans().len() != spans {
+        if apply(pieces, change).is_err() || pieces.spans().len() != spans {
             return false;
         }
         spans = if spans < 1000 { spans + 2 } else { spans };
@@ -65,18 +67,44 @@ const LAST: Edit = (0, 0, 0, 1, "b");
 
 const WHOLE: Edit = (0, 0, 0, 1000, "c");
 
+/// Returns whether the changes leave few spans, and a change of the whole text then leaves one.
+fn are_few<'a>(
+    alloc: Global,
+    pieces: &mut Pieces<'a>,
+    changes: &'a [Change],
+    whole: &'a Change,
+) -> Result<bool, AllocError> {
+    if pieces.spans().len() != 1 || !spans_grow(pieces, changes) {
+        return Ok(false);
+    }
+    if !is_canonical(alloc, pieces, 500, FIRST, LAST)? {
+        return Ok(false);
+    }
+    if apply(pieces, whole).is_err() || pieces.spans().len() != 1 {
+        return Ok(false);
+    }
+    is_canonical(alloc, pieces, 1, WHOLE, WHOLE)
+}
+
+/// The same for pieces of this text.
+fn are_few_of(
+    alloc: Global,
+    before: &str,
+    changes: &[Change],
+    whole: &Change,
+) -> Result<bool, AllocError> {
+    if before.len() > MAX_OLD_TEXT {
+        return Ok(false);
+    }
+    let mut pieces = Pieces::start(alloc, before)?;
+    are_few(alloc, &mut pieces, changes, whole)
+}
+
 #[test]
 fn spans_are_few(rt: HostRuntime) -> Result<(), Fail> {
     let before = pairs_of_letters(rt.alloc(), 500)?;
     let changes = first_letters(rt.alloc(), 500)?;
     let whole = change(rt.alloc(), WHOLE)?;
-    assert!(rt; before.len() <= MAX_OLD_TEXT);
-    let mut pieces = Pieces::start(rt.alloc(), &before)?;
-    assert_eq!(rt; pieces.spans().len(), 1);
-    assert!(rt; spans_grow(&mut pieces, &changes));
-    assert!(rt; is_canonical(rt.alloc(), &pieces, 500, FIRST, LAST)?);
-    assert_eq!(rt; apply(&mut pieces, &whole), Ok(()));
-    assert_eq!(rt; pieces.spans().len(), 1);
-    assert!(rt; is_canonical(rt.alloc(), &pieces, 1, WHOLE, WHOLE)?);
+    assert!(rt; are_few_of(rt.alloc(), &before, &changes, &whole)?);
     Ok(())
 }

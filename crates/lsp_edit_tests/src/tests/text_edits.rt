@@ -1,7 +1,8 @@
 //! Text edits whose ranges all count in one old text: the text and the canonical batch that they
 //! leave, and their faults. In UTF-16.
 
-use lsp_edit::{Change, IndexedText, MAX_OLD_TEXT, Side, TextEdit, TextEditFault, TextFault, fits};
+use super::{applied, kept};
+use lsp_edit::{Change, MAX_OLD_TEXT, Side, TextEdit, TextEditFault, TextFault};
 use lsp_samples::edits::{Edit, batch, text_edits};
 use lsp_text::Encoding;
 use std::alloc::{AllocError, Global};
@@ -175,20 +176,13 @@ static TEXTS: [(TextEditFault, &str); 4] = [
 
 /// Returns the batch of text edits.
 fn as_batch(alloc: Global, text: &str, edits: &[TextEdit]) -> Result<Vec<Change>, TextEditFault> {
-    if text.len() > MAX_OLD_TEXT {
-        return Err(TextEditFault::NoMemory);
-    }
-    let kept = IndexedText::new(alloc, String::from_str(alloc, text)?)?;
-    kept.batch_of_edits(Encoding::Utf16, edits)
+    kept(alloc, text)?.batch_of_edits(Encoding::Utf16, edits)
 }
 
 /// Returns the text that a batch leaves of another.
 fn left(alloc: Global, text: &str, changes: &[Change]) -> Result<String, TextFault> {
-    if text.len() > MAX_OLD_TEXT || !fits(changes) {
-        return Err(TextFault::TooLong);
-    }
-    let mut kept = IndexedText::new(alloc, String::from_str(alloc, text)?)?;
-    kept.change(Encoding::Utf16, changes, MAX_OLD_TEXT)?;
+    let mut kept = kept(alloc, text)?;
+    applied(&mut kept, changes, MAX_OLD_TEXT)?;
     Ok(String::from_str(alloc, kept.text())?)
 }
 
