@@ -70,8 +70,22 @@ fn add(joined: &mut Joined, reached: &IndexedText, changes: &[Change]) -> Result
     joined.add(Encoding::Utf16, reached, changes, 9)
 }
 
-/// Returns the canonical batch of two batches. The first changes a copy of the text, and the second
-/// is on that copy.
+/// Joins two batches: the first changes a copy of the text, and the second is on that copy.
+fn add_both(
+    joined: &mut Joined,
+    alloc: Global,
+    before: &str,
+    first: &[Change],
+    second: &[Change],
+) -> Result<(), TextFault>
+    requires { IsReached joined.old before.now }
+{
+    let mut reached = kept(alloc, before)?;
+    change(joined, &mut reached, first)?;
+    add(joined, &reached, second)
+}
+
+/// Returns the canonical batch of two batches.
 fn joined(
     alloc: Global,
     before: &str,
@@ -79,9 +93,7 @@ fn joined(
     second: &[Change],
 ) -> Result<Vec<Change>, TextFault> {
     let mut joined = no_batch(alloc, before)?;
-    let mut reached = kept(alloc, before)?;
-    change(&mut joined, &mut reached, first)?;
-    add(&mut joined, &reached, second)?;
+    add_both(&mut joined, alloc, before, first, second)?;
     Ok(joined.canonical(Encoding::Utf16)?)
 }
 

@@ -114,8 +114,8 @@ fn leaves(alloc: Global, row: &Row) -> Result<bool, AllocError> {
 
 #[test]
 fn long_batches_leave_their_texts(rt: HostRuntime) -> Result<(), Fail> {
-    for row in &BATCHES {
-        assert!(rt; leaves(rt.alloc(), row)?, "{row:?}");
+    for (index, row) in BATCHES.iter().enumerate() {
+        assert!(rt; leaves(rt.alloc(), row)?, "{index}");
     }
     Ok(())
 }
@@ -130,8 +130,8 @@ fn fails(alloc: Global, row: &Faulty) -> Result<bool, AllocError> {
 
 #[test]
 fn long_batches_that_fail_change_nothing(rt: HostRuntime) -> Result<(), Fail> {
-    for row in &FAULTS {
-        assert!(rt; fails(rt.alloc(), row)?, "{row:?}");
+    for (index, row) in FAULTS.iter().enumerate() {
+        assert!(rt; fails(rt.alloc(), row)?, "{index}");
     }
     Ok(())
 }
@@ -155,14 +155,21 @@ fn is_applied(text: &mut IndexedText, changes: &[Change], refused: &mut usize) -
     text.text() == THREE_LINES && applied(text, changes, MAX_LEN + 10) == Ok(())
 }
 
+/// Whether the batch leaves these lines of the three.
+fn leaves_lines(alloc: Global, refused: &mut usize) -> Result<bool, AllocError> {
+    let changes = batch_again(alloc, &SEVERAL, refused)?;
+    let mut text = kept_again(alloc, THREE_LINES, refused)?;
+    Ok(
+        is_applied(&mut text, &changes, refused)
+            && text.text() == "A\nB\nBB\nBBB\nxc\n"
+            && text.lines().count() == 6,
+    )
+}
+
 #[test]
 fn refused_long_batch(rt: HostRuntime) -> Result<(), Fail> {
     let mut refused: usize = 0;
-    let changes = batch_again(rt.alloc(), &SEVERAL, &mut refused)?;
-    let mut text = kept_again(rt.alloc(), THREE_LINES, &mut refused)?;
-    assert!(rt; is_applied(&mut text, &changes, &mut refused));
-    assert_eq!(rt; text.text(), "A\nB\nBB\nBBB\nxc\n");
-    assert_eq!(rt; text.lines().count(), 6);
+    assert!(rt; leaves_lines(rt.alloc(), &mut refused)?);
     println!(rt; "refused {refused}")?;
     Ok(())
 }

@@ -24,12 +24,17 @@ const AFTER: &str = "a\r\nQb";
 
 static CANONICAL: [Edit; 2] = [(2, 0, 2, 0, "Q"), (1, 0, 1, 1, "")];
 
+/// Applies the changes one after another to pieces of the first text.
+fn come_and_go(alloc: Global, refused: &mut usize) -> Result<bool, EditFault> {
+    let changes = batch_again(alloc, &EDITS, refused)?;
+    let mut pieces = start_again(alloc, BEFORE, refused)?;
+    are_applied(&mut pieces, &changes, &TEXTS, refused)
+}
+
 #[test]
 fn refused_apply_where_lines_come_and_go(rt: HostRuntime) -> Result<(), Fail> {
     let mut refused: usize = 0;
-    let changes = batch_again(rt.alloc(), &EDITS, &mut refused)?;
-    let mut pieces = start_again(rt.alloc(), BEFORE, &mut refused)?;
-    assert!(rt; are_applied(&mut pieces, &changes, &TEXTS, &mut refused)?);
+    assert!(rt; come_and_go(rt.alloc(), &mut refused)?);
     println!(rt; "refused {refused}")?;
     Ok(())
 }
@@ -134,6 +139,17 @@ fn is_changed(
     Ok(kept.text() == texts.1)
 }
 
+fn is_changed_by(
+    alloc: Global,
+    kept: &mut IndexedText,
+    edits: &[Edit],
+    texts: &(&str, &str),
+    refused: &mut usize,
+) -> Result<bool, TextFault> {
+    let changes = batch_again(alloc, edits, refused)?;
+    is_changed(kept, &changes, texts, refused)
+}
+
 /// Changes a kept text by each of the changes.
 fn is_changed_by_each(
     alloc: Global,
@@ -141,30 +157,37 @@ fn is_changed_by_each(
     refused: &mut usize,
 ) -> Result<bool, TextFault> {
     for (edit, texts) in EDITS.iter().zip(TEXTS.iter()) {
-        let changes = batch_again(alloc, &[*edit], refused)?;
-        if !is_changed(kept, &changes, texts, refused)? {
+        if !is_changed_by(alloc, kept, &[*edit], texts, refused)? {
             return Ok(false);
         }
     }
     Ok(true)
 }
 
+/// Returns whether the lines of the first text come and go with the changes.
+fn has_its_lines(alloc: Global, refused: &mut usize) -> Result<bool, TextFault> {
+    let mut kept = kept_again(alloc, BEFORE, refused)?;
+    Ok(is_changed_by_each(alloc, &mut kept, refused)? && kept.lines().count() == 2)
+}
+
 #[test]
 fn refused_change_of_a_kept_text(rt: HostRuntime) -> Result<(), Fail> {
     let mut refused: usize = 0;
-    let mut kept = kept_again(rt.alloc(), BEFORE, &mut refused)?;
-    assert!(rt; is_changed_by_each(rt.alloc(), &mut kept, &mut refused)?);
-    assert_eq!(rt; kept.lines().count(), 2);
+    assert!(rt; has_its_lines(rt.alloc(), &mut refused)?);
     println!(rt; "refused {refused}")?;
     Ok(())
+}
+
+/// Returns whether the first text is changed by both changes at once.
+fn is_changed_at_once(alloc: Global, refused: &mut usize) -> Result<bool, TextFault> {
+    let mut kept = kept_again(alloc, BEFORE, refused)?;
+    is_changed_by(alloc, &mut kept, &EDITS, &(BEFORE, AFTER), refused)
 }
 
 #[test]
 fn refused_change_of_a_kept_text_by_a_batch(rt: HostRuntime) -> Result<(), Fail> {
     let mut refused: usize = 0;
-    let mut kept = kept_again(rt.alloc(), BEFORE, &mut refused)?;
-    let changes = batch_again(rt.alloc(), &EDITS, &mut refused)?;
-    assert!(rt; is_changed(&mut kept, &changes, &(BEFORE, AFTER), &mut refused)?);
+    assert!(rt; is_changed_at_once(rt.alloc(), &mut refused)?);
     println!(rt; "refused {refused}")?;
     Ok(())
 }

@@ -17,11 +17,14 @@ const TEXT: &str = "abcdef\n";
 /// The second and the third are resolved in the text that those before leave.
 static CHANGES: [Edit; 3] = [(0, 1, 0, 2, "XY"), (0, 4, 0, 6, ""), (0, 0, 0, 0, "Z")];
 
+fn spans_at_start(alloc: Global, refused: &mut usize) -> Result<usize, AllocError> {
+    Ok(start_again(alloc, TEXT, refused)?.spans().len())
+}
+
 #[test]
 fn refused_start(rt: HostRuntime) -> Result<(), Fail> {
     let mut refused: usize = 0;
-    let pieces = start_again(rt.alloc(), TEXT, &mut refused)?;
-    assert_eq!(rt; pieces.spans().len(), 1);
+    assert_eq!(rt; spans_at_start(rt.alloc(), &mut refused)?, 1);
     println!(rt; "refused {refused}")?;
     Ok(())
 }
@@ -54,27 +57,44 @@ fn is_handed_over(pieces: Pieces<'_>, wanted: &str, lines: usize) -> Result<bool
 /// Applies the changes to pieces of the text, which is handed over in the end.
 fn lead_to_a_text(
     alloc: Global,
+    lines: &Lines,
     changes: &[Change],
     refused: &mut usize,
-) -> Result<bool, EditFault> {
-    let lines = lines(alloc, refused)?;
-    let mut pieces = Pieces::over(alloc, TEXT, &lines);
+) -> Result<bool, EditFault>
+    requires { Indexes lines.now TEXT.now }
+{
+    let mut pieces = Pieces::over(alloc, TEXT, lines);
     if !are_applied(&mut pieces, changes, &TEXTS, refused)? {
         return Ok(false);
     }
     Ok(is_handed_over(pieces, "ZaXYcf\n", 2)?)
 }
 
+fn are_applied_over_lines(alloc: Global, refused: &mut usize) -> Result<bool, EditFault> {
+    let lines = lines(alloc, refused)?;
+    let changes = batch_again(alloc, &CHANGES, refused)?;
+    lead_to_a_text(alloc, &lines, &changes, refused)
+}
+
 #[test]
 fn refused_apply(rt: HostRuntime) -> Result<(), Fail> {
     let mut refused: usize = 0;
-    let changes = batch_again(rt.alloc(), &CHANGES, &mut refused)?;
-    assert!(rt; lead_to_a_text(rt.alloc(), &changes, &mut refused)?);
+    assert!(rt; are_applied_over_lines(rt.alloc(), &mut refused)?);
     println!(rt; "refused {refused}")?;
     Ok(())
 }
 
 /// Returns how many changes the canonical batch has; pieces that are out of memory are asked again.
+fn len_of_canonical(pieces: &Pieces<'_>, refused: &mut usize) -> Result<usize, AllocError> {
+    match pieces.canonical(Encoding::Utf16) {
+        Ok(canonical) => Ok(canonical.len()),
+        Err(AllocError) => {
+            *refused = refused.saturating_add(1);
+            Ok(pieces.canonical(Encoding::Utf16)?.len())
+        }
+    }
+}
+
 fn canonical_len(
     alloc: Global,
     changes: &[Change],
@@ -84,13 +104,7 @@ fn canonical_len(
         return Err(EditFault::NoMemory);
     }
     let pieces = compose(alloc, TEXT, Encoding::Utf16, changes)?;
-    match pieces.canonical(Encoding::Utf16) {
-        Ok(canonical) => Ok(canonical.len()),
-        Err(AllocError) => {
-            *refused = refused.saturating_add(1);
-            Ok(pieces.canonical(Encoding::Utf16)?.len())
-        }
-    }
+    Ok(len_of_canonical(&pieces, refused)?)
 }
 
 /// The same; where memory runs out before there are pieces, it composes again.

@@ -78,22 +78,35 @@ fn reversed(alloc: Global) -> Result<Change, AllocError> {
     })
 }
 
+/// Returns 2,500 changes and the reversed one.
+fn changes_to_a_reversed_one(alloc: Global) -> Result<Vec<Change>, AllocError> {
+    let mut changes = changes(alloc, 2_500)?;
+    changes.push(reversed(alloc)?)?;
+    Ok(changes)
+}
+
+/// Returns the fault of a batch of these lines, if it has one.
+fn fault_of(
+    alloc: Global,
+    changes: &[Change],
+    max_len: usize,
+) -> Result<Option<TextFault>, AllocError> {
+    let text = kept(alloc, LINES)?;
+    Ok(canonical_of(&text, changes, max_len).err())
+}
+
 #[test]
 fn a_fault_of_a_long_batch_has_its_number(rt: HostRuntime) -> Result<(), Fail> {
-    let text = kept(rt.alloc(), LINES)?;
-    let mut changes = changes(rt.alloc(), 2_500)?;
-    changes.push(reversed(rt.alloc())?)?;
-    let answer = canonical_of(&text, &changes, MAX_OLD_TEXT);
+    let changes = changes_to_a_reversed_one(rt.alloc())?;
     let fault = TextFault::Edit(EditFault::ReversedRange { change: 2_500 });
-    assert!(rt; answer == Err(fault));
+    assert!(rt; fault_of(rt.alloc(), &changes, MAX_OLD_TEXT)? == Some(fault));
     Ok(())
 }
 
 #[test]
 fn a_long_batch_may_leave_too_much(rt: HostRuntime) -> Result<(), Fail> {
-    let text = kept(rt.alloc(), LINES)?;
     let changes = changes(rt.alloc(), 2_500)?;
-    assert!(rt; canonical_of(&text, &changes, 100) == Err(TextFault::TooLong));
+    assert!(rt; fault_of(rt.alloc(), &changes, 100)? == Some(TextFault::TooLong));
     Ok(())
 }
 
@@ -141,13 +154,17 @@ fn deletes_the_first_line(text: &IndexedText, answer: &[Change]) -> bool {
     }
 }
 
+fn are_one_deletion(alloc: Global, refused: &mut usize) -> Result<bool, TextFault> {
+    let text = kept_again(alloc, LINES, refused)?;
+    let changes = deletions_again(alloc, refused)?;
+    let answer = canonical_again(&text, &changes, MAX_OLD_TEXT, refused)?;
+    Ok(deletes_the_first_line(&text, &answer))
+}
+
 #[test]
 fn refused_canonical_in_runs(rt: HostRuntime) -> Result<(), Fail> {
     let mut refused: usize = 0;
-    let text = kept_again(rt.alloc(), LINES, &mut refused)?;
-    let changes = deletions_again(rt.alloc(), &mut refused)?;
-    let answer = canonical_again(&text, &changes, MAX_OLD_TEXT, &mut refused)?;
-    assert!(rt; deletes_the_first_line(&text, &answer));
+    assert!(rt; are_one_deletion(rt.alloc(), &mut refused)?);
     println!(rt; "refused {refused}")?;
     Ok(())
 }

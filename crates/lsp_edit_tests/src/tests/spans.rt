@@ -9,19 +9,28 @@ use std::test::Fail;
 
 static CHANGES: [Edit; 2] = [(0, 2, 0, 1, ""), (0, 0, 0, 1, "Z")];
 
-/// Returns whether the second change is applied to `abc`, after the fault of the first.
+/// Returns whether the first change has its fault, and the second is then applied.
+fn goes_on<'a>(
+    pieces: &mut Pieces<'a>,
+    first: &'a Change,
+    second: &'a Change,
+) -> Result<bool, AllocError> {
+    if !matches!(
+        apply(pieces, first),
+        Err(EditFault::ReversedRange { change: 0 })
+    ) {
+        return Ok(false);
+    }
+    Ok(apply(pieces, second).is_ok() && pieces.text()?.as_str() == "Zbc")
+}
+
+/// The same for pieces of `abc`.
 fn goes_on_after_a_fault(alloc: Global, changes: &[Change]) -> Result<bool, AllocError> {
     let [first, second] = changes else {
         return Ok(false);
     };
     let mut pieces = Pieces::start(alloc, "abc")?;
-    if !matches!(
-        apply(&mut pieces, first),
-        Err(EditFault::ReversedRange { change: 0 })
-    ) {
-        return Ok(false);
-    }
-    Ok(apply(&mut pieces, second).is_ok() && pieces.text()?.as_str() == "Zbc")
+    goes_on(&mut pieces, first, second)
 }
 
 #[test]

@@ -213,8 +213,8 @@ fn prints(alloc: Global, row: &(TextEditFault, &str)) -> Result<bool, AllocError
 
 #[test]
 fn edits_leave_their_text_and_are_one_batch(rt: HostRuntime) -> Result<(), Fail> {
-    for row in &EDITED {
-        assert!(rt; is_edited(rt.alloc(), row)?, "{:?}", row.2);
+    for (index, row) in EDITED.iter().enumerate() {
+        assert!(rt; is_edited(rt.alloc(), row)?, "{index}");
     }
     Ok(())
 }
@@ -270,6 +270,9 @@ fn many_edits_are_put_in_order(rt: HostRuntime) -> Result<(), Fail> {
     Ok(())
 }
 
+/// Two edits of `abcdef`.
+static TWO_EDITS: &[Edit] = &[(0, 0, 0, 2, ""), (0, 3, 0, 4, "XYZ")];
+
 fn edits_again(
     alloc: Global,
     edits: &[Edit],
@@ -297,13 +300,16 @@ fn as_batch_again(
     answer
 }
 
+fn are_two_changes(alloc: Global, refused: &mut usize) -> Result<bool, TextEditFault> {
+    let edits = edits_again(alloc, TWO_EDITS, refused)?;
+    let changes = as_batch_again(alloc, "abcdef", &edits, refused)?;
+    Ok(changes.len() == 2)
+}
+
 #[test]
 fn refused_batch_of_edits(rt: HostRuntime) -> Result<(), Fail> {
     let mut refused: usize = 0;
-    let row = &EDITED[6];
-    let edits = edits_again(rt.alloc(), row.1, &mut refused)?;
-    let changes = as_batch_again(rt.alloc(), row.0, &edits, &mut refused);
-    assert!(rt; changes.is_ok_and(|changes| changes.len() == 2));
+    assert!(rt; are_two_changes(rt.alloc(), &mut refused)?);
     println!(rt; "refused {refused}")?;
     Ok(())
 }
