@@ -11,8 +11,11 @@ mod refused;
 mod squash;
 mod text_edits;
 
+use lsp_edit::Change;
 use lsp_frame::Limits;
+use lsp_samples::edits::{Edit, batch};
 use lsp_store::{Store, StoreFault};
+use lsp_text::Encoding;
 use std::alloc::Global;
 
 pub(super) const URI: &str = "file:///a";
@@ -60,8 +63,63 @@ pub(super) fn store_of(
     Ok(store)
 }
 
-/// Returns the version and the text of the document of [`URI`].
-pub(super) fn current(store: &Store) -> Option<(i32, &str)> {
-    let document = store.get(URI)?;
-    Some((document.version(), document.text()))
+/// The version and the text of the document of [`URI`]; none where it isn't open.
+pub(super) type Open = Option<(i32, &'static str)>;
+
+/// Returns whether the document of [`URI`] has this version and text, or isn't open.
+pub(super) fn is_current(store: &Store, wanted: Option<(i32, &str)>) -> bool {
+    match (store.get(URI), wanted) {
+        (None, None) => true,
+        (Some(document), Some((version, text))) => {
+            document.version() == version && document.text() == text
+        }
+        _ => false,
+    }
+}
+
+/// Changes the document of [`URI`].
+pub(super) fn change(
+    store: &mut Store,
+    version: i32,
+    changes: &[Change],
+) -> Result<(), StoreFault> {
+    store.change(URI, version, Encoding::Utf16, changes)
+}
+
+/// Returns the number of bytes of a canonical message.
+pub(super) fn frame_len(
+    store: &Store,
+    uri: &str,
+    version: i32,
+    encoding: Encoding,
+    changes: &[Change],
+) -> Result<usize, StoreFault> {
+    let frame = store.canonical_message(uri, version, encoding, changes)?;
+    Ok(frame.len())
+}
+
+/// A call on a store.
+pub(super) enum Step {
+    Open(&'static str, i32, &'static str),
+    Change(&'static str, i32, Encoding, &'static [Edit]),
+    /// Its result is the number of the frame's bytes.
+    Canonical(&'static str, i32, &'static [Edit]),
+    Close(&'static str),
+}
+
+/// A call, its result (the bytes of a frame, or 0), and the document after it.
+pub(super) type Row = (Step, Result<usize, StoreFault>, Open);
+
+pub(super) fn answer(store: &mut Store, alloc: Global, step: &Step) -> Result<usize, StoreFault> {
+    match step {
+        Step::Open(uri, version, text) => open(store, alloc, uri, *version, text)?,
+        Step::Change(uri, version, encoding, edits) => {
+            store.change(uri, *version, *encoding, &batch(alloc, edits)?)?;
+        }
+        Step::Canonical(uri, version, edits) => {
+            return frame_len(store, uri, *version, Encoding::Utf16, &batch(alloc, edits)?);
+        }
+        Step::Close(uri) => store.close(uri)?,
+    }
+    Ok(0)
 }

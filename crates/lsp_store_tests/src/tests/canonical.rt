@@ -1,6 +1,6 @@
 //! Canonical messages, byte for byte.
 
-use super::{URI, current, limits_of, narrow, store_of};
+use super::{URI, frame_len, is_current, limits_of, narrow, store_of};
 use lsp_edit::{Change, EditFault};
 use lsp_samples::edits::{ALL, Edit, batch, change};
 use lsp_store::{Store, StoreFault};
@@ -141,6 +141,10 @@ pub(super) fn frame_of(
 /// Returns the canonical message of a batch on a text.
 fn message_of(alloc: Global, text: &str, edits: &[Edit]) -> Result<Vec<u8>, StoreFault> {
     let store = store_of(alloc, narrow(1, 3)?, 1, text)?;
+    message_on(&store, alloc, edits)
+}
+
+fn message_on(store: &Store, alloc: Global, edits: &[Edit]) -> Result<Vec<u8>, StoreFault> {
     let changes = batch(alloc, edits)?;
     store.canonical_message(URI, 2, Encoding::Utf16, &changes)
 }
@@ -148,8 +152,7 @@ fn message_of(alloc: Global, text: &str, edits: &[Edit]) -> Result<Vec<u8>, Stor
 /// Returns the store after a batch on a text.
 fn changed(alloc: Global, text: &str, edits: &[Edit]) -> Result<Store, StoreFault> {
     let mut store = store_of(alloc, narrow(1, 3)?, 1, text)?;
-    let changes = batch(alloc, edits)?;
-    store.change(URI, 2, Encoding::Utf16, &changes)?;
+    super::change(&mut store, 2, &batch(alloc, edits)?)?;
     Ok(store)
 }
 
@@ -167,7 +170,7 @@ fn is_written_so(
         return Ok(false);
     }
     let store = changed(alloc, text, edits)?;
-    Ok(current(&store) == Some((2, after)))
+    Ok(is_current(&store, Some((2, after))))
 }
 
 /// Returns whether the batch of a row and its canonical changes both have the row's message.
@@ -196,12 +199,16 @@ fn message_of_nothing(alloc: Global) -> Result<Vec<u8>, StoreFault> {
     store.canonical_message(URI, 2147483647, Encoding::Utf8, &[])
 }
 
+fn is_of_nothing(bytes: &[u8]) -> bool {
+    bytes.len() == 161
+        && bytes.starts_with(b"Content-Length: 138\r\n\r\n{\"jsonrpc\"")
+        && bytes.ends_with(b"\"uri\":\"file:///a\",\"version\":2147483647}}}")
+}
+
 #[test]
 fn the_message_of_no_changes(rt: HostRuntime) -> Result<(), Fail> {
     let bytes = message_of_nothing(rt.alloc())?;
-    assert_eq!(rt; bytes.len(), 161);
-    assert!(rt; bytes.starts_with(b"Content-Length: 138\r\n\r\n{\"jsonrpc\""));
-    assert!(rt; bytes.ends_with(b"\"uri\":\"file:///a\",\"version\":2147483647}}}"));
+    assert!(rt; is_of_nothing(&bytes));
     Ok(())
 }
 
@@ -215,7 +222,11 @@ fn letters(alloc: Global, count: usize) -> Result<Change, AllocError> {
 }
 
 /// Returns a batch of a change that inserts so many letters at the front, and then others.
-fn letters_first(alloc: Global, count: usize, others: &[Edit]) -> Result<Vec<Change>, AllocError> {
+pub(super) fn letters_first(
+    alloc: Global,
+    count: usize,
+    others: &[Edit],
+) -> Result<Vec<Change>, AllocError> {
     let mut changes = Vec::new(alloc);
     changes.push(letters(alloc, count)?)?;
     for edit in others {
@@ -226,9 +237,13 @@ fn letters_first(alloc: Global, count: usize, others: &[Edit]) -> Result<Vec<Cha
 
 /// Returns the length of the canonical message that inserts so many letters, or its fault.
 fn message_len(store: &Store, alloc: Global, count: usize) -> Result<usize, StoreFault> {
-    let changes = letters_first(alloc, count, &[])?;
-    let bytes = store.canonical_message(URI, 2, Encoding::Utf16, &changes)?;
-    Ok(bytes.len())
+    frame_len(
+        store,
+        URI,
+        2,
+        Encoding::Utf16,
+        &letters_first(alloc, count, &[])?,
+    )
 }
 
 /// A number of letters, and the length of the message, or its fault.
@@ -276,16 +291,25 @@ static BEFORE_THE_BODY: [Before; 4] = [
     (2, &[], StoreFault::TextTooLong),
 ];
 
-/// Returns whether a batch of many letters and these changes is refused so, and with `NotOpen` for
-/// a document that isn't open.
-fn is_refused_before(alloc: Global, row: &Before) -> Result<bool, StoreFault> {
+/// Returns whether a batch is refused so, and with `NotOpen` for a document that isn't open.
+fn refuses(store: &Store, changes: &[Change], version: i32, fault: StoreFault) -> bool {
+    frame_len(store, URI, version, Encoding::Utf16, changes).err() == Some(fault)
+        && matches!(
+            frame_len(store, "b", version, Encoding::Utf16, changes),
+            Err(StoreFault::NotOpen)
+        )
+}
+
+/// The same of a batch of many letters and these changes.
+fn refuses_letters(store: &Store, alloc: Global, row: &Before) -> Result<bool, StoreFault> {
     let (version, edits, fault) = *row;
-    let store = store_of(alloc, limits_of(4_096, 4_999, 1, 2)?, 1, "")?;
     let changes = letters_first(alloc, 5_000, edits)?;
-    if store.canonical_message(URI, version, Encoding::Utf16, &changes) != Err(fault) {
-        return Ok(false);
-    }
-    Ok(store.canonical_message("b", version, Encoding::Utf16, &changes) == Err(StoreFault::NotOpen))
+    Ok(refuses(store, &changes, version, fault))
+}
+
+fn is_refused_before(alloc: Global, row: &Before) -> Result<bool, StoreFault> {
+    let store = store_of(alloc, limits_of(4_096, 4_999, 1, 2)?, 1, "")?;
+    refuses_letters(&store, alloc, row)
 }
 
 #[test]

@@ -1,13 +1,12 @@
 //! Calls that open, change and close documents, and each refusal in its order.
 
-use super::{URI, current, narrow, open, store_of};
-use lsp_edit::{EditFault, Side};
+use super::{Row, Step, URI, answer, change, frame_len, is_current, narrow, store_of};
+use lsp_edit::{Change, EditFault, Side};
 use lsp_frame::Limits;
 use lsp_samples::edits::{ALL, Edit, batch};
 use lsp_store::{Store, StoreFault};
 use lsp_text::Encoding;
 use std::alloc::Global;
-use std::test::Fail;
 
 const OLD: StoreFault = StoreFault::StaleVersion { held: 5 };
 
@@ -54,17 +53,21 @@ static REFUSALS: [Refusal; 9] = [
 ];
 
 /// Returns whether the batch of a row is refused, as a message too, and nothing changes.
+fn refuses(store: &mut Store, row: &Refusal, changes: &[Change]) -> bool {
+    let (text, version, _, fault) = *row;
+    frame_len(store, URI, version, Encoding::Utf16, changes).err() == Some(fault)
+        && change(store, version, changes).err() == Some(fault)
+        && is_current(store, Some((5, text)))
+}
+
+fn refuses_edits(store: &mut Store, alloc: Global, row: &Refusal) -> Result<bool, StoreFault> {
+    let changes = batch(alloc, row.2)?;
+    Ok(refuses(store, row, &changes))
+}
+
 fn is_refused(alloc: Global, row: &Refusal) -> Result<bool, StoreFault> {
-    let (text, version, edits, fault) = *row;
-    let mut store = store_of(alloc, narrow(1, 2)?, 5, text)?;
-    let changes = batch(alloc, edits)?;
-    if store.canonical_message(URI, version, Encoding::Utf16, &changes) != Err(fault) {
-        return Ok(false);
-    }
-    if store.change(URI, version, Encoding::Utf16, &changes) != Err(fault) {
-        return Ok(false);
-    }
-    Ok(current(&store) == Some((5, text)))
+    let mut store = store_of(alloc, narrow(1, 2)?, 5, row.0)?;
+    refuses_edits(&mut store, alloc, row)
 }
 
 #[test]
@@ -77,32 +80,6 @@ fn refusals_come_in_order(rt: HostRuntime) {
             row.1
         );
     }
-}
-
-/// A call on a store.
-pub(super) enum Step {
-    Open(&'static str, i32, &'static str),
-    Change(&'static str, i32, Encoding, &'static [Edit]),
-    Close(&'static str),
-}
-
-/// A call, its result, and the version and the text of the document of [`URI`] after it.
-pub(super) type Row = (Step, Result<(), StoreFault>, Option<(i32, &'static str)>);
-
-fn answer(store: &mut Store, alloc: Global, step: &Step) -> Result<(), StoreFault> {
-    match step {
-        Step::Open(uri, version, text) => open(store, alloc, uri, *version, text),
-        Step::Change(uri, version, encoding, edits) => {
-            let changes = batch(alloc, edits)?;
-            store.change(uri, *version, *encoding, &changes)
-        }
-        Step::Close(uri) => store.close(uri),
-    }
-}
-
-/// Returns whether the document of [`URI`] has this version and text, or isn't open.
-fn is_current(store: &Store, wanted: Option<(i32, &str)>) -> bool {
-    current(store) == wanted
 }
 
 /// Returns the number of the first row with another result of its call, or another document after
@@ -132,7 +109,7 @@ pub(super) fn played(
 }
 
 static AFTER_A_FAULT: [Row; 5] = [
-    (Step::Open(URI, 1, "abc"), Ok(()), Some((1, "abc"))),
+    (Step::Open(URI, 1, "abc"), Ok(0), Some((1, "abc"))),
     (
         Step::Change(
             URI,
@@ -145,7 +122,7 @@ static AFTER_A_FAULT: [Row; 5] = [
     ),
     (
         Step::Change(URI, 2, Encoding::Utf16, &[(0, 0, 0, 1, "Z")]),
-        Ok(()),
+        Ok(0),
         Some((2, "Zbc")),
     ),
     (
@@ -155,12 +132,12 @@ static AFTER_A_FAULT: [Row; 5] = [
             Encoding::Utf16,
             &[(0, 0, 0, 2, ""), (0, 1, 0, 1, "\r\nq")],
         ),
-        Ok(()),
+        Ok(0),
         Some((9, "c\r\nq")),
     ),
     (
         Step::Change(URI, 10, Encoding::Utf16, &[(1, 1, 1, 1, "!")]),
-        Ok(()),
+        Ok(0),
         Some((10, "c\r\nq!")),
     ),
 ];
@@ -174,11 +151,7 @@ fn a_change_after_a_fault(rt: HostRuntime) {
 }
 
 static FINAL_TEXT: [Row; 2] = [
-    (
-        Step::Open(URI, 1, "abcdefgh"),
-        Ok(()),
-        Some((1, "abcdefgh")),
-    ),
+    (Step::Open(URI, 1, "abcdefgh"), Ok(0), Some((1, "abcdefgh"))),
     (
         Step::Change(
             URI,
@@ -186,7 +159,7 @@ static FINAL_TEXT: [Row; 2] = [
             Encoding::Utf16,
             &[(0, 8, 0, 8, "xyz"), (0, 0, 0, 3, "")],
         ),
-        Ok(()),
+        Ok(0),
         Some((2, "defghxyz")),
     ),
 ];
@@ -200,15 +173,15 @@ fn the_final_text_alone_is_limited(rt: HostRuntime) {
 }
 
 static LINE_ENDS: [Row; 3] = [
-    (Step::Open(URI, 1, "a\rX\nb"), Ok(()), Some((1, "a\rX\nb"))),
+    (Step::Open(URI, 1, "a\rX\nb"), Ok(0), Some((1, "a\rX\nb"))),
     (
         Step::Change(URI, 2, Encoding::Utf16, &[(1, 0, 1, 1, "")]),
-        Ok(()),
+        Ok(0),
         Some((2, "a\r\nb")),
     ),
     (
         Step::Change(URI, 3, Encoding::Utf16, &[(1, 0, 1, 0, "Q")]),
-        Ok(()),
+        Ok(0),
         Some((3, "a\r\nQb")),
     ),
 ];
@@ -221,7 +194,7 @@ fn line_ends_that_come_together(rt: HostRuntime) {
 static VERSIONS: [Row; 5] = [
     (
         Step::Open(URI, -2147483648, ""),
-        Ok(()),
+        Ok(0),
         Some((-2147483648, "")),
     ),
     (
@@ -231,12 +204,12 @@ static VERSIONS: [Row; 5] = [
     ),
     (
         Step::Change(URI, -2147483647, Encoding::Utf8, &[]),
-        Ok(()),
+        Ok(0),
         Some((-2147483647, "")),
     ),
     (
         Step::Change(URI, 2147483647, Encoding::Utf8, &[]),
-        Ok(()),
+        Ok(0),
         Some((2147483647, "")),
     ),
     (
@@ -255,13 +228,13 @@ fn versions_at_their_ends(rt: HostRuntime) {
 const LONG: &str = "abcdefghi";
 
 static OPENED_AND_CLOSED: [Row; 11] = [
-    (Step::Open(URI, 1, ""), Ok(()), Some((1, ""))),
+    (Step::Open(URI, 1, ""), Ok(0), Some((1, ""))),
     (
         Step::Open("", 1, LONG),
         Err(StoreFault::TextTooLong),
         Some((1, "")),
     ),
-    (Step::Open("", 1, "abcdefgh"), Ok(()), Some((1, ""))),
+    (Step::Open("", 1, "abcdefgh"), Ok(0), Some((1, ""))),
     (
         Step::Open(URI, 1, LONG),
         Err(StoreFault::AlreadyOpen),
@@ -283,10 +256,10 @@ static OPENED_AND_CLOSED: [Row; 11] = [
         Err(StoreFault::NotOpen),
         Some((1, "")),
     ),
-    (Step::Close(URI), Ok(()), None),
+    (Step::Close(URI), Ok(0), None),
     (Step::Close(URI), Err(StoreFault::NotOpen), None),
-    (Step::Open(URI, 0, "a"), Ok(()), Some((0, "a"))),
-    (Step::Close(""), Ok(()), Some((0, "a"))),
+    (Step::Open(URI, 0, "a"), Ok(0), Some((0, "a"))),
+    (Step::Close(""), Ok(0), Some((0, "a"))),
 ];
 
 /// Returns whether one of two documents is open, and not the one whose URI is empty.
@@ -308,7 +281,7 @@ fn documents_are_opened_and_closed(rt: HostRuntime) {
 }
 
 static ONE_DOCUMENT: [Row; 9] = [
-    (Step::Open(URI, 5, "abc"), Ok(()), Some((5, "abc"))),
+    (Step::Open(URI, 5, "abc"), Ok(0), Some((5, "abc"))),
     (
         Step::Open("b", 1, ""),
         Err(StoreFault::TooManyDocuments),
@@ -329,14 +302,14 @@ static ONE_DOCUMENT: [Row; 9] = [
         Err(StoreFault::TooManyChanges),
         Some((5, "abc")),
     ),
-    (Step::Close(URI), Ok(()), None),
-    (Step::Open(URI, 1, "a"), Ok(()), Some((1, "a"))),
+    (Step::Close(URI), Ok(0), None),
+    (Step::Open(URI, 1, "a"), Ok(0), Some((1, "a"))),
     (
         Step::Open(URI, 2, ""),
         Err(StoreFault::AlreadyOpen),
         Some((1, "a")),
     ),
-    (Step::Close(URI), Ok(()), None),
+    (Step::Close(URI), Ok(0), None),
     (Step::Close(URI), Err(StoreFault::NotOpen), None),
 ];
 
@@ -382,13 +355,13 @@ fn is_order_of_iter(store: &Store, uris: &[&str]) -> bool {
 }
 
 static THREE_OPENED: [Row; 4] = [
-    (Step::Open(URI, 1, ""), Ok(()), Some((1, ""))),
-    (Step::Open("b", 1, ""), Ok(()), Some((1, ""))),
-    (Step::Open("c", 1, ""), Ok(()), Some((1, ""))),
-    (Step::Close(URI), Ok(()), None),
+    (Step::Open(URI, 1, ""), Ok(0), Some((1, ""))),
+    (Step::Open("b", 1, ""), Ok(0), Some((1, ""))),
+    (Step::Open("c", 1, ""), Ok(0), Some((1, ""))),
+    (Step::Close(URI), Ok(0), None),
 ];
 
-static OPENED_AGAIN: [Row; 1] = [(Step::Open(URI, 1, ""), Ok(()), Some((1, "")))];
+static OPENED_AGAIN: [Row; 1] = [(Step::Open(URI, 1, ""), Ok(0), Some((1, "")))];
 
 /// Returns whether a document that is closed and opened again comes after the others.
 fn goes_last(store: &mut Store, alloc: Global) -> bool {
@@ -398,9 +371,12 @@ fn goes_last(store: &mut Store, alloc: Global) -> bool {
     wrong_row(store, alloc, &OPENED_AGAIN).is_none() && is_order(store, &["b", "c", URI])
 }
 
+fn goes_last_in_new(alloc: Global) -> Result<bool, StoreFault> {
+    let mut store = Store::new(alloc, narrow(3, 1)?);
+    Ok(goes_last(&mut store, alloc))
+}
+
 #[test]
-fn a_document_that_is_opened_again_goes_last(rt: HostRuntime) -> Result<(), Fail> {
-    let mut store = Store::new(rt.alloc(), narrow(3, 1)?);
-    assert!(rt; goes_last(&mut store, rt.alloc()));
-    Ok(())
+fn a_document_that_is_opened_again_goes_last(rt: HostRuntime) {
+    assert!(rt; goes_last_in_new(rt.alloc()) == Ok(true));
 }

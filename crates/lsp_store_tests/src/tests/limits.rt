@@ -1,17 +1,16 @@
 //! The least and the greatest limits, many documents, and a long URI.
 
-use super::documents::{Row, Step, names_at, played};
-use super::{URI, current, limits_of, narrow, open, store_of};
+use super::documents::{names_at, played};
+use super::{Row, Step, URI, frame_len, is_current, limits_of, narrow, open, store_of};
 use lsp_edit::{Change, EditFault};
 use lsp_frame::Limits;
 use lsp_samples::edits::change;
 use lsp_store::{Store, StoreFault};
 use lsp_text::Encoding;
 use std::alloc::{AllocError, Global};
-use std::test::Fail;
 
 static NO_TEXT: [Row; 5] = [
-    (Step::Open(URI, 1, ""), Ok(()), Some((1, ""))),
+    (Step::Open(URI, 1, ""), Ok(0), Some((1, ""))),
     (
         Step::Change(URI, 2, Encoding::Utf16, &[(0, 0, 0, 0, "x")]),
         Err(StoreFault::TextTooLong),
@@ -19,10 +18,10 @@ static NO_TEXT: [Row; 5] = [
     ),
     (
         Step::Change(URI, 2, Encoding::Utf16, &[(9, 9, 9, 9, "")]),
-        Ok(()),
+        Ok(0),
         Some((2, "")),
     ),
-    (Step::Close(URI), Ok(()), None),
+    (Step::Close(URI), Ok(0), None),
     (Step::Open(URI, 1, "x"), Err(StoreFault::TextTooLong), None),
 ];
 
@@ -46,22 +45,24 @@ fn reversed(alloc: Global, count: usize) -> Result<Vec<Change>, AllocError> {
 /// Returns the result of a batch of so many reversed changes. The first one is faulty, so the
 /// others need not be applied.
 fn answer_to(store: &mut Store, alloc: Global, count: usize) -> Result<(), StoreFault> {
-    let changes = reversed(alloc, count)?;
-    store.change(URI, 2, Encoding::Utf16, &changes)
+    super::change(store, 2, &reversed(alloc, count)?)
 }
 
 /// Returns whether the greatest number of changes is read, and one more refused as too many.
+fn refuses_one_more(store: &mut Store, alloc: Global) -> bool {
+    matches!(
+        answer_to(store, alloc, 1_048_576),
+        Err(StoreFault::Edit(EditFault::ReversedRange { change: 0 }))
+    ) && matches!(
+        answer_to(store, alloc, 1_048_577),
+        Err(StoreFault::TooManyChanges)
+    ) && is_current(store, Some((1, "abc")))
+}
+
 fn takes_so_many(alloc: Global) -> Result<bool, StoreFault> {
     let greatest = limits_of(1_073_741_824, 1_073_741_824, 65_536, 1_048_576)?;
     let mut store = store_of(alloc, greatest, 1, "abc")?;
-    let reversed = Err(StoreFault::Edit(EditFault::ReversedRange { change: 0 }));
-    if answer_to(&mut store, alloc, 1_048_576) != reversed {
-        return Ok(false);
-    }
-    if answer_to(&mut store, alloc, 1_048_577) != Err(StoreFault::TooManyChanges) {
-        return Ok(false);
-    }
-    Ok(current(&store) == Some((1, "abc")))
+    Ok(refuses_one_more(&mut store, alloc))
 }
 
 #[test]
@@ -81,17 +82,23 @@ fn open_numbered(store: &mut Store, alloc: Global, count: u32) -> Result<(), Sto
 /// Returns whether the greatest number of documents is opened, and one more refused.
 fn is_filled(store: &mut Store, alloc: Global) -> Result<bool, StoreFault> {
     open_numbered(store, alloc, 65_536)?;
-    if open(store, alloc, "x", 1, "") != Err(StoreFault::TooManyDocuments) {
+    if !matches!(
+        open(store, alloc, "x", 1, ""),
+        Err(StoreFault::TooManyDocuments)
+    ) {
         return Ok(false);
     }
     Ok(store.len() == 65_536 && names_at(store, 65_535).0 == "65535")
 }
 
+fn new_one_is_filled(alloc: Global) -> Result<bool, StoreFault> {
+    let mut store = Store::new(alloc, limits_of(4_096, 0, 65_536, 1)?);
+    is_filled(&mut store, alloc)
+}
+
 #[test]
-fn as_many_documents_as_there_may_be(rt: HostRuntime) -> Result<(), Fail> {
-    let mut store = Store::new(rt.alloc(), limits_of(4_096, 0, 65_536, 1)?);
-    assert!(rt; is_filled(&mut store, rt.alloc())?);
-    Ok(())
+fn as_many_documents_as_there_may_be(rt: HostRuntime) {
+    assert!(rt; new_one_is_filled(rt.alloc()) == Ok(true));
 }
 
 /// Returns a URI of so many bytes.
@@ -103,10 +110,10 @@ fn long_uri(alloc: Global, len: usize) -> Result<String, AllocError> {
     Ok(uri)
 }
 
-/// Returns the length of the canonical message of no changes, under this version.
-fn message_len(store: &Store, uri: &str, version: i32) -> Result<usize, StoreFault> {
-    let bytes = store.canonical_message(uri, version, Encoding::Utf8, &[])?;
-    Ok(bytes.len())
+/// Returns the length of the message of an open document that is changed before it.
+fn changed_len(store: &mut Store, uri: &str) -> Result<usize, StoreFault> {
+    store.change(uri, 2, Encoding::Utf8, &[])?;
+    frame_len(store, uri, 3, Encoding::Utf8, &[])
 }
 
 /// Returns the length of the message of an open document, which is changed before and closed after
@@ -114,8 +121,7 @@ fn message_len(store: &Store, uri: &str, version: i32) -> Result<usize, StoreFau
 fn changed_message_len(alloc: Global, limits: Limits, uri: &str) -> Result<usize, StoreFault> {
     let mut store = Store::new(alloc, limits);
     open(&mut store, alloc, uri, 1, "")?;
-    store.change(uri, 2, Encoding::Utf8, &[])?;
-    let len = message_len(&store, uri, 3);
+    let len = changed_len(&mut store, uri);
     store.close(uri)?;
     len
 }
@@ -124,7 +130,7 @@ fn changed_message_len(alloc: Global, limits: Limits, uri: &str) -> Result<usize
 fn opened_message_len(alloc: Global, limits: Limits, uri: &str) -> Result<usize, StoreFault> {
     let mut store = Store::new(alloc, limits);
     open(&mut store, alloc, uri, 1, "")?;
-    message_len(&store, uri, 2)
+    frame_len(&store, uri, 2, Encoding::Utf8, &[])
 }
 
 /// Returns whether the messages of a document with a URI of a million bytes have their lengths.

@@ -1,6 +1,6 @@
 //! Positions and byte offsets of a document that was changed.
 
-use super::{URI, narrow, store_of};
+use super::{URI, change, narrow, store_of};
 use lsp_samples::edits::{Edit, batch};
 use lsp_store::{Document, Store, StoreFault};
 use lsp_text::{Encoding, Position};
@@ -36,7 +36,7 @@ static EXACT: [(Encoding, usize, Option<(u32, u32)>); 8] = [
 /// Returns a store whose document has that text.
 fn edited(alloc: Global) -> Result<Store, StoreFault> {
     let mut store = store_of(alloc, narrow(1, 1)?, 1, "ab")?;
-    store.change(URI, 2, Encoding::Utf16, &batch(alloc, EDIT)?)?;
+    change(&mut store, 2, &batch(alloc, EDIT)?)?;
     Ok(store)
 }
 

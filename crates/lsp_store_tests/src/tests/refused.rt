@@ -1,6 +1,6 @@
 //! Calls that run out of memory once, and are repeated.
 
-use super::{URI, current, narrow, open, store_of};
+use super::{URI, change, frame_len, is_current, narrow, open, store_of};
 use lsp_edit::Change;
 use lsp_samples::edits::{ALL, Edit, batch_again};
 use lsp_store::{Store, StoreFault};
@@ -10,33 +10,41 @@ use std::test::Fail;
 
 /// Opens a document. Where memory runs out none is open; that is counted, and the call repeated.
 fn opens_again(store: &mut Store, alloc: Global, refused: &mut usize) -> Result<bool, StoreFault> {
-    if open(store, alloc, URI, 1, "a\nb") == Err(StoreFault::NoMemory) {
+    if matches!(
+        open(store, alloc, URI, 1, "a\nb"),
+        Err(StoreFault::NoMemory)
+    ) {
         *refused = refused.saturating_add(1);
         if store.len() != 0 {
             return Ok(false);
         }
         open(store, alloc, URI, 1, "a\nb")?;
     }
-    Ok(current(store) == Some((1, "a\nb")))
+    Ok(is_current(store, Some((1, "a\nb"))))
+}
+
+fn new_one_opens_again(alloc: Global, refused: &mut usize) -> Result<bool, StoreFault> {
+    let mut store = Store::new(alloc, narrow(1, 1)?);
+    opens_again(&mut store, alloc, refused)
 }
 
 #[test]
 fn refused_open(rt: HostRuntime) -> Result<(), Fail> {
-    let mut store = Store::new(rt.alloc(), narrow(1, 1)?);
     let mut refused = 0;
-    assert!(rt; opens_again(&mut store, rt.alloc(), &mut refused)?);
+    assert!(rt; new_one_opens_again(rt.alloc(), &mut refused)?);
     println!(rt; "refused {refused}")?;
     Ok(())
 }
 
 /// Returns a store with one open document. Out of memory is counted, and the call repeated.
 fn store_again(alloc: Global, text: &str, refused: &mut usize) -> Result<Store, StoreFault> {
-    match store_of(alloc, narrow(1, 2)?, 1, text) {
-        Ok(store) => Ok(store),
-        Err(_) => {
+    let limits = narrow(1, 2)?;
+    match store_of(alloc, limits, 1, text) {
+        Err(StoreFault::NoMemory) => {
             *refused = refused.saturating_add(1);
-            store_of(alloc, narrow(1, 2)?, 1, text)
+            store_of(alloc, limits, 1, text)
         }
+        other => other,
     }
 }
 
@@ -47,14 +55,14 @@ fn change_again(
     changes: &[Change],
     refused: &mut usize,
 ) -> Result<bool, StoreFault> {
-    if store.change(URI, 2, Encoding::Utf16, changes) != Err(StoreFault::NoMemory) {
+    if !matches!(change(store, 2, changes), Err(StoreFault::NoMemory)) {
         return Ok(true);
     }
     *refused = refused.saturating_add(1);
-    if current(store) != Some((1, text)) {
+    if !is_current(store, Some((1, text))) {
         return Ok(false);
     }
-    store.change(URI, 2, Encoding::Utf16, changes)?;
+    change(store, 2, changes)?;
     Ok(true)
 }
 
@@ -68,11 +76,21 @@ fn leaves(
     refused: &mut usize,
 ) -> Result<bool, StoreFault> {
     let mut store = store_again(alloc, text, refused)?;
+    Ok(
+        changes_again(&mut store, alloc, text, edits, refused)?
+            && is_current(&store, Some((2, after))),
+    )
+}
+
+fn changes_again(
+    store: &mut Store,
+    alloc: Global,
+    text: &str,
+    edits: &[Edit],
+    refused: &mut usize,
+) -> Result<bool, StoreFault> {
     let changes = batch_again(alloc, edits, refused)?;
-    if !change_again(&mut store, text, &changes, refused)? {
-        return Ok(false);
-    }
-    Ok(current(&store) == Some((2, after)))
+    change_again(store, text, &changes, refused)
 }
 
 #[test]
@@ -90,12 +108,12 @@ fn message_len(
     changes: &[Change],
     refused: &mut usize,
 ) -> Result<usize, StoreFault> {
-    let mut outcome = store.canonical_message(URI, 2, Encoding::Utf16, changes);
-    if outcome == Err(StoreFault::NoMemory) {
+    let len = frame_len(store, URI, 2, Encoding::Utf16, changes);
+    if matches!(len, Err(StoreFault::NoMemory)) {
         *refused = refused.saturating_add(1);
-        outcome = store.canonical_message(URI, 2, Encoding::Utf16, changes);
+        return frame_len(store, URI, 2, Encoding::Utf16, changes);
     }
-    Ok(outcome?.len())
+    len
 }
 
 /// Returns the length of the message of a change of the whole text to none.

@@ -1,14 +1,14 @@
 //! Batches on one document as one batch: the message of each run, byte for byte, and what is
 //! refused.
 
-use super::canonical::frame_of;
+use super::canonical::{frame_of, letters_first};
 use super::{URI, limits_of, narrow, store_of};
 use lsp_edit::{Change, EditFault};
 use lsp_frame::Limits;
 use lsp_samples::edits::{ALL, Edit, batch, batch_again};
-use lsp_store::{Squash, StoreFault};
+use lsp_store::{Squash, Store, StoreFault};
 use lsp_text::Encoding;
-use std::alloc::{AllocError, Global};
+use std::alloc::Global;
 use std::test::Fail;
 
 /// A text, batches under the versions from 2 on, the length of the body of their one message, and
@@ -102,6 +102,10 @@ static RUNS: [Run; 9] = [
 /// Returns a squash of a document of version 1 with this text.
 fn squash_of(alloc: Global, limits: Limits, text: &str) -> Result<Squash, StoreFault> {
     let store = store_of(alloc, limits, 1, text)?;
+    squash_in(&store, alloc, limits)
+}
+
+fn squash_in(store: &Store, alloc: Global, limits: Limits) -> Result<Squash, StoreFault> {
     let Some(document) = store.get(URI) else {
         return Err(StoreFault::NotOpen);
     };
@@ -271,15 +275,14 @@ fn too_many_changes_and_one_again(rt: HostRuntime) {
     assert_eq!(rt; wrong_step_on_abc(rt.alloc(), &TOO_MANY), Ok(None));
 }
 
-/// Returns a batch of one change that inserts so many letters at the front.
-fn letters(alloc: Global, count: usize) -> Result<Vec<Change>, AllocError> {
-    let mut changes = batch(alloc, &[(0, 0, 0, 0, "")])?;
-    for change in &mut changes {
-        for _ in 0..count {
-            change.text.push('x')?;
-        }
-    }
-    Ok(changes)
+/// Adds a batch of so many letters at the front.
+fn add_letters(
+    squash: &mut Squash,
+    alloc: Global,
+    version: i32,
+    count: usize,
+) -> Result<(), StoreFault> {
+    squash.add(version, &letters_first(alloc, count, &[])?)
 }
 
 /// Letters of two batches on an empty text, and the length of the frame or the refusal.
@@ -299,8 +302,8 @@ fn message_len(squash: &Squash) -> Result<usize, StoreFault> {
 fn has_length(alloc: Global, long: &Long) -> Result<bool, StoreFault> {
     let (first, second, wanted) = *long;
     let mut squash = squash_of(alloc, limits_of(4_096, 8_192, 1, 1)?, "")?;
-    squash.add(2, &letters(alloc, first)?)?;
-    squash.add(3, &letters(alloc, second)?)?;
+    add_letters(&mut squash, alloc, 2, first)?;
+    add_letters(&mut squash, alloc, 3, second)?;
     Ok(message_len(&squash) == wanted)
 }
 
@@ -320,7 +323,7 @@ static TOO_MANY_AND_LONG: [Step; 3] = [
 /// Returns the number of the first step with another result, after a batch of 4,000 letters.
 fn wrong_step_on_letters(alloc: Global, steps: &[Step]) -> Result<Option<usize>, StoreFault> {
     let mut squash = squash_of(alloc, limits_of(4_096, 8_192, 1, 1)?, "a")?;
-    squash.add(2, &letters(alloc, 4_000)?)?;
+    add_letters(&mut squash, alloc, 2, 4_000)?;
     wrong_step(&mut squash, alloc, steps)
 }
 
@@ -334,12 +337,13 @@ fn too_many_changes_before_a_long_body(rt: HostRuntime) {
 
 /// Starts a squash. Out of memory is counted, and the call repeated.
 fn squash_again(alloc: Global, refused: &mut usize) -> Result<Squash, StoreFault> {
-    match squash_of(alloc, narrow(1, 2)?, "ab") {
-        Ok(squash) => Ok(squash),
-        Err(_) => {
+    let limits = narrow(1, 2)?;
+    match squash_of(alloc, limits, "ab") {
+        Err(StoreFault::NoMemory) => {
             *refused = refused.saturating_add(1);
-            squash_of(alloc, narrow(1, 2)?, "ab")
+            squash_of(alloc, limits, "ab")
         }
+        other => other,
     }
 }
 

@@ -1,6 +1,6 @@
 //! Text edits of an open document, as the batch that changes it.
 
-use super::{URI, narrow, store_of};
+use super::{URI, change, narrow, store_of};
 use lsp_edit::TextEditFault;
 use lsp_samples::edits::{Edit, text_edits};
 use lsp_store::{Store, StoreFault};
@@ -23,10 +23,17 @@ fn edit(
     };
     match document.batch_of_edits(Encoding::Utf16, &edits) {
         Ok(changes) => {
-            store.change(URI, 2, Encoding::Utf16, &changes)?;
+            change(store, 2, &changes)?;
             Ok(None)
         }
         Err(fault) => Ok(Some(fault)),
+    }
+}
+
+fn is_text(store: &Store, text: &str) -> bool {
+    match store.get(URI) {
+        Some(document) => document.text() == text,
+        None => false,
     }
 }
 
@@ -39,12 +46,7 @@ fn leave(
 ) -> Result<bool, StoreFault> {
     let mut store = store_of(alloc, narrow(1, 3)?, 1, "ab\ncd")?;
     let answer = edit(&mut store, alloc, edits)?;
-    Ok(
-        answer == wanted
-            && store
-                .get(URI)
-                .is_some_and(|document| document.text() == text),
-    )
+    Ok(answer == wanted && is_text(&store, text))
 }
 
 #[test]
