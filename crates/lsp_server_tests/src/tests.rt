@@ -10,36 +10,29 @@ mod sessions;
 mod texts;
 
 use lsp_edit::EditFault;
-use lsp_frame::{Limits, frame};
+use lsp_frame::{BadLimits, Limits, frame};
 use lsp_server::{Answer, Config, EncodingChoice, Refusal, Server, ServerFault, Sync};
 use lsp_store::StoreFault;
 use lsp_text::Encoding;
 use std::alloc::{AllocError, Global};
-use std::test::Fail;
 
 /// Returns a server with UTF-16, incremental synchronisation and wide limits.
-pub(super) fn new_server(alloc: Global) -> Result<Server, Fail> {
-    server_with(
-        alloc,
-        EncodingChoice::Fixed(Encoding::Utf16),
-        Sync::Incremental,
-    )
+pub(super) fn new_server(alloc: Global) -> Result<Server, BadLimits> {
+    Ok(Server::new(alloc, usual()?))
 }
 
-pub(super) fn server_with(
-    alloc: Global,
-    choice: EncodingChoice,
-    sync: Sync,
-) -> Result<Server, Fail> {
-    let limits = Limits::new(16_777_216, 16_777_216, 1_024, 65_536)?;
-    Ok(Server::new(
-        alloc,
-        Config {
-            limits,
-            choice,
-            sync,
-        },
-    ))
+/// UTF-16, incremental synchronisation and wide limits.
+pub(super) fn usual() -> Result<Config, BadLimits> {
+    config_with(EncodingChoice::Fixed(Encoding::Utf16), Sync::Incremental)
+}
+
+/// Wide limits.
+pub(super) fn config_with(choice: EncodingChoice, sync: Sync) -> Result<Config, BadLimits> {
+    Ok(Config {
+        limits: Limits::new(16_777_216, 16_777_216, 1_024, 65_536)?,
+        choice,
+        sync,
+    })
 }
 
 /// A body, and the body of the expected reply, or the word of the answer.
@@ -53,18 +46,52 @@ pub(super) fn wrong_row(
     rows: &[Row],
 ) -> Result<Option<usize>, AllocError> {
     for (number, (body, wanted)) in rows.iter().enumerate() {
-        let given = server.handle(body.as_bytes());
-        if !is_answer(alloc, &given, wanted)? {
+        if !is_answered(alloc, server, body, wanted)? {
             return Ok(Some(number));
         }
     }
     Ok(None)
 }
 
-/// Returns the version and the text of the document that the bodies name.
-pub(super) fn document(server: &Server) -> Option<(i32, &str)> {
-    let document = server.store().get("file:///a")?;
-    Some((document.version(), document.text()))
+/// The same for a new server of this configuration.
+pub(super) fn wrong_row_of_new(
+    alloc: Global,
+    config: Config,
+    rows: &[Row],
+) -> Result<Option<usize>, AllocError> {
+    let mut server = Server::new(alloc, config);
+    wrong_row(alloc, &mut server, rows)
+}
+
+/// Returns whether a body has the expected answer.
+pub(super) fn is_answered(
+    alloc: Global,
+    server: &mut Server,
+    body: &str,
+    wanted: &str,
+) -> Result<bool, AllocError> {
+    let given = server.handle(body.as_bytes());
+    is_answer(alloc, &given, wanted)
+}
+
+/// The version and the text of the document that the bodies name; none where it isn't open.
+pub(super) type Open = Option<(i32, &'static str)>;
+
+/// Returns whether this is the document that the bodies name.
+pub(super) fn has_document(server: &Server, wanted: Open) -> bool {
+    match (server.store().get("file:///a"), wanted) {
+        (None, None) => true,
+        (Some(document), Some((version, text))) => {
+            document.version() == version && document.text() == text
+        }
+        _ => false,
+    }
+}
+
+/// Returns whether this is the one document that is open, or none is where none is expected.
+pub(super) fn holds(server: &Server, wanted: Open) -> bool {
+    let count = if wanted.is_some() { 1 } else { 0 };
+    has_document(server, wanted) && server.store().len() == count
 }
 
 /// Returns whether this is the expected answer: a reply with this body, or the answer of this word.

@@ -1,7 +1,7 @@
 //! The encoding that is chosen, the kind of synchronisation, and the effect of both on later
 //! changes.
 
-use super::{Row, document, is_answer, server_with, wrong_row};
+use super::{Row, config_with, has_document, is_answered, new_server, wrong_row};
 use lsp_samples::bodies::{ACCEPTED, AFTER_ONE_UNIT, INITIALIZE, INITIALIZED, OPEN, OPEN_EMOJI};
 use lsp_server::{EncodingChoice, Server, Sync};
 use lsp_text::Encoding;
@@ -99,12 +99,21 @@ fn is_chosen(
     general: &str,
     name: &str,
 ) -> Result<bool, Fail> {
-    let mut server = server_with(alloc, choice, Sync::Incremental)?;
-    let given = server.handle(initialize(alloc, general)?.as_bytes());
-    if server.encoding() != Encoding::of_name(name) {
-        return Ok(false);
-    }
-    Ok(is_answer(alloc, &given, &accepted(alloc, name)?)?)
+    let mut server = Server::new(alloc, config_with(choice, Sync::Incremental)?);
+    Ok(
+        is_announced(alloc, &mut server, general, name)?
+            && server.encoding() == Encoding::of_name(name),
+    )
+}
+
+fn is_announced(
+    alloc: Global,
+    server: &mut Server,
+    general: &str,
+    name: &str,
+) -> Result<bool, AllocError> {
+    let body = initialize(alloc, general)?;
+    is_answered(alloc, server, &body, &accepted(alloc, name)?)
 }
 
 #[test]
@@ -153,11 +162,14 @@ static FULL: [Row; 5] = [
     ),
 ];
 
+fn is_changed_under_full(alloc: Global) -> Result<bool, Fail> {
+    let mut server = Server::new(alloc, config_with(NEGOTIATED_8, Sync::Full)?);
+    Ok(wrong_row(alloc, &mut server, &FULL)?.is_none() && has_document(&server, Some((3, "aYZc"))))
+}
+
 #[test]
 fn a_range_under_full_synchronisation(rt: HostRuntime) -> Result<(), Fail> {
-    let mut server = server_with(rt.alloc(), NEGOTIATED_8, Sync::Full)?;
-    assert_eq!(rt; wrong_row(rt.alloc(), &mut server, &FULL)?, None);
-    assert_eq!(rt; document(&server), Some((3, "aYZc")));
+    assert!(rt; is_changed_under_full(rt.alloc())?);
     Ok(())
 }
 
@@ -197,17 +209,26 @@ fn is_settled(alloc: Global, server: &mut Server, row: &Settled) -> Result<bool,
     if server.encoding() != encoding {
         return Ok(false);
     }
-    let given = server.handle(body.as_bytes());
-    is_answer(alloc, &given, wanted)
+    is_answered(alloc, server, body, wanted)
+}
+
+/// Returns the number of the first row that isn't.
+fn wrong_settled(alloc: Global, server: &mut Server) -> Result<Option<usize>, AllocError> {
+    for (number, row) in SETTLED.iter().enumerate() {
+        if !is_settled(alloc, server, row)? {
+            return Ok(Some(number));
+        }
+    }
+    Ok(None)
+}
+
+fn are_settled(alloc: Global) -> Result<bool, Fail> {
+    let mut server = new_server(alloc)?;
+    Ok(wrong_settled(alloc, &mut server)?.is_none() && has_document(&server, Some((2, "😀b"))))
 }
 
 #[test]
 fn settled_changes_count_in_another_encoding(rt: HostRuntime) -> Result<(), Fail> {
-    let fixed = EncodingChoice::Fixed(Encoding::Utf16);
-    let mut server = server_with(rt.alloc(), fixed, Sync::Incremental)?;
-    for row in &SETTLED {
-        assert!(rt; is_settled(rt.alloc(), &mut server, row)?, "{}", row.3);
-    }
-    assert_eq!(rt; document(&server), Some((2, "😀b")));
+    assert!(rt; are_settled(rt.alloc())?);
     Ok(())
 }

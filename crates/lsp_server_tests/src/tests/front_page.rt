@@ -42,14 +42,26 @@ fn frames(alloc: Global, bodies: &[&str]) -> Result<Vec<Vec<u8>>, AllocError> {
     Ok(frames)
 }
 
-#[test]
-fn from_frames_to_replies(rt: HostRuntime) -> Result<(), Fail> {
-    let alloc = rt.alloc();
+/// Serves the pieces by a new server.
+fn served(alloc: Global, pieces: &[Vec<u8>], output: &mut Vec<u8>) -> Result<Option<u8>, Fail> {
+    let mut server = new_server(alloc);
+    serve(alloc, &mut server, pieces, output)
+}
+
+fn are_replies(alloc: Global, output: &[u8]) -> Result<bool, AllocError> {
+    Ok(output == log(alloc, &[ACCEPTED, SHUT_DOWN])?.as_slice())
+}
+
+fn has_replies(alloc: Global) -> Result<bool, Fail> {
     let pieces = frames(alloc, &[INITIALIZE, OPEN, SHUTDOWN, EXIT])?;
     let mut output = Vec::new(alloc);
-    let mut server = new_server(alloc);
-    assert_eq!(rt; serve(alloc, &mut server, &pieces, &mut output)?, Some(0));
-    assert!(rt; output == log(alloc, &[ACCEPTED, SHUT_DOWN])?);
+    let status = served(alloc, &pieces, &mut output)?;
+    Ok(status == Some(0) && are_replies(alloc, &output)?)
+}
+
+#[test]
+fn from_frames_to_replies(rt: HostRuntime) -> Result<(), Fail> {
+    assert!(rt; has_replies(rt.alloc())?);
     Ok(())
 }
 
@@ -105,16 +117,26 @@ fn hover_is(alloc: Global, server: &mut Server, wanted: &[u8]) -> Result<bool, F
     Ok(serve_hover(alloc, server, HOVER.as_bytes())? == Some(wanted))
 }
 
-#[test]
-fn a_feature_of_its_own(rt: HostRuntime) -> Result<(), Fail> {
-    let alloc = rt.alloc();
-    let mut server = new_server(alloc);
+/// Returns whether hover is refused before `initialize`, and then has the length of the document.
+fn hovers(alloc: Global, server: &mut Server) -> Result<bool, Fail> {
     let early = b"Content-Length: 83\r\n\r\n{\"error\":{\"code\":-32002";
-    assert!(rt; hover_begins(alloc, &mut server, early)?);
+    if !hover_begins(alloc, server, early)? {
+        return Ok(false);
+    }
     for body in [INITIALIZE, OPEN] {
-        let _frame = serve_hover(alloc, &mut server, body.as_bytes())?;
+        let _frame = serve_hover(alloc, server, body.as_bytes())?;
     }
     let length = b"{\"id\":5,\"jsonrpc\":\"2.0\",\"result\":{\"contents\":\"3 bytes\"}}";
-    assert!(rt; hover_is(alloc, &mut server, length)?);
+    hover_is(alloc, server, length)
+}
+
+fn new_server_hovers(alloc: Global) -> Result<bool, Fail> {
+    let mut server = new_server(alloc);
+    hovers(alloc, &mut server)
+}
+
+#[test]
+fn a_feature_of_its_own(rt: HostRuntime) -> Result<(), Fail> {
+    assert!(rt; new_server_hovers(rt.alloc())?);
     Ok(())
 }

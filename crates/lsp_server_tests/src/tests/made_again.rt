@@ -1,7 +1,7 @@
 //! The messages of a whole session through one server. A body whose handling runs out of memory is
 //! passed again.
 
-use super::{is_answer, new_server};
+use super::{Open, holds, is_answer, new_server};
 use lsp_samples::bodies::{
     ACCEPTED, CHANGE, CLOSE, EXIT, INITIALIZE, INITIALIZED, OPEN, SHUT_DOWN, SHUTDOWN,
 };
@@ -12,7 +12,7 @@ use std::test::Fail;
 
 /// A message, the body of its reply or the word of its answer, and the version and the text of the
 /// document after it.
-type Message = (&'static str, &'static str, Option<(i32, &'static str)>);
+type Message = (&'static str, &'static str, Open);
 
 static MESSAGES: [Message; 7] = [
     (INITIALIZE, ACCEPTED, None),
@@ -23,17 +23,6 @@ static MESSAGES: [Message; 7] = [
     (SHUTDOWN, SHUT_DOWN, None),
     (EXIT, "exit 0", None),
 ];
-
-/// Returns whether this document is open, or none where none is expected.
-fn has_document(server: &Server, wanted: Option<(i32, &'static str)>) -> bool {
-    let Some((version, text)) = wanted else {
-        return server.store().len() == 0;
-    };
-    match server.store().get("file:///a") {
-        Some(found) => found.version() == version && found.text().as_bytes() == text.as_bytes(),
-        None => false,
-    }
-}
 
 fn is_wanted(
     alloc: Global,
@@ -56,33 +45,45 @@ fn is_answered(
     alloc: Global,
     server: &mut Server,
     message: &Message,
-    before: Option<(i32, &'static str)>,
+    before: Open,
     refused: &mut usize,
 ) -> Result<bool, AllocError> {
     let mut given = server.handle(message.0.as_bytes());
-    if given == Err(ServerFault::NoMemory) {
+    if matches!(given, Err(ServerFault::NoMemory)) {
         *refused = refused.saturating_add(1);
-        if !has_document(server, before) {
+        if !holds(server, before) {
             return Ok(false);
         }
         given = server.handle(message.0.as_bytes());
     }
-    Ok(has_document(server, message.2) && is_wanted(alloc, &given, message.1, refused)?)
+    Ok(holds(server, message.2) && is_wanted(alloc, &given, message.1, refused)?)
+}
+
+/// Returns the number of the first message without its answer.
+fn wrong_message(
+    alloc: Global,
+    server: &mut Server,
+    refused: &mut usize,
+) -> Result<Option<usize>, AllocError> {
+    let mut before = None;
+    for (number, message) in MESSAGES.iter().enumerate() {
+        if !is_answered(alloc, server, message, before, refused)? {
+            return Ok(Some(number));
+        }
+        before = message.2;
+    }
+    Ok(None)
+}
+
+fn all_are_answered(alloc: Global, refused: &mut usize) -> Result<bool, Fail> {
+    let mut server = new_server(alloc)?;
+    Ok(wrong_message(alloc, &mut server, refused)?.is_none())
 }
 
 #[test]
 fn refused_messages_of_a_session(rt: HostRuntime) -> Result<(), Fail> {
     let mut refused = 0;
-    let mut server = new_server(rt.alloc())?;
-    let mut before = None;
-    for message in &MESSAGES {
-        assert!(rt;
-            is_answered(rt.alloc(), &mut server, message, before, &mut refused)?,
-            "{}",
-            message.0
-        );
-        before = message.2;
-    }
+    assert!(rt; all_are_answered(rt.alloc(), &mut refused)?);
     println!(rt; "refused {refused}")?;
     Ok(())
 }

@@ -1,10 +1,10 @@
 //! Every pair of phase and kind of body.
 
-use super::{is_answer, new_server};
+use super::{is_answered, new_server};
 use lsp_samples::bodies::{
     CHANGE, CLOSE, EXIT, INITIALIZE, INITIALIZED, NO_ID, OPEN, PARSE_ERROR, SHUTDOWN,
 };
-use lsp_server::{Phase, Server};
+use lsp_server::{Phase, Server, ServerFault};
 use std::alloc::Global;
 use std::test::Fail;
 
@@ -14,17 +14,21 @@ static PHASES: [Phase; 4] = [Phase::New, Phase::Running, Phase::Down, Phase::End
 /// `initialized` didn't come.
 static WAY: [&[&str]; 4] = [&[], &[INITIALIZE, OPEN], &[SHUTDOWN], &[EXIT]];
 
-/// Returns a new server in this phase.
-fn server_in(alloc: Global, phase: Phase) -> Result<Server, Fail> {
-    let mut server = new_server(alloc)?;
+/// Leads a new server to this phase.
+fn lead(server: &mut Server, phase: Phase) -> Result<(), ServerFault> {
     for bodies in &WAY {
         if server.phase() != phase {
-            for body in *bodies {
-                server.handle(body.as_bytes())?;
-            }
+            pass(server, bodies)?;
         }
     }
-    Ok(server)
+    Ok(())
+}
+
+fn pass(server: &mut Server, bodies: &[&str]) -> Result<(), ServerFault> {
+    for body in bodies {
+        let _answer = server.handle(body.as_bytes())?;
+    }
+    Ok(())
 }
 
 /// A body, and the expected answers in the phases New, Running, Down and Ended.
@@ -135,13 +139,10 @@ const ACCEPTED: &str =
 const SHUT_DOWN: &str = r#"{"id":7,"jsonrpc":"2.0","result":null}"#;
 
 /// Returns whether a body has this answer in this phase.
-fn is_answered(alloc: Global, phase: Phase, body: &str, wanted: &str) -> Result<bool, Fail> {
-    let mut server = server_in(alloc, phase)?;
-    if server.phase() != phase {
-        return Ok(false);
-    }
-    let given = server.handle(body.as_bytes());
-    Ok(is_answer(alloc, &given, wanted)?)
+fn is_answered_in(alloc: Global, phase: Phase, body: &str, wanted: &str) -> Result<bool, Fail> {
+    let mut server = new_server(alloc)?;
+    lead(&mut server, phase)?;
+    Ok(server.phase() == phase && is_answered(alloc, &mut server, body, wanted)?)
 }
 
 #[test]
@@ -149,8 +150,8 @@ fn every_body_in_every_phase(rt: HostRuntime) -> Result<(), Fail> {
     for (body, answers) in &TABLE {
         for (phase, wanted) in PHASES.iter().zip(answers) {
             assert!(rt;
-                is_answered(rt.alloc(), *phase, body, wanted)?,
-                "{phase:?}: {body}"
+                is_answered_in(rt.alloc(), *phase, body, wanted)?,
+                "{wanted}: {body}"
             );
         }
     }

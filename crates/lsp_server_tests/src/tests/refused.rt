@@ -1,12 +1,14 @@
 //! Bodies whose handling runs out of memory once, and that are passed again.
 
-use super::{document, new_server};
+use super::{has_document, new_server};
+use lsp_frame::BadLimits;
 use lsp_samples::bodies::{
     ACCEPTED, CHANGE, CLOSE, EXIT, HOVER, INITIALIZE, NOT_INITIALIZED, OPEN, PARSE_ERROR,
     SHUT_DOWN, SHUTDOWN,
 };
 use lsp_server::{Answer, Phase, Server, ServerFault};
 use lsp_text::Encoding;
+use std::alloc::Global;
 use std::test::Fail;
 
 /// The first body of a session, with few members.
@@ -37,7 +39,7 @@ impl Session {
     fn handle(&mut self, body: &str) -> Option<Result<Answer, ServerFault>> {
         let before = self.state();
         let answer = self.server.handle(body.as_bytes());
-        if answer != Err(ServerFault::NoMemory) {
+        if !matches!(answer, Err(ServerFault::NoMemory)) {
             return Some(answer);
         }
         self.refused = self.refused.saturating_add(1);
@@ -61,35 +63,66 @@ impl Session {
     }
 }
 
+fn lives(session: &mut Session) -> bool {
+    session.is_replied(INITIALIZE, ACCEPTED)
+        && session.is_replied(SHUTDOWN, SHUT_DOWN)
+        && session.server.phase() == Phase::Down
+        && session.is_answered(EXIT, Answer::Exit(0))
+}
+
+fn has_documents(session: &mut Session) -> bool {
+    session.is_replied(SHORT, ACCEPTED)
+        && session.is_answered(OPEN, Answer::Changed)
+        && session.is_answered(CHANGE, Answer::Changed)
+        && has_document(&session.server, Some((2, "aXc")))
+        && session.is_answered(CLOSE, Answer::Changed)
+}
+
+fn has_errors(session: &mut Session) -> bool {
+    session.is_replied(HOVER, NOT_INITIALIZED)
+        && session.is_replied("[", PARSE_ERROR)
+        && session.server.phase() == Phase::New
+}
+
+/// What a session on a new server is about.
+#[derive(Clone, Copy)]
+enum Part {
+    Lifecycle,
+    Documents,
+    Errors,
+}
+
+/// Returns how often memory ran out in a session, or `None` if it had another answer.
+fn run(alloc: Global, part: Part) -> Result<Option<u32>, BadLimits> {
+    let mut session = Session::new(new_server(alloc)?);
+    let is_good = match part {
+        Part::Lifecycle => lives(&mut session),
+        Part::Documents => has_documents(&mut session),
+        Part::Errors => has_errors(&mut session),
+    };
+    Ok(if is_good { Some(session.refused) } else { None })
+}
+
 #[test]
 fn refused_handle_lifecycle(rt: HostRuntime) -> Result<(), Fail> {
-    let mut session = Session::new(new_server(rt.alloc())?);
-    assert!(rt; session.is_replied(INITIALIZE, ACCEPTED));
-    assert!(rt; session.is_replied(SHUTDOWN, SHUT_DOWN));
-    assert_eq!(rt; session.server.phase(), Phase::Down);
-    assert!(rt; session.is_answered(EXIT, Answer::Exit(0)));
-    println!(rt; "refused {}", session.refused)?;
+    let refused = run(rt.alloc(), Part::Lifecycle)?;
+    assert!(rt; refused.is_some());
+    println!(rt; "refused {}", refused.unwrap_or(0))?;
     Ok(())
 }
 
 #[test]
 fn refused_handle_documents(rt: HostRuntime) -> Result<(), Fail> {
-    let mut session = Session::new(new_server(rt.alloc())?);
-    assert!(rt; session.is_replied(SHORT, ACCEPTED));
-    assert!(rt; session.is_answered(OPEN, Answer::Changed));
-    assert!(rt; session.is_answered(CHANGE, Answer::Changed));
-    assert_eq!(rt; document(&session.server), Some((2, "aXc")));
-    assert!(rt; session.is_answered(CLOSE, Answer::Changed));
-    println!(rt; "refused {}", session.refused)?;
+    let refused = run(rt.alloc(), Part::Documents)?;
+    assert!(rt; refused.is_some());
+    println!(rt; "refused {}", refused.unwrap_or(0))?;
     Ok(())
 }
 
 #[test]
 fn refused_handle_errors(rt: HostRuntime) -> Result<(), Fail> {
-    let mut session = Session::new(new_server(rt.alloc())?);
-    assert!(rt; session.is_replied(HOVER, NOT_INITIALIZED));
-    assert!(rt; session.is_replied("[", PARSE_ERROR));
-    assert_eq!(rt; session.server.phase(), Phase::New);
-    println!(rt; "refused {}", session.refused)?;
+    let refused = run(rt.alloc(), Part::Errors)?;
+    assert!(rt; refused.is_some());
+    println!(rt; "refused {}", refused.unwrap_or(0))?;
     Ok(())
 }

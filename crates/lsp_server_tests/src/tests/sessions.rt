@@ -1,6 +1,6 @@
 //! Whole sessions, with the exact bytes of each reply.
 
-use super::{Row, document, is_answer, new_server, wrong_row};
+use super::{Open, Row, holds, is_answer, new_server, wrong_row};
 use lsp_samples::bodies::{
     ACCEPTED, CHANGE, CLOSE, EXIT, HOVER, INITIALIZE, INITIALIZED, INVALID, NO_ID, NOT_INITIALIZED,
     OPEN, PARSE_ERROR, SHUT_DOWN, SHUTDOWN,
@@ -34,12 +34,7 @@ fn bodies_and_replies_have_these_lengths(rt: HostRuntime) {
 }
 
 /// A body, its answer, the phase after it, and the document.
-type Step = (
-    &'static str,
-    &'static str,
-    Phase,
-    Option<(i32, &'static str)>,
-);
+type Step = (&'static str, &'static str, Phase, Open);
 
 static SESSION: [Step; 9] = [
     (INITIALIZE, ACCEPTED, Phase::Running, None),
@@ -66,20 +61,28 @@ fn is_taken(alloc: Global, server: &mut Server, step: &Step) -> Result<bool, All
     is_answer(alloc, &given, wanted)
 }
 
-/// Returns whether the server's one document has this version and text, or there is no document.
-fn holds(server: &Server, wanted: Option<(i32, &str)>) -> bool {
-    let count = if wanted.is_some() { 1 } else { 0 };
-    document(server) == wanted && server.store().len() == count
+/// Returns the number of the first step that isn't taken.
+fn wrong_step(alloc: Global, server: &mut Server) -> Result<Option<usize>, AllocError> {
+    for (number, step) in SESSION.iter().enumerate() {
+        if !is_taken(alloc, server, step)? {
+            return Ok(Some(number));
+        }
+    }
+    Ok(None)
+}
+
+fn is_session(alloc: Global) -> Result<bool, Fail> {
+    let mut server = new_server(alloc)?;
+    Ok(
+        server.phase() == Phase::New
+            && server.encoding().is_none()
+            && wrong_step(alloc, &mut server)?.is_none(),
+    )
 }
 
 #[test]
 fn a_session_from_initialize_to_exit(rt: HostRuntime) -> Result<(), Fail> {
-    let mut server = new_server(rt.alloc())?;
-    assert_eq!(rt; server.phase(), Phase::New);
-    assert_eq!(rt; server.encoding(), None);
-    for step in &SESSION {
-        assert!(rt; is_taken(rt.alloc(), &mut server, step)?, "{}", step.0);
-    }
+    assert!(rt; is_session(rt.alloc())?);
     Ok(())
 }
 
@@ -100,17 +103,22 @@ static AFTER_SHUTDOWN: [Row; 6] = [
     (EXIT, "exit 0"),
 ];
 
+/// Returns whether a new server answers so, and holds this document in the end.
+fn ends_with(alloc: Global, rows: &[Row], phase: Phase, left: Open) -> Result<bool, Fail> {
+    let mut server = new_server(alloc)?;
+    Ok(
+        wrong_row(alloc, &mut server, rows)?.is_none()
+            && server.phase() == phase
+            && holds(&server, left),
+    )
+}
+
 #[test]
 fn before_initialize_and_after_shutdown(rt: HostRuntime) -> Result<(), Fail> {
-    let mut early = new_server(rt.alloc())?;
-    assert_eq!(rt;
-        wrong_row(rt.alloc(), &mut early, &BEFORE_INITIALIZE)?,
-        None
-    );
-    assert_eq!(rt; early.store().len(), 0);
-    let mut late = new_server(rt.alloc())?;
-    assert_eq!(rt; wrong_row(rt.alloc(), &mut late, &AFTER_SHUTDOWN)?, None);
-    assert!(rt; holds(&late, Some((1, "abc"))));
+    let early = ends_with(rt.alloc(), &BEFORE_INITIALIZE, Phase::Ended, None)?;
+    assert!(rt; early);
+    let late = ends_with(rt.alloc(), &AFTER_SHUTDOWN, Phase::Ended, Some((1, "abc")))?;
+    assert!(rt; late);
     Ok(())
 }
 
@@ -156,9 +164,6 @@ static WHILE_RUNNING: [Row; 15] = [
 
 #[test]
 fn while_running(rt: HostRuntime) -> Result<(), Fail> {
-    let mut server = new_server(rt.alloc())?;
-    assert_eq!(rt; wrong_row(rt.alloc(), &mut server, &WHILE_RUNNING)?, None);
-    assert_eq!(rt; server.phase(), Phase::Running);
-    assert_eq!(rt; server.store().len(), 0);
+    assert!(rt; ends_with(rt.alloc(), &WHILE_RUNNING, Phase::Running, None)?);
     Ok(())
 }

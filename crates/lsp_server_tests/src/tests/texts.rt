@@ -1,6 +1,6 @@
 //! Limits, hostile bodies, a message that is read first, and the texts of faults.
 
-use super::{Row, is_answer, new_server, wrong_row};
+use super::{Row, is_answer, new_server, usual, wrong_row, wrong_row_of_new};
 use lsp_frame::{BadLimits, Limits};
 use lsp_message::{ErrorCode, Message, read};
 use lsp_samples::bodies::{ACCEPTED, CHANGE, INITIALIZE, OPEN, PARSE_ERROR};
@@ -61,14 +61,12 @@ static SMALLEST: [Row; 12] = [
 
 #[test]
 fn the_smallest_limits(rt: HostRuntime) -> Result<(), Fail> {
-    let alloc = rt.alloc();
     let config = Config {
         limits: Limits::new(4_096, 0, 1, 1)?,
         choice: EncodingChoice::Fixed(Encoding::Utf16),
         sync: Sync::Incremental,
     };
-    let mut server = Server::new(alloc, config);
-    assert_eq!(rt; wrong_row(alloc, &mut server, &SMALLEST)?, None);
+    assert!(rt; wrong_row_of_new(rt.alloc(), config, &SMALLEST)?.is_none());
     Ok(())
 }
 
@@ -102,9 +100,7 @@ static REVERSED: [Row; 5] = [
 
 #[test]
 fn the_version_stays_after_a_refusal(rt: HostRuntime) -> Result<(), Fail> {
-    let alloc = rt.alloc();
-    let mut server = new_server(alloc)?;
-    assert_eq!(rt; wrong_row(alloc, &mut server, &REVERSED)?, None);
+    assert!(rt; wrong_row_of_new(rt.alloc(), usual()?, &REVERSED)?.is_none());
     Ok(())
 }
 
@@ -113,15 +109,30 @@ fn is_parse_error(alloc: Global, server: &mut Server, body: &[u8]) -> Result<boo
     is_answer(alloc, &given, PARSE_ERROR)
 }
 
+/// Returns whether all the bodies are parse errors, and the server is as it was.
+fn are_parse_errors(
+    alloc: Global,
+    server: &mut Server,
+    bodies: &[&[u8]],
+) -> Result<bool, AllocError> {
+    for body in bodies {
+        if !is_parse_error(alloc, server, body)? {
+            return Ok(false);
+        }
+    }
+    Ok(server.phase() == Phase::New)
+}
+
+fn hostile_ones_are(alloc: Global) -> Result<bool, Fail> {
+    let mut server = new_server(alloc)?;
+    let deep = nested(alloc, 200)?;
+    let bodies = [b"".as_slice(), b"\xff".as_slice(), deep.as_bytes()];
+    Ok(are_parse_errors(alloc, &mut server, &bodies)?)
+}
+
 #[test]
 fn hostile_bodies_are_parse_errors(rt: HostRuntime) -> Result<(), Fail> {
-    let alloc = rt.alloc();
-    let mut server = new_server(alloc)?;
-    assert!(rt; is_parse_error(alloc, &mut server, b"")?);
-    assert!(rt; is_parse_error(alloc, &mut server, b"\xff")?);
-    let deep = nested(alloc, 200)?;
-    assert!(rt; is_parse_error(alloc, &mut server, deep.as_bytes())?);
-    assert_eq!(rt; server.phase(), Phase::New);
+    assert!(rt; hostile_ones_are(rt.alloc())?);
     Ok(())
 }
 
@@ -173,13 +184,21 @@ fn request_is_read_first(alloc: Global, server: &mut Server) -> Result<bool, Fai
     ))
 }
 
+fn are_read_first(alloc: Global, server: &mut Server) -> Result<bool, Fail> {
+    if wrong_row(alloc, server, &OPENED)?.is_some() || !change_is_read_first(server)? {
+        return Ok(false);
+    }
+    request_is_read_first(alloc, server)
+}
+
+fn new_server_reads_first(alloc: Global) -> Result<bool, Fail> {
+    let mut server = new_server(alloc)?;
+    are_read_first(alloc, &mut server)
+}
+
 #[test]
 fn an_engine_reads_a_message_first(rt: HostRuntime) -> Result<(), Fail> {
-    let alloc = rt.alloc();
-    let mut server = new_server(alloc)?;
-    assert_eq!(rt; wrong_row(alloc, &mut server, &OPENED)?, None);
-    assert!(rt; change_is_read_first(&mut server)?);
-    assert!(rt; request_is_read_first(alloc, &mut server)?);
+    assert!(rt; new_server_reads_first(rt.alloc())?);
     Ok(())
 }
 
