@@ -10,7 +10,8 @@ use Rattle.lsp_message.specs.Message.{reading}
 use Rattle.lsp_message.specs.Outgoing.{code_of}
 use Rattle.lsp_store.specs.declared.fault.StoreFault.{StoreFault}
 use Rattle.lsp_store.specs.declared.fault.StoreFault.TheVariants as store
-use Rattle.lsp_store.specs.Table.{Entry, entry_at}
+use Rattle.lsp_message.specs.Params.{DocumentItem}
+use Rattle.lsp_store.specs.Table.{entry_at}
 use Rattle.lsp_server.specs.declared.answer.Refusal.{Refusal}
 use Rattle.lsp_server.specs.declared.answer.Refusal.TheVariants as refusal
 use Rattle.lsp_server.specs.declared.config.Config.{Config}
@@ -158,16 +159,16 @@ abbrev pub uri_asked : List ℕ → Result (List ℕ) ℕ
 uri_asked uri = if is_utf8 uri then Ok uri else Err NOT_UTF8
 
 -- The open document of a URI.
-abbrev pub entry_in : List ℕ → SessionData → Result Entry ℕ
+abbrev pub entry_in : List ℕ → SessionData → Result DocumentItem ℕ
 entry_in uri session = ok_or (entry_at session.server.table uri) NOT_OPEN
 
 -- The same, with the codes of the URI and of the handle before it.
-abbrev pub entry_asked : List ℕ → Result SessionData ℕ → Result Entry ℕ
+abbrev pub entry_asked : List ℕ → Result SessionData ℕ → Result DocumentItem ℕ
 entry_asked uri server =
     and_then (uri_asked uri) (λ named. and_then server (λ session. entry_in named session))
 
 -- The text of a document.
-abbrev pub text_of : Result Entry ℕ → Result (List ℕ) ℕ
+abbrev pub text_of : Result DocumentItem ℕ → Result (List ℕ) ℕ
 text_of document = and_then document (λ entry. Ok entry.text)
 
 -- The last reply of a server.
@@ -175,7 +176,7 @@ abbrev pub reply_asked : Result SessionData ℕ → Result (List ℕ) ℕ
 reply_asked server = and_then server (λ session. Ok session.reply)
 
 -- The version of a document, and how many bytes its text has.
-pub record IsOpened (out : Opened) (entry : Entry) : Type 0 where
+pub record IsOpened (out : Opened) (entry : DocumentItem) : Type 0 where
   pub version : out.version ≡ entry.version
   pub bytes : out.bytes ≡ length entry.text
 

@@ -12,7 +12,8 @@ use Rattle.lsp_store.specs.Faults as documents
 use Rattle.lsp_store.specs.Faults.{IsRefusal}
 use Rattle.lsp_store.specs.Message.{else_refused, body_refusal, change_body, canonical_body}
 use Rattle.lsp_store.specs.Table as documents_table
-use Rattle.lsp_store.specs.Table.{Entry, already_open, too_many_documents, text_too_long, not_open, too_many_changes, stale_version, edit, body_too_long, changes, command_refusal, table_after}
+use Rattle.lsp_message.specs.Params.{DocumentItem}
+use Rattle.lsp_store.specs.Table.{already_open, too_many_documents, text_too_long, not_open, too_many_changes, stale_version, edit, body_too_long, changes, command_refusal, table_after}
 use Rattle.lsp_client.specs.declared.fault.ClientFault.TheVariants.{NoMemory}
 use Rattle.lsp_client.specs.Step.{State, Sending, store, sent_body, unless_refused, command_result}
 use Rattle.lsp_client.specs.Seen.{IsFaultOf, IsSent, client_fault, fault_of}
@@ -71,7 +72,7 @@ unfolding sent_body
 sent_if s kind command bytes new may within framed state = rw (may, within) (framed, state)
 
 -- Under any kind but Full the canonical batch is sent.
-pub canonical_sent : (kind : SyncKind) (table : List Entry) (uri : List ℕ) (version : ℤ) (encoding : Encoding) (batch : List Edit) → kind ≢ Full
+pub canonical_sent : (kind : SyncKind) (table : List DocumentItem) (uri : List ℕ) (version : ℤ) (encoding : Encoding) (batch : List Edit) → kind ≢ Full
     → sent_body kind table (changes uri version encoding batch) ≡ canonical_body (units_in encoding) table uri version batch
 unfolding change_body sent_body
 canonical_sent Full table uri version encoding batch not = absurd (not refl)

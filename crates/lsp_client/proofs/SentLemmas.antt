@@ -9,13 +9,13 @@ use Rattle.lsp_edit.specs.Batch.{Edit}
 use Rattle.lsp_message.specs.declared.agreement.SyncKind.{SyncKind}
 use Rattle.lsp_message.specs.declared.agreement.SyncKind.TheVariants.{Full}
 use Rattle.lsp_message.specs.Outgoing.{did_open, did_close, body_of}
-use Rattle.lsp_message.specs.Params.{OpenData}
+use Rattle.lsp_message.specs.Params.{DocumentItem}
 use Rattle.lsp_store.specs.declared.fault.StoreFault.{StoreFault}
 use Rattle.lsp_store.specs.Faults.{IsRefusal}
 use Rattle.lsp_store.specs.Message.{body_refusal, change_body, whole_batch, else_refused, message_refusal, canonical_frame}
 use Rattle.lsp_store.specs.Opened.{StoreData, Takes}
 use Rattle.lsp_store.specs.Table as documents
-use Rattle.lsp_store.specs.Table.{Entry, Command, entry_at, command_refusal, table_after}
+use Rattle.lsp_store.specs.Table.{Command, entry_at, command_refusal, table_after}
 use Rattle.lsp_client.specs.declared.agreed.Agreed.{Agreed}
 use Rattle.lsp_client.specs.declared.phase.Phase.{Phase}
 use Rattle.lsp_client.specs.declared.phase.Phase.TheVariants.{Ready}
@@ -28,7 +28,7 @@ use Rattle.lsp_client.proofs.OrderLemmas.{refused, refused_later, sent_if, canon
 abbrev pub with_store : Offers → Phase → Option Agreed → StoreData → State
 with_store offers phase agreed store = record { limits = store.limits; offers = offers; phase = phase; agreed = agreed; table = store.table }
 
-unless_ok : (refusal : Option documents.Refusal) (table new : List Entry) → documents.unless_refused refusal table ≡ Ok new → (refusal ≡ None) × (new ≡ table)
+unless_ok : (refusal : Option documents.Refusal) (table new : List DocumentItem) → documents.unless_refused refusal table ≡ Ok new → (refusal ≡ None) × (new ≡ table)
 unless_ok None table new is = (refl, cc)
 unless_ok (Some refusal) table new is = absurd (cc)
 
@@ -57,12 +57,12 @@ order_sent offers phase agreed old new s kind command bytes view takes within fr
     })
 
 -- The body of an order is the one that is sent.
-pub close_sent : (kind : SyncKind) (table : List Entry) (copy uri : List ℕ) → copy ≡ uri → body_of (did_close (record { uri = copy })) ≡ sent_body kind table (documents.closes uri)
+pub close_sent : (kind : SyncKind) (table : List DocumentItem) (copy uri : List ℕ) → copy ≡ uri → body_of (did_close (record { uri = copy })) ≡ sent_body kind table (documents.closes uri)
 unfolding sent_body
 close_sent kind table copy uri same = ap (λ (u : List ℕ). body_of (did_close (record { uri = u }))) same
 
-pub open_sent : (kind : SyncKind) (table : List Entry) (params : OpenData)
-    → body_of (did_open params) ≡ sent_body kind table (documents.opens (record { uri = params.uri; language = params.language; version = params.version; text = params.text }))
+pub open_sent : (kind : SyncKind) (table : List DocumentItem) (params : DocumentItem)
+    → body_of (did_open params) ≡ sent_body kind table (documents.opens params)
 unfolding sent_body
 open_sent kind table params = refl
 
@@ -77,18 +77,18 @@ pub body_within : (limits others : Bounds) (body sent : List ℕ) → limits ≡
 body_within limits others body sent same is within = rw (same, is) at within
 
 -- A document that is open may be closed.
-pub may_close : (limits : Bounds) (table : List Entry) (uri : List ℕ) (entry : Entry) → Some entry ≡ entry_at table uri → command_refusal limits table (documents.closes uri) ≡ None
+pub may_close : (limits : Bounds) (table : List DocumentItem) (uri : List ℕ) (entry : DocumentItem) → Some entry ≡ entry_at table uri → command_refusal limits table (documents.closes uri) ≡ None
 may_close limits table uri entry found = rw (← found) refl
 
 -- ---- changes
 
 -- The canonical message is refused as the order is, under any kind but Full.
-pub canonical_refusal : (limits : Bounds) (kind : SyncKind) (table : List Entry) (uri : List ℕ) (version : ℤ) (encoding : Encoding) (batch : List Edit) → kind ≢ Full
+pub canonical_refusal : (limits : Bounds) (kind : SyncKind) (table : List DocumentItem) (uri : List ℕ) (version : ℤ) (encoding : Encoding) (batch : List Edit) → kind ≢ Full
     → message_refusal limits (units_in encoding) table uri version batch ≡ order_refusal limits kind table (documents.changes uri version encoding batch)
 canonical_refusal limits kind table uri version encoding batch not =
     ap (λ (body : List ℕ). else_refused (command_refusal limits table (documents.changes uri version encoding batch)) (body_refusal limits body)) (sym (canonical_sent kind table uri version encoding batch not))
 
-pub change_refused : (limits : Bounds) (table : List Entry) (s : State) (agreed : Agreed) (uri : List ℕ) (version : ℤ) (batch : List Edit) (fault : StoreFault)
+pub change_refused : (limits : Bounds) (table : List DocumentItem) (s : State) (agreed : Agreed) (uri : List ℕ) (version : ℤ) (batch : List Edit) (fault : StoreFault)
     → limits ≡ s.limits → table ≡ s.table → agreed ≡ agreement s → (agreement s).kind ≢ Full
     → IsRefusal (message_refusal limits (units_in agreed.encoding) table uri version batch) fault → IsOrderFault s (edits uri version batch) fault
 change_refused limits table s agreed uri version batch fault same there is not why =
@@ -99,7 +99,7 @@ second_none : (first later : Option documents.Refusal) → else_refused first la
 second_none None later none = none
 second_none (Some refusal) later none = absurd (cc)
 
-pub change_within : (limits : Bounds) (table : List Entry) (s : State) (agreed : Agreed) (uri : List ℕ) (version : ℤ) (batch : List Edit)
+pub change_within : (limits : Bounds) (table : List DocumentItem) (s : State) (agreed : Agreed) (uri : List ℕ) (version : ℤ) (batch : List Edit)
     → limits ≡ s.limits → table ≡ s.table → agreed ≡ agreement s → (agreement s).kind ≢ Full
     → message_refusal limits (units_in agreed.encoding) table uri version batch ≡ None
     → body_refusal s.limits (sent_body (agreement s).kind s.table (documents.changes uri version (agreement s).encoding batch)) ≡ None
@@ -107,7 +107,7 @@ change_within limits table s agreed uri version batch same there is not none =
     second_none (command_refusal s.limits s.table (documents.changes uri version (agreement s).encoding batch)) _
     (rw (same, there, is, canonical_refusal s.limits (agreement s).kind s.table uri version (agreement s).encoding batch not) at none)
 
-pub change_framed : (table : List Entry) (s : State) (agreed : Agreed) (uri : List ℕ) (version : ℤ) (batch : List Edit) (bytes : List ℕ)
+pub change_framed : (table : List DocumentItem) (s : State) (agreed : Agreed) (uri : List ℕ) (version : ℤ) (batch : List Edit) (bytes : List ℕ)
     → table ≡ s.table → agreed ≡ agreement s → (agreement s).kind ≢ Full
     → bytes ≡ canonical_frame (units_in agreed.encoding) table uri version batch
     → bytes ≡ frame (sent_body (agreement s).kind s.table (documents.changes uri version (agreement s).encoding batch))
@@ -121,7 +121,7 @@ order_fault s order fault ready why = rw ready (refused _ _ fault why)
 -- ---- whole texts
 
 -- Under Full the body is that of the text that the batch leaves.
-pub whole_sent : (table : List Entry) (s : State) (agreed : Agreed) (uri : List ℕ) (version : ℤ) (batch : List Edit) (whole : Edit)
+pub whole_sent : (table : List DocumentItem) (s : State) (agreed : Agreed) (uri : List ℕ) (version : ℤ) (batch : List Edit) (whole : Edit)
     → table ≡ s.table → agreed ≡ agreement s → (agreement s).kind ≡ Full
     → whole_batch (units_in agreed.encoding) table uri version batch ≡ whole ∷ []
     → change_body uri version (whole ∷ []) ≡ sent_body (agreement s).kind s.table (documents.changes uri version (agreement s).encoding batch)

@@ -9,13 +9,14 @@ use Rattle.lsp_edit.specs.Batch.{Edit}
 use Rattle.lsp_message.specs.Outgoing.{did_change, body_of}
 use Rattle.lsp_message.specs.Seen.{edit_view}
 use Rattle.lsp_store.specs.Message.{change_body, whole_batch, whole_text}
-use Rattle.lsp_store.specs.Table.{Entry, entry_at, change_refusal, changed, entry_refusal, after_change}
+use Rattle.lsp_message.specs.Params.{DocumentItem}
+use Rattle.lsp_store.specs.Table.{entry_at, change_refusal, changed, entry_refusal, after_change}
 use Rattle.lsp_client.specs.inside.Orders.{whole_change}
 use Rattle.lsp_client.proofs.OrderLemmas.{some_same}
 
 -- ---- the document that a change leaves
 
-pub entry_after : (units : ℕ → ℕ) (table : List Entry) (uri : List ℕ) (version : ℤ) (batch : List Edit) (entry : Entry) → entry_at table uri ≡ Some entry
+pub entry_after : (units : ℕ → ℕ) (table : List DocumentItem) (uri : List ℕ) (version : ℤ) (batch : List Edit) (entry : DocumentItem) → entry_at table uri ≡ Some entry
     → entry_at (after_change units table uri version batch) uri ≡ Some (changed units entry version batch)
 entry_after units [] uri version batch entry found = absurd (cc)
 entry_after units (first ∷ table) uri version batch entry found =
@@ -23,7 +24,7 @@ entry_after units (first ∷ table) uri version batch entry found =
     (λ (here : bytes_eq uri first.uri ≡ true).
     let same : first ≡ entry = some_same first entry (rw here at found) in
     let there : entry_at (after_change units (first ∷ table) uri version batch) uri ≡ Some (changed units first version batch) = rw here (rw here refl) in
-    there ∙ ap (λ (e : Entry). Some (changed units e version batch)) same)
+    there ∙ ap (λ (e : DocumentItem). Some (changed units e version batch)) same)
     (λ (elsewhere : bytes_eq uri first.uri ≡ false).
     let rest : entry_at table uri ≡ Some entry = rw elsewhere at found in
     let next = entry_after units table uri version batch entry rest in
@@ -31,11 +32,11 @@ entry_after units (first ∷ table) uri version batch entry found =
     (cases_Bool (bytes_eq uri first.uri))
 
 -- The document of a URI decides why a change of it is refused, and what text is left.
-pub refusal_there : (limits : Bounds) (units : ℕ → ℕ) (table : List Entry) (uri : List ℕ) (version : ℤ) (batch : List Edit) (entry : Entry) → entry_at table uri ≡ Some entry
+pub refusal_there : (limits : Bounds) (units : ℕ → ℕ) (table : List DocumentItem) (uri : List ℕ) (version : ℤ) (batch : List Edit) (entry : DocumentItem) → entry_at table uri ≡ Some entry
     → change_refusal limits units table uri version batch ≡ entry_refusal limits units entry version batch
 refusal_there limits units table uri version batch entry found = rw found refl
 
-pub whole_left : (units : ℕ → ℕ) (table : List Entry) (uri : List ℕ) (version : ℤ) (batch : List Edit) (entry : Entry) (text : List ℕ) → entry_at table uri ≡ Some entry
+pub whole_left : (units : ℕ → ℕ) (table : List DocumentItem) (uri : List ℕ) (version : ℤ) (batch : List Edit) (entry : DocumentItem) (text : List ℕ) → entry_at table uri ≡ Some entry
     → (changed units entry version batch).text ≡ text
     → whole_batch units table uri version batch ≡ whole_change text ∷ []
 whole_left units table uri version batch entry text found left =

@@ -16,7 +16,8 @@ use Rattle.lsp_message.specs.Agreement.{is_offered, announced_of}
 use Rattle.lsp_message.specs.Message.{IdData, whole, text, OutcomeData, given, failed, Reading, not_json, not_a_message, message, request, notification, response}
 use Rattle.lsp_message.specs.Outgoing.{OutgoingData, initialize, initialized, did_open, did_close, shutdown, exit, error_reply, body_of}
 use Rattle.lsp_store.specs.Table as documents
-use Rattle.lsp_store.specs.Table.{Entry, Command, command_refusal, table_after}
+use Rattle.lsp_message.specs.Params.{DocumentItem}
+use Rattle.lsp_store.specs.Table.{Command, command_refusal, table_after}
 use Rattle.lsp_store.specs.Message.{canonical_batch, whole_batch, change_message, body_refusal, else_refused}
 use Rattle.lsp_client.specs.declared.agreed.Agreed.{Agreed}
 use Rattle.lsp_client.specs.declared.phase.Phase.{Phase}
@@ -31,7 +32,7 @@ pub record State : Type 0 where
   pub offers : Offers
   pub phase : Phase
   pub agreed : Option Agreed
-  pub table : List Entry
+  pub table : List DocumentItem
 
 -- A new client.
 abbrev pub start : Bounds → Offers → State
@@ -43,7 +44,7 @@ start limits offers =
 -- A call on the open documents: open one; edit one, by its URI, new version and batch of changes;
 -- close one, by its URI.
 pub data Order : Type 0 where
-  opens : Entry → Order
+  opens : DocumentItem → Order
   edits : List ℕ → ℤ → List Edit → Order
   closes : List ℕ → Order
 
@@ -73,30 +74,24 @@ command_of encoding (edits uri version batch) = documents.changes uri version en
 command_of encoding (closes uri) = documents.closes uri
 
 -- The batch that is sent for a batch: the canonical one, or under Full the document's new text.
-abbrev pub sent_batch : SyncKind → (ℕ → ℕ) → List Entry → List ℕ → ℤ → List Edit → List Edit
+abbrev pub sent_batch : SyncKind → (ℕ → ℕ) → List DocumentItem → List ℕ → ℤ → List Edit → List Edit
 sent_batch Full units table uri version batch = whole_batch units table uri version batch
 sent_batch Incremental units table uri version batch = canonical_batch units table uri batch
 sent_batch Off units table uri version batch = canonical_batch units table uri batch
 
 -- The message of a command on a table (DidOpen-, DidChange-, DidCloseTextDocument).
-abbrev pub message_of : SyncKind → List Entry → Command → OutgoingData
-message_of kind table (documents.opens entry) =
-    did_open (record {
-      uri = entry.uri;
-      language = entry.language;
-      version = entry.version;
-      text = entry.text;
-    })
+abbrev pub message_of : SyncKind → List DocumentItem → Command → OutgoingData
+message_of kind table (documents.opens entry) = did_open entry
 message_of kind table (documents.changes uri version encoding batch) =
     change_message uri version (sent_batch kind (units_in encoding) table uri version batch)
 message_of kind table (documents.closes uri) = did_close (record { uri = uri })
 
 -- The body of the message of a command on a table.
-unfoldable pub sent_body : SyncKind → List Entry → Command → List ℕ
+unfoldable pub sent_body : SyncKind → List DocumentItem → Command → List ℕ
 sent_body kind table command = body_of (message_of kind table command)
 
 -- Why a command is refused: as the store refuses it, then because the body to send is too long.
-abbrev pub order_refusal : Bounds → SyncKind → List Entry → Command → Option documents.Refusal
+abbrev pub order_refusal : Bounds → SyncKind → List DocumentItem → Command → Option documents.Refusal
 order_refusal limits kind table command =
     else_refused
     (command_refusal limits table command)

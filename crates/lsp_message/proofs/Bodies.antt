@@ -18,10 +18,10 @@ use Rattle.lsp_message.specs.declared.agreement.SyncKind.TheVariants.{Off, Full,
 use Rattle.lsp_message.specs.declared.outgoing.ErrorCode.{ErrorCode}
 use Rattle.lsp_message.specs.declared.outgoing.ErrorCode.TheVariants.{ParseError, InvalidRequest, MethodNotFound, InvalidParams, ServerNotInitialized}
 use Rattle.lsp_message.specs.Message.{IdData, whole, text}
-use Rattle.lsp_message.specs.Params.{OpenData, EditData, ChangeData, CloseData}
+use Rattle.lsp_message.specs.Params.{DocumentItem, EditData, ChangeData, CloseData}
 use Rattle.lsp_message.specs.Outgoing as spec
 use Rattle.lsp_message.specs.Outgoing.{OutgoingData}
-use Rattle.lsp_message.specs.Sent.{IsProper, IsProperId, IsProperOpen, IsProperChange, IsProperEdit, IsProperRange, IsProperPosition}
+use Rattle.lsp_message.specs.Sent.{IsProper, IsProperId, IsProperDocument, IsProperChange, IsProperEdit, IsProperRange, IsProperPosition}
 use Rattle.lsp_message.proofs.Sound.{Sound, SoundItems, sound_null, sound_boolean, sound_string, sound_unsigned, sound_integer, sound_array, sound_object, sound_item, sound_no_items, read-compact_text}
 
 -- ---- the depth
@@ -139,7 +139,7 @@ sound_initialize_params offers =
     let capabilities = sound_object (member (codes "general") _ no_members) refl (refl, general, tt) in
     sound_object _ refl (refl, capabilities, (refl, sound_null, (refl, sound_null, tt)))
 
-sound_open_params : (p : OpenData) → IsProperOpen p → Sound (spec.open_params p)
+sound_open_params : (p : DocumentItem) → IsProperDocument p → Sound (spec.open_params p)
 sound_open_params p h =
     let document : Sound (spec.opened_document p) =
     sound_object _ refl (refl, sound_string p.language h.language, (refl, sound_string p.text h.text, (refl, sound_string p.uri h.uri, (refl, sound_version p.version h.version, tt)))) in

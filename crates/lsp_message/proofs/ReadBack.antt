@@ -21,10 +21,10 @@ use Rattle.lsp_message.specs.declared.outgoing.ErrorCode.TheVariants.{ParseError
 use Rattle.lsp_message.specs.Values.{text_in, is_null}
 use Rattle.lsp_message.specs.Agreement.{offers_of, announced_of}
 use Rattle.lsp_message.specs.Message.{IdData, whole, text, message_of, message, reading, id_in, id_found}
-use Rattle.lsp_message.specs.Params.{OpenData, EditData, ChangeData, open_of, change_of, close_of, within_version, version_in, position_in, range_in, edit_in, edits_in}
+use Rattle.lsp_message.specs.Params.{DocumentItem, EditData, ChangeData, open_of, change_of, close_of, within_version, version_in, position_in, range_in, edit_in, edits_in}
 use Rattle.lsp_message.specs.Outgoing as spec
 use Rattle.lsp_message.specs.Outgoing.{OutgoingData}
-use Rattle.lsp_message.specs.Sent.{sent, IsReadBack, IsProper, IsProperId, IsProperOpen, IsProperChange, IsProperEdit, IsProperRange, IsProperPosition}
+use Rattle.lsp_message.specs.Sent.{sent, IsReadBack, IsProper, IsProperId, IsProperDocument, IsProperChange, IsProperEdit, IsProperRange, IsProperPosition}
 use Rattle.lsp_message.proofs.Readings.{reading_of_value}
 use Rattle.lsp_message.proofs.Bodies.{read-body_of, utf8-body_of}
 
@@ -94,7 +94,7 @@ edits_in-edits (e ∷ es) h =
     let first = h 0 e (omega arith) in
     rw (edit_in-edit_value e.range e.text first.range, edits_in-edits es (λ k d l. h (suc k) d (omega arith))) refl
 
-open_of-open_params : (p : OpenData) → IsProperOpen p → open_of (Some (spec.open_params p)) ≡ Some p
+open_of-open_params : (p : DocumentItem) → IsProperDocument p → open_of (Some (spec.open_params p)) ≡ Some p
 open_of-open_params p h = rw (version_in-of_integer p.version h.version) refl
 
 change_of-change_params : (p : ChangeData) → IsProperChange p → change_of (Some (spec.change_params p)) ≡ Some p

@@ -18,13 +18,13 @@ use Rattle.lsp_message.specs.declared.outgoing.ErrorCode.{ErrorCode}
 use Rattle.lsp_message.specs.declared.outgoing.ErrorCode.TheVariants.{ParseError, InvalidRequest, MethodNotFound, InvalidParams, ServerNotInitialized}
 use Rattle.lsp_message.specs.Agreement.{is_offered}
 use Rattle.lsp_message.specs.Message.{IdData, whole, text}
-use Rattle.lsp_message.specs.Params.{OpenData, EditData, ChangeData, CloseData}
+use Rattle.lsp_message.specs.Params.{DocumentItem, EditData, ChangeData, CloseData}
 
 -- A client's message (the first seven), or a server's reply.
 pub data OutgoingData : Type 0 where
   initialize : Offers → OutgoingData
   initialized : OutgoingData
-  did_open : OpenData → OutgoingData
+  did_open : DocumentItem → OutgoingData
   did_change : ChangeData → OutgoingData
   did_close : CloseData → OutgoingData
   shutdown : OutgoingData
@@ -126,14 +126,14 @@ initialize_params offers
     (member (codes "processId") null (member (codes "rootUri") null no_members)))
 
 -- A `TextDocumentItem`.
-abbrev pub opened_document : OpenData → Data
+abbrev pub opened_document : DocumentItem → Data
 opened_document p =
     object (member (codes "languageId") (string p.language) (member (codes "text") (string p.text)
     (member (codes "uri") (string p.uri)
     (member (codes "version") (number (of_integer p.version)) no_members))))
 
 -- The params of `textDocument/didOpen`.
-abbrev pub open_params : OpenData → Data
+abbrev pub open_params : DocumentItem → Data
 open_params p = object (member (codes "textDocument") (opened_document p) no_members)
 
 -- A `Position`.

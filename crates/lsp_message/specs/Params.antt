@@ -8,8 +8,8 @@ use Rattle.lsp_text.specs.declared.position.Position.{Position}
 use Rattle.lsp_text.specs.declared.position.Range.{Range}
 use Rattle.lsp_message.specs.Values.{◌>>=◌, member_at, text_in, members_in, items_in, whole_in, natural_in, is_missing}
 
--- The params of a `textDocument/didOpen`.
-pub record OpenData : Type 0 where
+-- An item of a document (TextDocumentItem). Its texts are bytes of UTF-8.
+pub record DocumentItem : Type 0 where
   pub uri : List ℕ
   pub language : List ℕ
   pub version : ℤ
@@ -89,7 +89,7 @@ abbrev pub document_in : Option Data → Option Members
 document_in params = members_in (member_at (codes "textDocument") params)
 
 -- The params of a `textDocument/didOpen`, by the members of its document.
-abbrev pub open_by : Members → Option OpenData
+abbrev pub open_by : Members → Option DocumentItem
 open_by document = do
   uri ← text_in (get_member (codes "uri") document)
   language ← text_in (get_member (codes "languageId") document)
@@ -98,7 +98,7 @@ open_by document = do
   Some (record { uri = uri; language = language; version = version; text = text })
 
 -- What params are as those of a `textDocument/didOpen`; none where they are refused.
-abbrev pub open_of : Option Data → Option OpenData
+abbrev pub open_of : Option Data → Option DocumentItem
 open_of params = option_and_then open_by (document_in params)
 
 -- The params of a `textDocument/didChange`, by the members of its document and the items of its

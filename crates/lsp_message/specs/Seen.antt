@@ -19,7 +19,7 @@ use Rattle.lsp_message.specs.declared.outgoing.Outgoing.{Outgoing}
 use Rattle.lsp_message.specs.declared.outgoing.Outgoing.TheVariants.{Initialize, Initialized, DidOpen, DidChange, DidClose, Shutdown, Exit, InitializeResult, ShutdownResult, ErrorReply}
 use Rattle.lsp_message.specs.Message as spec
 use Rattle.lsp_message.specs.Outgoing as out
-use Rattle.lsp_message.specs.Params.{OpenData, EditData, ChangeData, CloseData}
+use Rattle.lsp_message.specs.Params.{DocumentItem, EditData, ChangeData, CloseData}
 
 -- An id, with its text as bytes.
 abbrev pub id_view : Id → spec.IdData
@@ -40,7 +40,7 @@ message_view (Notification method params)
 message_view (Response id outcome) = spec.response (option_map id_view id) (outcome_view outcome)
 
 -- The params of a `textDocument/didOpen`, with their texts as bytes.
-abbrev pub open_view : OpenParams → OpenData
+abbrev pub open_view : OpenParams → DocumentItem
 open_view p = record {
   uri = string_bytes p.uri;
   language = string_bytes p.language;

@@ -7,7 +7,7 @@ use Rattle.lsp_text.specs.declared.position.Range.{Range}
 use Rattle.lsp_message.specs.Agreement.{offers_of, announced_of}
 use Rattle.lsp_message.specs.Message.{IdData, whole, text, given, failed, MessageData, request, notification, response, message, reading}
 use Rattle.lsp_message.specs.Outgoing.{OutgoingData, body_of, initialize, initialized, did_open, did_change, did_close, shutdown, exit, initialize_result, shutdown_result, error_reply, initialize_params, open_params, change_params, close_params, initialize_value}
-use Rattle.lsp_message.specs.Params.{OpenData, EditData, ChangeData, open_of, change_of, close_of}
+use Rattle.lsp_message.specs.Params.{DocumentItem, EditData, ChangeData, open_of, change_of, close_of}
 
 -- ---- messages as the types hold them: numbers in their ranges, and texts in UTF-8
 
@@ -17,7 +17,7 @@ IsProperId (whole n) = FitsSigned w64 n
 IsProperId (text s) = IsUtf8 s
 
 -- The version is in the range of `i32`, and the texts are UTF-8.
-pub record IsProperOpen (p : OpenData) : Type 0 where
+pub record IsProperDocument (p : DocumentItem) : Type 0 where
   pub uri : IsUtf8 p.uri
   pub language : IsUtf8 p.language
   pub version : FitsSigned w32 p.version
@@ -48,7 +48,7 @@ pub record IsProperChange (p : ChangeData) : Type 0 where
 abbrev pub IsProper : OutgoingData → Type 0
 IsProper (initialize offers) = ⊤
 IsProper initialized = ⊤
-IsProper (did_open p) = IsProperOpen p
+IsProper (did_open p) = IsProperDocument p
 IsProper (did_change p) = IsProperChange p
 IsProper (did_close p) = IsUtf8 p.uri
 IsProper shutdown = ⊤

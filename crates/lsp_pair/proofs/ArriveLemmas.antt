@@ -10,7 +10,8 @@ use Rattle.lsp_message.specs.Outgoing as outgoing
 use Rattle.lsp_message.specs.Outgoing.{OutgoingData, body_of}
 use Rattle.lsp_message.specs.Sent.{IsProper}
 use Rattle.lsp_message.proofs.ReadBack.{reading-body_of, is_read_back}
-use Rattle.lsp_store.specs.Table.{Entry, Command, table_after}
+use Rattle.lsp_message.specs.Params.{DocumentItem}
+use Rattle.lsp_store.specs.Table.{Command, table_after}
 use Rattle.lsp_store.specs.Laws.{AllWithin}
 use Rattle.lsp_server.specs.declared.phase.Phase.{Phase}
 use Rattle.lsp_server.specs.declared.phase.Phase.TheVariants.{New, Running, Down, Ended}
@@ -29,7 +30,7 @@ use Rattle.lsp_pair.proofs.ListLemmas.{next_is, length_more}
 use Rattle.lsp_pair.proofs.Shapes.{the_encoding, the_kind, AreSaid, said_there, said_front, said_within, Shape, fresh, asking, answered, down, closed, leaving, left, working, closing, client_at, server_at, agreed_at, encoding_at, there_at, here_at, IsBusy, IsBusyShape, AtShape, WorldSound}
 
 -- the body in which a message is written, where the client kept this table when it said it
-abbrev pub body_on : SyncKind → List Entry → ClientMessage → List ℕ
+abbrev pub body_on : SyncKind → List DocumentItem → ClientMessage → List ℕ
 body_on kind table (commands command) = sent_body kind table command
 body_on kind table (lifecycle m) = body_of m
 

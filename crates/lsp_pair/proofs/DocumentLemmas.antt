@@ -6,7 +6,8 @@ use Rattle.lsp_message.specs.declared.agreement.SyncKind.{SyncKind}
 use Rattle.lsp_message.specs.Outgoing.{OutgoingData}
 use Rattle.lsp_message.specs.Message.{message}
 use Rattle.lsp_message.specs.Sent.{sent}
-use Rattle.lsp_store.specs.Table.{Entry, table_of}
+use Rattle.lsp_message.specs.Params.{DocumentItem}
+use Rattle.lsp_store.specs.Table.{table_of}
 use Rattle.lsp_client.specs.Step as client
 use Rattle.lsp_pair.specs.World.{Setting, ClientMessage, lifecycle, World, commands_in, EventData, HappenedData, calls, to_server, to_client, turn_of_call, to_server_event, to_client_event, turn_of_result, messages_in, turn, world_from, world_of, beginning, client_of}
 use Rattle.lsp_pair.specs.Pair.{PairData, IsSound, IsAt, frames_from, waiting_out}
@@ -16,7 +17,7 @@ use Rattle.lsp_pair.proofs.WorldLemmas.{world_sound}
 
 -- ---- what waits
 
-no_frames : (kind : SyncKind) (table : List Entry) (waiting : List ClientMessage) → frames_from kind table waiting ≡ [] → waiting ≡ []
+no_frames : (kind : SyncKind) (table : List DocumentItem) (waiting : List ClientMessage) → frames_from kind table waiting ≡ [] → waiting ≡ []
 no_frames kind table [] e = refl
 no_frames kind table (first ∷ rest) e = absurd (cc)
 

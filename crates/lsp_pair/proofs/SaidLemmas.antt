@@ -16,10 +16,10 @@ use Rattle.lsp_message.specs.declared.agreement.SyncKind.{SyncKind}
 use Rattle.lsp_message.specs.declared.agreement.SyncKind.TheVariants.{Off, Full, Incremental}
 use Rattle.lsp_message.specs.Message.{reading}
 use Rattle.lsp_message.specs.Outgoing.{did_open, did_change, did_close, body_of}
-use Rattle.lsp_message.specs.Params.{OpenData, ChangeData, CloseData}
-use Rattle.lsp_message.specs.Sent.{IsProper, IsProperOpen, IsProperChange, IsProperEdit}
+use Rattle.lsp_message.specs.Params.{DocumentItem, ChangeData, CloseData}
+use Rattle.lsp_message.specs.Sent.{IsProper, IsProperDocument, IsProperChange, IsProperEdit}
 use Rattle.lsp_message.proofs.ReadBack.{reading-body_of, is_read_back, body_of-unique}
-use Rattle.lsp_store.specs.Table.{Entry, Refusal, Command, opens, changes, closes, body_too_long, change_refusal, after_change, changed, command_refusal, table_after, unless_refused}
+use Rattle.lsp_store.specs.Table.{Refusal, Command, opens, changes, closes, body_too_long, change_refusal, after_change, changed, command_refusal, table_after, unless_refused}
 use Rattle.lsp_store.specs.Message.{AreTexts, written_edit, canonical_batch, whole_batch, whole_text, change_message, body_refusal, else_refused}
 use Rattle.lsp_store.specs.Laws.{AreWithin, AllWithin, IsWithin, IsReplacedBy}
 use Rattle.lsp_store.proofs.MessageLemmas.{Accepts, accepted_parts, batch_at, proper}
@@ -31,7 +31,7 @@ use Rattle.lsp_server.specs.Answer as answer
 use Rattle.lsp_server.specs.Incoming as incoming
 use Rattle.lsp_server.specs.Step.{State, Step, edit_from_data, obeyed, obeys, step_on, step, step_in, encoding_of}
 use Rattle.lsp_client.specs.Step.{sent_batch, sent_body, order_refusal}
-use Rattle.lsp_pair.specs.World.{commands, incoming_of, IsProperEntry, IsProperEdits}
+use Rattle.lsp_pair.specs.World.{commands, incoming_of, IsProperEdits}
 
 -- ---- a batch is read back as it was written
 
@@ -45,12 +45,12 @@ edits_back (change ∷ batch) texts =
 -- ---- commands as the types hold them
 
 abbrev pub IsProperCommand : Encoding → Command → Type 0
-IsProperCommand encoding (opens entry) = IsProperEntry entry
+IsProperCommand encoding (opens entry) = IsProperDocument entry
 IsProperCommand encoding (changes uri version other batch) = IsProperEdits uri version batch × (other ≡ encoding)
 IsProperCommand encoding (closes uri) = IsUtf8 uri
 
 -- A command that a client says, whose table was this: its texts are texts, it counts in this encoding, and it was accepted.
-pub record IsSaid (limits : Bounds) (encoding : Encoding) (kind : SyncKind) (table : List Entry) (command : Command) : Type 0 where
+pub record IsSaid (limits : Bounds) (encoding : Encoding) (kind : SyncKind) (table : List DocumentItem) (command : Command) : Type 0 where
   pub proper : IsProperCommand encoding command
   pub may : order_refusal limits kind table command ≡ None
 
@@ -62,7 +62,7 @@ later_none : (first later : Option Refusal) → else_refused first later ≡ Non
 later_none None later e = e
 later_none (Some refusal) later e = absurd (let bad : Some refusal ≡ None = e in cc)
 
-pub may_command : (limits : Bounds) (kind : SyncKind) (table : List Entry) (command : Command) → order_refusal limits kind table command ≡ None → command_refusal limits table command ≡ None
+pub may_command : (limits : Bounds) (kind : SyncKind) (table : List DocumentItem) (command : Command) → order_refusal limits kind table command ≡ None → command_refusal limits table command ≡ None
 may_command limits kind table command e = first_none (command_refusal limits table command) (body_refusal limits (sent_body kind table command)) e
 
 body_short : (limits : Bounds) (body : List ℕ) → body_refusal limits body ≡ None → length body ≤ limits.max_body
@@ -71,14 +71,14 @@ body_short limits body e =
     (λ (within : nat_lt limits.max_body (length body) ≡ false). ltb-false limits.max_body (length body) within)
     (cases_Bool (nat_lt limits.max_body (length body)))
 
-pub sent_short : (limits : Bounds) (kind : SyncKind) (table : List Entry) (command : Command) → order_refusal limits kind table command ≡ None → length (sent_body kind table command) ≤ limits.max_body
+pub sent_short : (limits : Bounds) (kind : SyncKind) (table : List DocumentItem) (command : Command) → order_refusal limits kind table command ≡ None → length (sent_body kind table command) ≤ limits.max_body
 sent_short limits kind table command e =
     body_short limits (sent_body kind table command) (later_none (command_refusal limits table command) (body_refusal limits (sent_body kind table command)) e)
 
 -- ---- the batch that is sent
 
 -- what is true of the batch that is sent in place of one that was accepted
-pub record IsSentBatch (small great : Bounds) (encoding : Encoding) (table : List Entry) (uri : List ℕ) (version : ℤ) (batch other_batch : List Edit) : Type 0 where
+pub record IsSentBatch (small great : Bounds) (encoding : Encoding) (table : List DocumentItem) (uri : List ℕ) (version : ℤ) (batch other_batch : List Edit) : Type 0 where
   pub done : IsReplacedBy great (units_in encoding) table uri version batch other_batch
   pub texts : AreTexts other_batch
   pub proper_message : IsProper (change_message uri version other_batch)
@@ -91,7 +91,7 @@ whole_proper uri version bytes u v b =
       changes = All-cons IsProperEdit (record { range = None; text = encode_utf8_all (chars bytes) }) [] (record { range = tt; text = subst IsUtf8 (sym (encodes-chars bytes b)) b }) (All-nil IsProperEdit);
     }
 
-module _ (small great : Bounds) (encoding : Encoding) (table : List Entry) (uri : List ℕ) (version : ℤ) (batch : List Edit) (ranges : AreInRange small) (within : AreWithin small great)
+module _ (small great : Bounds) (encoding : Encoding) (table : List DocumentItem) (uri : List ℕ) (version : ℤ) (batch : List Edit) (ranges : AreInRange small) (within : AreWithin small great)
     (kept : AllWithin small table) (edits : IsProperEdits uri version batch) (may : change_refusal small (units_in encoding) table uri version batch ≡ None) where
   parts : MayChange small (units_in encoding) table uri version batch
   parts = change_parts small (units_in encoding) table uri version batch may
@@ -142,20 +142,20 @@ module _ (small great : Bounds) (encoding : Encoding) (table : List Entry) (uri 
 -- ---- what a server does at a command
 
 -- a server whose session is running, with these limits, this encoding and this table
-pub record IsServing (great : Bounds) (encoding : Encoding) (table : List Entry) (s : State) : Type 0 where
+pub record IsServing (great : Bounds) (encoding : Encoding) (table : List DocumentItem) (s : State) : Type 0 where
   pub limits_are : s.config.limits ≡ great
   pub running : s.phase ≡ Running
   pub counts : s.encoding ≡ Some encoding
   pub table_is : s.table ≡ table
 
 -- it did the command
-abbrev pub done_by : State → List Entry → Step
+abbrev pub done_by : State → List DocumentItem → Step
 done_by s next = record { answer = answer.changed; state = record s { table = next } }
 
 obeys_done : (s : State) (command : Command) → command_refusal s.config.limits s.table command ≡ None → obeys s command ≡ done_by s (table_after s.table command)
 obeys_done s command may = ap (λ (r : Option Refusal). obeyed s (unless_refused r (table_after s.table command))) may
 
-run_open : (s : State) (p : OpenData) → s.phase ≡ Running → step_on s (incoming.did_open (Some p)) ≡ obeys s (opens (record { uri = p.uri; language = p.language; version = p.version; text = p.text }))
+run_open : (s : State) (p : DocumentItem) → s.phase ≡ Running → step_on s (incoming.did_open (Some p)) ≡ obeys s (opens p)
 run_open s p running = ap (λ (phase : Phase). step_in phase s (incoming.did_open (Some p))) running
 
 run_change : (s : State) (p : ChangeData) → s.phase ≡ Running → step_on s (incoming.did_change (Some p)) ≡ obeys s (changes p.uri p.version (encoding_of s) (map edit_from_data p.changes))
@@ -166,7 +166,7 @@ run_close s p running = ap (λ (phase : Phase). step_in phase s (incoming.did_cl
 
 -- ---- what is read
 
-read_open : (p : OpenData) → IsProperOpen p → incoming.incoming_of (reading (body_of (did_open p))) ≡ incoming.did_open (Some p)
+read_open : (p : DocumentItem) → IsProperDocument p → incoming.incoming_of (reading (body_of (did_open p))) ≡ incoming.did_open (Some p)
 read_open p is = ap incoming.incoming_of (reading-body_of (did_open p) is) ∙ ap incoming.did_open (is_read_back (did_open p) is)
 
 read_change : (p : ChangeData) → IsProperChange p → incoming.incoming_of (reading (body_of (did_change p))) ≡ incoming.did_change (Some p)
@@ -190,16 +190,12 @@ module _ (small great : Bounds) (encoding : Encoding) (kind : SyncKind) (s : Sta
   encoding_is : encoding_of s ≡ encoding
   encoding_is = rw counts refl
 
-  open_served : (entry : Entry) → IsProperEntry entry → order_refusal small kind s.table (opens entry) ≡ None → IsServedAs s kind (opens entry)
+  open_served : (entry : DocumentItem) → IsProperDocument entry → order_refusal small kind s.table (opens entry) ≡ None → IsServedAs s kind (opens entry)
   unfolding sent_body
   open_served entry is may =
-      let p : OpenData = record { uri = entry.uri; language = entry.language; version = entry.version; text = entry.text } in
-      let done : step_on s (incoming.did_open (Some p)) ≡ done_by s (table_after s.table (opens entry))
-      = run_open s p running ∙ obeys_done s (opens entry) (accepted_here (opens entry) (greater_limits_law small great s.table (opens entry) within (may_command small kind s.table (opens entry) may))) in
-      record {
-        written = ap (step_on s) (read_open p (record { uri = is.uri; language = is.language; version = is.version; text = is.text })) ∙ done;
-        given = done;
-      }
+      let done : step_on s (incoming.did_open (Some entry)) ≡ done_by s (table_after s.table (opens entry))
+      = run_open s entry running ∙ obeys_done s (opens entry) (accepted_here (opens entry) (greater_limits_law small great s.table (opens entry) within (may_command small kind s.table (opens entry) may))) in
+      record { written = ap (step_on s) (read_open entry is) ∙ done; given = done }
 
   close_served : (uri : List ℕ) → IsUtf8 uri → order_refusal small kind s.table (closes uri) ≡ None → IsServedAs s kind (closes uri)
   unfolding sent_body

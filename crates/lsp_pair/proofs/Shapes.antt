@@ -6,7 +6,8 @@ use Rattle.lsp_text.specs.declared.encoding.Encoding.{Encoding}
 use Rattle.lsp_message.specs.declared.agreement.SyncKind.{SyncKind}
 use Rattle.lsp_message.specs.Outgoing as outgoing
 use Rattle.lsp_message.specs.Outgoing.{OutgoingData, body_of}
-use Rattle.lsp_store.specs.Table.{Entry, Command, opens, changes, closes, table_after}
+use Rattle.lsp_message.specs.Params.{DocumentItem}
+use Rattle.lsp_store.specs.Table.{Command, opens, changes, closes, table_after}
 use Rattle.lsp_store.specs.Laws.{AllWithin, HasTexts}
 use Rattle.lsp_store.proofs.LawLemmas.{within_law}
 use Rattle.lsp_server.specs.declared.phase.Phase as server_phase
@@ -30,35 +31,35 @@ the_encoding setting = chosen setting.config.choice setting.offers
 abbrev pub the_kind : Setting → SyncKind
 the_kind setting = kind_of setting.config.sync
 
-abbrev pub IsSaidOn : Setting → List Entry → ClientMessage → Type 0
+abbrev pub IsSaidOn : Setting → List DocumentItem → ClientMessage → Type 0
 IsSaidOn setting table (commands command) = IsSaid setting.limits (the_encoding setting) (the_kind setting) table command
 IsSaidOn setting table (lifecycle m) = ⊤
 
-abbrev pub AreSaid : Setting → List Entry → List ClientMessage → Type 0
+abbrev pub AreSaid : Setting → List DocumentItem → List ClientMessage → Type 0
 AreSaid setting table [] = ⊤
 AreSaid setting table (said ∷ rest) = IsSaidOn setting table said × AreSaid setting (table_with table said) rest
 
-pub said-append : (setting : Setting) (table : List Entry) (xs ys : List ClientMessage) → AreSaid setting table xs → AreSaid setting (table_after_all table xs) ys → AreSaid setting table (xs ++ ys)
+pub said-append : (setting : Setting) (table : List DocumentItem) (xs ys : List ClientMessage) → AreSaid setting table xs → AreSaid setting (table_after_all table xs) ys → AreSaid setting table (xs ++ ys)
 said-append setting table [] ys p q = q
 said-append setting table (commands command ∷ xs) ys p q = (p.0, said-append setting (table_after table command) xs ys p.1 q)
 said-append setting table (lifecycle m ∷ xs) ys p q = (p.0, said-append setting table xs ys p.1 q)
 
-pub said_quiet : (setting : Setting) (table : List Entry) (ms : List OutgoingData) → AreSaid setting table (map lifecycle ms)
+pub said_quiet : (setting : Setting) (table : List DocumentItem) (ms : List OutgoingData) → AreSaid setting table (map lifecycle ms)
 said_quiet setting table [] = tt
 said_quiet setting table (m ∷ ms) = (tt, said_quiet setting table ms)
 
-pub said_there : (setting : Setting) (table : List Entry) (n : ℕ) (xs : List ClientMessage) → AreSaid setting table xs → AreSaid setting (table_after_all table (take n xs)) (drop n xs)
+pub said_there : (setting : Setting) (table : List DocumentItem) (n : ℕ) (xs : List ClientMessage) → AreSaid setting table xs → AreSaid setting (table_after_all table (take n xs)) (drop n xs)
 said_there setting table n xs p = by table (take n xs) (drop n xs) (subst (AreSaid setting table) (sym (take-append-drop n xs)) p)
   where
-    by : (table : List Entry) (front back : List ClientMessage) → AreSaid setting table (front ++ back) → AreSaid setting (table_after_all table front) back
+    by : (table : List DocumentItem) (front back : List ClientMessage) → AreSaid setting table (front ++ back) → AreSaid setting (table_after_all table front) back
     by table [] back p = p
     by table (commands command ∷ front) back p = by (table_after table command) front back p.1
     by table (lifecycle m ∷ front) back p = by table front back p.1
 
-pub said_front : (setting : Setting) (table : List Entry) (n : ℕ) (xs : List ClientMessage) → AreSaid setting table xs → AreSaid setting table (take n xs)
+pub said_front : (setting : Setting) (table : List DocumentItem) (n : ℕ) (xs : List ClientMessage) → AreSaid setting table xs → AreSaid setting table (take n xs)
 said_front setting table n xs p = by table (take n xs) (drop n xs) (subst (AreSaid setting table) (sym (take-append-drop n xs)) p)
   where
-    by : (table : List Entry) (front back : List ClientMessage) → AreSaid setting table (front ++ back) → AreSaid setting table front
+    by : (table : List DocumentItem) (front back : List ClientMessage) → AreSaid setting table (front ++ back) → AreSaid setting table front
     by table [] back p = tt
     by table (commands command ∷ front) back p = (p.0, by (table_after table command) front back p.1)
     by table (lifecycle m ∷ front) back p = (p.0, by table front back p.1)
@@ -69,7 +70,7 @@ has_texts encoding (changes uri version other batch) p = p.0.texts
 has_texts encoding (closes uri) p = tt
 
 -- the documents after what was said are texts within the limit
-said_kept : (setting : Setting) (table : List Entry) (xs : List ClientMessage) → AllWithin setting.limits table → length table ≤ setting.limits.max_docs → AreSaid setting table xs
+said_kept : (setting : Setting) (table : List DocumentItem) (xs : List ClientMessage) → AllWithin setting.limits table → length table ≤ setting.limits.max_docs → AreSaid setting table xs
     → AllWithin setting.limits (table_after_all table xs)
 said_kept setting table [] kept many p = kept
 said_kept setting table (commands command ∷ xs) kept many p =

@@ -5,7 +5,8 @@ use Rattle.lsp_frame.specs.Frame.{frame}
 use Rattle.lsp_message.specs.declared.agreement.SyncKind.{SyncKind}
 use Rattle.lsp_message.specs.Message.{reading}
 use Rattle.lsp_message.specs.Outgoing.{OutgoingData, body_of}
-use Rattle.lsp_store.specs.Table.{Entry, table_of}
+use Rattle.lsp_message.specs.Params.{DocumentItem}
+use Rattle.lsp_store.specs.Table.{table_of}
 use Rattle.lsp_server.specs.Step as server
 use Rattle.lsp_client.specs.Step as client
 use Rattle.lsp_client.specs.Step.{Call, Sending, Delivery, call_result, delivery_of, sent_body}
@@ -21,7 +22,7 @@ use Rattle.lsp_pair.proofs.ReturnLemmas.{Returns, Returning}
 use Rattle.lsp_pair.proofs.CallLemmas.{IsSending, CallResult, called_sound}
 use Rattle.lsp_pair.proofs.WorldLemmas.{good_turn, there_arrives, here_returns, served_turn, heard_turn, quiet_there, quiet_here, world_sound, world-last, proper_last, agree_at}
 
-pub frame_on : (kind : SyncKind) (table : List Entry) (said : ClientMessage) → frame_of kind table said ≡ frame (body_on kind table said)
+pub frame_on : (kind : SyncKind) (table : List DocumentItem) (said : ClientMessage) → frame_of kind table said ≡ frame (body_on kind table said)
 unfolding sent_body
 frame_on kind table (commands command) = refl
 frame_on kind table (lifecycle m) = refl
@@ -38,7 +39,7 @@ module _ (setting : Setting) (sound : IsSound setting) (w : World) (ok : WorldSo
   abbrev kind : SyncKind
   kind = the_kind setting
 
-  table_now : List Entry
+  table_now : List DocumentItem
   table_now = (client_of setting w).table
 
   -- ---- a call
@@ -47,7 +48,7 @@ module _ (setting : Setting) (sound : IsSound setting) (w : World) (ok : WorldSo
   queue_more : (said : ClientMessage) → frames_from kind (server_of setting w).table (waiting_out w) ++ frame_of kind (client_of setting w).table said ∷ []
       ≡ frames_from kind (table_of (commands_in (take w.out_delivered (w.out ++ said ∷ [])))) (drop w.out_delivered (w.out ++ said ∷ []))
   queue_more said =
-      ap (λ (t : List Entry). frames_from kind (server_of setting w).table (waiting_out w) ++ frame_of kind t said ∷ []) (sym (whole_after [] w.out_delivered w.out))
+      ap (λ (t : List DocumentItem). frames_from kind (server_of setting w).table (waiting_out w) ++ frame_of kind t said ∷ []) (sym (whole_after [] w.out_delivered w.out))
       ∙ (sym (frames-append kind (server_of setting w).table (waiting_out w) (said ∷ []))
       ∙ (λ i. frames_from kind (table_of (commands_in (sym (take-append-le w.out_delivered w.out (said ∷ []) ok.at.arrived) i))) (sym (drop-append-le w.out_delivered w.out (said ∷ []) ok.at.arrived) i)))
 

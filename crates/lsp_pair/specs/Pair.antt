@@ -7,7 +7,8 @@ use Rattle.lsp_text.specs.declared.encoding.Encoding.TheVariants.{Utf8, Utf16, U
 use Rattle.lsp_message.specs.declared.agreement.SyncKind.{SyncKind}
 use Rattle.lsp_message.specs.Message.{reading}
 use Rattle.lsp_message.specs.Outgoing.{OutgoingData, body_of}
-use Rattle.lsp_store.specs.Table.{Entry, table_after}
+use Rattle.lsp_message.specs.Params.{DocumentItem}
+use Rattle.lsp_store.specs.Table.{table_after}
 use Rattle.lsp_store.specs.Laws.{AreWithin}
 use Rattle.lsp_server.specs.declared.config.EncodingChoice.{EncodingChoice}
 use Rattle.lsp_server.specs.declared.config.EncodingChoice.TheVariants.{Fixed, Negotiated}
@@ -114,17 +115,17 @@ IsRun old (event ∷ events) new =
 -- ---- a pair at a world
 
 -- The frame of a message, where the client had this table when it sent it.
-abbrev pub frame_of : SyncKind → List Entry → ClientMessage → List ℕ
+abbrev pub frame_of : SyncKind → List DocumentItem → ClientMessage → List ℕ
 frame_of kind table (commands command) = message_frame (client.message_of kind table command)
 frame_of kind table (lifecycle m) = message_frame m
 
 -- The table after a message.
-abbrev pub table_with : List Entry → ClientMessage → List Entry
+abbrev pub table_with : List DocumentItem → ClientMessage → List DocumentItem
 table_with table (commands command) = table_after table command
 table_with table (lifecycle m) = table
 
 -- The frames of messages, where the client had this table when it sent the first.
-abbrev pub frames_from : SyncKind → List Entry → List ClientMessage → List (List ℕ)
+abbrev pub frames_from : SyncKind → List DocumentItem → List ClientMessage → List (List ℕ)
 frames_from kind table [] = []
 frames_from kind table (sent ∷ rest) =
     frame_of kind table sent ∷ frames_from kind (table_with table sent) rest

@@ -10,8 +10,8 @@ use Rattle.lsp_message.specs.declared.outgoing.ErrorCode.{ErrorCode}
 use Rattle.lsp_message.specs.Message.{message}
 use Rattle.lsp_message.specs.Outgoing as outgoing
 use Rattle.lsp_message.specs.Outgoing.{OutgoingData}
-use Rattle.lsp_message.specs.Sent.{sent}
-use Rattle.lsp_store.specs.Table.{Entry, Command, opens, changes, closes, table_of}
+use Rattle.lsp_message.specs.Sent.{sent, IsProperDocument}
+use Rattle.lsp_store.specs.Table.{Command, opens, changes, closes, table_of}
 use Rattle.lsp_store.specs.Message.{AreTexts, written_edit}
 use Rattle.lsp_server.specs.declared.config.Config.{Config}
 use Rattle.lsp_server.specs.declared.phase.Phase as server_phase
@@ -173,13 +173,7 @@ call_event setting w call =
 
 -- What a message of the client asks of a server.
 abbrev pub incoming_of : ClientMessage → IncomingData
-incoming_of (commands (opens entry)) =
-    incoming.did_open (Some (record {
-      uri = entry.uri;
-      language = entry.language;
-      version = entry.version;
-      text = entry.text;
-    }))
+incoming_of (commands (opens entry)) = incoming.did_open (Some entry)
 incoming_of (commands (changes uri version encoding batch)) =
     incoming.did_change (Some (record {
       uri = uri;
@@ -250,13 +244,6 @@ world_of setting events = world_from setting beginning events
 
 -- ---- events as their types contain them: versions in 32 bits, texts in UTF-8
 
--- The version is in the range of `i32`, and the texts are UTF-8.
-pub record IsProperEntry (entry : Entry) : Type 0 where
-  pub uri : IsUtf8 entry.uri
-  pub language : IsUtf8 entry.language
-  pub version : FitsSigned w32 entry.version
-  pub text : IsUtf8 entry.text
-
 -- The version is in the range of `i32`, the URI is UTF-8, and the texts are lists of scalar values.
 pub record IsProperEdits (uri : List ℕ) (version : ℤ) (batch : List Edit) : Type 0 where
   pub name : IsUtf8 uri
@@ -265,7 +252,7 @@ pub record IsProperEdits (uri : List ℕ) (version : ℤ) (batch : List Edit) : 
 
 -- An order has such numbers and texts.
 abbrev pub IsProperOrder : Order → Type 0
-IsProperOrder (client.opens entry) = IsProperEntry entry
+IsProperOrder (client.opens entry) = IsProperDocument entry
 IsProperOrder (client.edits uri version batch) = IsProperEdits uri version batch
 IsProperOrder (client.closes uri) = IsUtf8 uri
 

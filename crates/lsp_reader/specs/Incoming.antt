@@ -7,7 +7,7 @@ use Rattle.lsp_message.specs.declared.agreement.Offers.{Offers}
 use Rattle.lsp_message.specs.Agreement.{offers_of}
 use Rattle.lsp_message.specs.Message.{IdData, MessageData, Reading}
 use Rattle.lsp_message.specs.Message as read
-use Rattle.lsp_message.specs.Params.{OpenData, ChangeData, CloseData, open_of, change_of, close_of}
+use Rattle.lsp_message.specs.Params.{DocumentItem, ChangeData, CloseData, open_of, change_of, close_of}
 
 -- What a body asks. Params that don't fit their method are none.
 pub data IncomingData : Type 0 where
@@ -18,7 +18,7 @@ pub data IncomingData : Type 0 where
   shutdown : IdData → IncomingData
   other_request : IdData → List ℕ → IncomingData
   exit : IncomingData
-  did_open : Option OpenData → IncomingData
+  did_open : Option DocumentItem → IncomingData
   did_change : Option ChangeData → IncomingData
   did_close : Option CloseData → IncomingData
   other_notification : List ℕ → IncomingData

@@ -13,9 +13,9 @@ use Rattle.lsp_edit.specs.Compose.{then_items}
 use Rattle.lsp_edit.specs.Laws.{IsCanonical}
 use Rattle.lsp_edit.proofs.LawLemmas.{canonical_law, units_some}
 use Rattle.lsp_message.specs.Message.{reading}
-use Rattle.lsp_message.specs.Params.{ChangeData}
+use Rattle.lsp_message.specs.Params.{DocumentItem, ChangeData}
 use Rattle.lsp_message.proofs.ReadBack.{reading-body_of, is_read_back, body_of-unique}
-use Rattle.lsp_store.specs.Table.{Entry, bytes_after, entry_at, entry_refusal, meant_text}
+use Rattle.lsp_store.specs.Table.{bytes_after, entry_at, entry_refusal, meant_text}
 use Rattle.lsp_store.specs.Message.{AreTexts, IsReadAgain, written_edit, change_body, canonical_batch, canonical_body}
 use Rattle.lsp_store.specs.Squash.{SquashData, items_meant}
 use Rattle.lsp_store.proofs.MessageLemmas.{is_read}
@@ -30,7 +30,7 @@ use Rattle.lsp_replay.proofs.PutLemmas.{put, change_puts}
 use Rattle.lsp_replay.proofs.SettledLemmas.{asks_back, edits_back}
 
 -- what a document's URI, version and text must be
-pub record IsProperAt (t : State) (uri : List ℕ) (version : ℤ) (entry : Entry) (batch : List Edit) (items : List Item) : Type 0 where
+pub record IsProperAt (t : State) (uri : List ℕ) (version : ℤ) (entry : DocumentItem) (batch : List Edit) (items : List Item) : Type 0 where
   pub found : entry_at t.table uri ≡ Some entry
   pub utf8 : IsUtf8 entry.text
   pub received : length entry.text ≤ t.config.limits.max_text
@@ -43,13 +43,13 @@ pub record IsProperAt (t : State) (uri : List ℕ) (version : ℤ) (entry : Entr
   pub few : nat_lt t.config.limits.max_changes (length (canonical (units_in (encoding_of t)) (chars entry.text) items)) ≡ false
 
 -- the batch, and the change that asks for it
-abbrev pub canonical_at : State → Entry → List Item → List Edit
+abbrev pub canonical_at : State → DocumentItem → List Item → List Edit
 canonical_at t entry items = canonical (units_in (encoding_of t)) (chars entry.text) items
 
-abbrev pub canonical_change : State → List ℕ → ℤ → Entry → List Item → ChangeData
+abbrev pub canonical_change : State → List ℕ → ℤ → DocumentItem → List Item → ChangeData
 canonical_change t uri version entry items = record { uri = uri; version = version; changes = map written_edit (canonical_at t entry items) }
 
-pub record IsCanonicalChange (t : State) (uri : List ℕ) (version : ℤ) (entry : Entry) (items : List Item) : Type 0 where
+pub record IsCanonicalChange (t : State) (uri : List ℕ) (version : ℤ) (entry : DocumentItem) (items : List Item) : Type 0 where
   pub asks : incoming_of (reading (change_body uri version (canonical_at t entry items))) ≡ did_change (Some (canonical_change t uri version entry items))
   pub may : refusal_of t (canonical_change t uri version entry items) ≡ None
   pub leaves : server_after t (canonical_change t uri version entry items) ≡ record t { table = put t.table uri version (bytes_after entry.text items) }
@@ -57,7 +57,7 @@ pub record IsCanonicalChange (t : State) (uri : List ℕ) (version : ℤ) (entry
   pub joins : (squash : SquashData) → squash.encoding ≡ encoding_of t → text_of (chars squash.text) squash.items ≡ chars entry.text
       → joined_by (canonical_change t uri version entry items) squash ≡ record squash { items = then_items squash.items items; version = version }
 
-module _ (t : State) (uri : List ℕ) (version : ℤ) (entry : Entry) (batch : List Edit) (items : List Item) (ranges : AreInRange t.config.limits) (at : IsProperAt t uri version entry batch items) where
+module _ (t : State) (uri : List ℕ) (version : ℤ) (entry : DocumentItem) (batch : List Edit) (items : List Item) (ranges : AreInRange t.config.limits) (at : IsProperAt t uri version entry batch items) where
   units : ℕ → ℕ
   units = units_in (encoding_of t)
 
@@ -90,7 +90,7 @@ module _ (t : State) (uri : List ℕ) (version : ℤ) (entry : Entry) (batch : L
 
   leaves_on : server_after t (canonical_change t uri version entry items) ≡ record t { table = put t.table uri version (bytes_after entry.text items) }
   leaves_on =
-      ap (λ (table : List Entry). record t { table = table })
+      ap (λ (table : List DocumentItem). record t { table = table })
       (change_puts (units_in (encoding_of t)) t.table uri version (map edit_from_data (map written_edit (canonical_at t entry items))) entry at.found
       ∙ ap (λ (b : List Edit). put t.table uri version (meant_text entry.text (meaning (units_in (encoding_of t)) (chars entry.text) b))) back
       ∙ ap (λ m. put t.table uri version (meant_text entry.text m)) law.means)

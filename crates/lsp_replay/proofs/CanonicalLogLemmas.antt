@@ -9,7 +9,7 @@ use Rattle.lsp_text.specs.declared.encoding.Encoding.{Encoding}
 use Rattle.lsp_message.specs.declared.agreement.Announced.{Announced}
 use Rattle.lsp_message.specs.Agreement.{announced_of}
 use Rattle.lsp_message.specs.Message.{IdData, reading}
-use Rattle.lsp_message.specs.Params.{ChangeData}
+use Rattle.lsp_message.specs.Params.{DocumentItem, ChangeData}
 use Rattle.lsp_edit.specs.Edited as given
 use Rattle.lsp_frame.specs.Limits.{Bounds}
 use Rattle.lsp_message.specs.declared.params.ChangeParams.{ChangeParams}
@@ -19,7 +19,7 @@ use Rattle.lsp_store.specs.declared.fault.StoreFault.{StoreFault}
 use Rattle.lsp_store.specs.declared.fault.StoreFault.TheVariants.{BodyTooLong, NoMemory}
 use Rattle.lsp_store.specs.Faults.{IsRefusal, fault_of}
 use Rattle.lsp_store.specs.Message.{body_refusal, else_refused}
-use Rattle.lsp_store.specs.Table.{Entry, Refusal, body_too_long, change_refusal, unless_refused, command_refusal, table_after}
+use Rattle.lsp_store.specs.Table.{Refusal, body_too_long, change_refusal, unless_refused, command_refusal, table_after}
 use Rattle.lsp_server.specs.declared.phase.Phase.{Phase}
 use Rattle.lsp_server.specs.declared.phase.Phase.TheVariants.{New, Running, Down, Ended}
 use Rattle.lsp_server.specs.Answer.{AnswerData, Sent, changed, as_sent}
@@ -68,7 +68,7 @@ same_server s false = refl
 
 -- ---- a change that is answered by `changed` was not refused
 
-obeyed_changed : (s : State) (refusal : Option Refusal) (next : List Entry) → as_sent (obeyed s (unless_refused refusal next)).answer ≡ changed → refusal ≡ None
+obeyed_changed : (s : State) (refusal : Option Refusal) (next : List DocumentItem) → as_sent (obeyed s (unless_refused refusal next)).answer ≡ changed → refusal ≡ None
 obeyed_changed s None next e = refl
 obeyed_changed s (Some refusal) next e = cc
 

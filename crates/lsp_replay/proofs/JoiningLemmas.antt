@@ -11,12 +11,12 @@ use Rattle.lsp_text.specs.declared.encoding.Encoding.{Encoding}
 use Rattle.lsp_edit.specs.Batch.{Edit, Fault, meaning}
 use Rattle.lsp_edit.specs.Items.{Item}
 use Rattle.lsp_message.specs.Message.{IdData}
-use Rattle.lsp_message.specs.Params.{ChangeData}
+use Rattle.lsp_message.specs.Params.{DocumentItem, ChangeData}
 use Rattle.lsp_store.specs.declared.fault.StoreFault.TheVariants.{BodyTooLong}
 use Rattle.lsp_store.specs.Faults.{IsRefusal, fault_of}
 use Rattle.lsp_store.specs.Message.{else_refused}
 use Rattle.lsp_store.specs.Squash.{SquashData, HasReached, IsSquashAfter, squash_of}
-use Rattle.lsp_store.specs.Table.{Entry, Refusal, already_open, too_many_documents, not_open, stale_version, edit, body_too_long, text_too_long, too_many_changes, batch_bytes, greatest_batch, change_refusal, changed as changed_entry, entry_at, entry_refusal, meaning_refusal, refusal_on}
+use Rattle.lsp_store.specs.Table.{Refusal, already_open, too_many_documents, not_open, stale_version, edit, body_too_long, text_too_long, too_many_changes, batch_bytes, greatest_batch, change_refusal, changed as changed_entry, entry_at, entry_refusal, meaning_refusal, refusal_on}
 use Rattle.lsp_store.proofs.LawLemmas.{found_changed}
 use Rattle.lsp_store.proofs.SquashLemmas.{after_is}
 use Rattle.lsp_server.specs.Answer.{changed}
@@ -45,7 +45,7 @@ meaning_not : (limits : Bounds) (text : List ℕ) (meant : Result (List Item) (�
 meaning_not limits text (Err fault) = tt
 meaning_not limits text (Ok items) = if_not _ (Some text_too_long) None tt tt
 
-on_not : (limits : Bounds) (units : ℕ → ℕ) (found : Option Entry) (version : ℤ) (batch : List Edit) → IsNotTooLong (refusal_on limits units found version batch)
+on_not : (limits : Bounds) (units : ℕ → ℕ) (found : Option DocumentItem) (version : ℤ) (batch : List Edit) → IsNotTooLong (refusal_on limits units found version batch)
 on_not limits units None version batch = tt
 on_not limits units (Some entry) version batch =
     if_not (int_le version entry.version) (Some (stale_version entry.version))
@@ -68,7 +68,7 @@ refused_not (Some refusal) body len not (inr e) = absurd (other refusal not e)
     other (stale_version held) not e = cc
     other (edit number why) not e = cc
 
-pub too_long_accepted : (limits : Bounds) (units : ℕ → ℕ) (table : List Entry) (uri : List ℕ) (version : ℤ) (batch : List Edit) (body : Option Refusal) (len : ℕ)
+pub too_long_accepted : (limits : Bounds) (units : ℕ → ℕ) (table : List DocumentItem) (uri : List ℕ) (version : ℤ) (batch : List Edit) (body : Option Refusal) (len : ℕ)
     → IsRefusal (else_refused (change_refusal limits units table uri version batch) body) (BodyTooLong len) → change_refusal limits units table uri version batch ≡ None
 too_long_accepted limits units table uri version batch body len error =
     refused_not (change_refusal limits units table uri version batch) body len (on_not limits units (entry_at table uri) version batch) error
@@ -149,18 +149,18 @@ module _ (s : Session) (p : ChangeData) where
 
 -- ---- the batches that are open afterwards
 
-pub uri_at : (table : List Entry) (uri : List ℕ) (entry : Entry) → entry_at table uri ≡ Some entry → entry.uri ≡ uri
+pub uri_at : (table : List DocumentItem) (uri : List ℕ) (entry : DocumentItem) → entry_at table uri ≡ Some entry → entry.uri ≡ uri
 uri_at [] uri entry found = absurd (let wrong : None ≡ Some entry = found in cc)
 uri_at (first ∷ table) uri entry found =
     ⊎_elim
     (λ (is : bytes_eq uri first.uri ≡ true).
     let at : Some first ≡ Some entry = rw is at found in
     let same : first ≡ entry = cc in
-    ap (λ (e : Entry). e.uri) (sym same) ∙ sym ((bytes_eq-Decides uri first.uri).0 is))
+    ap (λ (e : DocumentItem). e.uri) (sym same) ∙ sym ((bytes_eq-Decides uri first.uri).0 is))
     (λ (not : bytes_eq uri first.uri ≡ false). uri_at table uri entry (rw not at found))
     (cases_Bool (bytes_eq uri first.uri))
 
-module _ (server : State) (p : ChangeData) (entry : Entry) (found : entry_at server.table p.uri ≡ Some entry) where
+module _ (server : State) (p : ChangeData) (entry : DocumentItem) (found : entry_at server.table p.uri ≡ Some entry) where
   -- the document that is open then
   left : (squash next : SquashData) → squash.uri ≡ p.uri → squash.limits ≡ server.config.limits → squash.encoding ≡ encoding_of server
       → IsSquashAfter squash p.version (map edit_from_data p.changes) next → HasReached next (changed_entry (units_in squash.encoding) entry p.version (map edit_from_data p.changes)) → IsOpenIn (server_after server p) next
@@ -192,6 +192,6 @@ module _ (server : State) (p : ChangeData) (entry : Entry) (found : entry_at ser
   accepts may = rw found at may
 
 -- the open document of a run is the one that is found
-pub same_entry : (server : State) (squash : SquashData) (uri : List ℕ) (entry : Entry) → (at : IsOpenIn server squash) → uri ≡ squash.uri → entry_at server.table uri ≡ Some entry → at.entry ≡ entry
+pub same_entry : (server : State) (squash : SquashData) (uri : List ℕ) (entry : DocumentItem) → (at : IsOpenIn server squash) → uri ≡ squash.uri → entry_at server.table uri ≡ Some entry → at.entry ≡ entry
 same_entry server squash uri entry at same found =
     let both : Some at.entry ≡ Some entry = sym at.is_open ∙ ap (λ (u : List ℕ). entry_at server.table u) (sym same) ∙ found in cc

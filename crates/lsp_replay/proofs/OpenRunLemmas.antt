@@ -13,8 +13,8 @@ use Rattle.lsp_edit.specs.Canonical.{canonical}
 use Rattle.lsp_edit.specs.Compose.{then_items}
 use Rattle.lsp_edit.proofs.ComposeLemmas.{text_of-then, then_means}
 use Rattle.lsp_edit.proofs.EditedLemmas.{plain_text}
-use Rattle.lsp_message.specs.Params.{ChangeData}
-use Rattle.lsp_store.specs.Table.{Entry, bytes_after, entry_at, meant_text}
+use Rattle.lsp_message.specs.Params.{DocumentItem, ChangeData}
+use Rattle.lsp_store.specs.Table.{bytes_after, entry_at, meant_text}
 use Rattle.lsp_store.specs.Message.{AreTexts}
 use Rattle.lsp_store.specs.Squash.{SquashData, items_meant, squash_batch, squash_of}
 use Rattle.lsp_store.proofs.MessageLemmas.{Accepts, accepted_parts}
@@ -34,7 +34,7 @@ with_items squash items version = record squash { items = items; version = versi
 
 -- Batches on a document of a server led to the server as it is now.
 pub record IsOpenFrom (t : State) (squash : SquashData) (now : State) : Type 0 where
-  pub entry : Entry
+  pub entry : DocumentItem
   pub found : entry_at t.table squash.uri ≡ Some entry
   pub received : IsHeldEntry t.config.limits entry
   pub is : squash ≡ with_items (squash_of t.config.limits (encoding_of t) entry) squash.items squash.version
@@ -67,7 +67,7 @@ left_chars units text batch items utf8 texts means =
 
 -- ---- a change begins a run
 
-module _ (t : State) (p : ChangeData) (entry : Entry) (found : entry_at t.table p.uri ≡ Some entry) (received : IsHeldEntry t.config.limits entry) (proper : IsProperAsked p) (may : refusal_of t p ≡ None) where
+module _ (t : State) (p : ChangeData) (entry : DocumentItem) (found : entry_at t.table p.uri ≡ Some entry) (received : IsHeldEntry t.config.limits entry) (proper : IsProperAsked p) (may : refusal_of t p ≡ None) where
   begun_accepts : Accepts t.config.limits (units_in (encoding_of t)) entry p.version (map edit_from_data p.changes)
   begun_accepts = accepted_parts t.config.limits (units_in (encoding_of t)) entry p.version (map edit_from_data p.changes) (rw found at may)
 
@@ -97,7 +97,7 @@ module _ (t : State) (p : ChangeData) (entry : Entry) (found : entry_at t.table 
     uri = subst IsUtf8 (sym same_uri) proper.uri;
     version = proper.version;
     now_is =
-        ap (λ (table : List Entry). record t { table = table })
+        ap (λ (table : List DocumentItem). record t { table = table })
         (change_puts (units_in (encoding_of t)) t.table p.uri p.version (map edit_from_data p.changes) entry found
         ∙ ap (λ m. put t.table p.uri p.version (meant_text entry.text m)) begun_accepts.means
         ∙ ap (λ items. put t.table p.uri p.version (bytes_after entry.text items)) (sym begun_items)
@@ -119,7 +119,7 @@ module _ (t : State) (squash : SquashData) (now : State) (from : IsOpenFrom t sq
   abbrev reached_text : List ℕ
   reached_text = bytes_after from.entry.text squash.items
 
-  abbrev reached_now : Entry
+  abbrev reached_now : DocumentItem
   reached_now = record from.entry { version = squash.version; text = reached_text }
 
   abbrev next : State
@@ -174,7 +174,7 @@ module _ (t : State) (squash : SquashData) (now : State) (from : IsOpenFrom t sq
     version = proper.version;
     now_is =
         ap (λ (s : State). server_after s p) from.now_is
-        ∙ ap (λ (table : List Entry). record t { table = table })
+        ∙ ap (λ (table : List DocumentItem). record t { table = table })
         (change_puts (units_in (encoding_of t)) next.table p.uri p.version (map edit_from_data p.changes) reached_now found_now
         ∙ ap (λ m. put next.table p.uri p.version (meant_text reached_text m)) accepts_now.means
         ∙ ap (λ u. put next.table u p.version (bytes_after reached_text accepts_now.items)) uri_is
@@ -188,7 +188,7 @@ module _ (t : State) (squash : SquashData) (now : State) (from : IsOpenFrom t sq
   pub same_encoding : squash.encoding ≡ encoding_of now
   same_encoding = ap (λ (k : SquashData). k.encoding) from.is ∙ sym (ap encoding_of from.now_is)
 
-  pub same_text : (uri : List ℕ) (entry : Entry) → uri ≡ squash.uri → entry_at now.table uri ≡ Some entry → text_of (chars squash.text) squash.items ≡ chars entry.text
+  pub same_text : (uri : List ℕ) (entry : DocumentItem) → uri ≡ squash.uri → entry_at now.table uri ≡ Some entry → text_of (chars squash.text) squash.items ≡ chars entry.text
   same_text uri entry same found =
       let reached : List ℕ = bytes_after from.entry.text squash.items in
       let both : Some (record from.entry { version = squash.version; text = reached }) ≡ Some entry =
@@ -196,7 +196,7 @@ module _ (t : State) (squash : SquashData) (now : State) (from : IsOpenFrom t sq
       let one : record from.entry { version = squash.version; text = reached } ≡ entry = cc in
       ap (λ (k : SquashData). text_of (chars k.text) squash.items) from.is
       ∙ sym (left_chars (units_in (encoding_of t)) from.entry.text from.batch squash.items from.received.utf8 from.texts from.means)
-      ∙ ap (λ (e : Entry). chars e.text) one
+      ∙ ap (λ (e : DocumentItem). chars e.text) one
 
 -- ---- all batches of a run as one message
 

@@ -10,10 +10,10 @@ use Rattle.lsp_frame.proofs.WrittenLemmas.{written_is_frame}
 use Rattle.lsp_text.specs.Units.{units_in}
 use Rattle.lsp_edit.proofs.EditedLemmas.{plain_text}
 use Rattle.lsp_message.specs.Message.{reading}
-use Rattle.lsp_message.specs.Params.{ChangeData}
+use Rattle.lsp_message.specs.Params.{DocumentItem, ChangeData}
 use Rattle.lsp_store.specs.Message.{change_body}
 use Rattle.lsp_store.specs.Squash.{SquashData, squash_batch, squash_body, squash_of, squash_refusal}
-use Rattle.lsp_store.specs.Table.{Entry, Refusal, entry_at}
+use Rattle.lsp_store.specs.Table.{Refusal, entry_at}
 use Rattle.lsp_server.specs.declared.phase.Phase.TheVariants.{Running}
 use Rattle.lsp_server.specs.Incoming.{incoming_of}
 use Rattle.lsp_server.specs.Answer.{changed}
@@ -85,7 +85,7 @@ module _ (t : Session) (before : Option Run) (q : Record) (p : ChangeData) (a : 
       (record { params = p; is = ap change_in a.asks; accepted = d.error; framed = record { is = refl; within = short } })
 
   -- it begins a run
-  pub begun_step : (entry : Entry) → entry_at t.server.table p.uri ≡ Some entry → IsApart before p.uri
+  pub begun_step : (entry : DocumentItem) → entry_at t.server.table p.uri ≡ Some entry → IsApart before p.uri
       → squash_step t before q (judge t q) ≡ record { out = end_bytes before; end = None; run = Some (record { front = its_front; singles = its_single; squash = joined_by p (squash_of t.server.config.limits (encoding_of t.server) entry) }) }
   begun_step entry found apart = gives_change ∙ by before apart
     where
@@ -167,7 +167,7 @@ module _ (limits : Bounds) (ranges : AreInRange limits) (at : ℕ) (version : Ve
     few : nat_lt t.server.config.limits.max_changes (length (squash_batch run.squash)) ≡ false
     few = subst (λ (l : Bounds). nat_lt l.max_changes (length (squash_batch run.squash)) ≡ false) same_limits both.0
 
-    abbrev entry : Entry
+    abbrev entry : DocumentItem
     entry = p.from.entry
 
     message : IsCanonicalChange t.server run.squash.uri run.squash.version entry run.squash.items
@@ -258,7 +258,7 @@ module _ (limits : Bounds) (ranges : AreInRange limits) (at : ℕ) (version : Ve
 -- ---- a change begins a run
 
 -- the run that an accepted change begins
-abbrev pub run_at : Session → Record → ChangeData → Entry → Run
+abbrev pub run_at : Session → Record → ChangeData → DocumentItem → Run
 run_at s r p entry = record {
   front = front_of (judge s r).session r;
   singles = front_of (judge s r).session r ++ frame (canonical_change_body s.server p);
@@ -324,7 +324,7 @@ module _ (limits : Bounds) (ranges : AreInRange limits) (at : ℕ) (version : Ve
   may_in : MayChange s.server.config.limits (units_in (encoding_of s.server)) s.server.table p.uri p.version (map edit_from_data p.changes)
   may_in = change_parts s.server.config.limits (units_in (encoding_of s.server)) s.server.table p.uri p.version (map edit_from_data p.changes) a.may
 
-  abbrev its_entry : Entry
+  abbrev its_entry : DocumentItem
   its_entry = may_in.entry
 
   found_out : entry_at t.server.table single.again.uri ≡ Some its_entry
@@ -349,7 +349,7 @@ module _ (limits : Bounds) (ranges : AreInRange limits) (at : ℕ) (version : Ve
       (λ entry found.
       let both : Some its_entry ≡ Some entry = sym may_in.is_open ∙ sym (ap (λ (server : State). entry_at server.table p.uri) there) ∙ found in
       let one : its_entry ≡ entry = cc in
-      plain_text (chars its_entry.text) ∙ ap (λ (e : Entry). chars e.text) one)
+      plain_text (chars its_entry.text) ∙ ap (λ (e : DocumentItem). chars e.text) one)
       ∙ ap (λ (server : State). joined_by p (squash_of server.config.limits (encoding_of server) its_entry)) there
 
   same_run : run_at t q single.again its_entry ≡ run_at s r p its_entry

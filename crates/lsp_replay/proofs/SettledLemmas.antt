@@ -13,9 +13,9 @@ use Rattle.lsp_edit.specs.Canonical.{canonical}
 use Rattle.lsp_edit.specs.Laws.{IsCanonical}
 use Rattle.lsp_edit.proofs.LawLemmas.{canonical_law, units_some}
 use Rattle.lsp_message.specs.Message.{reading}
-use Rattle.lsp_message.specs.Params.{ChangeData}
+use Rattle.lsp_message.specs.Params.{DocumentItem, ChangeData}
 use Rattle.lsp_message.proofs.ReadBack.{reading-body_of, is_read_back, body_of-unique}
-use Rattle.lsp_store.specs.Table.{Entry, Refusal, not_open, entry_at, refusal_on, entry_refusal, change_refusal, after_change, unless_refused}
+use Rattle.lsp_store.specs.Table.{Refusal, not_open, entry_at, refusal_on, entry_refusal, change_refusal, after_change, unless_refused}
 use Rattle.lsp_store.specs.Message.{AreTexts, IsCanonicalOf, IsReadAgain, written_edit, change_body, canonical_batch, canonical_body, body_refusal, else_refused}
 use Rattle.lsp_store.proofs.MessageLemmas.{Accepts, accepted_parts, body_within, is_settled, is_read}
 use Rattle.lsp_store.proofs.ScalarLemmas.{canonical_texts}
@@ -30,11 +30,11 @@ use Rattle.lsp_replay.proofs.StateLemmas.{IsHeldEntry, IsHeldState, held_at}
 
 -- ---- refusals
 
-open_one : (limits : Bounds) (units : ℕ → ℕ) (table : List Entry) (uri : List ℕ) (version : ℤ) (batch : List Edit) → change_refusal limits units table uri version batch ≡ None
-    → (entry : Entry) × (entry_at table uri ≡ Some entry)
+open_one : (limits : Bounds) (units : ℕ → ℕ) (table : List DocumentItem) (uri : List ℕ) (version : ℤ) (batch : List Edit) → change_refusal limits units table uri version batch ≡ None
+    → (entry : DocumentItem) × (entry_at table uri ≡ Some entry)
 open_one limits units table uri version batch e = by (entry_at table uri) refl e
   where
-    by : (found : Option Entry) → entry_at table uri ≡ found → refusal_on limits units found version batch ≡ None → (entry : Entry) × (entry_at table uri ≡ Some entry)
+    by : (found : Option DocumentItem) → entry_at table uri ≡ found → refusal_on limits units found version batch ≡ None → (entry : DocumentItem) × (entry_at table uri ≡ Some entry)
     by None is f = absurd (let bad : Some not_open ≡ None = f in cc)
     by (Some entry) is f = (entry, is)
 
@@ -87,7 +87,7 @@ module _ (server : State) (p : ChangeData) (ranges : AreInRange server.config.li
   abbrev batch : List Edit
   batch = map edit_from_data p.changes
 
-  abbrev entry : Entry
+  abbrev entry : DocumentItem
   entry = (open_one server.config.limits (units_in encoding) server.table p.uri p.version batch may).0
 
   is_open : entry_at server.table p.uri ≡ Some entry

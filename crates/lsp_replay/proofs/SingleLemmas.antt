@@ -13,10 +13,10 @@ use Rattle.lsp_edit.specs.Laws.{IsCanonical}
 use Rattle.lsp_edit.specs.Batch.{meaning}
 use Rattle.lsp_edit.proofs.LawLemmas.{canonical_law, units_some}
 use Rattle.lsp_message.specs.Message.{reading}
-use Rattle.lsp_message.specs.Params.{ChangeData}
+use Rattle.lsp_message.specs.Params.{DocumentItem, ChangeData}
 use Rattle.lsp_store.specs.Message.{change_body}
 use Rattle.lsp_store.specs.Squash.{SquashData, items_meant}
-use Rattle.lsp_store.specs.Table.{Entry, bytes_after, entry_at, meant_text}
+use Rattle.lsp_store.specs.Table.{bytes_after, entry_at, meant_text}
 use Rattle.lsp_replay.proofs.PutLemmas.{put, change_puts}
 use Rattle.lsp_store.proofs.LawLemmas.{MayChange, change_parts}
 use Rattle.lsp_store.proofs.MessageLemmas.{Accepts, accepted_parts}
@@ -42,7 +42,7 @@ pub record IsSingle (max_body at : ℕ) (version : Version) (due : Bool) (s : Se
   pub own : canonical_change_body s.server again ≡ canonical_change_body s.server p
   pub within : length (canonical_change_body s.server again) ≤ s.server.config.limits.max_body
   pub framed : q.spelling ≡ frame (canonical_change_body s.server p)
-  pub joins : (squash : SquashData) → squash.encoding ≡ encoding_of s.server → ((entry : Entry) → entry_at s.server.table p.uri ≡ Some entry → text_of (chars squash.text) squash.items ≡ chars entry.text)
+  pub joins : (squash : SquashData) → squash.encoding ≡ encoding_of s.server → ((entry : DocumentItem) → entry_at s.server.table p.uri ≡ Some entry → text_of (chars squash.text) squash.items ≡ chars entry.text)
       → joined_by again squash ≡ joined_by p squash
 
 -- the record of an accepted change, as it is written singly at a place
@@ -54,7 +54,7 @@ module _ (limits : Bounds) (ranges : AreInRange limits) (at : ℕ) (version : Ve
   may : MayChange s.server.config.limits (units_in (encoding_of s.server)) s.server.table p.uri p.version (map edit_from_data p.changes)
   may = change_parts s.server.config.limits (units_in (encoding_of s.server)) s.server.table p.uri p.version (map edit_from_data p.changes) a.may
 
-  abbrev entry : Entry
+  abbrev entry : DocumentItem
   entry = may.entry
 
   entry_held : IsHeldEntry limits entry

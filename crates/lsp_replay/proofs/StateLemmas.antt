@@ -8,8 +8,8 @@ use Rattle.lsp_frame.specs.Limits.{Bounds}
 use Rattle.lsp_text.specs.Units.{units_in}
 use Rattle.lsp_edit.specs.Items.{text_of}
 use Rattle.lsp_edit.specs.Batch.{Edit, meaning}
-use Rattle.lsp_message.specs.Params.{OpenData, ChangeData}
-use Rattle.lsp_store.specs.Table.{Entry, Refusal, already_open, too_many_documents, text_too_long, entry_at, open_refusal, change_refusal, entry_refusal, changed, meant_text, after_open, after_change, after_close, close_refusal, unless_refused, bytes_after}
+use Rattle.lsp_message.specs.Params.{DocumentItem, ChangeData}
+use Rattle.lsp_store.specs.Table.{Refusal, already_open, too_many_documents, text_too_long, entry_at, open_refusal, change_refusal, entry_refusal, changed, meant_text, after_open, after_change, after_close, close_refusal, unless_refused, bytes_after}
 use Rattle.lsp_store.specs.Message.{AreTexts}
 use Rattle.lsp_store.proofs.MessageLemmas.{accepted_parts}
 use Rattle.lsp_store.proofs.ScalarLemmas.{scalar-meaning, scalar-text}
@@ -20,15 +20,15 @@ use Rattle.lsp_server.specs.Step.{State, step_in, step_on, obeyed, edit_from_dat
 use Rattle.lsp_replay.proofs.ReadLemmas.{OnSome}
 use Rattle.lsp_replay.proofs.AskedLemmas.{IsProperAsked, IsTextOpened, IsProperIncoming}
 
-pub record IsHeldEntry (limits : Bounds) (entry : Entry) : Type 0 where
+pub record IsHeldEntry (limits : Bounds) (entry : DocumentItem) : Type 0 where
   pub utf8 : IsUtf8 entry.text
   pub short : length entry.text ≤ limits.max_text
 
-abbrev pub IsHeldTable : Bounds → List Entry → Type 0
+abbrev pub IsHeldTable : Bounds → List DocumentItem → Type 0
 IsHeldTable limits [] = ⊤
 IsHeldTable limits (entry ∷ table) = IsHeldEntry limits entry × IsHeldTable limits table
 
-pub held_at : (limits : Bounds) (table : List Entry) (uri : List ℕ) (entry : Entry) → IsHeldTable limits table → entry_at table uri ≡ Some entry → IsHeldEntry limits entry
+pub held_at : (limits : Bounds) (table : List DocumentItem) (uri : List ℕ) (entry : DocumentItem) → IsHeldTable limits table → entry_at table uri ≡ Some entry → IsHeldEntry limits entry
 held_at limits [] uri entry received found = absurd (let bad : None ≡ Some entry = found in cc)
 held_at limits (first ∷ table) uri entry received found =
     ⊎_elim
@@ -38,11 +38,11 @@ held_at limits (first ∷ table) uri entry received found =
 
 -- ---- commands
 
-held_end : (limits : Bounds) (table : List Entry) (entry : Entry) → IsHeldTable limits table → IsHeldEntry limits entry → IsHeldTable limits (after_open table entry)
+held_end : (limits : Bounds) (table : List DocumentItem) (entry : DocumentItem) → IsHeldTable limits table → IsHeldEntry limits entry → IsHeldTable limits (after_open table entry)
 held_end limits [] entry received is = (is, tt)
 held_end limits (first ∷ table) entry received is = (received.0, held_end limits table entry received.1 is)
 
-opened_short : (limits : Bounds) (table : List Entry) (entry : Entry) → open_refusal limits table entry ≡ None → length entry.text ≤ limits.max_text
+opened_short : (limits : Bounds) (table : List DocumentItem) (entry : DocumentItem) → open_refusal limits table entry ≡ None → length entry.text ≤ limits.max_text
 opened_short limits table entry e = by (is_some (entry_at table entry.uri)) (nat_le limits.max_docs (length table)) (nat_lt limits.max_text (length entry.text)) e (ltb-false limits.max_text (length entry.text))
   where
     by : (a b c : Bool) → (if a then Some already_open else if b then Some too_many_documents else if c then Some text_too_long else None) ≡ None
@@ -52,7 +52,7 @@ opened_short limits table entry e = by (is_some (entry_at table entry.uri)) (nat
     by false false true f is = absurd (let bad : Some text_too_long ≡ None = f in cc)
     by false false false f is = is refl
 
-held_changed : (limits : Bounds) (units : ℕ → ℕ) (entry : Entry) (version : ℤ) (batch : List Edit) → AreTexts batch → IsHeldEntry limits entry
+held_changed : (limits : Bounds) (units : ℕ → ℕ) (entry : DocumentItem) (version : ℤ) (batch : List Edit) → AreTexts batch → IsHeldEntry limits entry
     → entry_refusal limits units entry version batch ≡ None → IsHeldEntry limits (changed units entry version batch)
 held_changed limits units entry version batch texts received e =
     let a = accepted_parts limits units entry version batch e in
@@ -64,7 +64,7 @@ held_changed limits units entry version batch texts received e =
       short = subst (λ (text : List ℕ). length text ≤ limits.max_text) (sym buffer) a.short;
     }
 
-held_change : (limits : Bounds) (units : ℕ → ℕ) (table : List Entry) (uri : List ℕ) (version : ℤ) (batch : List Edit) → AreTexts batch → IsHeldTable limits table
+held_change : (limits : Bounds) (units : ℕ → ℕ) (table : List DocumentItem) (uri : List ℕ) (version : ℤ) (batch : List Edit) → AreTexts batch → IsHeldTable limits table
     → change_refusal limits units table uri version batch ≡ None → IsHeldTable limits (after_change units table uri version batch)
 held_change limits units [] uri version batch texts received e = tt
 held_change limits units (first ∷ table) uri version batch texts received e =
@@ -77,7 +77,7 @@ held_change limits units (first ∷ table) uri version batch texts received e =
     rw not (received.0, held_change limits units table uri version batch texts received.1 later))
     (cases_Bool (bytes_eq uri first.uri))
 
-held_close : (limits : Bounds) (table : List Entry) (uri : List ℕ) → IsHeldTable limits table → IsHeldTable limits (after_close table uri)
+held_close : (limits : Bounds) (table : List DocumentItem) (uri : List ℕ) → IsHeldTable limits table → IsHeldTable limits (after_close table uri)
 held_close limits [] uri received = tt
 held_close limits (first ∷ table) uri received =
     ⊎_elim (λ (is : bytes_eq uri first.uri ≡ true). rw is received.1) (λ (not : bytes_eq uri first.uri ≡ false). rw not (received.0, held_close limits table uri received.1)) (cases_Bool (bytes_eq uri first.uri))
@@ -89,17 +89,17 @@ pub record IsHeldState (limits : Bounds) (s : State) : Type 0 where
   pub limit : s.config.limits ≡ limits
   pub table : IsHeldTable limits s.table
 
-obeyed_held : (limits : Bounds) (s : State) (refusal : Option Refusal) (next : List Entry) → IsHeldState limits s → (refusal ≡ None → IsHeldTable limits next) → IsHeldState limits (obeyed s (unless_refused refusal next)).state
+obeyed_held : (limits : Bounds) (s : State) (refusal : Option Refusal) (next : List DocumentItem) → IsHeldState limits s → (refusal ≡ None → IsHeldTable limits next) → IsHeldState limits (obeyed s (unless_refused refusal next)).state
 obeyed_held limits s None next received buffer = record { limit = received.limit; table = buffer refl }
 obeyed_held limits s (Some refusal) next received buffer = received
 
-open_step : (limits : Bounds) (s : State) (params : Option OpenData) → OnSome IsTextOpened params → IsHeldState limits s → IsHeldState limits (step_in Running s (did_open params)).state
+open_step : (limits : Bounds) (s : State) (params : Option DocumentItem) → OnSome IsTextOpened params → IsHeldState limits s → IsHeldState limits (step_in Running s (did_open params)).state
 open_step limits s None proper received = received
 open_step limits s (Some p) proper received =
-    obeyed_held limits s (open_refusal s.config.limits s.table (record { uri = p.uri; language = p.language; version = p.version; text = p.text })) _ received
+    obeyed_held limits s (open_refusal s.config.limits s.table p) _ received
     (λ e.
-    let none : open_refusal limits s.table (record { uri = p.uri; language = p.language; version = p.version; text = p.text }) ≡ None = rw received.limit at e in
-    held_end limits s.table _ received.table (record { utf8 = proper; short = opened_short limits s.table (record { uri = p.uri; language = p.language; version = p.version; text = p.text }) none }))
+    let none : open_refusal limits s.table p ≡ None = rw received.limit at e in
+    held_end limits s.table _ received.table (record { utf8 = proper; short = opened_short limits s.table p none }))
 
 change_step : (limits : Bounds) (s : State) (params : Option ChangeData) → OnSome IsProperAsked params → IsHeldState limits s → IsHeldState limits (step_in Running s (did_change params)).state
 change_step limits s None proper received = received

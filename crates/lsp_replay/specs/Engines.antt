@@ -12,9 +12,8 @@ use Rattle.lsp_edit.specs.declared.fault.EditFault.TheVariants.{InsideCharacter,
 use Rattle.lsp_message.specs.declared.outgoing.ErrorCode.{ErrorCode}
 use Rattle.lsp_message.specs.declared.outgoing.ErrorCode.TheVariants.{ParseError, InvalidRequest, MethodNotFound, InvalidParams, ServerNotInitialized}
 use Rattle.lsp_message.specs.Message.{reading}
-use Rattle.lsp_message.specs.Params.{ChangeData}
+use Rattle.lsp_message.specs.Params.{DocumentItem, ChangeData}
 use Rattle.lsp_store.specs.Message.{canonical_body}
-use Rattle.lsp_store.specs.Table.{Entry}
 use Rattle.lsp_store.specs.declared.fault.StoreFault.{StoreFault}
 use Rattle.lsp_store.specs.declared.fault.StoreFault.TheVariants.{AlreadyOpen, TooManyDocuments, TextTooLong, NotOpen, StaleVersion, TooManyChanges, Edit}
 use Rattle.lsp_server.specs.declared.answer.Refusal.{Refusal}
@@ -159,7 +158,7 @@ checking = record {
 -- ---- `replay`: at the end a line for each open document, in order of opening
 
 -- A document as a JSON object.
-abbrev pub document_value : Entry → Data
+abbrev pub document_value : DocumentItem → Data
 document_value entry =
     object (member (codes "languageId") (string entry.language)
     (member (codes "text") (string entry.text)
@@ -167,11 +166,11 @@ document_value entry =
     (member (codes "version") (number (of_integer entry.version)) no_members))))
 
 -- A document's line: its object without spaces, and a line feed.
-unfoldable pub document_line : Entry → List ℕ
+unfoldable pub document_line : DocumentItem → List ℕ
 document_line entry = compact_text (document_value entry) ++ codes "\n"
 
 -- The lines of the documents from an index on.
-abbrev pub report_from : ℕ → List Entry → List ℕ
+abbrev pub report_from : ℕ → List DocumentItem → List ℕ
 report_from index table = flat_map document_line (drop index table)
 
 -- `replay` writes nothing for a record, and at the end the documents' lines from an index on.

@@ -4,9 +4,9 @@ use Rattle.std.specs.Prelude.{ℕ, Bool, ◌++◌, if◌then◌else◌, nat_lt, 
 use Rattle.std.specs.Str.{bytes_eq}
 use Rattle.lsp_frame.specs.Frame.{frame}
 use Rattle.lsp_message.specs.Message.{reading}
-use Rattle.lsp_message.specs.Params.{ChangeData}
+use Rattle.lsp_message.specs.Params.{DocumentItem, ChangeData}
 use Rattle.lsp_store.specs.Squash.{SquashData, squash_of, squash_after, squash_frame, squash_refusal}
-use Rattle.lsp_store.specs.Table.{Entry, Refusal, entry_at}
+use Rattle.lsp_store.specs.Table.{Refusal, entry_at}
 use Rattle.lsp_server.specs.Incoming.{incoming_of}
 use Rattle.lsp_server.specs.Step.{State, encoding_of, edit_from_data}
 use Rattle.lsp_server.specs.Answer.{changed}
@@ -51,7 +51,7 @@ joined_by p squash = squash_after squash p.version (map edit_from_data p.changes
 
 -- A run that a change begins, on the document before it. `single` is the record as it is written
 -- without squash.
-abbrev pub begun_on : State → ChangeData → List ℕ → List ℕ → Option Entry → Option Run
+abbrev pub begun_on : State → ChangeData → List ℕ → List ℕ → Option DocumentItem → Option Run
 begun_on server p front single None = None
 begun_on server p front single (Some entry) =
     Some (record {

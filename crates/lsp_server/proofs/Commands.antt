@@ -8,7 +8,8 @@ use Rattle.lsp_store.specs.declared.fault.StoreFault.TheVariants.{NoMemory}
 use Rattle.lsp_store.specs.Faults.{fault_of}
 use Rattle.lsp_store.specs.Opened.{StoreData, Takes, IsRefused}
 use Rattle.lsp_store.specs.Table as table
-use Rattle.lsp_store.specs.Table.{Entry, Command, unless_refused, command_refusal, table_after}
+use Rattle.lsp_message.specs.Params.{DocumentItem}
+use Rattle.lsp_store.specs.Table.{Command, unless_refused, command_refusal, table_after}
 use Rattle.lsp_server.specs.declared.answer.Answer.{Answer}
 use Rattle.lsp_server.specs.declared.answer.Answer.TheVariants.{Changed, Refused}
 use Rattle.lsp_server.specs.declared.answer.Refusal.TheVariants.{Store}
@@ -30,7 +31,7 @@ abbrev pub over : State → StoreData → State
 over s store = record s { config = record s.config { limits = store.limits }; table = store.table }
 
 -- What is answered to a refused command tells the store's fault.
-refusal_answered : (s : State) (refusal : Option table.Refusal) (next : List Entry) (fault : StoreFault)
+refusal_answered : (s : State) (refusal : Option table.Refusal) (next : List DocumentItem) (fault : StoreFault)
     → option_map fault_of refusal ≡ Some fault → obeyed s (unless_refused refusal next) ≡ stays s (refused (Store fault))
 refusal_answered s None next fault e = cc
 refusal_answered s (Some refusal) next fault e =

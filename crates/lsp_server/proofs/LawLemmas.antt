@@ -7,10 +7,10 @@ use Rattle.lsp_message.specs.declared.outgoing.ErrorCode.TheVariants.{InvalidReq
 use Rattle.lsp_message.specs.Agreement.{is_offered, offers_of}
 use Rattle.lsp_message.specs.Message.{IdData}
 use Rattle.lsp_message.specs.Outgoing.{OutgoingData, initialize_result, shutdown_result, error_reply}
-use Rattle.lsp_message.specs.Params.{open_of, change_of, close_of}
+use Rattle.lsp_message.specs.Params.{DocumentItem, open_of, change_of, close_of}
 use Rattle.lsp_text.specs.declared.encoding.Encoding.{Encoding}
 use Rattle.lsp_text.specs.declared.encoding.Encoding.TheVariants.{Utf16}
-use Rattle.lsp_store.specs.Table.{Entry, Command, after_command}
+use Rattle.lsp_store.specs.Table.{Command, after_command}
 use Rattle.lsp_store.specs.Table as table
 use Rattle.lsp_server.specs.declared.config.EncodingChoice.TheVariants.{Negotiated}
 use Rattle.lsp_server.specs.declared.phase.Phase.{Phase}
@@ -81,7 +81,7 @@ notification_of-is method params =
     (bytes_eq method (codes "textDocument/didClose")) exit (did_open (open_of params)) (did_change (change_of params)) (did_close (close_of params))
     (other_notification method) tt tt tt tt tt
 
-obeyed_quietly : (s : State) (result : Result (List Entry) table.Refusal) (m : OutgoingData) → (obeyed s result).answer ≢ reply m
+obeyed_quietly : (s : State) (result : Result (List DocumentItem) table.Refusal) (m : OutgoingData) → (obeyed s result).answer ≢ reply m
 obeyed_quietly s (Ok next) m = λ e. cc
 obeyed_quietly s (Err refusal) m = λ e. cc
 
@@ -134,7 +134,7 @@ begins_kept : (s : State) (id : IdData) (offers : Offers) → Keeps New s (begin
 begins_kept s id offers =
     record { config = refl; forward = omega arith; documents = λ _. refl; refusal = λ h. absurd h }
 
-obeyed_kept : (p : Phase) (s : State) (result : Result (List Entry) table.Refusal) → s.phase ≡ p → Keeps p s (obeyed s result)
+obeyed_kept : (p : Phase) (s : State) (result : Result (List DocumentItem) table.Refusal) → s.phase ≡ p → Keeps p s (obeyed s result)
 obeyed_kept p s (Ok next) e =
     record { config = refl; forward = rw e (omega arith); documents = λ apart. absurd (apart refl); refusal = λ h. absurd h }
 obeyed_kept p s (Err refusal) e = stays_kept p s _ e

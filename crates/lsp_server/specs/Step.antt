@@ -10,10 +10,10 @@ use Rattle.lsp_message.specs.declared.outgoing.ErrorCode.{ErrorCode}
 use Rattle.lsp_message.specs.declared.outgoing.ErrorCode.TheVariants.{ParseError, InvalidRequest, MethodNotFound, InvalidParams, ServerNotInitialized}
 use Rattle.lsp_message.specs.Message.{IdData, Reading}
 use Rattle.lsp_message.specs.Outgoing.{OutgoingData, initialize_result, shutdown_result, error_reply}
-use Rattle.lsp_message.specs.Params.{OpenData, EditData, ChangeData, CloseData}
+use Rattle.lsp_message.specs.Params.{DocumentItem, EditData, ChangeData, CloseData}
 use Rattle.lsp_store.specs.Faults.{fault_of}
 use Rattle.lsp_store.specs.Table as table
-use Rattle.lsp_store.specs.Table.{Entry, Command, opens, changes, closes, after_command}
+use Rattle.lsp_store.specs.Table.{Command, opens, changes, closes, after_command}
 use Rattle.lsp_server.specs.declared.answer.Refusal.TheVariants.{InvalidParams as params_invalid, Store}
 use Rattle.lsp_server.specs.declared.config.Config.{Config}
 use Rattle.lsp_server.specs.declared.phase.Phase.{Phase}
@@ -28,7 +28,7 @@ pub record State : Type 0 where
   pub config : Config
   pub phase : Phase
   pub encoding : Option Encoding
-  pub table : List Entry
+  pub table : List DocumentItem
 
 -- What a server answers, and its state afterwards.
 pub record Step : Type 0 where
@@ -66,7 +66,7 @@ abbrev pub begins : State → IdData → Offers → Step
 begins s id offers = begins_in s id (chosen s.config.choice offers)
 
 -- The step of a command with this result.
-abbrev pub obeyed : State → Result (List Entry) table.Refusal → Step
+abbrev pub obeyed : State → Result (List DocumentItem) table.Refusal → Step
 obeyed s (Ok next) = record { answer = changed; state = record s { table = next } }
 obeyed s (Err refusal) = stays s (refused (Store (fault_of refusal)))
 
@@ -75,11 +75,6 @@ abbrev pub obeys : State → Command → Step
 obeys s command = obeyed s (after_command s.config.limits s.table command)
 
 -- ---- commands
-
--- The command of a `textDocument/didOpen`.
-abbrev pub open_command : OpenData → Command
-open_command p
-    = opens (record { uri = p.uri; language = p.language; version = p.version; text = p.text })
 
 -- A change, with its text as characters.
 abbrev pub edit_from_data : EditData → Edit
@@ -132,7 +127,7 @@ step_in Running s (shutdown id) = step_to s Down (reply (shutdown_result id))
 step_in Running s (other_request id method) = fails s (Some id) MethodNotFound
 -- The document notifications are accepted whether or not `initialized` came (DidOpen, DidChange,
 -- DidClose Text Document Notification).
-step_in Running s (did_open (Some p)) = obeys s (open_command p)
+step_in Running s (did_open (Some p)) = obeys s (opens p)
 step_in Running s (did_change (Some p)) = obeys s (change_command s p)
 step_in Running s (did_close (Some p)) = obeys s (close_command p)
 step_in Running s (did_open None) = stays s (refused params_invalid)

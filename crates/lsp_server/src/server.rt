@@ -6,9 +6,10 @@ ghost use Rattle.lsp_message.specs.Message.{reading};
 ghost use Rattle.lsp_message.specs.Outgoing.{error_reply, body_of};
 ghost use Rattle.lsp_message.specs.Seen.{id_view, outgoing_view, open_view, change_view, close_view};
 ghost use Rattle.lsp_store.specs.declared.fault.StoreFault.TheVariants.{NoMemory};
+ghost use Rattle.lsp_store.specs.Table.{opens};
 ghost use Rattle.lsp_server.specs.declared.phase.Phase.TheVariants.{Running, Down, Ended};
 ghost use Rattle.lsp_server.specs.Answer.{IsQuiet, reply, sent, as_sent};
-ghost use Rattle.lsp_server.specs.Step.{start, settled, step, step_on, begins, obeys, open_command, change_command, close_command};
+ghost use Rattle.lsp_server.specs.Step.{start, settled, step, step_on, begins, obeys, change_command, close_command};
 ghost use Rattle.lsp_reader.specs.Incoming.{incoming_of, initialize, shutdown, other_request, exit, did_open, did_change, did_close, other_notification};
 ghost use Rattle.lsp_reader.specs.Seen.{incoming_view};
 ghost use Rattle.lsp_server.specs.Seen.{answer_view};
@@ -323,9 +324,9 @@ impl Server {
     fn open(&mut self, params: OpenParams) -> Result<Answer, AllocError>
         ensures answer { IfOk result
             (λ a. answer_view a
-            ≡ as_sent (obeys self.old (open_command (open_view params))).answer) }
+            ≡ as_sent (obeys self.old (opens (open_view params))).answer) }
         ensures state { OnOk result
-            (self.new ≡ (obeys self.old (open_command (open_view params))).state) }
+            (self.new ≡ (obeys self.old (opens (open_view params))).state) }
         ensures same { OnErr result (self.new ≡ self.old) }
     {
         let OpenParams {

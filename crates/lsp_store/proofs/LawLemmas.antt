@@ -14,7 +14,8 @@ use Rattle.lsp_edit.specs.Batch.{Edit, meaning}
 use Rattle.lsp_edit.specs.Canonical.{canonical}
 use Rattle.lsp_edit.specs.Laws.{IsCanonical}
 use Rattle.lsp_edit.proofs.LawLemmas.{canonical_law, units_some}
-use Rattle.lsp_store.specs.Table.{Entry, Command, opens, changes, closes, already_open, too_many_documents, text_too_long, not_open, batch_bytes, bytes_after, meant_text, entry_at, open_refusal, refusal_on, entry_refusal, change_refusal, changed, after_open, after_change, after_close, table_after, table_from}
+use Rattle.lsp_message.specs.Params.{DocumentItem}
+use Rattle.lsp_store.specs.Table.{Command, opens, changes, closes, already_open, too_many_documents, text_too_long, not_open, batch_bytes, bytes_after, meant_text, entry_at, open_refusal, refusal_on, entry_refusal, change_refusal, changed, after_open, after_change, after_close, table_after, table_from}
 use Rattle.lsp_store.specs.Message.{AreTexts, canonical_batch, whole_text, whole_batch}
 use Rattle.lsp_store.specs.Laws.{AreWithin, GreaterLimitsLaw, CanonicalBatchLaw, WholeTextLaw, WithinLaw, UniqueLaw, TableLaw, LastLaw, IsWithin, AllWithin, AreUnique, AreAccepted, IsInOrder}
 use Rattle.lsp_store.proofs.MessageLemmas.{Accepts, accepted_parts, accepted_from, leaves_same, batch_at, settled_accepted, settled_leaves, accepts}
@@ -23,7 +24,7 @@ use Rattle.lsp_store.proofs.ScalarLemmas.{scalar-meaning, scalar-text}
 -- ---- what an accepted command says of the table
 
 -- a document may be opened
-pub record MayOpen (limits : Bounds) (table : List Entry) (entry : Entry) : Type 0 where
+pub record MayOpen (limits : Bounds) (table : List DocumentItem) (entry : DocumentItem) : Type 0 where
   pub new : is_some (entry_at table entry.uri) ≡ false
   pub few : length table < limits.max_docs
   pub short : length entry.text ≤ limits.max_text
@@ -35,46 +36,46 @@ open_cases false true c e = absurd (let bad : Some too_many_documents ≡ None =
 open_cases false false true e = absurd (let bad : Some text_too_long ≡ None = e in cc)
 open_cases false false false e = (refl, refl, refl)
 
-pub open_parts : (limits : Bounds) (table : List Entry) (entry : Entry) → open_refusal limits table entry ≡ None → MayOpen limits table entry
+pub open_parts : (limits : Bounds) (table : List DocumentItem) (entry : DocumentItem) → open_refusal limits table entry ≡ None → MayOpen limits table entry
 open_parts limits table entry e =
     let parts = open_cases (is_some (entry_at table entry.uri)) (nat_le limits.max_docs (length table)) (nat_lt limits.max_text (length entry.text)) e in
     record { new = parts.0; few = leb-false limits.max_docs (length table) parts.1; short = ltb-false limits.max_text (length entry.text) parts.2 }
 
-pub open_from : (limits : Bounds) (table : List Entry) (entry : Entry) → MayOpen limits table entry → open_refusal limits table entry ≡ None
+pub open_from : (limits : Bounds) (table : List DocumentItem) (entry : DocumentItem) → MayOpen limits table entry → open_refusal limits table entry ≡ None
 open_from limits table entry may = rw (may.new, lt-leb limits.max_docs (length table) may.few, le-ltb limits.max_text (length entry.text) may.short) refl
 
 -- an open document, which a batch changes
-pub record MayChange (limits : Bounds) (units : ℕ → ℕ) (table : List Entry) (uri : List ℕ) (version : ℤ) (batch : List Edit) : Type 0 where
-  pub entry : Entry
+pub record MayChange (limits : Bounds) (units : ℕ → ℕ) (table : List DocumentItem) (uri : List ℕ) (version : ℤ) (batch : List Edit) : Type 0 where
+  pub entry : DocumentItem
   pub is_open : entry_at table uri ≡ Some entry
   pub may : entry_refusal limits units entry version batch ≡ None
 
-pub change_parts : (limits : Bounds) (units : ℕ → ℕ) (table : List Entry) (uri : List ℕ) (version : ℤ) (batch : List Edit) → change_refusal limits units table uri version batch ≡ None
+pub change_parts : (limits : Bounds) (units : ℕ → ℕ) (table : List DocumentItem) (uri : List ℕ) (version : ℤ) (batch : List Edit) → change_refusal limits units table uri version batch ≡ None
     → MayChange limits units table uri version batch
 change_parts limits units table uri version batch e = by (entry_at table uri) refl e
   where
-    by : (found : Option Entry) → entry_at table uri ≡ found → refusal_on limits units found version batch ≡ None → MayChange limits units table uri version batch
+    by : (found : Option DocumentItem) → entry_at table uri ≡ found → refusal_on limits units found version batch ≡ None → MayChange limits units table uri version batch
     by None is f = absurd (let bad : Some not_open ≡ None = f in cc)
     by (Some entry) is f = record { entry = entry; is_open = is; may = f }
 
-pub change_from : (limits : Bounds) (units : ℕ → ℕ) (table : List Entry) (uri : List ℕ) (version : ℤ) (batch : List Edit) (entry : Entry) → entry_at table uri ≡ Some entry
+pub change_from : (limits : Bounds) (units : ℕ → ℕ) (table : List DocumentItem) (uri : List ℕ) (version : ℤ) (batch : List Edit) (entry : DocumentItem) → entry_at table uri ≡ Some entry
     → entry_refusal limits units entry version batch ≡ None → change_refusal limits units table uri version batch ≡ None
-change_from limits units table uri version batch entry is may = ap (λ (found : Option Entry). refusal_on limits units found version batch) is ∙ may
+change_from limits units table uri version batch entry is may = ap (λ (found : Option DocumentItem). refusal_on limits units found version batch) is ∙ may
 
 -- ---- greater limits
 
-pub greater_accepts : (small great : Bounds) (units : ℕ → ℕ) (entry : Entry) (version : ℤ) (batch : List Edit) → AreWithin small great → Accepts small units entry version batch → Accepts great units entry version batch
+pub greater_accepts : (small great : Bounds) (units : ℕ → ℕ) (entry : DocumentItem) (version : ℤ) (batch : List Edit) → AreWithin small great → Accepts small units entry version batch → Accepts great units entry version batch
 greater_accepts small great units entry version batch within a =
     let few = within.changes in
     let short = within.text in
     record { newer = a.newer; few = omega (arith, a.few, few); fits = a.fits; items = a.items; means = a.means; short = omega (arith, a.short, short) }
 
-pub greater_entry : (small great : Bounds) (units : ℕ → ℕ) (entry : Entry) (version : ℤ) (batch : List Edit) → AreWithin small great
+pub greater_entry : (small great : Bounds) (units : ℕ → ℕ) (entry : DocumentItem) (version : ℤ) (batch : List Edit) → AreWithin small great
     → entry_refusal small units entry version batch ≡ None → entry_refusal great units entry version batch ≡ None
 greater_entry small great units entry version batch within e =
     accepted_from great units entry version batch (greater_accepts small great units entry version batch within (accepted_parts small units entry version batch e))
 
-pub greater_change : (small great : Bounds) (units : ℕ → ℕ) (table : List Entry) (uri : List ℕ) (version : ℤ) (batch : List Edit) → AreWithin small great
+pub greater_change : (small great : Bounds) (units : ℕ → ℕ) (table : List DocumentItem) (uri : List ℕ) (version : ℤ) (batch : List Edit) → AreWithin small great
     → change_refusal small units table uri version batch ≡ None → change_refusal great units table uri version batch ≡ None
 greater_change small great units table uri version batch within e =
     let m = change_parts small units table uri version batch e in
@@ -113,7 +114,7 @@ canonical_batch_law small great encoding table uri version batch ranges within e
 
 -- ---- the documents of a table
 
-pub within_at : (limits : Bounds) (table : List Entry) (uri : List ℕ) (entry : Entry) → AllWithin limits table → entry_at table uri ≡ Some entry → IsWithin limits entry
+pub within_at : (limits : Bounds) (table : List DocumentItem) (uri : List ℕ) (entry : DocumentItem) → AllWithin limits table → entry_at table uri ≡ Some entry → IsWithin limits entry
 within_at limits [] uri entry kept found = absurd (let bad : None ≡ Some entry = found in cc)
 within_at limits (first ∷ table) uri entry kept found =
     ⊎_elim
@@ -121,15 +122,15 @@ within_at limits (first ∷ table) uri entry kept found =
     (λ (not : bytes_eq uri first.uri ≡ false). within_at limits table uri entry kept.1 (rw not at found))
     (cases_Bool (bytes_eq uri first.uri))
 
-within_end : (limits : Bounds) (table : List Entry) (entry : Entry) → AllWithin limits table → IsWithin limits entry → AllWithin limits (after_open table entry)
+within_end : (limits : Bounds) (table : List DocumentItem) (entry : DocumentItem) → AllWithin limits table → IsWithin limits entry → AllWithin limits (after_open table entry)
 within_end limits [] entry kept is = (is, tt)
 within_end limits (first ∷ table) entry kept is = (kept.0, within_end limits table entry kept.1 is)
 
 -- the text that an accepted batch leaves, and that it is a text
-left_text : (limits : Bounds) (units : ℕ → ℕ) (entry : Entry) (version : ℤ) (batch : List Edit) (a : Accepts limits units entry version batch) → meant_text entry.text (meaning units (chars entry.text) batch) ≡ bytes_after entry.text a.items
+left_text : (limits : Bounds) (units : ℕ → ℕ) (entry : DocumentItem) (version : ℤ) (batch : List Edit) (a : Accepts limits units entry version batch) → meant_text entry.text (meaning units (chars entry.text) batch) ≡ bytes_after entry.text a.items
 left_text limits units entry version batch a = ap (meant_text entry.text) a.means
 
-pub within_changed : (limits : Bounds) (units : ℕ → ℕ) (entry : Entry) (version : ℤ) (batch : List Edit) → AreTexts batch → IsWithin limits entry
+pub within_changed : (limits : Bounds) (units : ℕ → ℕ) (entry : DocumentItem) (version : ℤ) (batch : List Edit) → AreTexts batch → IsWithin limits entry
     → entry_refusal limits units entry version batch ≡ None → IsWithin limits (changed units entry version batch)
 within_changed limits units entry version batch texts kept e =
     let a = accepted_parts limits units entry version batch e in
@@ -141,7 +142,7 @@ within_changed limits units entry version batch texts kept e =
       short = subst (λ (text : List ℕ). length text ≤ limits.max_text) (sym left) a.short;
     }
 
-within_change : (limits : Bounds) (units : ℕ → ℕ) (table : List Entry) (uri : List ℕ) (version : ℤ) (batch : List Edit) → AreTexts batch → AllWithin limits table
+within_change : (limits : Bounds) (units : ℕ → ℕ) (table : List DocumentItem) (uri : List ℕ) (version : ℤ) (batch : List Edit) → AreTexts batch → AllWithin limits table
     → change_refusal limits units table uri version batch ≡ None → AllWithin limits (after_change units table uri version batch)
 within_change limits units [] uri version batch texts kept e = tt
 within_change limits units (first ∷ table) uri version batch texts kept e =
@@ -154,17 +155,17 @@ within_change limits units (first ∷ table) uri version batch texts kept e =
     rw not (kept.0, within_change limits units table uri version batch texts kept.1 later))
     (cases_Bool (bytes_eq uri first.uri))
 
-within_close : (limits : Bounds) (table : List Entry) (uri : List ℕ) → AllWithin limits table → AllWithin limits (after_close table uri)
+within_close : (limits : Bounds) (table : List DocumentItem) (uri : List ℕ) → AllWithin limits table → AllWithin limits (after_close table uri)
 within_close limits [] uri kept = tt
 within_close limits (first ∷ table) uri kept =
     ⊎_elim (λ (is : bytes_eq uri first.uri ≡ true). rw is kept.1) (λ (not : bytes_eq uri first.uri ≡ false). rw not (kept.0, within_close limits table uri kept.1)) (cases_Bool (bytes_eq uri first.uri))
 
-change_many : (units : ℕ → ℕ) (table : List Entry) (uri : List ℕ) (version : ℤ) (batch : List Edit) → length (after_change units table uri version batch) ≡ length table
+change_many : (units : ℕ → ℕ) (table : List DocumentItem) (uri : List ℕ) (version : ℤ) (batch : List Edit) → length (after_change units table uri version batch) ≡ length table
 change_many units [] uri version batch = refl
 change_many units (first ∷ table) uri version batch =
     ⊎_elim (λ (is : bytes_eq uri first.uri ≡ true). rw is refl) (λ (not : bytes_eq uri first.uri ≡ false). rw not (ap suc (change_many units table uri version batch))) (cases_Bool (bytes_eq uri first.uri))
 
-close_many : (table : List Entry) (uri : List ℕ) → length (after_close table uri) ≤ length table
+close_many : (table : List DocumentItem) (uri : List ℕ) → length (after_close table uri) ≤ length table
 close_many [] uri = omega arith
 close_many (first ∷ table) uri =
     ⊎_elim (λ (is : bytes_eq uri first.uri ≡ true). rw is (omega arith)) (λ (not : bytes_eq uri first.uri ≡ false). rw not (omega (arith, close_many table uri))) (cases_Bool (bytes_eq uri first.uri))
@@ -180,7 +181,7 @@ within_law limits table (closes uri) kept many texts e = (within_close limits ta
 -- ---- the whole text
 
 -- a changed document is found where it was
-pub found_changed : (units : ℕ → ℕ) (table : List Entry) (uri : List ℕ) (version : ℤ) (batch : List Edit) (entry : Entry) → entry_at table uri ≡ Some entry
+pub found_changed : (units : ℕ → ℕ) (table : List DocumentItem) (uri : List ℕ) (version : ℤ) (batch : List Edit) (entry : DocumentItem) → entry_at table uri ≡ Some entry
     → entry_at (after_change units table uri version batch) uri ≡ Some (changed units entry version batch)
 found_changed units [] uri version batch entry found = absurd (let bad : None ≡ Some entry = found in cc)
 found_changed units (first ∷ table) uri version batch entry found =
@@ -211,7 +212,7 @@ one_weighs bytes utf8 =
     omega (arith, sum_by-cons (λ (e : Edit). length (encode_utf8_all e.text)) (record { range = None; text = chars bytes }) [], ap length (encodes-chars bytes utf8))
 
 -- The whole text is accepted, and leaves it.
-whole_accepts : (small great : Bounds) (units : ℕ → ℕ) (entry : Entry) (version : ℤ) (batch : List Edit) → AreInRange small → AreWithin small great
+whole_accepts : (small great : Bounds) (units : ℕ → ℕ) (entry : DocumentItem) (version : ℤ) (batch : List Edit) → AreInRange small → AreWithin small great
     → IsWithin small entry → AreTexts batch → entry_refusal small units entry version batch ≡ None
     → Accepts great units entry version (one_text (changed units entry version batch).text)
 whole_accepts small great units entry version batch ranges within kept texts e =
@@ -229,7 +230,7 @@ whole_accepts small great units entry version batch ranges within kept texts e =
       short = omega (arith, ap length (one_bytes entry.text bytes left.utf8), left.short, text);
     }
 
-whole_leaves : (units : ℕ → ℕ) (entry : Entry) (version : ℤ) (bytes : List ℕ) → IsUtf8 bytes → changed units entry version (one_text bytes) ≡ record entry { version = version; text = bytes }
+whole_leaves : (units : ℕ → ℕ) (entry : DocumentItem) (version : ℤ) (bytes : List ℕ) → IsUtf8 bytes → changed units entry version (one_text bytes) ≡ record entry { version = version; text = bytes }
 whole_leaves units entry version bytes utf8 = ap (λ (text : List ℕ). record entry { version = version; text = text }) (one_bytes entry.text bytes utf8)
 
 pub whole_text_law : WholeTextLaw
@@ -252,7 +253,7 @@ whole_text_law small great encoding table uri version batch ranges within kept t
 
 -- ---- one command more
 
-from_last : (table : List Entry) (commands : List Command) (command : Command) → table_from table (commands ++ command ∷ []) ≡ table_after (table_from table commands) command
+from_last : (table : List DocumentItem) (commands : List Command) (command : Command) → table_from table (commands ++ command ∷ []) ≡ table_after (table_from table commands) command
 from_last table [] command = refl
 from_last table (first ∷ commands) command = from_last (table_after table first) commands command
 
@@ -272,12 +273,12 @@ not_equal uri other not =
     (λ (differs : bytes_eq other uri ≡ false). differs)
     (cases_Bool (bytes_eq other uri))
 
-is_none : (found : Option Entry) → is_some found ≡ false → found ≡ None
+is_none : (found : Option DocumentItem) → is_some found ≡ false → found ≡ None
 is_none None e = refl
 is_none (Some entry) e = absurd (let bad : true ≡ false = e in cc)
 
 -- a URI that is not open first is open neither first nor later
-first_differs : (first : Entry) (table : List Entry) (uri : List ℕ) → entry_at (first ∷ table) uri ≡ None
+first_differs : (first : DocumentItem) (table : List DocumentItem) (uri : List ℕ) → entry_at (first ∷ table) uri ≡ None
     → (bytes_eq uri first.uri ≡ false) × (entry_at table uri ≡ None)
 first_differs first table uri none =
     ⊎_elim
@@ -285,19 +286,19 @@ first_differs first table uri none =
     (λ (not : bytes_eq uri first.uri ≡ false). (not, rw not at none))
     (cases_Bool (bytes_eq uri first.uri))
 
-none_opened : (table : List Entry) (entry : Entry) (uri : List ℕ) → entry_at table uri ≡ None → bytes_eq uri entry.uri ≡ false → entry_at (after_open table entry) uri ≡ None
+none_opened : (table : List DocumentItem) (entry : DocumentItem) (uri : List ℕ) → entry_at table uri ≡ None → bytes_eq uri entry.uri ≡ false → entry_at (after_open table entry) uri ≡ None
 none_opened [] entry uri none not = rw not refl
 none_opened (first ∷ table) entry uri none not =
     let parts = first_differs first table uri none in
     rw parts.0 (none_opened table entry uri parts.1 not)
 
-unique_opened : (table : List Entry) (entry : Entry) → AreUnique table → entry_at table entry.uri ≡ None → AreUnique (after_open table entry)
+unique_opened : (table : List DocumentItem) (entry : DocumentItem) → AreUnique table → entry_at table entry.uri ≡ None → AreUnique (after_open table entry)
 unique_opened [] entry unique new = (refl, tt)
 unique_opened (first ∷ table) entry unique new =
     let parts = first_differs first table entry.uri new in
     (none_opened table entry first.uri unique.0 (not_equal entry.uri first.uri parts.0), unique_opened table entry unique.1 parts.1)
 
-none_changed : (units : ℕ → ℕ) (table : List Entry) (uri : List ℕ) (version : ℤ) (batch : List Edit) (other : List ℕ) → entry_at table other ≡ None → entry_at (after_change units table uri version batch) other ≡ None
+none_changed : (units : ℕ → ℕ) (table : List DocumentItem) (uri : List ℕ) (version : ℤ) (batch : List Edit) (other : List ℕ) → entry_at table other ≡ None → entry_at (after_change units table uri version batch) other ≡ None
 none_changed units [] uri version batch other none = refl
 none_changed units (first ∷ table) uri version batch other none =
     let parts = first_differs first table other none in
@@ -306,7 +307,7 @@ none_changed units (first ∷ table) uri version batch other none =
     (λ (not : bytes_eq uri first.uri ≡ false). rw (not, parts.0) (none_changed units table uri version batch other parts.1))
     (cases_Bool (bytes_eq uri first.uri))
 
-unique_changed : (units : ℕ → ℕ) (table : List Entry) (uri : List ℕ) (version : ℤ) (batch : List Edit) → AreUnique table → AreUnique (after_change units table uri version batch)
+unique_changed : (units : ℕ → ℕ) (table : List DocumentItem) (uri : List ℕ) (version : ℤ) (batch : List Edit) → AreUnique table → AreUnique (after_change units table uri version batch)
 unique_changed units [] uri version batch unique = tt
 unique_changed units (first ∷ table) uri version batch unique =
     ⊎_elim
@@ -314,7 +315,7 @@ unique_changed units (first ∷ table) uri version batch unique =
     (λ (not : bytes_eq uri first.uri ≡ false). rw not (none_changed units table uri version batch first.uri unique.0, unique_changed units table uri version batch unique.1))
     (cases_Bool (bytes_eq uri first.uri))
 
-none_closed : (table : List Entry) (uri other : List ℕ) → entry_at table other ≡ None → entry_at (after_close table uri) other ≡ None
+none_closed : (table : List DocumentItem) (uri other : List ℕ) → entry_at table other ≡ None → entry_at (after_close table uri) other ≡ None
 none_closed [] uri other none = refl
 none_closed (first ∷ table) uri other none =
     let parts = first_differs first table other none in
@@ -323,7 +324,7 @@ none_closed (first ∷ table) uri other none =
     (λ (not : bytes_eq uri first.uri ≡ false). rw (not, parts.0) (none_closed table uri other parts.1))
     (cases_Bool (bytes_eq uri first.uri))
 
-unique_closed : (table : List Entry) (uri : List ℕ) → AreUnique table → AreUnique (after_close table uri)
+unique_closed : (table : List DocumentItem) (uri : List ℕ) → AreUnique table → AreUnique (after_close table uri)
 unique_closed [] uri unique = tt
 unique_closed (first ∷ table) uri unique =
     ⊎_elim
@@ -339,7 +340,7 @@ unique_law limits table (closes uri) unique e = unique_closed table uri unique
 
 -- ---- a list of commands
 
-table_in_order : (limits : Bounds) (table : List Entry) (commands : List Command) → IsInOrder limits table → AreAccepted limits table commands → IsInOrder limits (table_from table commands)
+table_in_order : (limits : Bounds) (table : List DocumentItem) (commands : List Command) → IsInOrder limits table → AreAccepted limits table commands → IsInOrder limits (table_from table commands)
 table_in_order limits table [] is accepted = is
 table_in_order limits table (command ∷ commands) is accepted =
     let next = within_law limits table command is.texts is.many accepted.0 accepted.1 in

@@ -22,14 +22,14 @@ use Rattle.lsp_edit.specs.Canonical.{canonical}
 use Rattle.lsp_edit.specs.Edited.{edit_of}
 use Rattle.lsp_edit.specs.Laws.{IsCanonical}
 use Rattle.lsp_message.specs.Outgoing.{OutgoingData, initialize, initialized, did_open, did_change, did_close, shutdown, exit, initialize_result, shutdown_result, error_reply, body_of}
-use Rattle.lsp_message.specs.Params.{EditData}
+use Rattle.lsp_message.specs.Params.{DocumentItem, EditData}
 use Rattle.lsp_message.specs.Seen.{edit_view}
 use Rattle.lsp_message.specs.Seen as seen
 use Rattle.lsp_message.specs.Sent.{IsProper, IsReadAsSent, IsReadBack}
 use Rattle.lsp_store.specs.declared.fault.StoreFault.{StoreFault}
 use Rattle.lsp_store.specs.declared.fault.StoreFault.TheVariants.{NoMemory}
 use Rattle.lsp_store.specs.Faults.{store_fault_of_encode, IsRefusal}
-use Rattle.lsp_store.specs.Table.{Entry, Refusal, stale_version, too_many_changes, text_too_long, edit, batch_bytes, bytes_after, greatest_batch, entry_at, entry_refusal, change_refusal, after_change, changed, meaning_refusal}
+use Rattle.lsp_store.specs.Table.{Refusal, stale_version, too_many_changes, text_too_long, edit, batch_bytes, bytes_after, greatest_batch, entry_at, entry_refusal, change_refusal, after_change, changed, meaning_refusal}
 use Rattle.lsp_store.specs.Message.{AreTexts, DoAlike, IsCanonicalOn, IsReadAgain, IsCanonicalOf, body_refusal, canonical_batch, canonical_body, canonical_frame, change_body, change_message, else_refused, message_refusal, written_edit}
 use Rattle.lsp_store.proofs.FrameLemmas.{frame_one}
 use Rattle.lsp_store.proofs.ProperLemmas.{bytes_sum, canonical_proper}
@@ -106,7 +106,7 @@ first_told (Some refusal) later fault error = error
 first_told None later fault error = ⊎_elim (λ (e : fault ≡ NoMemory). inl e) (λ (e : None ≡ Some fault). absurd (cc)) error
 
 -- What an accepted batch means on a document.
-pub record Accepts (limits : Bounds) (units : ℕ → ℕ) (entry : Entry) (version : ℤ) (batch : List Edit) : Type 0 where
+pub record Accepts (limits : Bounds) (units : ℕ → ℕ) (entry : DocumentItem) (version : ℤ) (batch : List Edit) : Type 0 where
   pub newer : int_le version entry.version ≡ false
   pub few : length batch ≤ limits.max_changes
   pub fits : batch_bytes batch ≤ greatest_batch
@@ -121,7 +121,7 @@ meaning_parts limits text (Ok items) e =
     (λ (within : nat_lt limits.max_text (length (bytes_after text items)) ≡ false). (items, refl, ltb-false limits.max_text (length (bytes_after text items)) within))
     (cases_Bool (nat_lt limits.max_text (length (bytes_after text items))))
 
-pub accepted_parts : (limits : Bounds) (units : ℕ → ℕ) (entry : Entry) (version : ℤ) (batch : List Edit) → entry_refusal limits units entry version batch ≡ None → Accepts limits units entry version batch
+pub accepted_parts : (limits : Bounds) (units : ℕ → ℕ) (entry : DocumentItem) (version : ℤ) (batch : List Edit) → entry_refusal limits units entry version batch ≡ None → Accepts limits units entry version batch
 accepted_parts limits units entry version batch e =
     ⊎_elim (λ (stale : int_le version entry.version ≡ true). let bad : Some (stale_version entry.version) ≡ None = rw stale at e in absurd (cc)) by (cases_Bool (int_le version entry.version))
   where
@@ -142,13 +142,13 @@ accepted_parts limits units entry version batch e =
         })
         (cases_Bool (nat_lt limits.max_changes (length batch) || nat_lt greatest_batch (batch_bytes batch)))
 
-pub accepted_from : (limits : Bounds) (units : ℕ → ℕ) (entry : Entry) (version : ℤ) (batch : List Edit) → Accepts limits units entry version batch → entry_refusal limits units entry version batch ≡ None
+pub accepted_from : (limits : Bounds) (units : ℕ → ℕ) (entry : DocumentItem) (version : ℤ) (batch : List Edit) → Accepts limits units entry version batch → entry_refusal limits units entry version batch ≡ None
 accepted_from limits units entry version batch a =
     let few : (nat_lt limits.max_changes (length batch) || nat_lt greatest_batch (batch_bytes batch)) ≡ false = or_from _ _ (le-ltb limits.max_changes (length batch) a.few) (le-ltb greatest_batch (batch_bytes batch) a.fits) in
     rw (a.newer, few, a.means, le-ltb limits.max_text (length (bytes_after entry.text a.items)) a.short) refl
 
 -- what a batch leaves is told by what it makes of the document
-pub leaves_same : (units : ℕ → ℕ) (table : List Entry) (uri : List ℕ) (version : ℤ) (batch other : List Edit) (entry : Entry) → entry_at table uri ≡ Some entry → changed units entry version batch ≡ changed units entry version other
+pub leaves_same : (units : ℕ → ℕ) (table : List DocumentItem) (uri : List ℕ) (version : ℤ) (batch other : List Edit) (entry : DocumentItem) → entry_at table uri ≡ Some entry → changed units entry version batch ≡ changed units entry version other
     → after_change units table uri version batch ≡ after_change units table uri version other
 leaves_same units [] uri version batch other entry found same = refl
 leaves_same units (first ∷ table) uri version batch other entry found same =
@@ -156,12 +156,12 @@ leaves_same units (first ∷ table) uri version batch other entry found same =
     (λ (is : bytes_eq uri first.uri ≡ true).
     let at : first ≡ entry = (let f : Some first ≡ Some entry = rw is at found in cc) in
     rw (is, at, same) refl)
-    (λ (not : bytes_eq uri first.uri ≡ false). rw not (ap (λ (t : List Entry). first ∷ t) (leaves_same units table uri version batch other entry (rw not at found) same)))
+    (λ (not : bytes_eq uri first.uri ≡ false). rw not (ap (λ (t : List DocumentItem). first ∷ t) (leaves_same units table uri version batch other entry (rw not at found) same)))
     (cases_Bool (bytes_eq uri first.uri))
 
 -- ---- the canonical message
 
-module _ (limits : Bounds) (encoding : Encoding) (table : List Entry) (uri : List ℕ) (version : ℤ) (entry : Entry) (is_open : entry_at table uri ≡ Some entry)
+module _ (limits : Bounds) (encoding : Encoding) (table : List DocumentItem) (uri : List ℕ) (version : ℤ) (entry : DocumentItem) (is_open : entry_at table uri ≡ Some entry)
     (laws : (batch : List Edit) (items : List Item) → meaning (units_in encoding) (chars entry.text) batch ≡ Ok items → IsCanonical (units_in encoding) (chars entry.text) batch items) where
   pub batch_at : (batch : List Edit) (items : List Item) → meaning (units_in encoding) (chars entry.text) batch ≡ Ok items → canonical_batch (units_in encoding) table uri batch ≡ canonical (units_in encoding) (chars entry.text) items
   batch_at batch items means = rw (is_open, means) refl

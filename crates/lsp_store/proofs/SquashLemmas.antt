@@ -26,7 +26,8 @@ use Rattle.lsp_store.specs.Faults.{IsRefusal}
 use Rattle.lsp_store.specs.Message.{AreTexts, body_refusal, change_body}
 use Rattle.lsp_store.specs.Opened.{entry_under}
 use Rattle.lsp_store.specs.Squash.{HasReached, IsSquashAfter, SquashData, add_refusal, reached_entry, squash_after, items_meant, squash_batch, squash_of, squash_refusal}
-use Rattle.lsp_store.specs.Table.{Entry, IsLeftToMeaning, Refusal, batch_bytes, bytes_after, changed, greatest_batch, entry_refusal, meant_text}
+use Rattle.lsp_message.specs.Params.{DocumentItem}
+use Rattle.lsp_store.specs.Table.{IsLeftToMeaning, Refusal, batch_bytes, bytes_after, changed, greatest_batch, entry_refusal, meant_text}
 use Rattle.lsp_store.proofs.MessageLemmas.{accepted_parts}
 use Rattle.lsp_store.proofs.ProperLemmas.{bytes_sum}
 use Rattle.lsp_store.proofs.RefusalLemmas.{only_memory}
@@ -54,7 +55,7 @@ start_reached joined before bytes is same utf8 = record {
   text_is = ap chars same ∙ (sym (plain_text (chars before)) ∙ sym (ap joined_text is));
 }
 
-pub start_seen : (uri : List ℕ) (limits : Bounds) (encoding : Encoding) (joined : JoinedData) (before : List ℕ) (version : ℤ) (entry : Entry) → joined ≡ record { before = before; items = plain (chars before) } → uri ≡ entry.uri → before ≡ entry.text
+pub start_seen : (uri : List ℕ) (limits : Bounds) (encoding : Encoding) (joined : JoinedData) (before : List ℕ) (version : ℤ) (entry : DocumentItem) → joined ≡ record { before = before; items = plain (chars before) } → uri ≡ entry.uri → before ≡ entry.text
     → version ≡ entry.version → seen uri limits encoding joined version ≡ squash_of limits encoding entry
 start_seen uri limits encoding joined before version entry is same_uri same_text same_version =
     (λ i. seen (same_uri i) limits encoding (is i) (same_version i)) ∙ ap (λ (t : List ℕ). seen entry.uri limits encoding (record { before = t; items = plain (chars t) }) entry.version) same_text
@@ -115,7 +116,7 @@ module _ (uri : List ℕ) (limits : Bounds) (encoding : Encoding) (joined : Join
 
 -- ---- the message of all batches is accepted on the document as it was, and leaves the one that was reached
 
-module _ (limits : Bounds) (encoding : Encoding) (entry : Entry) (version : ℤ) (batch : List Edit) (items : List Item)
+module _ (limits : Bounds) (encoding : Encoding) (entry : DocumentItem) (version : ℤ) (batch : List Edit) (items : List Item)
     (means : meaning (units_in encoding) (chars entry.text) batch ≡ Ok items)
     (newer : int_le version entry.version ≡ false)
     (short : length (bytes_after entry.text items) ≤ limits.max_text) (within : limits.max_text ≤ 1073741824)
@@ -157,7 +158,7 @@ after_is old version batch new adds =
 pub is_reached : (joined : JoinedData) (text : List ℕ) → IsUtf8 text → chars text ≡ joined_text joined → IsReached joined text
 is_reached joined text utf8 is = record { utf8 = utf8; text_is = is }
 
-module _ (kept : SquashData) (entry : Entry) (version : ℤ) (more : List Edit) (utf8 : IsUtf8 entry.text) (at : HasReached kept entry)
+module _ (kept : SquashData) (entry : DocumentItem) (version : ℤ) (more : List Edit) (utf8 : IsUtf8 entry.text) (at : HasReached kept entry)
     (accepted : entry_refusal kept.limits (units_in kept.encoding) entry version more ≡ None) where
   same_text : entry.text ≡ bytes_after kept.text kept.items
   same_text = sym (encodes-chars entry.text utf8) ∙ ap encode_utf8_all at.text
@@ -206,7 +207,7 @@ joins_after uri limits encoding joined next before version next_version kept mor
 
 -- A batch that is accepted is refused only where memory runs out.
 pub memory_alone : (uri : List ℕ) (limits : Bounds) (encoding : Encoding) (joined : JoinedData) (before : ℤ) (kept : SquashData) → seen uri limits encoding joined before ≡ kept
-    → (entry : Entry) (version : ℤ) (more : List Edit) → entry_refusal kept.limits (units_in kept.encoding) entry version more ≡ None
+    → (entry : DocumentItem) (version : ℤ) (more : List Edit) → entry_refusal kept.limits (units_in kept.encoding) entry version more ≡ None
     → (reached : List ℕ) → reached ≡ entry.text
     → (fault : TextFault) → (fault ≡ NoMemory) ⊎ (text_within limits.max_text reached (meaning (units_in encoding) (chars reached) more) ≡ Err fault) → fault ≡ NoMemory
 memory_alone uri limits encoding joined before kept view entry version more accepted reached same fault error =

@@ -15,7 +15,8 @@ use Rattle.lsp_store.specs.declared.fault.StoreFault.{StoreFault}
 use Rattle.lsp_store.specs.declared.fault.StoreFault.TheVariants.{AlreadyOpen, TooManyDocuments, TextTooLong, NotOpen}
 use Rattle.lsp_store.specs.declared.store.stored.Stored.{Stored}
 use Rattle.lsp_store.specs.Faults.{fault_of, IsRefusal}
-use Rattle.lsp_store.specs.Table.{IsLeftToMeaning, Entry, Refusal, entry_at, open_refusal, entry_refusal, change_refusal, changed, already_open, opens, changes, closes}
+use Rattle.lsp_message.specs.Params.{DocumentItem}
+use Rattle.lsp_store.specs.Table.{IsLeftToMeaning, Refusal, entry_at, open_refusal, entry_refusal, change_refusal, changed, already_open, opens, changes, closes}
 use Rattle.lsp_store.specs.Opened.{MayTakeMemory, StoreData, Takes, IsRefused, entry_under, entry_of}
 use Rattle.lsp_store.proofs.TableLemmas.{at_uri, entry_at-lookup, is_some-entry_at, entry_found, table-insert_entry, table-set_value, set_value-found, table-remove_entry}
 
@@ -24,7 +25,7 @@ abbrev pub seen : Bounds → List (String Global × Stored) → StoreData
 seen limits es = record { limits = limits; table = map entry_of es }
 
 -- a document that may be opened is not open
-new_from_open : (limits : Bounds) (table : List Entry) (entry : Entry) → open_refusal limits table entry ≡ None → is_some (entry_at table entry.uri) ≡ false
+new_from_open : (limits : Bounds) (table : List DocumentItem) (entry : DocumentItem) → open_refusal limits table entry ≡ None → is_some (entry_at table entry.uri) ≡ false
 new_from_open limits table entry may =
     ⊎_elim (λ (is : is_some (entry_at table entry.uri) ≡ true). let bad : Some already_open ≡ None = rw is at may in absurd (cc)) (λ (not : is_some (entry_at table entry.uri) ≡ false). not)
     (cases_Bool (is_some (entry_at table entry.uri)))
@@ -43,7 +44,7 @@ module _ (limits : Bounds) (es : List (String Global × Stored)) (kept : StoreDa
 
   -- ---- opening
 
-  module _ (entry : Entry) where
+  module _ (entry : DocumentItem) where
     seen_open : {A : Type 0} (of : Option Refusal → A) → of (open_refusal limits (map entry_of es) entry) ≡ of (open_refusal kept.limits kept.table entry)
     seen_open of = ap (λ (d : StoreData). of (open_refusal d.limits d.table entry)) view
 
@@ -63,13 +64,13 @@ module _ (limits : Bounds) (es : List (String Global × Stored)) (kept : StoreDa
         sym (seen_open (λ (r : Option Refusal). r))
         ∙ rw (is_some-entry_at entry.uri es, not, length-map es entry_of, lt-leb limits.max_docs (length es) few, le-ltb limits.max_text (length entry.text) short) refl
 
-  pub opened : (uri : String Global) (stored : Stored) (entry : Entry) → entry_under (string_bytes uri) stored ≡ entry → open_refusal kept.limits kept.table entry ≡ None → (next : List (String Global × Stored)) → next ≡ insert_entry string_eq es uri stored
+  pub opened : (uri : String Global) (stored : Stored) (entry : DocumentItem) → entry_under (string_bytes uri) stored ≡ entry → open_refusal kept.limits kept.table entry ≡ None → (next : List (String Global × Stored)) → next ≡ insert_entry string_eq es uri stored
       → Takes kept (opens entry) (seen limits next)
   opened uri stored entry is may next inserted =
       subst (λ (d : StoreData). Takes d (opens entry) (seen limits next)) view (record {
         table =
             let free : open_refusal limits (map entry_of es) entry ≡ None = seen_open entry (λ (r : Option Refusal). r) ∙ may in
-            let new : is_some (entry_at (map entry_of es) (string_bytes uri)) ≡ false = ap (λ (e : Entry). is_some (entry_at (map entry_of es) e.uri)) is ∙ new_from_open limits (map entry_of es) entry free in
+            let new : is_some (entry_at (map entry_of es) (string_bytes uri)) ≡ false = ap (λ (e : DocumentItem). is_some (entry_at (map entry_of es) e.uri)) is ∙ new_from_open limits (map entry_of es) entry free in
             rw (free, inserted, table-insert_entry es uri stored new, is) refl;
         limits = refl;
       })
@@ -122,6 +123,6 @@ module _ (limits : Bounds) (es : List (String Global × Stored)) (kept : StoreDa
       })
 
 -- An open document, on which nothing but its meaning refuses a batch.
-pub may_take : (kept : StoreData) (uri : List ℕ) (version : ℤ) (batch : List Edit) (entry : Entry) → entry_at kept.table uri ≡ Some entry
+pub may_take : (kept : StoreData) (uri : List ℕ) (version : ℤ) (batch : List Edit) (entry : DocumentItem) → entry_at kept.table uri ≡ Some entry
     → IsLeftToMeaning kept.limits entry version batch → MayTakeMemory kept uri version batch
 may_take kept uri version batch entry is_open left = rw is_open left

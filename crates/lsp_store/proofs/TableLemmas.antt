@@ -8,7 +8,8 @@ use Rattle.std.specs.declared.alloc.Global.{Global}
 use Rattle.indexmap.specs.IndexMap.{insert_entry}
 use Rattle.lsp_edit.specs.Batch.{Edit}
 use Rattle.lsp_store.specs.declared.store.stored.Stored.{Stored}
-use Rattle.lsp_store.specs.Table.{Entry, entry_at, after_change, after_close, changed}
+use Rattle.lsp_message.specs.Params.{DocumentItem}
+use Rattle.lsp_store.specs.Table.{entry_at, after_change, after_close, changed}
 use Rattle.lsp_store.specs.Opened.{entry_under, entry_of}
 
 -- whether a key is this URI
@@ -47,7 +48,7 @@ pub table-insert_entry : (es : List (String Global × Stored)) (key : String Glo
 table-insert_entry [] key stored absent = refl
 table-insert_entry (first ∷ es) key stored absent =
     ⊎_elim (λ (is : bytes_eq (string_bytes key) (string_bytes first.0) ≡ true). let shown : true ≡ false = rw is at absent in absurd (cc))
-    (λ (not : bytes_eq (string_bytes key) (string_bytes first.0) ≡ false). rw not (ap (λ (table : List Entry). entry_of first ∷ table) (table-insert_entry es key stored (rw not at absent)))) (cases_Bool (bytes_eq (string_bytes key) (string_bytes first.0)))
+    (λ (not : bytes_eq (string_bytes key) (string_bytes first.0) ≡ false). rw not (ap (λ (table : List DocumentItem). entry_of first ∷ table) (table-insert_entry es key stored (rw not at absent)))) (cases_Bool (bytes_eq (string_bytes key) (string_bytes first.0)))
 
 -- what is put at a URI is the changed document, which keeps its place
 pub table-set_value : (units : ℕ → ℕ) (uri : List ℕ) (version : ℤ) (batch : List Edit) (es : List (String Global × Stored)) (stored next : Stored) → Some stored ≡ lookup (at_uri uri) es
@@ -59,7 +60,7 @@ table-set_value units uri version batch (first ∷ es) stored next found is =
     let same : stored ≡ first.1 = (let f : Some stored ≡ Some first.1 = rw at at found in cc) in
     let key : uri ≡ string_bytes first.0 = (bytes_eq-Decides uri (string_bytes first.0)).0 at in
     rw (at, ← key, ← same, is) refl)
-    (λ (not : bytes_eq uri (string_bytes first.0) ≡ false). rw not (ap (λ (table : List Entry). entry_of first ∷ table) (table-set_value units uri version batch es stored next (rw not at found) is)))
+    (λ (not : bytes_eq uri (string_bytes first.0) ≡ false). rw not (ap (λ (table : List DocumentItem). entry_of first ∷ table) (table-set_value units uri version batch es stored next (rw not at found) is)))
     (cases_Bool (bytes_eq uri (string_bytes first.0)))
 
 -- putting back what is there changes nothing
@@ -74,4 +75,4 @@ pub table-remove_entry : (uri : List ℕ) (es : List (String Global × Stored)) 
 table-remove_entry uri [] = refl
 table-remove_entry uri (first ∷ es) =
     ⊎_elim (λ (at : bytes_eq uri (string_bytes first.0) ≡ true). rw at refl)
-    (λ (not : bytes_eq uri (string_bytes first.0) ≡ false). rw not (ap (λ (table : List Entry). entry_of first ∷ table) (table-remove_entry uri es))) (cases_Bool (bytes_eq uri (string_bytes first.0)))
+    (λ (not : bytes_eq uri (string_bytes first.0) ≡ false). rw not (ap (λ (table : List DocumentItem). entry_of first ∷ table) (table-remove_entry uri es))) (cases_Bool (bytes_eq uri (string_bytes first.0)))

@@ -4,7 +4,8 @@ use Rattle.lsp_frame.specs.Limits.{Bounds, AreInRange}
 use Rattle.lsp_text.specs.declared.encoding.Encoding.{Encoding}
 use Rattle.lsp_text.specs.Units.{units_in}
 use Rattle.lsp_edit.specs.Batch.{Edit}
-use Rattle.lsp_store.specs.Table.{Entry, Command, opens, changes, closes, entry_at, change_refusal, after_change, command_refusal, table_after, table_of}
+use Rattle.lsp_message.specs.Params.{DocumentItem}
+use Rattle.lsp_store.specs.Table.{Command, opens, changes, closes, entry_at, change_refusal, after_change, command_refusal, table_after, table_of}
 use Rattle.lsp_store.specs.Message.{AreTexts, canonical_batch, whole_batch}
 
 -- Each of the limits is at most the other's.
@@ -17,13 +18,13 @@ pub record AreWithin (small great : Bounds) : Type 0 where
 -- Greater limits refuse no command that smaller ones accept.
 abbrev pub GreaterLimitsLaw : Type 0
 GreaterLimitsLaw =
-    (small great : Bounds) (table : List Entry) (command : Command) → AreWithin small great
+    (small great : Bounds) (table : List DocumentItem) (command : Command) → AreWithin small great
     → command_refusal small table command ≡ None → command_refusal great table command ≡ None
 
 -- ---- what may be sent instead of a batch
 
 -- Another batch is accepted within these limits, and has the result of the batch.
-pub record IsReplacedBy (limits : Bounds) (units : ℕ → ℕ) (table : List Entry) (uri : List ℕ)
+pub record IsReplacedBy (limits : Bounds) (units : ℕ → ℕ) (table : List DocumentItem) (uri : List ℕ)
     (version : ℤ) (batch other : List Edit) : Type 0 where
   pub accepted : change_refusal limits units table uri version other ≡ None
   pub leaves : after_change units table uri version other
@@ -32,7 +33,7 @@ pub record IsReplacedBy (limits : Bounds) (units : ℕ → ℕ) (table : List En
 -- The canonical batch of an accepted batch does the same, within greater limits too.
 abbrev pub CanonicalBatchLaw : Type 0
 CanonicalBatchLaw =
-    (small great : Bounds) (encoding : Encoding) (table : List Entry) (uri : List ℕ) (version : ℤ)
+    (small great : Bounds) (encoding : Encoding) (table : List DocumentItem) (uri : List ℕ) (version : ℤ)
     (batch : List Edit) → AreInRange small → AreWithin small great
     → change_refusal small (units_in encoding) table uri version batch ≡ None
     → IsReplacedBy great (units_in encoding) table uri version batch
@@ -41,12 +42,12 @@ CanonicalBatchLaw =
 -- ---- the documents of a table
 
 -- A document's text is UTF-8 and within the limit.
-pub record IsWithin (limits : Bounds) (entry : Entry) : Type 0 where
+pub record IsWithin (limits : Bounds) (entry : DocumentItem) : Type 0 where
   pub utf8 : IsUtf8 entry.text
   pub short : length entry.text ≤ limits.max_text
 
 -- Each document of a table is within the limits.
-abbrev pub AllWithin : Bounds → List Entry → Type 0
+abbrev pub AllWithin : Bounds → List DocumentItem → Type 0
 AllWithin limits [] = ⊤
 AllWithin limits (entry ∷ table) = IsWithin limits entry × AllWithin limits table
 
@@ -59,7 +60,7 @@ HasTexts (closes uri) = ⊤
 -- An accepted command keeps all documents, and their number, within the limits.
 abbrev pub WithinLaw : Type 0
 WithinLaw =
-    (limits : Bounds) (table : List Entry) (command : Command) → AllWithin limits table
+    (limits : Bounds) (table : List DocumentItem) (command : Command) → AllWithin limits table
     → length table ≤ limits.max_docs → HasTexts command →
     command_refusal limits table command ≡ None
     → AllWithin limits (table_after table command)
@@ -68,7 +69,7 @@ WithinLaw =
 -- The whole text after a batch does the same as the batch, within greater limits too.
 abbrev pub WholeTextLaw : Type 0
 WholeTextLaw =
-    (small great : Bounds) (encoding : Encoding) (table : List Entry) (uri : List ℕ) (version : ℤ)
+    (small great : Bounds) (encoding : Encoding) (table : List DocumentItem) (uri : List ℕ) (version : ℤ)
     (batch : List Edit) → AreInRange small → AreWithin small great
     → AllWithin small table → AreTexts batch
     → change_refusal small (units_in encoding) table uri version batch ≡ None
@@ -76,20 +77,20 @@ WholeTextLaw =
     (whole_batch (units_in encoding) table uri version batch)
 
 -- No two documents have the same URI.
-abbrev pub AreUnique : List Entry → Type 0
+abbrev pub AreUnique : List DocumentItem → Type 0
 AreUnique [] = ⊤
 AreUnique (entry ∷ table) = (entry_at table entry.uri ≡ None) × AreUnique table
 
 -- An accepted command keeps the URIs unique.
 abbrev pub UniqueLaw : Type 0
 UniqueLaw =
-    (limits : Bounds) (table : List Entry) (command : Command) → AreUnique table
+    (limits : Bounds) (table : List DocumentItem) (command : Command) → AreUnique table
     → command_refusal limits table command ≡ None → AreUnique (table_after table command)
 
 -- ---- the table of a list of commands
 
 -- Commands are accepted on a table, one after another, and their texts are texts.
-abbrev pub AreAccepted : Bounds → List Entry → List Command → Type 0
+abbrev pub AreAccepted : Bounds → List DocumentItem → List Command → Type 0
 AreAccepted limits table [] = ⊤
 AreAccepted limits table (command ∷ commands) =
     HasTexts command × (command_refusal limits table command ≡ None)
@@ -97,7 +98,7 @@ AreAccepted limits table (command ∷ commands) =
 
 -- A table has no URI twice, at most the allowed number of documents, and each text is within its
 -- limit.
-pub record IsInOrder (limits : Bounds) (table : List Entry) : Type 0 where
+pub record IsInOrder (limits : Bounds) (table : List DocumentItem) : Type 0 where
   pub unique : AreUnique table
   pub many : length table ≤ limits.max_docs
   pub texts : AllWithin limits table

@@ -9,9 +9,9 @@ use Rattle.lsp_edit.specs.Batch.{Edit, Fault, meaning}
 use Rattle.lsp_edit.specs.Canonical.{DoTheSame, canonical}
 use Rattle.lsp_edit.specs.Laws.{IsCanonical}
 use Rattle.lsp_message.specs.Outgoing.{OutgoingData, did_change, body_of}
-use Rattle.lsp_message.specs.Params.{EditData}
+use Rattle.lsp_message.specs.Params.{DocumentItem, EditData}
 use Rattle.lsp_message.specs.Sent.{IsReadAsSent, IsReadBack}
-use Rattle.lsp_store.specs.Table.{Entry, Refusal, body_too_long, entry_at, change_refusal, after_change}
+use Rattle.lsp_store.specs.Table.{Refusal, body_too_long, entry_at, change_refusal, after_change}
 
 -- A change as it is written, with its text as bytes.
 abbrev pub written_edit : Edit → EditData
@@ -32,31 +32,31 @@ batch_of units text (Ok items) = canonical units (chars text) items
 batch_of units text (Err fault) = []
 
 -- The canonical batch of a batch on a document; no changes where it has no meaning.
-abbrev pub batch_on : (ℕ → ℕ) → Option Entry → List Edit → List Edit
+abbrev pub batch_on : (ℕ → ℕ) → Option DocumentItem → List Edit → List Edit
 batch_on units (Some entry) batch
     = batch_of units entry.text (meaning units (chars entry.text) batch)
 batch_on units None batch = []
 
 -- The canonical batch of a batch on the open document of a URI.
-abbrev pub canonical_batch : (ℕ → ℕ) → List Entry → List ℕ → List Edit → List Edit
+abbrev pub canonical_batch : (ℕ → ℕ) → List DocumentItem → List ℕ → List Edit → List Edit
 canonical_batch units table uri batch = batch_on units (entry_at table uri) batch
 
 -- The body of the canonical message of a batch.
-abbrev pub canonical_body : (ℕ → ℕ) → List Entry → List ℕ → ℤ → List Edit → List ℕ
+abbrev pub canonical_body : (ℕ → ℕ) → List DocumentItem → List ℕ → ℤ → List Edit → List ℕ
 canonical_body units table uri version batch
     = change_body uri version (canonical_batch units table uri batch)
 
 -- The frame of the canonical message of a batch.
-abbrev pub canonical_frame : (ℕ → ℕ) → List Entry → List ℕ → ℤ → List Edit → List ℕ
+abbrev pub canonical_frame : (ℕ → ℕ) → List DocumentItem → List ℕ → ℤ → List Edit → List ℕ
 canonical_frame units table uri version batch = frame (canonical_body units table uri version batch)
 
 -- One change without a range, which is the whole text of a document (TextDocumentSyncKind.Full).
-abbrev pub whole_text : Option Entry → List Edit
+abbrev pub whole_text : Option DocumentItem → List Edit
 whole_text (Some entry) = record { range = None; text = chars entry.text } ∷ []
 whole_text None = []
 
 -- The batch of that one change, with the document's text after a batch.
-abbrev pub whole_batch : (ℕ → ℕ) → List Entry → List ℕ → ℤ → List Edit → List Edit
+abbrev pub whole_batch : (ℕ → ℕ) → List DocumentItem → List ℕ → ℤ → List Edit → List Edit
 whole_batch units table uri version batch =
     whole_text (entry_at (after_change units table uri version batch) uri)
 
@@ -71,7 +71,7 @@ else_refused (Some first) later = Some first
 else_refused None later = later
 
 -- Why the canonical message of a batch is refused: as the change is, then as its body is.
-abbrev pub message_refusal : Bounds → (ℕ → ℕ) → List Entry → List ℕ → ℤ → List Edit → Option Refusal
+abbrev pub message_refusal : Bounds → (ℕ → ℕ) → List DocumentItem → List ℕ → ℤ → List Edit → Option Refusal
 message_refusal limits units table uri version batch =
     else_refused (change_refusal limits units table uri version batch)
     (body_refusal limits (canonical_body units table uri version batch))
@@ -85,9 +85,9 @@ AreTexts (change ∷ batch) = (all_scalars change.text ≡ true) × AreTexts bat
 
 -- Two batches on the open document of a URI keep the same old characters and insert the same texts
 -- between them.
-pub record DoAlike (units : ℕ → ℕ) (table : List Entry) (uri : List ℕ)
+pub record DoAlike (units : ℕ → ℕ) (table : List DocumentItem) (uri : List ℕ)
     (batch other : List Edit) : Type 0 where
-  pub entry : Entry
+  pub entry : DocumentItem
   pub is_open : entry_at table uri ≡ Some entry
   pub items : List Item
   pub others : List Item
@@ -96,9 +96,9 @@ pub record DoAlike (units : ℕ → ℕ) (table : List Entry) (uri : List ℕ)
   pub same : DoTheSame items others
 
 -- What a batch means on the open document of a URI, and what holds of its canonical batch.
-pub record IsCanonicalOn (units : ℕ → ℕ) (table : List Entry) (uri : List ℕ)
+pub record IsCanonicalOn (units : ℕ → ℕ) (table : List DocumentItem) (uri : List ℕ)
     (batch : List Edit) : Type 0 where
-  pub entry : Entry
+  pub entry : DocumentItem
   pub is_open : entry_at table uri ≡ Some entry
   pub items : List Item
   pub means : meaning units (chars entry.text) batch ≡ Ok items
@@ -107,7 +107,7 @@ pub record IsCanonicalOn (units : ℕ → ℕ) (table : List Entry) (uri : List 
 
 -- A canonical batch is accepted where the batch was, has the same result, and has the same
 -- canonical message.
-pub record IsCanonicalOf (limits : Bounds) (units : ℕ → ℕ) (table : List Entry) (uri : List ℕ)
+pub record IsCanonicalOf (limits : Bounds) (units : ℕ → ℕ) (table : List DocumentItem) (uri : List ℕ)
     (version : ℤ) (batch settled : List Edit) : Type 0 where
   pub accepted : message_refusal limits units table uri version settled ≡ None
   pub leaves : after_change units table uri version settled

@@ -5,16 +5,17 @@ use Rattle.lsp_frame.specs.Limits.{Bounds}
 use Rattle.lsp_store.specs.declared.fault.StoreFault.{StoreFault}
 use Rattle.lsp_store.specs.declared.store.stored.Stored.{Stored}
 use Rattle.lsp_edit.specs.Batch.{Edit}
-use Rattle.lsp_store.specs.Table.{Entry, Command, IsLeftToMeaning, entry_at, after_command, command_refusal}
+use Rattle.lsp_message.specs.Params.{DocumentItem}
+use Rattle.lsp_store.specs.Table.{Command, IsLeftToMeaning, entry_at, after_command, command_refusal}
 use Rattle.lsp_store.specs.Faults.{IsRefusal}
 
 -- A store: its limits, and its open documents in order of opening.
 pub record StoreData : Type 0 where
   pub limits : Bounds
-  pub table : List Entry
+  pub table : List DocumentItem
 
 -- The document of a URI and what is kept under it.
-abbrev pub entry_under : List ℕ → Stored → Entry
+abbrev pub entry_under : List ℕ → Stored → DocumentItem
 entry_under uri stored
     = record {
       uri = uri;
@@ -24,7 +25,7 @@ entry_under uri stored
     }
 
 -- The document of an entry of the store.
-abbrev pub entry_of : String Global × Stored → Entry
+abbrev pub entry_of : String Global × Stored → DocumentItem
 entry_of pair = entry_under (string_bytes pair.0) pair.1
 
 -- A command is accepted, and the next table is its result.

@@ -10,7 +10,8 @@ use Rattle.lsp_edit.specs.Items.{Item, plain, text_of}
 use Rattle.lsp_edit.specs.Batch.{Edit, Fault, meaning}
 use Rattle.lsp_edit.specs.Canonical.{canonical}
 use Rattle.lsp_edit.specs.Compose.{then_items}
-use Rattle.lsp_store.specs.Table.{Entry, Refusal, too_many_changes, bytes_after, entry_refusal}
+use Rattle.lsp_message.specs.Params.{DocumentItem}
+use Rattle.lsp_store.specs.Table.{Refusal, too_many_changes, bytes_after, entry_refusal}
 use Rattle.lsp_store.specs.Message.{change_body, body_refusal}
 
 -- Batches on one document. URI and text (as bytes) are the document's before any batch; the version
@@ -25,7 +26,7 @@ pub record SquashData : Type 0 where
   pub version : ℤ
 
 -- A document before any batch.
-abbrev pub squash_of : Bounds → Encoding → Entry → SquashData
+abbrev pub squash_of : Bounds → Encoding → DocumentItem → SquashData
 squash_of limits encoding entry = record {
   uri = entry.uri;
   limits = limits;
@@ -36,7 +37,7 @@ squash_of limits encoding entry = record {
 }
 
 -- The document after all batches. Its language is ignored.
-abbrev pub reached_entry : SquashData → Entry
+abbrev pub reached_entry : SquashData → DocumentItem
 reached_entry squash
     = record {
       uri = squash.uri;
@@ -51,7 +52,7 @@ add_refusal squash version batch
     = entry_refusal squash.limits (units_in squash.encoding) (reached_entry squash) version batch
 
 -- A document has the text and the version that all batches lead to.
-pub record HasReached (squash : SquashData) (entry : Entry) : Type 0 where
+pub record HasReached (squash : SquashData) (entry : DocumentItem) : Type 0 where
   pub text : chars entry.text ≡ text_of (chars squash.text) squash.items
   pub version : entry.version ≡ squash.version
 

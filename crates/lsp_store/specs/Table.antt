@@ -8,13 +8,7 @@ use Rattle.lsp_text.specs.declared.encoding.Encoding.{Encoding}
 use Rattle.lsp_text.specs.Units.{units_in}
 use Rattle.lsp_edit.specs.Items.{Item, text_of}
 use Rattle.lsp_edit.specs.Batch.{Edit, Fault, meaning}
-
--- An open document (TextDocumentItem). Its texts are bytes of UTF-8.
-pub record Entry : Type 0 where
-  pub uri : List ℕ
-  pub language : List ℕ
-  pub version : ℤ
-  pub text : List ℕ
+use Rattle.lsp_message.specs.Params.{DocumentItem}
 
 -- Why a command is refused. A stale version has the current one, an edit the first faulty change
 -- and its fault, and a body too long its length.
@@ -25,7 +19,7 @@ pub data Refusal : Type 0 where
   body_too_long : ℕ → Refusal
 
 -- The open document of a URI, which is compared byte for byte.
-abbrev pub entry_at : List Entry → List ℕ → Option Entry
+abbrev pub entry_at : List DocumentItem → List ℕ → Option DocumentItem
 entry_at [] uri = None
 entry_at (entry ∷ table) uri = if bytes_eq uri entry.uri then Some entry else entry_at table uri
 
@@ -33,7 +27,7 @@ entry_at (entry ∷ table) uri = if bytes_eq uri entry.uri then Some entry else 
 
 -- Why opening a document is refused: it is open, or there are too many documents, or its text is
 -- too long.
-abbrev pub open_refusal : Bounds → List Entry → Entry → Option Refusal
+abbrev pub open_refusal : Bounds → List DocumentItem → DocumentItem → Option Refusal
 open_refusal limits table entry =
     if is_some (entry_at table entry.uri) then Some already_open
     else if nat_le limits.max_docs (length table) then Some too_many_documents
@@ -41,7 +35,7 @@ open_refusal limits table entry =
     else None
 
 -- An opened document comes last.
-abbrev pub after_open : List Entry → Entry → List Entry
+abbrev pub after_open : List DocumentItem → DocumentItem → List DocumentItem
 after_open table entry = table ++ entry ∷ []
 
 -- ---- changing (DidChangeTextDocument); a character `c` of a text has `units c` units
@@ -67,7 +61,7 @@ meaning_refusal limits text (Ok items)
 
 -- Why a batch on a document is refused: a version that isn't greater, too many changes or too long
 -- ones, or its meaning.
-abbrev pub entry_refusal : Bounds → (ℕ → ℕ) → Entry → ℤ → List Edit → Option Refusal
+abbrev pub entry_refusal : Bounds → (ℕ → ℕ) → DocumentItem → ℤ → List Edit → Option Refusal
 entry_refusal limits units entry version batch =
     if int_le version entry.version then Some (stale_version entry.version)
     else if nat_lt limits.max_changes (length batch)
@@ -76,19 +70,19 @@ entry_refusal limits units entry version batch =
 
 -- Only its meaning can refuse a batch: the version is greater, and there are not too many changes
 -- nor too long ones.
-abbrev pub IsLeftToMeaning : Bounds → Entry → ℤ → List Edit → Type 0
+abbrev pub IsLeftToMeaning : Bounds → DocumentItem → ℤ → List Edit → Type 0
 IsLeftToMeaning limits entry version batch =
     (units : ℕ → ℕ) →
     entry_refusal limits units entry version batch ≡
     meaning_refusal limits entry.text (meaning units (chars entry.text) batch)
 
 -- Why a batch on a document that may be open is refused.
-abbrev pub refusal_on : Bounds → (ℕ → ℕ) → Option Entry → ℤ → List Edit → Option Refusal
+abbrev pub refusal_on : Bounds → (ℕ → ℕ) → Option DocumentItem → ℤ → List Edit → Option Refusal
 refusal_on limits units None version batch = Some not_open
 refusal_on limits units (Some entry) version batch = entry_refusal limits units entry version batch
 
 -- Why a change of the document of a URI is refused.
-abbrev pub change_refusal : Bounds → (ℕ → ℕ) → List Entry → List ℕ → ℤ → List Edit → Option Refusal
+abbrev pub change_refusal : Bounds → (ℕ → ℕ) → List DocumentItem → List ℕ → ℤ → List Edit → Option Refusal
 change_refusal limits units table uri version batch
     = refusal_on limits units (entry_at table uri) version batch
 
@@ -98,7 +92,7 @@ meant_text text (Ok items) = bytes_after text items
 meant_text text (Err fault) = text
 
 -- A changed document has the new version and the text that the batch means.
-abbrev pub changed : (ℕ → ℕ) → Entry → ℤ → List Edit → Entry
+abbrev pub changed : (ℕ → ℕ) → DocumentItem → ℤ → List Edit → DocumentItem
 changed units entry version batch
     = record entry {
       version = version;
@@ -106,7 +100,7 @@ changed units entry version batch
     }
 
 -- A changed document keeps its index in the table.
-abbrev pub after_change : (ℕ → ℕ) → List Entry → List ℕ → ℤ → List Edit → List Entry
+abbrev pub after_change : (ℕ → ℕ) → List DocumentItem → List ℕ → ℤ → List Edit → List DocumentItem
 after_change units [] uri version batch = []
 after_change units (entry ∷ table) uri version batch =
     if bytes_eq uri entry.uri then changed units entry version batch ∷ table else
@@ -115,11 +109,11 @@ after_change units (entry ∷ table) uri version batch =
 -- ---- closing (DidCloseTextDocument)
 
 -- Why closing a document is refused: it isn't open.
-abbrev pub close_refusal : List Entry → List ℕ → Option Refusal
+abbrev pub close_refusal : List DocumentItem → List ℕ → Option Refusal
 close_refusal table uri = if is_some (entry_at table uri) then None else Some not_open
 
 -- The table without a closed document; the others keep their order.
-abbrev pub after_close : List Entry → List ℕ → List Entry
+abbrev pub after_close : List DocumentItem → List ℕ → List DocumentItem
 after_close [] uri = []
 after_close (entry ∷ table) uri = if bytes_eq uri entry.uri then table else
     entry ∷ after_close table uri
@@ -129,39 +123,39 @@ after_close (entry ∷ table) uri = if bytes_eq uri entry.uri then table else
 -- A command on the table: open a document; change one, by URI, new version, encoding and batch of
 -- changes; close one, by URI.
 pub data Command : Type 0 where
-  opens : Entry → Command
+  opens : DocumentItem → Command
   changes : List ℕ → ℤ → Encoding → List Edit → Command
   closes : List ℕ → Command
 
 -- Why a command is refused.
-abbrev pub command_refusal : Bounds → List Entry → Command → Option Refusal
+abbrev pub command_refusal : Bounds → List DocumentItem → Command → Option Refusal
 command_refusal limits table (opens entry) = open_refusal limits table entry
 command_refusal limits table (changes uri version encoding batch)
     = change_refusal limits (units_in encoding) table uri version batch
 command_refusal limits table (closes uri) = close_refusal table uri
 
 -- The table after an accepted command.
-abbrev pub table_after : List Entry → Command → List Entry
+abbrev pub table_after : List DocumentItem → Command → List DocumentItem
 table_after table (opens entry) = after_open table entry
 table_after table (changes uri version encoding batch)
     = after_change (units_in encoding) table uri version batch
 table_after table (closes uri) = after_close table uri
 
 -- A table, unless there is a refusal.
-abbrev pub unless_refused : Option Refusal → List Entry → Result (List Entry) Refusal
+abbrev pub unless_refused : Option Refusal → List DocumentItem → Result (List DocumentItem) Refusal
 unless_refused None table = Ok table
 unless_refused (Some refusal) table = Err refusal
 
 -- The table after a command, or why the command is refused.
-abbrev pub after_command : Bounds → List Entry → Command → Result (List Entry) Refusal
+abbrev pub after_command : Bounds → List DocumentItem → Command → Result (List DocumentItem) Refusal
 after_command limits table command
     = unless_refused (command_refusal limits table command) (table_after table command)
 
 -- The table after a list of accepted commands, one after another, on a table.
-abbrev pub table_from : List Entry → List Command → List Entry
+abbrev pub table_from : List DocumentItem → List Command → List DocumentItem
 table_from table [] = table
 table_from table (command ∷ commands) = table_from (table_after table command) commands
 
 -- The table after a list of accepted commands, from the start, when no document is open.
-abbrev pub table_of : List Command → List Entry
+abbrev pub table_of : List Command → List DocumentItem
 table_of commands = table_from [] commands

@@ -3,7 +3,8 @@
 ghost use Rattle.std.specs.Prelude.{◌≡◌, ◌≢◌, ◌≤◌, ◌↔◌, ℕ, IsTrue, ℤ, List, [], Some, None, Err, option_map, IfErr, OnErr, OnOk, map, length, slice_get, string_bytes};
 ghost use Rattle.lsp_edit.specs.Edited.{edit_of};
 ghost use Rattle.lsp_store.specs.declared.fault.StoreFault.TheVariants.{NotOpen, NoMemory};
-ghost use Rattle.lsp_store.specs.Table.{Entry, entry_at, open_refusal, opens, changes as changing, closes};
+ghost use Rattle.lsp_message.specs.Params.{DocumentItem};
+ghost use Rattle.lsp_store.specs.Table.{entry_at, open_refusal, opens, changes as changing, closes};
 ghost use Rattle.lsp_store.specs.Opened.{IsRefused, MayTakeMemory, Takes};
 ghost use Rattle.lsp_store.specs.Faults.{fault_of};
 

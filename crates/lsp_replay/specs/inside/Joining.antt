@@ -2,9 +2,9 @@
 use Rattle.std.specs.Prelude.{ℕ, ◌≡◌, ◌≢◌, ◌≤◌, ◌<◌, ⊤, true, false, List, length, map, Option, Some, None}
 use Rattle.std.specs.Str.{bytes_eq}
 use Rattle.lsp_frame.specs.Frame.{frame}
-use Rattle.lsp_message.specs.Params.{ChangeData}
+use Rattle.lsp_message.specs.Params.{DocumentItem, ChangeData}
 use Rattle.lsp_store.specs.Squash.{SquashData, HasReached, squash_of}
-use Rattle.lsp_store.specs.Table.{Entry, Refusal, after_change, change_refusal, entry_at}
+use Rattle.lsp_store.specs.Table.{Refusal, after_change, change_refusal, entry_at}
 use Rattle.lsp_text.specs.Units.{units_in}
 use Rattle.lsp_server.specs.Answer.{changed}
 use Rattle.lsp_server.specs.Step.{State, edit_from_data, encoding_of}
@@ -17,7 +17,7 @@ use Rattle.lsp_replay.specs.Squashed.{joined_by}
 -- The batches of a run lead to the document that is open now, with the server's limits and
 -- encoding.
 pub record IsOpenIn (server : State) (squash : SquashData) : Type 0 where
-  pub entry : Entry
+  pub entry : DocumentItem
   pub is_open : entry_at server.table squash.uri ≡ Some entry
   pub reached : HasReached squash entry
   pub limits : squash.limits ≡ server.config.limits
@@ -74,7 +74,7 @@ IsOther (Some squash) p = bytes_eq p.uri squash.uri ≡ false
 
 -- These batches begin with a change of a document that is open.
 pub record IsBegun (server : State) (p : ChangeData) (batches : SquashData) : Type 0 where
-  pub entry : Entry
+  pub entry : DocumentItem
   pub is_open : entry_at server.table p.uri ≡ Some entry
   pub joined : batches ≡ joined_by p (squash_of server.config.limits (encoding_of server) entry)
 

@@ -24,10 +24,10 @@ pub struct Document<'a> {
 }
 
 impl<'a> Model for Document<'a> {
-    ghost use Rattle.lsp_store.specs.Table.{Entry};
+    ghost use Rattle.lsp_message.specs.Params.{DocumentItem};
     ghost use Rattle.lsp_store.specs.Opened.{entry_under};
 
-    ghost Value = { Entry };
+    ghost Value = { DocumentItem };
 
     ghost view = { λ document. entry_under document.uri.now document.stored.now };
 }

@@ -20,9 +20,9 @@ pub struct Documents<'a> {
 impl<'a> Model for Documents<'a> {
     ghost use Rattle.std.specs.Prelude.{List, map};
     ghost use Rattle.lsp_store.specs.Opened.{entry_of};
-    ghost use Rattle.lsp_store.specs.Table.{Entry};
+    ghost use Rattle.lsp_message.specs.Params.{DocumentItem};
 
-    ghost Value = { List Entry };
+    ghost Value = { List DocumentItem };
 
     ghost view = { λ documents. map entry_of documents.entries };
 }

@@ -2,11 +2,11 @@ use Rattle.std.proofs.Common.{◌≡◌, ◌∙◌, ap, sym, None, string_bytes,
 use Rattle.std.proofs.lemmas.Int.{to_z-of_z}
 use Rattle.std.proofs.lemmas.Result.{err_from_is_err_and}
 use Rattle.lsp_frame.specs.Frame.{frame}
-use Rattle.lsp_message.specs.Params.{OpenData}
+use Rattle.lsp_message.specs.Params.{DocumentItem}
 use Rattle.lsp_message.specs.declared.params.OpenParams.{OpenParams}
 use Rattle.lsp_store.specs.Opened.{Takes}
 use Rattle.lsp_store.specs.Table as documents
-use Rattle.lsp_store.specs.Table.{Entry, Command, command_refusal}
+use Rattle.lsp_store.specs.Table.{Command, command_refusal}
 use Rattle.lsp_client.specs.Step.{State, agreement}
 use Rattle.lsp_client.proofs.OrderLemmas.{refused_first, some_same}
 use Rattle.lsp_client.proofs.SentLemmas.{order_sent, open_sent, long_refused, body_within}
@@ -16,7 +16,7 @@ use Rattle.lsp_client.proofs.client.Client.send_open.Goals as goal
 pub returns-in_err-may_open-clause-error : goal.returns-in_err-may_open-clause-error
 returns-in_err-may_open-clause-error c =
     let s : State = c.args.self.now in
-    let entry : Entry = record { uri = string_bytes c.args.uri; language = string_bytes c.args.language; version = c.args.version; text = string_bytes c.args.text } in
+    let entry : DocumentItem = record { uri = string_bytes c.args.uri; language = string_bytes c.args.language; version = c.args.version; text = string_bytes c.args.text } in
     let p = err_from_is_err_and c.from_residual.result c.from_residual.ensures.1 in
     rw (p.1, p.2)
     (refused_first (command_refusal s.limits s.table (documents.opens entry)) _ _
@@ -26,8 +26,8 @@ pub returns-in_err-frame-clause-error : goal.returns-in_err-frame-clause-error
 returns-in_err-frame-clause-error c =
     let s : State = c.args.self.now in
     let version : to_z w32 (of_z w32 c.args.version) ≡ c.args.version = to_z-of_z w32 c.args.version (search rules) in
-    let params : OpenData = record { uri = string_bytes c.args.uri; language = string_bytes c.args.language; version = c.args.version; text = string_bytes c.args.text } in
-    let command : Command = documents.opens (record { uri = params.uri; language = params.language; version = params.version; text = params.text }) in
+    let params : DocumentItem = record { uri = string_bytes c.args.uri; language = string_bytes c.args.language; version = c.args.version; text = string_bytes c.args.text } in
+    let command : Command = documents.opens params in
     let limits : c.limits.result ≡ s.limits = c.limits.ensures ∙ ap (λ (x : State). x.limits) c.self.view_is in
     let may : command_refusal s.limits s.table command ≡ None =
     rw (c.deref.ensures, c.deref-2.ensures, ap (λ (x : State). x.limits) c.self.view_is, ap (λ (x : State). x.table) c.self.view_is) at (c.in_ok-may_open.ensures.may params.language params.version) in
@@ -39,8 +39,8 @@ pub returns-clause-ok : goal.returns-clause-ok
 returns-clause-ok c =
     let s : State = c.args.self.now in
     let version : to_z w32 (of_z w32 c.args.version) ≡ c.args.version = to_z-of_z w32 c.args.version (search rules) in
-    let params : OpenData = record { uri = string_bytes c.args.uri; language = string_bytes c.args.language; version = c.args.version; text = string_bytes c.args.text } in
-    let command : Command = documents.opens (record { uri = params.uri; language = params.language; version = params.version; text = params.text }) in
+    let params : DocumentItem = record { uri = string_bytes c.args.uri; language = string_bytes c.args.language; version = c.args.version; text = string_bytes c.args.text } in
+    let command : Command = documents.opens params in
     let limits : c.limits.result ≡ s.limits = c.limits.ensures ∙ ap (λ (x : State). x.limits) c.self.view_is in
     let body = open_sent (agreement s).kind s.table params in
     let is = some_same _ _ (sym c.in-Some.is ∙ c.open_params.ensures _ refl) in

@@ -2,7 +2,7 @@ use Rattle.std.proofs.Common.{◌≡◌, ap, map, arith, string_bytes, rules, w3
 use Rattle.std.proofs.lemmas.Int.{to_z-of_z}
 use Rattle.lsp_text.specs.Units.{units_in}
 use Rattle.lsp_edit.specs.Edited.{edit_of}
-use Rattle.lsp_store.specs.Table.{Entry}
+use Rattle.lsp_message.specs.Params.{DocumentItem}
 use Rattle.lsp_store.proofs.MessageLemmas.{accepted_parts, texts_held}
 use Rattle.lsp_store.proofs.RefusalLemmas.{batch_bytes-changes}
 use Rattle.lsp_store.proofs.SquashLemmas.{add_accepted, has_reached, joins_after, memory_alone}
@@ -16,7 +16,7 @@ add-requires-clause-fits c =
 pub out_of_memory-requires : goal.out_of_memory-requires
 out_of_memory-requires c =
     memory_alone (string_bytes c.self.inside.uri) c.self.inside.limits c.self.inside.encoding c.self.inside.joined c.self.inside.version c.args.self.now c.self.view_is c.args.document.now c.args.version (map edit_of c.args.changes.now) c.requires.accepted
-    _ (ap (λ (e : Entry). e.text) c.document.view_is) c.in-Err.fault (rw c.max_text-max_text.ensures.value at c.in-Err.ensures.error)
+    _ (ap (λ (e : DocumentItem). e.text) c.document.view_is) c.in-Err.fault (rw c.max_text-max_text.ensures.value at c.in-Err.ensures.error)
 
 pub returns-clause-ok : goal.returns-clause-ok
 returns-clause-ok c =
