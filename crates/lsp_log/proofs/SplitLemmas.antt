@@ -9,6 +9,7 @@ use Rattle.lsp_frame.specs.Stream.{Framing, IsFrame, IsPart, HoldsOne, IsFeedFau
 use Rattle.lsp_stream.specs.Faults.{engine_fault}
 use Rattle.lsp_frame.specs.declared.fault.FrameFault.{FrameFault}
 use Rattle.lsp_frame.specs.declared.fault.FrameFault.TheVariants as fault_of
+use Rattle.lsp_frame.proofs.StreamLemmas.{nothing_part}
 use Rattle.lsp_log.specs.declared.record.Version.{Version}
 use Rattle.lsp_log.specs.declared.record.Version.TheVariants.{One, Two}
 use Rattle.lsp_log.specs.declared.record.Side.{Side}
@@ -18,10 +19,7 @@ use Rattle.lsp_log.specs.Log.{LogRules, Record, IsRecord, IsReadAs, IsMalformed,
 use Rattle.lsp_log.specs.Splitting.{IsSplitterFault, IsFed, IsReady, IsAfter, IsSplitFault, IsSide, IsOpen, mark_part, buffered_of, log_at, side_of, record_at}
 use Rattle.lsp_log.proofs.LogLemmas.{together_push, input_len, are_push, due_now, not_due}
 
--- Nothing is the beginning of a frame, and no frame.
-pub nothing_part : (max_body : ℕ) → IsPart max_body []
-nothing_part max_body = inl (record { begins = record { lines = []; rest = 13 ∷ 10 ∷ []; each = tt; is = refl; more = omega arith }; short = omega arith })
-
+-- A frame has at least two bytes, so nothing is none.
 pub frame_len : (max_body : ℕ) (spelling body : List ℕ) → IsFrameOf max_body spelling body → 2 ≤ length spelling
 frame_len max_body spelling body s = omega (arith, ap length s.is, length-append (header_of s.lines) body, length-append (lines_bytes s.lines) (13 ∷ 10 ∷ []))
 

@@ -18,7 +18,7 @@ same_version versions Two Two input is also = refl
 same_version versions One Two input is also = absurd (is also.0 also.1.0 also.1.1)
 same_version versions Two One input is also = absurd (also is.0 is.1.0 is.1.1)
 
-first_byte : (x y : ℕ) (xs ys : List ℕ) → x ∷ xs ≡ y ∷ ys → x ≡ y
+pub first_byte : (x y : ℕ) (xs ys : List ℕ) → x ∷ xs ≡ y ∷ ys → x ≡ y
 first_byte x y xs ys e = cc
 
 -- Two marks are one where the same stands behind them.

@@ -1,5 +1,5 @@
 -- What the client makes of each message that waits for it.
-use Rattle.std.proofs.Common.{ℕ, ◌≡◌, ◌≤◌, Bool, true, false, List, [], ◌∷◌, ◌++◌, length, map, Some, refl, ap, ◌∙◌, arith, pos}
+use Rattle.std.proofs.Common.{ℕ, ◌≡◌, ◌≤◌, true, false, List, [], ◌∷◌, ◌++◌, length, map, Some, refl, ap, ◌∙◌, arith, pos}
 use Rattle.std.specs.Prelude.{⊤, if◌then◌else◌}
 use Rattle.std.proofs.lemmas.List.{drop-append-le}
 use Rattle.lsp_text.specs.declared.encoding.Encoding.{Encoding}
@@ -17,6 +17,7 @@ use Rattle.lsp_server.specs.declared.config.EncodingChoice.TheVariants.{Fixed, N
 use Rattle.lsp_server.specs.declared.config.Sync.{Sync}
 use Rattle.lsp_server.specs.declared.config.Sync.TheVariants.{Incremental, Full}
 use Rattle.lsp_server.specs.Choice.{chosen, kind_of}
+use Rattle.lsp_server.proofs.LawLemmas.{offered_if}
 use Rattle.lsp_client.specs.declared.phase.Phase.{Phase}
 use Rattle.lsp_client.specs.declared.phase.Phase.TheVariants.{Closed}
 use Rattle.lsp_client.specs.Step as client
@@ -74,10 +75,6 @@ outcome (outgoing.shutdown_result id) = given null
 outcome m = failed
 
 -- ---- what is announced
-
-offered_if : (prefer : Encoding) (offers : Offers) (b : Bool) → is_offered offers prefer ≡ b → is_offered offers (if b then prefer else Utf16) ≡ true
-offered_if prefer offers true e = e
-offered_if prefer offers false e = refl
 
 pub offered_is : (choice : EncodingChoice) (offers : Offers) → is_utf16 choice ≡ true → is_offered offers (chosen choice offers) ≡ true
 offered_is (Fixed Utf8) offers e = absurd (let bad : false ≡ true = e in cc)

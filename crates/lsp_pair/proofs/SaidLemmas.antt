@@ -54,7 +54,7 @@ pub record IsSaid (limits : Bounds) (encoding : Encoding) (kind : SyncKind) (tab
   pub proper : IsProperCommand encoding command
   pub may : order_refusal limits kind table command ≡ None
 
-first_none : (first later : Option Refusal) → else_refused first later ≡ None → first ≡ None
+pub first_none : (first later : Option Refusal) → else_refused first later ≡ None → first ≡ None
 first_none None later e = refl
 first_none (Some refusal) later e = e
 

@@ -12,10 +12,11 @@ use Rattle.lsp_edit.specs.Canonical.{canonical}
 use Rattle.lsp_edit.specs.Compose.{then_items}
 use Rattle.lsp_edit.specs.Laws.{IsCanonical}
 use Rattle.lsp_edit.proofs.LawLemmas.{canonical_law, units_some}
+use Rattle.lsp_edit.specs.Indexed.{bytes_left}
 use Rattle.lsp_message.specs.Message.{reading}
 use Rattle.lsp_message.specs.Params.{DocumentItem, ChangeData}
 use Rattle.lsp_message.proofs.ReadBack.{reading-body_of, is_read_back, body_of-unique}
-use Rattle.lsp_store.specs.Table.{bytes_after, entry_at, entry_refusal, meant_text}
+use Rattle.lsp_store.specs.Table.{entry_at, entry_refusal, meant_text}
 use Rattle.lsp_store.specs.Message.{AreTexts, IsReadAgain, written_edit, change_body, canonical_batch, canonical_body}
 use Rattle.lsp_store.specs.Squash.{SquashData, items_meant}
 use Rattle.lsp_store.proofs.MessageLemmas.{is_read}
@@ -23,11 +24,12 @@ use Rattle.lsp_store.proofs.ScalarLemmas.{canonical_texts}
 use Rattle.lsp_store.proofs.SquashLemmas.{squash_accepted}
 use Rattle.lsp_server.specs.Incoming.{incoming_of, did_change}
 use Rattle.lsp_server.specs.Step.{State, edit_from_data, encoding_of}
+use Rattle.lsp_pair.proofs.SaidLemmas.{edits_back}
 use Rattle.lsp_replay.specs.Engines.{canonical_change_body}
 use Rattle.lsp_replay.specs.inside.Joining.{refusal_of, server_after}
 use Rattle.lsp_replay.specs.Squashed.{joined_by}
 use Rattle.lsp_replay.proofs.PutLemmas.{put, change_puts}
-use Rattle.lsp_replay.proofs.SettledLemmas.{asks_back, edits_back}
+use Rattle.lsp_replay.proofs.SettledLemmas.{asks_back}
 
 -- what a document's URI, version and text must be
 pub record IsProperAt (t : State) (uri : List ℕ) (version : ℤ) (entry : DocumentItem) (batch : List Edit) (items : List Item) : Type 0 where
@@ -39,7 +41,7 @@ pub record IsProperAt (t : State) (uri : List ℕ) (version : ℤ) (entry : Docu
   pub means : meaning (units_in (encoding_of t)) (chars entry.text) batch ≡ Ok items
   pub texts : AreTexts batch
   pub newer : int_le version entry.version ≡ false
-  pub short : length (bytes_after entry.text items) ≤ t.config.limits.max_text
+  pub short : length (bytes_left entry.text items) ≤ t.config.limits.max_text
   pub few : nat_lt t.config.limits.max_changes (length (canonical (units_in (encoding_of t)) (chars entry.text) items)) ≡ false
 
 -- the batch, and the change that asks for it
@@ -52,7 +54,7 @@ canonical_change t uri version entry items = record { uri = uri; version = versi
 pub record IsCanonicalChange (t : State) (uri : List ℕ) (version : ℤ) (entry : DocumentItem) (items : List Item) : Type 0 where
   pub asks : incoming_of (reading (change_body uri version (canonical_at t entry items))) ≡ did_change (Some (canonical_change t uri version entry items))
   pub may : refusal_of t (canonical_change t uri version entry items) ≡ None
-  pub leaves : server_after t (canonical_change t uri version entry items) ≡ record t { table = put t.table uri version (bytes_after entry.text items) }
+  pub leaves : server_after t (canonical_change t uri version entry items) ≡ record t { table = put t.table uri version (bytes_left entry.text items) }
   pub own : canonical_change_body t (canonical_change t uri version entry items) ≡ change_body uri version (canonical_at t entry items)
   pub joins : (squash : SquashData) → squash.encoding ≡ encoding_of t → text_of (chars squash.text) squash.items ≡ chars entry.text
       → joined_by (canonical_change t uri version entry items) squash ≡ record squash { items = then_items squash.items items; version = version }
@@ -88,7 +90,7 @@ module _ (t : State) (uri : List ℕ) (version : ℤ) (entry : DocumentItem) (ba
   may_on : refusal_of t (canonical_change t uri version entry items) ≡ None
   may_on = rw (at.found, back) accepted
 
-  leaves_on : server_after t (canonical_change t uri version entry items) ≡ record t { table = put t.table uri version (bytes_after entry.text items) }
+  leaves_on : server_after t (canonical_change t uri version entry items) ≡ record t { table = put t.table uri version (bytes_left entry.text items) }
   leaves_on =
       ap (λ (table : List DocumentItem). record t { table = table })
       (change_puts (units_in (encoding_of t)) t.table uri version (map edit_from_data (map written_edit (canonical_at t entry items))) entry at.found

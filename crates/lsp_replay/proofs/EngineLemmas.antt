@@ -6,7 +6,6 @@ use Rattle.std.specs.Prelude.{◌⊎◌, MatchOption, OnOk, OnErr, IfOk, IfErr}
 use Rattle.std.specs.Io.KnownBytes.{Appends}
 use Rattle.std.proofs.KnownBytes.{Appends-trans, Appends-nil}
 use Rattle.lsp_frame.specs.Frame.{IsFrameOf}
-use Rattle.lsp_frame.specs.Header.{header_of, lines_bytes}
 use Rattle.lsp_replay.specs.declared.outcome.Outcome.{Outcome}
 use Rattle.lsp_stream.specs.declared.fault.EngineFault.{EngineFault}
 use Rattle.lsp_stream.specs.declared.fault.EngineFault.TheVariants.{Read, Write, Frame, Truncated, BodyTooLong, NoMemory, TooManyTurns, BadLog}
@@ -17,6 +16,7 @@ use Rattle.lsp_log.specs.Log.{LogRules, Record, Log, IsReadAs, HasNoRecord, IsCu
 use Rattle.lsp_log.specs.Splitting.{IsFed, IsReady, IsAfter, IsSplitFault, log_at, head_of, buffered_of, record_at}
 use Rattle.lsp_log.specs.Opening.{IsUnfinished}
 use Rattle.lsp_log.specs.Laws.{BufferedLaw, RestLaw}
+use Rattle.lsp_log.proofs.SplitLemmas.{frame_len}
 use Rattle.lsp_replay.specs.RunOutput.{RunOutput, written_first, stopped}
 use Rattle.lsp_replay.specs.inside.RunOutput.{after}
 use Rattle.lsp_replay.specs.Engine.{Stopped, Reached, Broken, RanOut, AtEnd, BrokenAtEnd, RanOutAtEnd, last_of}
@@ -171,9 +171,6 @@ module _ (reading : LogRules) (run_output : List Record → RunOutput) (received
       split_faults unflushed bytes s now received_now received_new fault here quiet nothing (fed here.records here.is_after)
 
 -- ---- rests that no record begins
-
-frame_len : (max_body : ℕ) (spelling body : List ℕ) → IsFrameOf max_body spelling body → 2 ≤ length spelling
-frame_len max_body spelling body s = omega (arith, ap length s.is, length-append (header_of s.lines) body, length-append (lines_bytes s.lines) (13 ∷ 10 ∷ []))
 
 pub empty_rest : (max_body : ℕ) (log : Log) → log.rest ≡ [] → HasNoRecord max_body log
 empty_rest max_body log nothing side spelling body more is_frame_of e =

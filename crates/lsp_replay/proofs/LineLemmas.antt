@@ -6,13 +6,11 @@ use Rattle.lsp_frame.specs.Frame.{IsFrameOf}
 use Rattle.lsp_frame.specs.Header.{IsNameByte, Line, AreLines, header_of, lines_bytes}
 use Rattle.lsp_log.specs.declared.record.Version.TheVariants.{One}
 use Rattle.lsp_log.specs.Log.{Record, IsVersion, AreRecords, together, version_line}
+use Rattle.lsp_log.proofs.UniqueLemmas.{first_byte}
 
 abbrev NoColon : List ℕ → Type 0
 NoColon [] = ⊤
 NoColon (b ∷ bs) = (b ≢ 58) × NoColon bs
-
-pub first_byte : (x y : ℕ) (xs ys : List ℕ) → x ∷ xs ≡ y ∷ ys → x ≡ y
-first_byte x y xs ys e = cc
 
 later_bytes : (x y : ℕ) (xs ys : List ℕ) → x ∷ xs ≡ y ∷ ys → xs ≡ ys
 later_bytes x y xs ys e = cc

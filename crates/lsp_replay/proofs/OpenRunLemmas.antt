@@ -13,19 +13,20 @@ use Rattle.lsp_edit.specs.Canonical.{canonical}
 use Rattle.lsp_edit.specs.Compose.{then_items}
 use Rattle.lsp_edit.proofs.ComposeLemmas.{text_of-then, then_means}
 use Rattle.lsp_edit.proofs.EditedLemmas.{plain_text}
+use Rattle.lsp_edit.specs.Indexed.{bytes_left}
 use Rattle.lsp_message.specs.Params.{DocumentItem, ChangeData}
-use Rattle.lsp_store.specs.Table.{bytes_after, entry_at, meant_text}
+use Rattle.lsp_store.specs.Table.{entry_at, meant_text}
 use Rattle.lsp_store.specs.Message.{AreTexts}
 use Rattle.lsp_store.specs.Squash.{SquashData, items_meant, squash_batch, squash_of}
 use Rattle.lsp_store.proofs.MessageLemmas.{Accepts, accepted_parts}
 use Rattle.lsp_store.proofs.ScalarLemmas.{scalar-meaning, scalar-text}
+use Rattle.lsp_store.specs.Laws.{IsWithin}
 use Rattle.lsp_server.specs.Step.{State, edit_from_data, encoding_of}
 use Rattle.lsp_replay.specs.inside.Joining.{refusal_of, server_after}
 use Rattle.lsp_replay.specs.Squashed.{joined_by}
 use Rattle.lsp_replay.proofs.AskedLemmas.{IsProperAsked}
 use Rattle.lsp_replay.proofs.JoiningLemmas.{uri_at}
 use Rattle.lsp_replay.proofs.PutLemmas.{put, change_puts, put_at, put_twice}
-use Rattle.lsp_replay.proofs.StateLemmas.{IsHeldEntry}
 use Rattle.lsp_replay.proofs.CanonicalChangeLemmas.{IsProperAt, IsCanonicalChange, canonical_change, is_canonical_change}
 
 -- the squash with other items and another version
@@ -36,16 +37,16 @@ with_items squash items version = record squash { items = items; version = versi
 pub record IsOpenFrom (t : State) (squash : SquashData) (now : State) : Type 0 where
   pub entry : DocumentItem
   pub found : entry_at t.table squash.uri ≡ Some entry
-  pub received : IsHeldEntry t.config.limits entry
+  pub received : IsWithin t.config.limits entry
   pub is : squash ≡ with_items (squash_of t.config.limits (encoding_of t) entry) squash.items squash.version
   pub batch : List Edit
   pub means : meaning (units_in (encoding_of t)) (chars entry.text) batch ≡ Ok squash.items
   pub texts : AreTexts batch
   pub newer : int_le squash.version entry.version ≡ false
-  pub short : length (bytes_after entry.text squash.items) ≤ t.config.limits.max_text
+  pub short : length (bytes_left entry.text squash.items) ≤ t.config.limits.max_text
   pub uri : IsUtf8 squash.uri
   pub version : FitsSigned w32 squash.version
-  pub now_is : now ≡ record t { table = put t.table squash.uri squash.version (bytes_after entry.text squash.items) }
+  pub now_is : now ≡ record t { table = put t.table squash.uri squash.version (bytes_left entry.text squash.items) }
 
 -- ---- items
 
@@ -61,13 +62,13 @@ texts_more (change ∷ batch) more texts also = (texts.0, texts_more batch more 
 
 -- the characters of a text that a batch leaves
 left_chars : (units : ℕ → ℕ) (text : List ℕ) (batch : List Edit) (items : List Item) → IsUtf8 text → AreTexts batch → meaning units (chars text) batch ≡ Ok items
-    → chars (bytes_after text items) ≡ text_of (chars text) items
+    → chars (bytes_left text items) ≡ text_of (chars text) items
 left_chars units text batch items utf8 texts means =
     chars-encodes (text_of (chars text) items) (scalar-text (chars text) items (scalars-chars text utf8) (scalar-meaning units (chars text) batch items texts means))
 
 -- ---- a change begins a run
 
-module _ (t : State) (p : ChangeData) (entry : DocumentItem) (found : entry_at t.table p.uri ≡ Some entry) (received : IsHeldEntry t.config.limits entry) (proper : IsProperAsked p) (may : refusal_of t p ≡ None) where
+module _ (t : State) (p : ChangeData) (entry : DocumentItem) (found : entry_at t.table p.uri ≡ Some entry) (received : IsWithin t.config.limits entry) (proper : IsProperAsked p) (may : refusal_of t p ≡ None) where
   begun_accepts : Accepts t.config.limits (units_in (encoding_of t)) entry p.version (map edit_from_data p.changes)
   begun_accepts = accepted_parts t.config.limits (units_in (encoding_of t)) entry p.version (map edit_from_data p.changes) (rw found at may)
 
@@ -93,15 +94,15 @@ module _ (t : State) (p : ChangeData) (entry : DocumentItem) (found : entry_at t
     means = begun_accepts.means ∙ ap Ok (sym begun_items);
     texts = proper.texts;
     newer = begun_accepts.newer;
-    short = subst (λ (items : List Item). length (bytes_after entry.text items) ≤ t.config.limits.max_text) (sym begun_items) begun_accepts.short;
+    short = subst (λ (items : List Item). length (bytes_left entry.text items) ≤ t.config.limits.max_text) (sym begun_items) begun_accepts.short;
     uri = subst IsUtf8 (sym same_uri) proper.uri;
     version = proper.version;
     now_is =
         ap (λ (table : List DocumentItem). record t { table = table })
         (change_puts (units_in (encoding_of t)) t.table p.uri p.version (map edit_from_data p.changes) entry found
         ∙ ap (λ m. put t.table p.uri p.version (meant_text entry.text m)) begun_accepts.means
-        ∙ ap (λ items. put t.table p.uri p.version (bytes_after entry.text items)) (sym begun_items)
-        ∙ ap (λ u. put t.table u p.version (bytes_after entry.text begun_squash.items)) (sym same_uri));
+        ∙ ap (λ items. put t.table p.uri p.version (bytes_left entry.text items)) (sym begun_items)
+        ∙ ap (λ u. put t.table u p.version (bytes_left entry.text begun_squash.items)) (sym same_uri));
   }
 
 -- ---- a change goes on with it
@@ -117,7 +118,7 @@ newer_still (negsuc a) (negsuc b) (negsuc c) over more = lt-leb c a (omega (arit
 
 module _ (t : State) (squash : SquashData) (now : State) (from : IsOpenFrom t squash now) (p : ChangeData) (same : bytes_eq p.uri squash.uri ≡ true) (proper : IsProperAsked p) (may : refusal_of now p ≡ None) where
   abbrev reached_text : List ℕ
-  reached_text = bytes_after from.entry.text squash.items
+  reached_text = bytes_left from.entry.text squash.items
 
   abbrev reached_now : DocumentItem
   reached_now = record from.entry { version = squash.version; text = reached_text }
@@ -154,7 +155,7 @@ module _ (t : State) (squash : SquashData) (now : State) (from : IsOpenFrom t sq
       ap (then_items squash.items)
       (sym (items_in (with_items (squash_of t.config.limits (encoding_of t) from.entry) squash.items squash.version) (sym from.is)) ∙ ap items_meant means_now)
 
-  left_now : bytes_after reached_text accepts_now.items ≡ bytes_after from.entry.text longer_squash.items
+  left_now : bytes_left reached_text accepts_now.items ≡ bytes_left from.entry.text longer_squash.items
   left_now =
       ap encode_utf8_all
       (ap (λ x. text_of x accepts_now.items) chars_now ∙ sym (text_of-then (chars from.entry.text) squash.items accepts_now.items) ∙ ap (text_of (chars from.entry.text)) (sym longer_items))
@@ -177,8 +178,8 @@ module _ (t : State) (squash : SquashData) (now : State) (from : IsOpenFrom t sq
         ∙ ap (λ (table : List DocumentItem). record t { table = table })
         (change_puts (units_in (encoding_of t)) next.table p.uri p.version (map edit_from_data p.changes) reached_now found_now
         ∙ ap (λ m. put next.table p.uri p.version (meant_text reached_text m)) accepts_now.means
-        ∙ ap (λ u. put next.table u p.version (bytes_after reached_text accepts_now.items)) uri_is
-        ∙ put_twice t.table squash.uri squash.version p.version reached_text (bytes_after reached_text accepts_now.items)
+        ∙ ap (λ u. put next.table u p.version (bytes_left reached_text accepts_now.items)) uri_is
+        ∙ put_twice t.table squash.uri squash.version p.version reached_text (bytes_left reached_text accepts_now.items)
         ∙ ap (put t.table squash.uri p.version) left_now);
   }
 
@@ -190,7 +191,7 @@ module _ (t : State) (squash : SquashData) (now : State) (from : IsOpenFrom t sq
 
   pub same_text : (uri : List ℕ) (entry : DocumentItem) → uri ≡ squash.uri → entry_at now.table uri ≡ Some entry → text_of (chars squash.text) squash.items ≡ chars entry.text
   same_text uri entry same found =
-      let reached : List ℕ = bytes_after from.entry.text squash.items in
+      let reached : List ℕ = bytes_left from.entry.text squash.items in
       let both : Some (record from.entry { version = squash.version; text = reached }) ≡ Some entry =
       sym (put_at t.table squash.uri squash.version reached from.entry from.found) ∙ sym (ap (λ (s : State). entry_at s.table squash.uri) from.now_is) ∙ ap (entry_at now.table) (sym same) ∙ found in
       let one : record from.entry { version = squash.version; text = reached } ≡ entry = cc in

@@ -24,7 +24,8 @@ use Rattle.lsp_log.specs.Log.{Record, IsRecord, AreRecords, together, record_byt
 use Rattle.lsp_log.proofs.LogLemmas.{are_push, due_after, together_push}
 use Rattle.std.proofs.lemmas.Slice.Eq.{bytes_eq-Decides}
 use Rattle.lsp_log.specs.declared.record.Side.{Side}
-use Rattle.lsp_store.proofs.LawLemmas.{MayChange, change_parts}
+use Rattle.lsp_store.proofs.LawLemmas.{MayChange, change_parts, within_at}
+use Rattle.lsp_store.specs.Laws.{IsWithin}
 use Rattle.lsp_replay.proofs.JoiningLemmas.{uri_at}
 use Rattle.lsp_replay.proofs.SingleLemmas.{IsSingle, is_single, single_record}
 use Rattle.lsp_replay.specs.RunOutput.{written_first}
@@ -39,7 +40,7 @@ use Rattle.lsp_replay.proofs.NumberedLemmas.{IsAlike, alike_both, numbered}
 use Rattle.lsp_replay.proofs.OpenRunLemmas.{IsOpenFrom, begins_from, goes_on_from, one_batch, one_message, one_joins, same_encoding, same_text}
 use Rattle.lsp_replay.proofs.SquashLawLemmas.{IsEnded, IsApart, NonEmpty, first_line, report_on, step_on, together_split}
 use Rattle.lsp_replay.proofs.SquashingLemmas.{step_changed}
-use Rattle.lsp_replay.proofs.StateLemmas.{IsHeldEntry, IsHeldState, held_at}
+use Rattle.lsp_replay.proofs.StateLemmas.{IsHeldState}
 
 -- The records that are written of an open run, if it isn't written as one message: they lead to the same run.
 pub record IsPending (max_body at : ℕ) (version : Version) (due : Bool) (s : Session) (run : Run) (t : Session) (before : Option Run) : Type 0 where
@@ -368,9 +369,9 @@ module _ (limits : Bounds) (ranges : AreInRange limits) (at : ℕ) (version : Ve
       (subst (λ k. IsOpenFrom t.server k (server_after t.server single.again)) same_squash
       (begins_from t.server single.again its_entry found_out entry_held (proper_change q single.again single.accepted.asks) single.accepted.may))
     where
-      entry_held : IsHeldEntry t.server.config.limits its_entry
-      entry_held = subst (λ (server : State). IsHeldEntry server.config.limits its_entry) (sym there)
-          (subst (λ (l : Bounds). IsHeldEntry l its_entry) (sym received.limit) (held_at limits s.server.table p.uri its_entry received.table may_in.is_open))
+      entry_held : IsWithin t.server.config.limits its_entry
+      entry_held = subst (λ (server : State). IsWithin server.config.limits its_entry) (sym there)
+          (subst (λ (l : Bounds). IsWithin l its_entry) (sym received.limit) (within_at limits s.server.table p.uri its_entry received.table may_in.is_open))
 
   pub begun_run : IsBegunRun limits.max_body at version due s run r t before
   begun_run = record {

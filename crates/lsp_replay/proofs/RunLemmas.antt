@@ -8,6 +8,7 @@ use Rattle.std.proofs.lemmas.Bool.{eqb-true}
 use Rattle.lsp_frame.specs.Faults.{place_after}
 use Rattle.lsp_frame.specs.Frame.{IsFrameOf}
 use Rattle.lsp_frame.specs.Header.{lines_bytes}
+use Rattle.lsp_frame.proofs.FrameLemmas.{or-true}
 use Rattle.lsp_replay.specs.declared.outcome.Outcome.{Outcome}
 use Rattle.lsp_stream.specs.declared.fault.EngineFault.{EngineFault}
 use Rattle.lsp_stream.specs.declared.fault.EngineFault.TheVariants.{Read, Write, Frame, Truncated, BodyTooLong, NoMemory, TooManyTurns, BadLog}
@@ -42,14 +43,10 @@ has_return : List ℕ → Bool
 has_return [] = false
 has_return (b ∷ bytes) = nat_eq b 13 || has_return bytes
 
-or_true : (b : Bool) → (b || true) ≡ true
-or_true true = refl
-or_true false = refl
-
 has_in : (xs ys : List ℕ) → has_return (xs ++ (13 ∷ ys)) ≡ true
 unfolding has_return
 has_in [] ys = refl
-has_in (x ∷ xs) ys = ap (λ b. nat_eq x 13 || b) (has_in xs ys) ∙ or_true (nat_eq x 13)
+has_in (x ∷ xs) ys = ap (λ b. nat_eq x 13 || b) (has_in xs ys) ∙ or-true (nat_eq x 13)
 
 line_has_none : has_return version_line ≡ false
 unfolding has_return

@@ -23,7 +23,7 @@ use Rattle.lsp_replay.specs.Run.{IsEngineRun}
 use Rattle.lsp_replay.specs.AllRecords.{EndedBy, Passed, PassedEnd, CutAtEnd, ShortAtEnd, IsFaultReported, IsRunReport, RanOver}
 use Rattle.lsp_log.specs.Opening.{IsUnfinished}
 use Rattle.lsp_log.specs.Laws.{IsFirstOf, FirstLaw, VersionLaw}
-use Rattle.lsp_replay.proofs.LineLemmas.{first_byte}
+use Rattle.lsp_log.proofs.UniqueLemmas.{first_byte}
 use Rattle.lsp_replay.proofs.EngineLemmas.{empty_rest, still_short}
 
 -- ---- courses: a record that ended a run ends it whatever follows, and more records give more output

@@ -1,8 +1,8 @@
 -- The canonical message of a change that is accepted asks for its canonical batch, which does the same.
 use Rattle.std.proofs.Common.{◌≡◌, ℕ, ℤ, ◌≤◌, List, [], ◌∷◌, map, length, Option, Some, None, refl, sym, ap, ◌∙◌, subst, arith}
-use Rattle.std.specs.Prelude.{Ok, encode_utf8_all}
+use Rattle.std.specs.Prelude.{Ok}
 use Rattle.std.specs.Str.{chars}
-use Rattle.std.proofs.lemmas.Str.{chars-encodes, scalars-chars}
+use Rattle.std.proofs.lemmas.Str.{scalars-chars}
 use Rattle.lsp_frame.specs.Limits.{Bounds, AreInRange}
 use Rattle.lsp_frame.proofs.LawLemmas.{injective_law}
 use Rattle.lsp_text.specs.Units.{units_in}
@@ -15,18 +15,21 @@ use Rattle.lsp_edit.proofs.LawLemmas.{canonical_law, units_some}
 use Rattle.lsp_message.specs.Message.{reading}
 use Rattle.lsp_message.specs.Params.{DocumentItem, ChangeData}
 use Rattle.lsp_message.proofs.ReadBack.{reading-body_of, is_read_back, body_of-unique}
-use Rattle.lsp_store.specs.Table.{Refusal, not_open, entry_at, refusal_on, entry_refusal, change_refusal, after_change, unless_refused}
-use Rattle.lsp_store.specs.Message.{AreTexts, IsCanonicalOf, IsReadAgain, written_edit, change_body, canonical_batch, canonical_body, body_refusal, else_refused}
+use Rattle.lsp_store.specs.Table.{not_open, entry_at, refusal_on, entry_refusal, change_refusal, after_change, unless_refused}
+use Rattle.lsp_store.specs.Message.{AreTexts, IsCanonicalOf, IsReadAgain, written_edit, change_body, canonical_batch, canonical_body, body_refusal}
 use Rattle.lsp_store.proofs.MessageLemmas.{Accepts, accepted_parts, body_within, is_settled, is_read}
 use Rattle.lsp_store.proofs.ScalarLemmas.{canonical_texts}
+use Rattle.lsp_store.specs.Laws.{IsWithin}
+use Rattle.lsp_store.proofs.LawLemmas.{within_at}
 use Rattle.lsp_server.specs.declared.phase.Phase.{Phase}
 use Rattle.lsp_server.specs.declared.phase.Phase.TheVariants.{New, Running, Down, Ended}
 use Rattle.lsp_server.specs.Incoming.{did_change, incoming_of}
 use Rattle.lsp_server.specs.Step.{State, step_in, step_on, obeyed, edit_from_data, encoding_of}
+use Rattle.lsp_pair.proofs.SaidLemmas.{edits_back, first_none}
 use Rattle.lsp_replay.specs.Engines.{canonical_change_body}
 use Rattle.lsp_replay.proofs.CanonicalLogLemmas.{within}
 use Rattle.lsp_replay.proofs.AskedLemmas.{IsProperAsked}
-use Rattle.lsp_replay.proofs.StateLemmas.{IsHeldEntry, IsHeldState, held_at}
+use Rattle.lsp_replay.proofs.StateLemmas.{IsHeldState}
 
 -- ---- refusals
 
@@ -38,18 +41,7 @@ open_one limits units table uri version batch e = by (entry_at table uri) refl e
     by None is f = absurd (let bad : Some not_open ≡ None = f in cc)
     by (Some entry) is f = (entry, is)
 
-first_none : (first later : Option Refusal) → else_refused first later ≡ None → first ≡ None
-first_none None later e = refl
-first_none (Some refusal) later e = e
-
 -- ---- a batch is read back as it was written
-
-pub edits_back : (batch : List Edit) → AreTexts batch → map edit_from_data (map written_edit batch) ≡ batch
-edits_back [] texts = refl
-edits_back (change ∷ batch) texts =
-    let text : chars (encode_utf8_all change.text) ≡ change.text = chars-encodes change.text texts.0 in
-    let same : edit_from_data (written_edit change) ≡ change = λ i. record { range = change.range; text = text i } in
-    rw (same, edits_back batch texts.1) refl
 
 pub asks_back : (uri : List ℕ) (version : ℤ) (batch : List Edit) → IsReadAgain uri version batch
     → incoming_of (reading (change_body uri version batch)) ≡ did_change (Some (record { uri = uri; version = version; changes = map written_edit batch }))
@@ -93,8 +85,8 @@ module _ (server : State) (p : ChangeData) (ranges : AreInRange server.config.li
   is_open : entry_at server.table p.uri ≡ Some entry
   is_open = (open_one server.config.limits (units_in encoding) server.table p.uri p.version batch may).1
 
-  text_held : IsHeldEntry server.config.limits entry
-  text_held = held_at server.config.limits server.table p.uri entry received.table is_open
+  text_held : IsWithin server.config.limits entry
+  text_held = within_at server.config.limits server.table p.uri entry received.table is_open
 
   laws : (some : List Edit) (items : List Item) → meaning (units_in encoding) (chars entry.text) some ≡ Ok items → IsCanonical (units_in encoding) (chars entry.text) some items
   laws some items means = canonical_law (units_in encoding) (units_some encoding) (chars entry.text) some items means

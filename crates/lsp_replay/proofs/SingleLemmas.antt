@@ -12,14 +12,16 @@ use Rattle.lsp_edit.specs.Items.{text_of}
 use Rattle.lsp_edit.specs.Laws.{IsCanonical}
 use Rattle.lsp_edit.specs.Batch.{meaning}
 use Rattle.lsp_edit.proofs.LawLemmas.{canonical_law, units_some}
+use Rattle.lsp_edit.specs.Indexed.{bytes_left}
 use Rattle.lsp_message.specs.Message.{reading}
 use Rattle.lsp_message.specs.Params.{DocumentItem, ChangeData}
 use Rattle.lsp_store.specs.Message.{change_body}
 use Rattle.lsp_store.specs.Squash.{SquashData, items_meant}
-use Rattle.lsp_store.specs.Table.{bytes_after, entry_at, meant_text}
+use Rattle.lsp_store.specs.Table.{entry_at, meant_text}
 use Rattle.lsp_replay.proofs.PutLemmas.{put, change_puts}
-use Rattle.lsp_store.proofs.LawLemmas.{MayChange, change_parts}
+use Rattle.lsp_store.proofs.LawLemmas.{MayChange, change_parts, within_at}
 use Rattle.lsp_store.proofs.MessageLemmas.{Accepts, accepted_parts}
+use Rattle.lsp_store.specs.Laws.{IsWithin}
 use Rattle.lsp_server.specs.Incoming.{incoming_of}
 use Rattle.lsp_server.specs.Step.{edit_from_data, encoding_of}
 use Rattle.lsp_log.specs.declared.record.Version.{Version}
@@ -30,7 +32,7 @@ use Rattle.lsp_replay.specs.Session.{Session}
 use Rattle.lsp_replay.specs.Squashed.{joined_by}
 use Rattle.lsp_replay.proofs.CanonicalChangeLemmas.{IsProperAt, IsCanonicalChange, canonical_at, canonical_change, is_canonical_change}
 use Rattle.lsp_replay.proofs.ChangeLemmas.{IsAccepted, proper_change}
-use Rattle.lsp_replay.proofs.StateLemmas.{IsHeldEntry, IsHeldState, held_at}
+use Rattle.lsp_replay.proofs.StateLemmas.{IsHeldState}
 
 -- A record is the canonical message of an accepted change: it is accepted, and does and joins what the change does.
 pub record IsSingle (max_body at : ℕ) (version : Version) (due : Bool) (s : Session) (p : ChangeData) (q : Record) : Type 0 where
@@ -57,8 +59,8 @@ module _ (limits : Bounds) (ranges : AreInRange limits) (at : ℕ) (version : Ve
   abbrev entry : DocumentItem
   entry = may.entry
 
-  entry_held : IsHeldEntry limits entry
-  entry_held = held_at limits s.server.table p.uri entry received.table may.is_open
+  entry_held : IsWithin limits entry
+  entry_held = within_at limits s.server.table p.uri entry received.table may.is_open
 
   accepts : Accepts s.server.config.limits (units_in (encoding_of s.server)) entry p.version (map edit_from_data p.changes)
   accepts = accepted_parts s.server.config.limits (units_in (encoding_of s.server)) entry p.version (map edit_from_data p.changes) may.may
@@ -123,7 +125,7 @@ module _ (limits : Bounds) (ranges : AreInRange limits) (at : ℕ) (version : Ve
         let here = text entry may.is_open in message.joins squash encoding here ∙ sym (meant squash encoding here);
   }
     where
-      same_leaves : server_after s.server p ≡ record s.server { table = put s.server.table p.uri p.version (bytes_after entry.text accepts.items) }
+      same_leaves : server_after s.server p ≡ record s.server { table = put s.server.table p.uri p.version (bytes_left entry.text accepts.items) }
       same_leaves =
           ap (λ table. record s.server { table = table })
           (change_puts (units_in (encoding_of s.server)) s.server.table p.uri p.version (map edit_from_data p.changes) entry may.is_open

@@ -155,7 +155,7 @@ kept Down s m e = stays_kept Down s _ e
 
 -- ---- the encoding
 
-offered_if : (prefer : Encoding) (offers : Offers) (b : Bool) → is_offered offers prefer ≡ b → is_offered offers (if b then prefer else Utf16) ≡ true
+pub offered_if : (prefer : Encoding) (offers : Offers) (b : Bool) → is_offered offers prefer ≡ b → is_offered offers (if b then prefer else Utf16) ≡ true
 offered_if prefer offers true e = e
 offered_if prefer offers false e = refl
 

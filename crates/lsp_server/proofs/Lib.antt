@@ -1,2 +1,2 @@
 mod Commands
-mod LawLemmas
+pub mod LawLemmas

@@ -1,10 +1,11 @@
 -- A written frame has one body.
 use Rattle.std.proofs.Common.{ℕ, ◌≡◌, ◌<◌, ◌≤◌, ◌^◌, List, [], ◌∷◌, ◌++◌, length, codes, decimal, sym, ap, ◌∙◌, subst, arith}
 use Rattle.std.proofs.lemmas.Fmt.{decimal_is_IsNumeral}
-use Rattle.std.proofs.lemmas.List.{append_assoc, append_cancel_left, length-append}
+use Rattle.std.proofs.lemmas.List.{append_assoc, append_cancel_left}
 use Rattle.std.specs.Char.{digit_value}
 use Rattle.std.specs.Str.Parse.{AllDigits}
 use Rattle.lsp_frame.specs.Frame.{frame}
+use Rattle.lsp_frame.proofs.WrittenLemmas.{frame_len}
 
 -- what stands behind the first carriage return, where digits stand before it
 after_return : (xs ys a b : List ℕ) → AllDigits 10 xs → AllDigits 10 ys → xs ++ 13 ∷ a ≡ ys ++ 13 ∷ b → a ≡ b
@@ -19,10 +20,6 @@ end_and body = 10 ∷ 13 ∷ 10 ∷ body
 four : (a b c d : List ℕ) → a ++ b ++ c ++ d ≡ a ++ (b ++ (c ++ d))
 four a b c d = simp append_assoc
 
-body_len : (body : List ℕ) → length body ≤ length (frame body)
-unfolding frame
-body_len body = simp length-append (omega arith)
-
 same_behind : (body other : List ℕ) → length body < 2 ^ 64 → length other < 2 ^ 64 → frame body ≡ frame other → body ≡ other
 unfolding frame
 same_behind body other small few e =
@@ -34,4 +31,4 @@ same_behind body other small few e =
 
 -- Equal frames have equal bodies.
 pub frame_one : (body other : List ℕ) → length (frame body) < 2 ^ 64 → frame body ≡ frame other → body ≡ other
-frame_one body other small e = same_behind body other (omega (arith, body_len body, small)) (omega (arith, body_len other, small, ap length e)) e
+frame_one body other small e = same_behind body other (omega (arith, frame_len body, small)) (omega (arith, frame_len other, small, ap length e)) e

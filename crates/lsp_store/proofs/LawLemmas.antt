@@ -14,8 +14,9 @@ use Rattle.lsp_edit.specs.Batch.{Edit, meaning}
 use Rattle.lsp_edit.specs.Canonical.{canonical}
 use Rattle.lsp_edit.specs.Laws.{IsCanonical}
 use Rattle.lsp_edit.proofs.LawLemmas.{canonical_law, units_some}
+use Rattle.lsp_edit.specs.Indexed.{bytes_left}
 use Rattle.lsp_message.specs.Params.{DocumentItem}
-use Rattle.lsp_store.specs.Table.{Command, opens, changes, closes, already_open, too_many_documents, text_too_long, not_open, batch_bytes, bytes_after, meant_text, entry_at, open_refusal, refusal_on, entry_refusal, change_refusal, changed, after_open, after_change, after_close, table_after, table_from}
+use Rattle.lsp_store.specs.Table.{Command, opens, changes, closes, already_open, too_many_documents, text_too_long, not_open, batch_bytes, meant_text, entry_at, open_refusal, refusal_on, entry_refusal, change_refusal, changed, after_open, after_change, after_close, table_after, table_from}
 use Rattle.lsp_store.specs.Message.{AreTexts, canonical_batch, whole_text, whole_batch}
 use Rattle.lsp_store.specs.Laws.{AreWithin, GreaterLimitsLaw, CanonicalBatchLaw, WholeTextLaw, WithinLaw, UniqueLaw, TableLaw, LastLaw, IsWithin, AllWithin, AreUnique, AreAccepted, IsInOrder}
 use Rattle.lsp_store.proofs.MessageLemmas.{Accepts, accepted_parts, accepted_from, leaves_same, batch_at, settled_accepted, settled_leaves, accepts}
@@ -122,19 +123,19 @@ within_at limits (first ∷ table) uri entry kept found =
     (λ (not : bytes_eq uri first.uri ≡ false). within_at limits table uri entry kept.1 (rw not at found))
     (cases_Bool (bytes_eq uri first.uri))
 
-within_end : (limits : Bounds) (table : List DocumentItem) (entry : DocumentItem) → AllWithin limits table → IsWithin limits entry → AllWithin limits (after_open table entry)
+pub within_end : (limits : Bounds) (table : List DocumentItem) (entry : DocumentItem) → AllWithin limits table → IsWithin limits entry → AllWithin limits (after_open table entry)
 within_end limits [] entry kept is = (is, tt)
 within_end limits (first ∷ table) entry kept is = (kept.0, within_end limits table entry kept.1 is)
 
 -- the text that an accepted batch leaves, and that it is a text
-left_text : (limits : Bounds) (units : ℕ → ℕ) (entry : DocumentItem) (version : ℤ) (batch : List Edit) (a : Accepts limits units entry version batch) → meant_text entry.text (meaning units (chars entry.text) batch) ≡ bytes_after entry.text a.items
+left_text : (limits : Bounds) (units : ℕ → ℕ) (entry : DocumentItem) (version : ℤ) (batch : List Edit) (a : Accepts limits units entry version batch) → meant_text entry.text (meaning units (chars entry.text) batch) ≡ bytes_left entry.text a.items
 left_text limits units entry version batch a = ap (meant_text entry.text) a.means
 
 pub within_changed : (limits : Bounds) (units : ℕ → ℕ) (entry : DocumentItem) (version : ℤ) (batch : List Edit) → AreTexts batch → IsWithin limits entry
     → entry_refusal limits units entry version batch ≡ None → IsWithin limits (changed units entry version batch)
 within_changed limits units entry version batch texts kept e =
     let a = accepted_parts limits units entry version batch e in
-    let left : meant_text entry.text (meaning units (chars entry.text) batch) ≡ bytes_after entry.text a.items = left_text limits units entry version batch a in
+    let left : meant_text entry.text (meaning units (chars entry.text) batch) ≡ bytes_left entry.text a.items = left_text limits units entry version batch a in
     let all : all_scalars (text_of (chars entry.text) a.items) ≡ true =
     scalar-text (chars entry.text) a.items (scalars-chars entry.text kept.utf8) (scalar-meaning units (chars entry.text) batch a.items texts a.means) in
     record {
@@ -142,7 +143,7 @@ within_changed limits units entry version batch texts kept e =
       short = subst (λ (text : List ℕ). length text ≤ limits.max_text) (sym left) a.short;
     }
 
-within_change : (limits : Bounds) (units : ℕ → ℕ) (table : List DocumentItem) (uri : List ℕ) (version : ℤ) (batch : List Edit) → AreTexts batch → AllWithin limits table
+pub within_change : (limits : Bounds) (units : ℕ → ℕ) (table : List DocumentItem) (uri : List ℕ) (version : ℤ) (batch : List Edit) → AreTexts batch → AllWithin limits table
     → change_refusal limits units table uri version batch ≡ None → AllWithin limits (after_change units table uri version batch)
 within_change limits units [] uri version batch texts kept e = tt
 within_change limits units (first ∷ table) uri version batch texts kept e =
@@ -155,7 +156,7 @@ within_change limits units (first ∷ table) uri version batch texts kept e =
     rw not (kept.0, within_change limits units table uri version batch texts kept.1 later))
     (cases_Bool (bytes_eq uri first.uri))
 
-within_close : (limits : Bounds) (table : List DocumentItem) (uri : List ℕ) → AllWithin limits table → AllWithin limits (after_close table uri)
+pub within_close : (limits : Bounds) (table : List DocumentItem) (uri : List ℕ) → AllWithin limits table → AllWithin limits (after_close table uri)
 within_close limits [] uri kept = tt
 within_close limits (first ∷ table) uri kept =
     ⊎_elim (λ (is : bytes_eq uri first.uri ≡ true). rw is kept.1) (λ (not : bytes_eq uri first.uri ≡ false). rw not (kept.0, within_close limits table uri kept.1)) (cases_Bool (bytes_eq uri first.uri))
@@ -204,7 +205,7 @@ one_text bytes = record { range = None; text = chars bytes } ∷ []
 one_means : (units : ℕ → ℕ) (old bytes : List ℕ) → meaning units old (one_text bytes) ≡ Ok (map New (chars bytes))
 one_means units old bytes = refl
 
-one_bytes : (old bytes : List ℕ) → IsUtf8 bytes → bytes_after old (map New (chars bytes)) ≡ bytes
+one_bytes : (old bytes : List ℕ) → IsUtf8 bytes → bytes_left old (map New (chars bytes)) ≡ bytes
 one_bytes old bytes utf8 = ap encode_utf8_all (read_off (chars old) (chars bytes)) ∙ encodes-chars bytes utf8
 
 one_weighs : (bytes : List ℕ) → IsUtf8 bytes → batch_bytes (one_text bytes) ≡ length bytes

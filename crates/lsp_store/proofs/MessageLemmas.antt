@@ -21,6 +21,7 @@ use Rattle.lsp_edit.specs.Batch.{Edit, Fault, meaning}
 use Rattle.lsp_edit.specs.Canonical.{canonical}
 use Rattle.lsp_edit.specs.Edited.{edit_of}
 use Rattle.lsp_edit.specs.Laws.{IsCanonical}
+use Rattle.lsp_edit.specs.Indexed.{bytes_left}
 use Rattle.lsp_message.specs.Outgoing.{OutgoingData, initialize, initialized, did_open, did_change, did_close, shutdown, exit, initialize_result, shutdown_result, error_reply, body_of}
 use Rattle.lsp_message.specs.Params.{DocumentItem, EditData}
 use Rattle.lsp_message.specs.Seen.{edit_view}
@@ -29,7 +30,7 @@ use Rattle.lsp_message.specs.Sent.{IsProper, IsReadAsSent, IsReadBack}
 use Rattle.lsp_store.specs.declared.fault.StoreFault.{StoreFault}
 use Rattle.lsp_store.specs.declared.fault.StoreFault.TheVariants.{NoMemory}
 use Rattle.lsp_store.specs.Faults.{store_fault_of_encode, IsRefusal}
-use Rattle.lsp_store.specs.Table.{Refusal, stale_version, too_many_changes, text_too_long, edit, batch_bytes, bytes_after, greatest_batch, entry_at, entry_refusal, change_refusal, after_change, changed, meaning_refusal}
+use Rattle.lsp_store.specs.Table.{Refusal, stale_version, too_many_changes, text_too_long, edit, batch_bytes, greatest_batch, entry_at, entry_refusal, change_refusal, after_change, changed, meaning_refusal}
 use Rattle.lsp_store.specs.Message.{AreTexts, DoAlike, IsCanonicalOn, IsReadAgain, IsCanonicalOf, body_refusal, canonical_batch, canonical_body, canonical_frame, change_body, change_message, else_refused, message_refusal, written_edit}
 use Rattle.lsp_store.proofs.FrameLemmas.{frame_one}
 use Rattle.lsp_store.proofs.ProperLemmas.{bytes_sum, canonical_proper}
@@ -112,14 +113,14 @@ pub record Accepts (limits : Bounds) (units : ℕ → ℕ) (entry : DocumentItem
   pub fits : batch_bytes batch ≤ greatest_batch
   pub items : List Item
   pub means : meaning units (chars entry.text) batch ≡ Ok items
-  pub short : length (bytes_after entry.text items) ≤ limits.max_text
+  pub short : length (bytes_left entry.text items) ≤ limits.max_text
 
-meaning_parts : (limits : Bounds) (text : List ℕ) (meant : Result (List Item) (ℕ × Fault)) → meaning_refusal limits text meant ≡ None → (items : List Item) × (meant ≡ Ok items) × (length (bytes_after text items) ≤ limits.max_text)
+meaning_parts : (limits : Bounds) (text : List ℕ) (meant : Result (List Item) (ℕ × Fault)) → meaning_refusal limits text meant ≡ None → (items : List Item) × (meant ≡ Ok items) × (length (bytes_left text items) ≤ limits.max_text)
 meaning_parts limits text (Err fault) e = let bad : Some (edit fault.0 fault.1) ≡ None = e in absurd (cc)
 meaning_parts limits text (Ok items) e =
-    ⊎_elim (λ (above : nat_lt limits.max_text (length (bytes_after text items)) ≡ true). let bad : Some text_too_long ≡ None = rw above at e in absurd (cc))
-    (λ (within : nat_lt limits.max_text (length (bytes_after text items)) ≡ false). (items, refl, ltb-false limits.max_text (length (bytes_after text items)) within))
-    (cases_Bool (nat_lt limits.max_text (length (bytes_after text items))))
+    ⊎_elim (λ (above : nat_lt limits.max_text (length (bytes_left text items)) ≡ true). let bad : Some text_too_long ≡ None = rw above at e in absurd (cc))
+    (λ (within : nat_lt limits.max_text (length (bytes_left text items)) ≡ false). (items, refl, ltb-false limits.max_text (length (bytes_left text items)) within))
+    (cases_Bool (nat_lt limits.max_text (length (bytes_left text items))))
 
 pub accepted_parts : (limits : Bounds) (units : ℕ → ℕ) (entry : DocumentItem) (version : ℤ) (batch : List Edit) → entry_refusal limits units entry version batch ≡ None → Accepts limits units entry version batch
 accepted_parts limits units entry version batch e =
@@ -145,7 +146,7 @@ accepted_parts limits units entry version batch e =
 pub accepted_from : (limits : Bounds) (units : ℕ → ℕ) (entry : DocumentItem) (version : ℤ) (batch : List Edit) → Accepts limits units entry version batch → entry_refusal limits units entry version batch ≡ None
 accepted_from limits units entry version batch a =
     let few : (nat_lt limits.max_changes (length batch) || nat_lt greatest_batch (batch_bytes batch)) ≡ false = or_from _ _ (le-ltb limits.max_changes (length batch) a.few) (le-ltb greatest_batch (batch_bytes batch) a.fits) in
-    rw (a.newer, few, a.means, le-ltb limits.max_text (length (bytes_after entry.text a.items)) a.short) refl
+    rw (a.newer, few, a.means, le-ltb limits.max_text (length (bytes_left entry.text a.items)) a.short) refl
 
 -- what a batch leaves is told by what it makes of the document
 pub leaves_same : (units : ℕ → ℕ) (table : List DocumentItem) (uri : List ℕ) (version : ℤ) (batch other : List Edit) (entry : DocumentItem) → entry_at table uri ≡ Some entry → changed units entry version batch ≡ changed units entry version other

@@ -9,7 +9,7 @@ use Rattle.lsp_frame.specs.Limits.{Bounds}
 use Rattle.lsp_text.specs.Units.{units_in}
 use Rattle.lsp_text.specs.declared.encoding.Encoding.{Encoding}
 use Rattle.lsp_edit.specs.Items.{Item, plain, text_of}
-use Rattle.lsp_edit.specs.Indexed.{text_within}
+use Rattle.lsp_edit.specs.Indexed.{text_within, bytes_left}
 use Rattle.lsp_edit.specs.declared.indexed.TextFault.{TextFault}
 use Rattle.lsp_edit.specs.declared.indexed.TextFault.TheVariants.{NoMemory}
 use Rattle.lsp_edit.specs.Batch.{Edit, meaning}
@@ -27,7 +27,7 @@ use Rattle.lsp_store.specs.Message.{AreTexts, body_refusal, change_body}
 use Rattle.lsp_store.specs.Opened.{entry_under}
 use Rattle.lsp_store.specs.Squash.{HasReached, IsSquashAfter, SquashData, add_refusal, reached_entry, squash_after, items_meant, squash_batch, squash_of, squash_refusal}
 use Rattle.lsp_message.specs.Params.{DocumentItem}
-use Rattle.lsp_store.specs.Table.{IsLeftToMeaning, Refusal, batch_bytes, bytes_after, changed, greatest_batch, entry_refusal, meant_text}
+use Rattle.lsp_store.specs.Table.{IsLeftToMeaning, Refusal, batch_bytes, changed, greatest_batch, entry_refusal, meant_text}
 use Rattle.lsp_store.proofs.MessageLemmas.{accepted_parts}
 use Rattle.lsp_store.proofs.ProperLemmas.{bytes_sum}
 use Rattle.lsp_store.proofs.RefusalLemmas.{only_memory}
@@ -61,7 +61,7 @@ start_seen uri limits encoding joined before version entry is same_uri same_text
     (λ i. seen (same_uri i) limits encoding (is i) (same_version i)) ∙ ap (λ (t : List ℕ). seen entry.uri limits encoding (record { before = t; items = plain (chars t) }) entry.version) same_text
 
 module _ (uri : List ℕ) (limits : Bounds) (encoding : Encoding) (joined : JoinedData) (stored : Stored) (at : IsReached joined stored.text) (kept : SquashData) (view : seen uri limits encoding joined stored.version ≡ kept) where
-  text_is : stored.text ≡ bytes_after joined.before joined.items
+  text_is : stored.text ≡ bytes_left joined.before joined.items
   text_is = sym (encodes-chars stored.text at.utf8) ∙ ap encode_utf8_all at.text_is
 
   refusal_is : (version : ℤ) (more : List Edit) → entry_refusal limits (units_in encoding) (entry_under uri stored) version more ≡ add_refusal kept version more
@@ -119,7 +119,7 @@ module _ (uri : List ℕ) (limits : Bounds) (encoding : Encoding) (joined : Join
 module _ (limits : Bounds) (encoding : Encoding) (entry : DocumentItem) (version : ℤ) (batch : List Edit) (items : List Item)
     (means : meaning (units_in encoding) (chars entry.text) batch ≡ Ok items)
     (newer : int_le version entry.version ≡ false)
-    (short : length (bytes_after entry.text items) ≤ limits.max_text) (within : limits.max_text ≤ 1073741824)
+    (short : length (bytes_left entry.text items) ≤ limits.max_text) (within : limits.max_text ≤ 1073741824)
     (few : nat_lt limits.max_changes (length (canonical (units_in encoding) (chars entry.text) items)) ≡ false) where
   all_law : IsCanonical (units_in encoding) (chars entry.text) batch items
   all_law = canonical_law (units_in encoding) (units_some encoding) (chars entry.text) batch items means
@@ -130,9 +130,9 @@ module _ (limits : Bounds) (encoding : Encoding) (entry : DocumentItem) (version
       (omega (arith, weights (canonical (units_in encoding) (chars entry.text) items), all_law.short len_utf8, bytes_sum (text_of (chars entry.text) items), short, within))
 
   pub squash_accepted : entry_refusal limits (units_in encoding) entry version (canonical (units_in encoding) (chars entry.text) items) ≡ None
-  squash_accepted = rw (newer, few, all_fit, all_law.means, le-ltb limits.max_text (length (bytes_after entry.text items)) short) refl
+  squash_accepted = rw (newer, few, all_fit, all_law.means, le-ltb limits.max_text (length (bytes_left entry.text items)) short) refl
 
-  pub squash_leaves : changed (units_in encoding) entry version (canonical (units_in encoding) (chars entry.text) items) ≡ record entry { version = version; text = bytes_after entry.text items }
+  pub squash_leaves : changed (units_in encoding) entry version (canonical (units_in encoding) (chars entry.text) items) ≡ record entry { version = version; text = bytes_left entry.text items }
   squash_leaves = rw all_law.means refl
 
 -- ---- what a run means: batches that are accepted one after another mean together what they mean as one list
@@ -160,7 +160,7 @@ is_reached joined text utf8 is = record { utf8 = utf8; text_is = is }
 
 module _ (kept : SquashData) (entry : DocumentItem) (version : ℤ) (more : List Edit) (utf8 : IsUtf8 entry.text) (at : HasReached kept entry)
     (accepted : entry_refusal kept.limits (units_in kept.encoding) entry version more ≡ None) where
-  same_text : entry.text ≡ bytes_after kept.text kept.items
+  same_text : entry.text ≡ bytes_left kept.text kept.items
   same_text = sym (encodes-chars entry.text utf8) ∙ ap encode_utf8_all at.text
 
   pub add_accepted : add_refusal kept version more ≡ None
@@ -173,7 +173,7 @@ module _ (kept : SquashData) (entry : DocumentItem) (version : ℤ) (more : List
   pub has_reached : (next : SquashData) → AreTexts more → IsSquashAfter kept version more next → HasReached next (changed (units_in kept.encoding) entry version more)
   has_reached next texts adds =
       let means : meaning (units_in kept.encoding) (chars entry.text) more ≡ Ok adds.others = ap (λ t. meaning (units_in kept.encoding) t more) at.text ∙ adds.means in
-      let made : meant_text entry.text (meaning (units_in kept.encoding) (chars entry.text) more) ≡ bytes_after entry.text adds.others = ap (meant_text entry.text) means in
+      let made : meant_text entry.text (meaning (units_in kept.encoding) (chars entry.text) more) ≡ bytes_left entry.text adds.others = ap (meant_text entry.text) means in
       let all : all_scalars (text_of (chars entry.text) adds.others) ≡ true =
       scalar-text (chars entry.text) adds.others (scalars-chars entry.text utf8) (scalar-meaning (units_in kept.encoding) (chars entry.text) more adds.others texts means) in
       record {

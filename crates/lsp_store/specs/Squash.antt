@@ -10,8 +10,9 @@ use Rattle.lsp_edit.specs.Items.{Item, plain, text_of}
 use Rattle.lsp_edit.specs.Batch.{Edit, Fault, meaning}
 use Rattle.lsp_edit.specs.Canonical.{canonical}
 use Rattle.lsp_edit.specs.Compose.{then_items}
+use Rattle.lsp_edit.specs.Indexed.{bytes_left}
 use Rattle.lsp_message.specs.Params.{DocumentItem}
-use Rattle.lsp_store.specs.Table.{Refusal, too_many_changes, bytes_after, entry_refusal}
+use Rattle.lsp_store.specs.Table.{Refusal, too_many_changes, entry_refusal}
 use Rattle.lsp_store.specs.Message.{change_body, body_refusal}
 
 -- Batches on one document. URI and text (as bytes) are the document's before any batch; the version
@@ -43,7 +44,7 @@ reached_entry squash
       uri = squash.uri;
       language = [];
       version = squash.version;
-      text = bytes_after squash.text squash.items;
+      text = bytes_left squash.text squash.items;
     }
 
 -- Why a batch is refused: as a change of the document reached so far.

@@ -6,8 +6,9 @@ use Rattle.std.specs.Str.{bytes_eq, chars}
 use Rattle.lsp_frame.specs.Limits.{Bounds}
 use Rattle.lsp_text.specs.declared.encoding.Encoding.{Encoding}
 use Rattle.lsp_text.specs.Units.{units_in}
-use Rattle.lsp_edit.specs.Items.{Item, text_of}
+use Rattle.lsp_edit.specs.Items.{Item}
 use Rattle.lsp_edit.specs.Batch.{Edit, Fault, meaning}
+use Rattle.lsp_edit.specs.Indexed.{bytes_left}
 use Rattle.lsp_message.specs.Params.{DocumentItem}
 
 -- Why a command is refused. A stale version has the current one, an edit the first faulty change
@@ -48,16 +49,12 @@ batch_bytes batch = sum_by (λ change. length (encode_utf8_all change.text)) bat
 abbrev pub greatest_batch : ℕ
 greatest_batch = 1073741824
 
--- The bytes of the text that items lead to, from a text of these bytes.
-abbrev pub bytes_after : List ℕ → List Item → List ℕ
-bytes_after text items = encode_utf8_all (text_of (chars text) items)
-
 -- Why a batch's meaning on a text is refused: it has none, or its final text is too long. The texts
 -- between may be longer.
 abbrev pub meaning_refusal : Bounds → List ℕ → Result (List Item) (ℕ × Fault) → Option Refusal
 meaning_refusal limits text (Err fault) = Some (edit fault.0 fault.1)
 meaning_refusal limits text (Ok items)
-    = if nat_lt limits.max_text (length (bytes_after text items)) then Some text_too_long else None
+    = if nat_lt limits.max_text (length (bytes_left text items)) then Some text_too_long else None
 
 -- Why a batch on a document is refused: a version that isn't greater, too many changes or too long
 -- ones, or its meaning.
@@ -88,7 +85,7 @@ change_refusal limits units table uri version batch
 
 -- The text that a meaning leads to, from this text.
 abbrev pub meant_text : List ℕ → Result (List Item) (ℕ × Fault) → List ℕ
-meant_text text (Ok items) = bytes_after text items
+meant_text text (Ok items) = bytes_left text items
 meant_text text (Err fault) = text
 
 -- A changed document has the new version and the text that the batch means.
