@@ -4,11 +4,11 @@ use super::{Row, Script, new_pair, wrong_row};
 use lsp_client::ClientFault;
 use lsp_edit::{EditFault, Side};
 use lsp_message::Offers;
-use lsp_pair::{Did, Happened, Heard};
+use lsp_pair::{Did, Happened, Heard, Pair};
 use lsp_server::{EncodingChoice, Sync};
 use lsp_store::StoreFault;
 use lsp_text::Encoding;
-use std::alloc::Global;
+use std::alloc::{AllocError, Global};
 use std::test::Fail;
 
 /// One character of four bytes, two units of UTF-16 and one of UTF-32.
@@ -90,17 +90,22 @@ fn edits_in(encoding: Encoding) -> &'static [Row] {
     }
 }
 
-fn is_agreed(alloc: Global, row: &(Encoding, bool, Encoding), sync: Sync) -> Result<bool, Fail> {
-    let (prefer, utf32, wanted) = *row;
-    let offers = Offers { utf8: true, utf32 };
-    let mut pair = new_pair(alloc, offers, EncodingChoice::Negotiated { prefer }, sync)?;
-    if wrong_row(&mut pair, alloc, OPENED)?.is_some() {
+/// Is the document opened in this encoding, and edited?
+fn agrees(pair: &mut Pair, alloc: Global, wanted: Encoding) -> Result<bool, AllocError> {
+    if wrong_row(pair, alloc, OPENED)?.is_some() {
         return Ok(false);
     }
     if pair.client().encoding() != Some(wanted) || pair.server().encoding() != Some(wanted) {
         return Ok(false);
     }
-    Ok(wrong_row(&mut pair, alloc, edits_in(wanted))?.is_none())
+    Ok(wrong_row(pair, alloc, edits_in(wanted))?.is_none())
+}
+
+fn is_agreed(alloc: Global, row: &(Encoding, bool, Encoding), sync: Sync) -> Result<bool, Fail> {
+    let (prefer, utf32, wanted) = *row;
+    let offers = Offers { utf8: true, utf32 };
+    let mut pair = new_pair(alloc, offers, EncodingChoice::Negotiated { prefer }, sync)?;
+    Ok(agrees(&mut pair, alloc, wanted)?)
 }
 
 #[test]

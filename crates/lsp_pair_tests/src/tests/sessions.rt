@@ -79,26 +79,32 @@ static AT_ONCE: &[Row] = &[
     (Script::ToServer, Happened::Server(Did::Exit(0)), None, None),
 ];
 
+/// Does a session of a new pair go so, and does nothing wait at its end?
+fn is_session(alloc: Global, sync: Sync, rows: &[Row]) -> Result<bool, Fail> {
+    let mut pair = new_pair(alloc, NO_OFFERS, UTF16, sync)?;
+    Ok(wrong_row(&mut pair, alloc, rows)?.is_none() && are_waiting(&pair, (0, 0)))
+}
+
+fn are_waiting(pair: &Pair, wanted: (usize, usize)) -> bool {
+    pair.waiting() == wanted
+}
+
 #[test]
 fn delivered_late(rt: HostRuntime) -> Result<(), Fail> {
-    let mut pair = new_pair(rt.alloc(), NO_OFFERS, UTF16, Sync::Incremental)?;
-    assert_eq!(rt; wrong_row(&mut pair, rt.alloc(), LATE)?, None);
-    assert_eq!(rt; pair.waiting(), (0, 0));
+    assert!(rt; is_session(rt.alloc(), Sync::Incremental, LATE)?);
     Ok(())
 }
 
 #[test]
 fn delivered_at_once(rt: HostRuntime) -> Result<(), Fail> {
-    let mut pair = new_pair(rt.alloc(), NO_OFFERS, UTF16, Sync::Incremental)?;
-    assert_eq!(rt; wrong_row(&mut pair, rt.alloc(), AT_ONCE)?, None);
+    assert!(rt; is_session(rt.alloc(), Sync::Incremental, AT_ONCE)?);
     Ok(())
 }
 
 /// A server that wants whole texts has the same text.
 #[test]
 fn whole_texts(rt: HostRuntime) -> Result<(), Fail> {
-    let mut pair = new_pair(rt.alloc(), NO_OFFERS, UTF16, Sync::Full)?;
-    assert_eq!(rt; wrong_row(&mut pair, rt.alloc(), AT_ONCE)?, None);
+    assert!(rt; is_session(rt.alloc(), Sync::Full, AT_ONCE)?);
     Ok(())
 }
 
@@ -116,18 +122,38 @@ static WAITING: [(usize, usize); 9] = [
     (5, 0),
 ];
 
-/// Makes a step. How many messages wait then?
-fn waiting_after(pair: &mut Pair, alloc: Global, row: &Row) -> Result<(usize, usize), AllocError> {
+/// Makes a step. Do so many messages wait then?
+fn are_left(
+    pair: &mut Pair,
+    alloc: Global,
+    row: &Row,
+    waiting: (usize, usize),
+) -> Result<bool, AllocError> {
     let given = event(alloc, row.0)?;
     let _happened = pair.step(&given)?;
-    Ok(pair.waiting())
+    Ok(are_waiting(pair, waiting))
+}
+
+/// Makes the steps in order. The first after which other messages wait, or none.
+fn wrong_waiting(pair: &mut Pair, alloc: Global) -> Result<Option<usize>, AllocError> {
+    for (index, waiting) in WAITING.iter().enumerate() {
+        let Some(row) = LATE.get(index) else {
+            return Ok(Some(index));
+        };
+        if !are_left(pair, alloc, row, *waiting)? {
+            return Ok(Some(index));
+        }
+    }
+    Ok(None)
+}
+
+fn new_pair_waits(alloc: Global) -> Result<bool, Fail> {
+    let mut pair = new_pair(alloc, NO_OFFERS, UTF16, Sync::Incremental)?;
+    Ok(wrong_waiting(&mut pair, alloc)?.is_none())
 }
 
 #[test]
 fn what_waits(rt: HostRuntime) -> Result<(), Fail> {
-    let mut pair = new_pair(rt.alloc(), NO_OFFERS, UTF16, Sync::Incremental)?;
-    for (row, waiting) in LATE.iter().zip(WAITING.iter()) {
-        assert_eq!(rt; waiting_after(&mut pair, rt.alloc(), row)?, *waiting);
-    }
+    assert!(rt; new_pair_waits(rt.alloc())?);
     Ok(())
 }
