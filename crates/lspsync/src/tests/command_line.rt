@@ -98,10 +98,10 @@ fn both_ends_of_each_range_are_taken(rt: HostRuntime) -> Result<(), Fail> {
 
 /// Are these words this call?
 fn is_call<'a>(alloc: Global, words: &'a [&'a str], wanted: command_line::Call) -> bool {
-    match parse(alloc, words) {
-        Ok(found) => found == Some(wanted),
-        Err(_) => false,
-    }
+    let Ok(found) = parse(alloc, words) else {
+        return false;
+    };
+    found == Some(wanted)
 }
 
 #[test]
