@@ -1,8 +1,7 @@
 -- What the canonical message of a record is told by.
-use Rattle.std.proofs.Common.{◌≡◌, ◌≢◌, ◌≤◌, ◌<◌, ◌⊎◌, inl, inr, ℕ, Bool, true, false, List, [], ◌∷◌, map, length, string_bytes, refl, ap, if◌then◌else◌, nat_lt, ltb-true, ltb-false, le-ltb, lt-ltb, ◌++◌, ◌∙◌, drop, sym, append_assoc, IfOk}
+use Rattle.std.proofs.Common.{◌≡◌, ◌≢◌, ◌≤◌, ◌<◌, ◌⊎◌, inl, inr, ℕ, Bool, true, false, List, [], ◌∷◌, map, length, refl, ap, if◌then◌else◌, nat_lt, ltb-true, ltb-false, le-ltb, lt-ltb, ◌++◌, ◌∙◌, drop, sym, append_assoc}
 use Rattle.std.proofs.lemmas.List.{drop_at}
-use Rattle.std.specs.declared.alloc.AllocError.{AllocError}
-use Rattle.std.specs.Prelude.{Option, Some, None, option_map, Result, Ok, Err}
+use Rattle.std.specs.Prelude.{Option, Some, None, option_map, Err}
 use Rattle.serde_json.specs.Data.{Data}
 use Rattle.lsp_text.specs.Units.{units_in}
 use Rattle.lsp_text.specs.declared.encoding.Encoding.{Encoding}
@@ -12,8 +11,7 @@ use Rattle.lsp_message.specs.Message.{IdData, reading}
 use Rattle.lsp_message.specs.Params.{DocumentItem, ChangeData}
 use Rattle.lsp_edit.specs.Edited as given
 use Rattle.lsp_frame.specs.Limits.{Bounds}
-use Rattle.lsp_message.specs.declared.params.ChangeParams.{ChangeParams}
-use Rattle.lsp_message.specs.Seen.{change_view, edit_view}
+use Rattle.lsp_message.specs.Seen.{edit_view}
 use Rattle.lsp_edit.specs.declared.change.Change.{Change}
 use Rattle.lsp_store.specs.declared.fault.StoreFault.{StoreFault}
 use Rattle.lsp_store.specs.declared.fault.StoreFault.TheVariants.{BodyTooLong, NoMemory}
@@ -29,7 +27,7 @@ use Rattle.lsp_replay.specs.Session.{Session, Verdict, answered, recorded, bad, 
 use Rattle.lsp_replay.specs.Engines.{canonical_if, written, writes, ends}
 use Rattle.lsp_log.specs.Log.{Record}
 use Rattle.lsp_replay.specs.inside.Verdicts.{IsAppended}
-use Rattle.lsp_replay.specs.declared.session.Appended.TheVariants.{Body, TooLong}
+use Rattle.lsp_replay.specs.declared.session.writing.Appended.TheVariants.{Body, TooLong}
 use Rattle.lsp_frame.specs.Frame.{frame}
 use Rattle.lsp_stream.specs.declared.fault.EngineFault.TheVariants as fault
 
@@ -97,18 +95,6 @@ accepted s p e = step_changed s.server.phase s.server p (same_answer _ _ (unless
 pub edits_of : (changes : List Change) → map edit_from_data (map edit_view changes) ≡ map given.edit_of changes
 edits_of [] = refl
 edits_of (change ∷ changes) = ap (λ edits. given.edit_of change ∷ edits) (edits_of changes)
-
--- The store's batch is that of the message.
-pub accepted_as_given : (s : Session) (p : ChangeParams) → (judge_incoming s (did_change (Some (change_view p)))).verdict ≡ answered changed
-    → change_refusal s.server.config.limits (units_in (encoding_of s.server)) s.server.table (string_bytes p.uri) p.version (map given.edit_of p.changes.items) ≡ None
-accepted_as_given s p e = rw (← edits_of p.changes.items) (accepted s (change_view p) e)
-
--- So what is told of a batch that was not refused is told of a change that was accepted.
-pub told_if : {T : Type 0} (s : Session) (p : ChangeParams) (result : Result T AllocError) (P : T → Type 0)
-    → IfOk result (λ error. change_refusal s.server.config.limits (units_in (encoding_of s.server)) s.server.table (string_bytes p.uri) p.version (map given.edit_of p.changes.items) ≡ None → P error)
-    → IfOk result (λ error. (judge_incoming s (did_change (Some (change_view p)))).verdict ≡ answered changed → P error)
-told_if s p (Ok error) P reports = λ e. reports (accepted_as_given s p e)
-told_if s p (Err fault) P reports = tt
 
 -- ---- what is written, where a message is told
 

@@ -1,7 +1,6 @@
 -- A change that is accepted is joined to the batches of the open run, or begins batches of its own.
 use Rattle.std.proofs.Common.{◌≡◌, ◌≢◌, inl, inr, ℕ, ℤ, Bool, true, false, List, [], ◌∷◌, map, length, int_le, ◌||◌, Option, Some, None, bytes_eq, refl, sym, ap, ◌∙◌, subst, ⊎_elim}
-use Rattle.std.specs.Prelude.{⊤, if◌then◌else◌, nat_lt, IfOk, Result, Ok, Err}
-use Rattle.std.specs.declared.alloc.AllocError.{AllocError}
+use Rattle.std.specs.Prelude.{⊤, if◌then◌else◌, nat_lt, Result, Ok, Err}
 use Rattle.std.proofs.lemmas.Bool.{cases_Bool}
 use Rattle.std.proofs.lemmas.Slice.Eq.{bytes_eq-Decides}
 use Rattle.std.specs.Str.{chars}
@@ -24,10 +23,10 @@ use Rattle.lsp_server.specs.declared.phase.Phase.{Phase}
 use Rattle.lsp_server.specs.declared.phase.Phase.TheVariants.{New, Running, Down, Ended}
 use Rattle.lsp_server.specs.Incoming.{did_change}
 use Rattle.lsp_server.specs.Step.{State, edit_from_data, encoding_of}
-use Rattle.lsp_replay.specs.declared.session.Writing.{Writing}
-use Rattle.lsp_replay.specs.declared.session.Writing.TheVariants.{AsItIs, TooLong, Continues, Begins}
+use Rattle.lsp_replay.specs.declared.session.joining.Writing.{Writing}
+use Rattle.lsp_replay.specs.declared.session.joining.Writing.TheVariants.{AsItIs, TooLong, Continues, Begins}
 use Rattle.lsp_replay.specs.Engines.{canonical_if}
-use Rattle.lsp_replay.specs.Session.{Session, answered, bad, judge_incoming}
+use Rattle.lsp_replay.specs.Session.{Session, answered, judge_incoming}
 use Rattle.lsp_replay.specs.inside.Joining.{IsOpenIn, IsOpenAfter, IsLonger, IsBegun, IsWriting, IsChangeWriting, refusal_of, server_after}
 
 -- ---- a canonical body that is too long is that of a change that is not refused
@@ -85,7 +84,7 @@ running_accepted s p running none may = rw (running, none, may) refl
 pub running_leaves : (s : Session) (p : ChangeData) → s.server.phase ≡ Running → s.expected ≡ None → refusal_of s.server p ≡ None → (judge_incoming s (did_change (Some p))).session.server ≡ server_after s.server p
 running_leaves s p running none may = rw (running, none, may) refl
 
-running_refused : (s : Session) (p : ChangeData) → s.server.phase ≡ Running → s.expected ≡ None → (refusal : Option Refusal) → refusal_of s.server p ≡ refusal → refusal ≢ None
+pub running_refused : (s : Session) (p : ChangeData) → s.server.phase ≡ Running → s.expected ≡ None → (refusal : Option Refusal) → refusal_of s.server p ≡ refusal → refusal ≢ None
     → canonical_if s.server (Some p) (judge_incoming s (did_change (Some p))).verdict ≡ None
 running_refused s p running none None is some = absurd (some refl)
 running_refused s p running none (Some refusal) is some = rw (running, none, is) refl
@@ -106,16 +105,6 @@ change_open s run p (AsItIs ended) running none is = tt
 change_open s run p TooLong running none is = tt
 change_open s run p (Continues canonical batches) running none is = subst (λ (server : State). IsOpenIn server batches) (sym (running_leaves s p running none is.0)) is.3
 change_open s run p (Begins canonical ended batches) running none is = subst (λ (server : State). IsOpenIn server batches) (sym (running_leaves s p running none is.0)) is.5
-
-pub writing_if : (s : Session) (run : Option SquashData) (p : ChangeData) (result : Result Writing AllocError) → s.server.phase ≡ Running → s.expected ≡ None → IfOk result (IsChangeWriting s.server run p)
-    → IfOk result (λ w. (judge_incoming s (did_change (Some p))).verdict ≢ bad → IsWriting s.server run (Some p) (judge_incoming s (did_change (Some p))).verdict w)
-writing_if s run p (Ok w) running none is = λ not_bad. change_writing s run p w running none is
-writing_if s run p (Err fault) running none is = tt
-
-pub open_if : (s : Session) (run : Option SquashData) (p : ChangeData) (result : Result Writing AllocError) → s.server.phase ≡ Running → s.expected ≡ None → IfOk result (IsChangeWriting s.server run p)
-    → IfOk result (λ w. IsOpenAfter (judge_incoming s (did_change (Some p))).session.server w)
-open_if s run p (Ok w) running none is = change_open s run p w running none is
-open_if s run p (Err fault) running none is = tt
 
 -- URIs that aren't equal
 pub not_same : (a b : List ℕ) → b ≢ a → bytes_eq a b ≡ false

@@ -1,4 +1,5 @@
 -- Definitions that only private contracts speak of.
+pub mod Bodies
 pub mod Joining
 pub mod Progress
 pub mod Verdicts

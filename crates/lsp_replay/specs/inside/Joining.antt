@@ -8,8 +8,8 @@ use Rattle.lsp_store.specs.Table.{Refusal, after_change, change_refusal, entry_a
 use Rattle.lsp_text.specs.Units.{units_in}
 use Rattle.lsp_server.specs.Answer.{changed}
 use Rattle.lsp_server.specs.Step.{State, edit_from_data, encoding_of}
-use Rattle.lsp_replay.specs.declared.session.Writing.{Writing}
-use Rattle.lsp_replay.specs.declared.session.Writing.TheVariants.{AsItIs, TooLong, Continues, Begins}
+use Rattle.lsp_replay.specs.declared.session.joining.Writing.{Writing}
+use Rattle.lsp_replay.specs.declared.session.joining.Writing.TheVariants.{AsItIs, TooLong, Continues, Begins}
 use Rattle.lsp_replay.specs.Engines.{canonical_if, canonical_change_body}
 use Rattle.lsp_replay.specs.Session.{Verdict, answered}
 use Rattle.lsp_replay.specs.Squashed.{joined_by}

@@ -1,13 +1,13 @@
--- The values of the types of `src/session.rt` in the definitions.
+-- The values of the types of `src/session.rt` and `src/session/` in the definitions.
 use Rattle.std.specs.Prelude.{ℕ, ◌≡◌, ◌<◌, ◌≤◌, List, ◌++◌, length, Option, Some, None}
 use Rattle.lsp_frame.specs.Frame.{frame}
 use Rattle.lsp_server.specs.Seen.{answer_view}
 use Rattle.lsp_replay.specs.declared.session.Verdict.{Verdict}
 use Rattle.lsp_replay.specs.declared.session.Verdict.TheVariants.{Answered, Recorded, Bad}
-use Rattle.lsp_replay.specs.declared.session.Appended.{Appended}
-use Rattle.lsp_replay.specs.declared.session.Appended.TheVariants as appended
-use Rattle.lsp_replay.specs.declared.session.Canonical.{Canonical}
-use Rattle.lsp_replay.specs.declared.session.Canonical.TheVariants.{Frame, TooLong}
+use Rattle.lsp_replay.specs.declared.session.writing.Appended.{Appended}
+use Rattle.lsp_replay.specs.declared.session.writing.Appended.TheVariants as appended
+use Rattle.lsp_replay.specs.declared.session.joining.Canonical.{Canonical}
+use Rattle.lsp_replay.specs.declared.session.joining.Canonical.TheVariants.{Frame, TooLong}
 use Rattle.lsp_replay.specs.Session as spec
 
 -- A judgement as its value.

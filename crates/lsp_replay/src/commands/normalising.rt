@@ -10,7 +10,8 @@ ghost use Rattle.lsp_replay.specs.inside.Verdicts.{IsAppended};
 
 use crate::handler::{Given, Handler, Output};
 use crate::outcome::Outcome;
-use crate::session::{Appended, Session, Verdict};
+use crate::session::writing::Appended;
+use crate::session::{Session, Verdict};
 use lsp_frame::put_header;
 use lsp_log::{Head, Side, VERSION_LINE, Version};
 use lsp_server::Config;

@@ -6,6 +6,7 @@ use Rattle.lsp_store.specs.declared.fault.StoreFault.TheVariants.{NoMemory}
 use Rattle.lsp_store.specs.Faults.{IsRefusal}
 use Rattle.lsp_store.specs.Message.{canonical_body, message_refusal}
 use Rattle.lsp_server.specs.Step.{encoding_of}
+use Rattle.lsp_replay.proofs.JoiningLemmas.{not_refused, too_long_accepted}
 use Rattle.lsp_replay.proofs.CanonicalLogLemmas.{edits_of, within, over}
 use Rattle.lsp_replay.proofs.session.Session.append_change.Goals as goal
 
@@ -32,3 +33,25 @@ returns-in-BodyTooLong-clause-canonical c = λ none.
     let error : IsRefusal (message_refusal c.args.self.now.server.config.limits (units_in (encoding_of c.args.self.now.server)) c.args.self.now.server.table (string_bytes c.args.params.now.uri) c.args.params.now.version (map edit_of c.args.params.now.changes.items)) c.in-Err.fault =
     rw (encoding, limits, table, c.deref.ensures, version, c.deref-2.ensures.value) at c.in-Err.ensures.error in
     rw (edits_of c.args.params.now.changes.items) (over c.args.self.now.server.config.limits _ _ c.in-Err.fault none (λ (e : c.in-Err.fault ≡ NoMemory). cc) error).0
+
+pub returns-in-Ok-clause-accepted : goal.returns-in-Ok-clause-accepted
+returns-in-Ok-clause-accepted c = λ some.
+    let version : to_z w32 (of_z w32 c.args.params.now.version) ≡ c.args.params.now.version = to_z-of_z w32 c.args.params.now.version (search rules) in
+    let server : c.self.inside.server ≡ c.args.self.now.server = ap (λ s. s.server) c.self.view_is in
+    let encoding : c.unwrap_or-encoding.result ≡ encoding_of c.args.self.now.server = rw (c.unwrap_or-encoding.ensures, c.encoding.ensures.value, server) refl in
+    let limits : c.store.result.now.limits ≡ c.args.self.now.server.config.limits = rw (c.store.ensures, server) refl in
+    let table : c.store.result.now.table ≡ c.args.self.now.server.table = rw (c.store.ensures, server) refl in
+    let accepted : message_refusal c.args.self.now.server.config.limits (units_in (encoding_of c.args.self.now.server)) c.args.self.now.server.table (string_bytes c.args.params.now.uri) c.args.params.now.version (map edit_of c.args.params.now.changes.items) ≡ None =
+    rw (encoding, limits, table, c.deref.ensures, version, c.deref-2.ensures.value) at c.in-Ok.ensures.accepted in
+    rw (edits_of c.args.params.now.changes.items) (not_refused _ _ accepted)
+
+pub returns-in-BodyTooLong-clause-accepted : goal.returns-in-BodyTooLong-clause-accepted
+returns-in-BodyTooLong-clause-accepted c = λ some.
+    let version : to_z w32 (of_z w32 c.args.params.now.version) ≡ c.args.params.now.version = to_z-of_z w32 c.args.params.now.version (search rules) in
+    let server : c.self.inside.server ≡ c.args.self.now.server = ap (λ s. s.server) c.self.view_is in
+    let encoding : c.unwrap_or-encoding.result ≡ encoding_of c.args.self.now.server = rw (c.unwrap_or-encoding.ensures, c.encoding.ensures.value, server) refl in
+    let limits : c.store.result.now.limits ≡ c.args.self.now.server.config.limits = rw (c.store.ensures, server) refl in
+    let table : c.store.result.now.table ≡ c.args.self.now.server.table = rw (c.store.ensures, server) refl in
+    let error : IsRefusal (message_refusal c.args.self.now.server.config.limits (units_in (encoding_of c.args.self.now.server)) c.args.self.now.server.table (string_bytes c.args.params.now.uri) c.args.params.now.version (map edit_of c.args.params.now.changes.items)) c.in-Err.fault =
+    rw (encoding, limits, table, c.deref.ensures, version, c.deref-2.ensures.value) at c.in-Err.ensures.error in
+    rw (edits_of c.args.params.now.changes.items) (too_long_accepted c.args.self.now.server.config.limits _ c.args.self.now.server.table _ _ _ _ _ (rw c.in-BodyTooLong.is at error))

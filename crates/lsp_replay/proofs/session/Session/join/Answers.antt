@@ -1,11 +1,12 @@
-use Rattle.std.proofs.Common.{rules, ◌≡◌, None}
 use Rattle.lsp_message.specs.Seen.{change_view}
-use Rattle.lsp_server.specs.declared.phase.Phase.TheVariants.{Running}
-use Rattle.lsp_replay.proofs.JoiningLemmas.{writing_if}
+use Rattle.lsp_replay.specs.inside.Bodies.{body_view}
+use Rattle.lsp_replay.proofs.BodyLemmas.{open_if, writing_if}
 use Rattle.lsp_replay.proofs.session.Session.join.Goals as goal
 
-pub returns-clause-writing : goal.returns-clause-writing
-returns-clause-writing c =
-    let running : c.args.self.now.server.phase ≡ Running = search rules in
-    let none : c.args.self.now.expected ≡ None = search rules in
-    rw (c.in-DidChange.is, c.in-Some.is) (writing_if c.args.self.now c.args.run (change_view c.in-Some.params) c.join_change.result running none c.join_change.ensures)
+pub returns-in-Some-clause-writing : goal.returns-in-Some-clause-writing
+returns-in-Some-clause-writing c =
+    writing_if c.args.self.now c.args.run (body_view c.args.body.now) (change_view c.in-Some.params.now) c.join_change.result c.in-Some.ensures c.join_change.ensures
+
+pub returns-in-Some-clause-reached : goal.returns-in-Some-clause-reached
+returns-in-Some-clause-reached c =
+    open_if c.args.self.now c.args.run (body_view c.args.body.now) (change_view c.in-Some.params.now) c.join_change.result c.in-Some.ensures c.join_change.ensures

@@ -1,0 +1,38 @@
+//! What counts as refused, and how it is counted.
+
+ghost use Rattle.std.specs.Prelude.{◌≡◌};
+ghost use Rattle.lsp_server.specs.Seen.{answer_view};
+ghost use Rattle.lsp_stream.specs.Ports.{one_more};
+ghost use Rattle.lsp_replay.specs.Session.{is_refused, is_refusing};
+
+use lsp_message::ErrorCode;
+use lsp_server::Answer;
+
+/// One more, up to the greatest value.
+pub fn one_more(count: u64) -> u64
+    ensures { result ≡ one_more count }
+{
+    count.saturating_add(1)
+}
+
+/// Does an answer count as refused?
+pub fn is_refused(answer: &Answer) -> bool
+    ensures { result ≡ is_refused (answer_view answer.now) }
+{
+    match answer {
+        Answer::Reply { code, .. } => is_refusing(*code),
+        Answer::Refused(_) => true,
+        Answer::Exit(status) => *status != 0,
+        Answer::Changed | Answer::Dropped | Answer::Ignored => false,
+    }
+}
+
+/// Does an error reply count as refused?
+fn is_refusing(code: Option<ErrorCode>) -> bool
+    ensures { result ≡ is_refusing code }
+{
+    match code {
+        None | Some(ErrorCode::MethodNotFound) => false,
+        Some(_) => true,
+    }
+}

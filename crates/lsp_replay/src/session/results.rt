@@ -1,0 +1,103 @@
+//! The result of `initialize` among a server's records, which says the encoding of the changes.
+
+ghost use Rattle.std.specs.Prelude.{◌≡◌, IfOk, OnOk, option_map};
+ghost use Rattle.serde_json.specs.View.{view};
+ghost use Rattle.lsp_message.specs.Agreement.{announced_of};
+ghost use Rattle.lsp_message.specs.Message.{reading};
+ghost use Rattle.lsp_message.specs.Seen.{id_view, message_view};
+ghost use Rattle.lsp_replay.specs.Session.{hear_for, settle_by, result_for, result_in, same_id};
+ghost use Rattle.lsp_replay.specs.inside.Verdicts.{verdict_view};
+
+use crate::session::{Session, Verdict};
+use lsp_message::{Id, Message, Outcome, ParamsFault, ReadFault, read, result_initialize};
+use serde_json::Value;
+use std::alloc::{AllocError, Global};
+
+impl Session {
+    /// Judges a server's record. Only the result of `initialize` is read.
+    pub(super) fn hear(&mut self, body: &[u8]) -> Result<Verdict, AllocError>
+        ensures verdict { IfOk result
+            (λ v. verdict_view v ≡ (hear_for self.old self.old.expected body.now).verdict) }
+        ensures session { OnOk result
+            (self.new ≡ (hear_for self.old self.old.expected body.now).session) }
+    {
+        let result = match &self.expected {
+            None => None,
+            Some(id) => result_for(self.alloc, id, body)?,
+        };
+        match result {
+            None => Ok(Verdict::Recorded),
+            Some(result) => self.settle(result),
+        }
+    }
+
+    /// Continues in the encoding that a result of `initialize` announces.
+    fn settle(&mut self, value: Value) -> Result<Verdict, AllocError>
+        ensures verdict { IfOk result
+            (λ v. verdict_view v ≡ (settle_by self.old (announced_of (view value))).verdict) }
+        ensures session { OnOk result
+            (self.new ≡ (settle_by self.old (announced_of (view value))).session) }
+    {
+        match result_initialize(self.alloc, value) {
+            Ok(announced) => match announced.encoding {
+                Some(encoding) => {
+                    self.server.settle(encoding);
+                    self.expected = None;
+                    Ok(Verdict::Recorded)
+                }
+                None => Ok(Verdict::Bad),
+            },
+            Err(ParamsFault::InvalidParams) => Ok(Verdict::Bad),
+            Err(ParamsFault::NoMemory) => Err(AllocError),
+        }
+    }
+}
+
+/// Returns a copy of an id.
+pub(super) fn copied(id: &Id) -> Result<Id, AllocError>
+    ensures { IfOk result (λ copy. id_view copy ≡ id_view id.now) }
+{
+    match id {
+        Id::Whole(number) => Ok(Id::Whole(*number)),
+        Id::Text(text) => Ok(Id::Text(text.clone()?)),
+    }
+}
+
+/// Are two ids equal?
+fn same_id(id: &Id, other: &Id) -> bool
+    ensures { result ≡ same_id (id_view id.now) (id_view other.now) }
+{
+    match (id, other) {
+        (Id::Whole(number), Id::Whole(other)) => number == other,
+        (Id::Text(text), Id::Text(other)) => text.as_str() == other.as_str(),
+        _ => false,
+    }
+}
+
+/// Returns the result in a body that is a successful response to the request with this id.
+fn result_for(alloc: Global, id: &Id, body: &[u8]) -> Result<Option<Value>, AllocError>
+    ensures { IfOk result
+        (λ value. option_map view value ≡ result_for (id_view id.now) (reading body.now)) }
+{
+    match read(alloc, body) {
+        Ok(message) => Ok(result_in(id, message)),
+        Err(ReadFault::NoMemory) => Err(AllocError),
+        Err(_) => Ok(None),
+    }
+}
+
+/// Returns the result in a successful response to the request with this id.
+fn result_in(id: &Id, message: Message) -> Option<Value>
+    ensures { option_map view result ≡ result_in (id_view id.now) (message_view message) }
+{
+    let Message::Response { id: other, outcome } = message else {
+        return None;
+    };
+    if !same_id(id, &other?) {
+        return None;
+    }
+    match outcome {
+        Outcome::Given(value) => Some(value),
+        Outcome::Failed => None,
+    }
+}
