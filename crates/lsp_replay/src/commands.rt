@@ -1,7 +1,9 @@
-//! The five commands, each as what it does with a record and at the end of a log.
+//! The five commands, each as what it does with a record and at the end of a log. `front` writes
+//! what comes before a record's frame.
 
 pub(crate) mod checking;
 pub(crate) mod converting;
+mod front;
 pub(crate) mod normalising;
 pub(crate) mod replaying;
 pub(crate) mod serving;

@@ -39,7 +39,7 @@ impl Check {
         ensures { OnOk result (buffer.new.items ≡ buffer.old.items
             ++ check_line self.now.session.records (verdict_view verdict.now)) }
     {
-        push_line(buffer, self.session.records(), verdict)
+        push_verdict_line(buffer, self.session.records(), verdict)
     }
 }
 
@@ -77,7 +77,7 @@ impl Handler for Check {
     }
 }
 
-fn push_line(buffer: &mut Vec<u8>, number: u64, verdict: &Verdict) -> Result<(), AllocError>
+fn push_verdict_line(buffer: &mut Vec<u8>, number: u64, verdict: &Verdict) -> Result<(), AllocError>
     ensures { OnOk result
         (buffer.new.items ≡ buffer.old.items ++ check_line number (verdict_view verdict.now)) }
 {

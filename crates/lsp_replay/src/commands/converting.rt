@@ -5,10 +5,11 @@ ghost use Rattle.lsp_replay.specs.Session.{opened};
 ghost use Rattle.lsp_replay.specs.Engines.{converting, run_output_in, line_before, reply_record};
 ghost use Rattle.lsp_replay.specs.inside.Verdicts.{verdict_view};
 
+use crate::commands::front::push_line;
 use crate::handler::{Given, Handler, Output};
 use crate::outcome::Outcome;
 use crate::session::{Session, Verdict};
-use lsp_log::{Head, VERSION_LINE};
+use lsp_log::Head;
 use lsp_server::{Answer, Config};
 use lsp_stream::EngineFault;
 use std::alloc::{AllocError, Global};
@@ -20,25 +21,20 @@ pub struct Convert {
 }
 
 impl Convert {
-    /// Writes the line of version 2: before the first record, or alone if there is none.
-    fn push_line(&self, buffer: &mut Vec<u8>) -> Result<(), AllocError>
-        ensures { OnOk result
-            (buffer.new.items ≡ buffer.old.items ++ line_before self.now.session) }
-    {
-        if self.session.records() == 0 {
-            buffer.extend_from_slice(VERSION_LINE)?;
-        }
-        Ok(())
-    }
-}
-
-impl Convert {
     /// Starts before the first record, over a new server.
     pub fn new(alloc: Global, config: Config) -> Convert
         ensures session { result.session ≡ opened config }
     {
         let session = Session::new(alloc, config);
         Convert { session }
+    }
+
+    /// Writes the line of version 2: before the first record, or alone if there is none.
+    fn push_first_line(&self, buffer: &mut Vec<u8>) -> Result<(), AllocError>
+        ensures { OnOk result
+            (buffer.new.items ≡ buffer.old.items ++ line_before self.now.session) }
+    {
+        push_line(buffer, self.session.records() == 0)
     }
 }
 
@@ -62,7 +58,7 @@ impl Handler for Convert {
         body: &[u8],
         buffer: &mut Vec<u8>,
     ) -> Result<Given, EngineFault> {
-        self.push_line(buffer)?;
+        self.push_first_line(buffer)?;
         let verdict = self.session.accept(head, body)?;
         buffer.extend_from_slice(b">")?;
         buffer.extend_from_slice(spelling)?;
@@ -75,7 +71,7 @@ impl Handler for Convert {
         _line_due: bool,
         buffer: &mut Vec<u8>,
     ) -> Result<Option<Outcome>, EngineFault> {
-        self.push_line(buffer)?;
+        self.push_first_line(buffer)?;
         Ok(Some(self.session.outcome()))
     }
 }

@@ -8,12 +8,13 @@ ghost use Rattle.lsp_replay.specs.Session.{opened};
 ghost use Rattle.lsp_replay.specs.Engines.{normalising, run_output_in, line_if, written, writes, ends};
 ghost use Rattle.lsp_replay.specs.inside.Verdicts.{IsAppended};
 
+use crate::commands::front::{line_bytes, mark_bytes, push_front, push_line};
 use crate::handler::{Given, Handler, Output};
 use crate::outcome::Outcome;
 use crate::session::writing::Appended;
 use crate::session::{Session, Verdict};
 use lsp_frame::put_header;
-use lsp_log::{Head, Side, VERSION_LINE, Version};
+use lsp_log::{Head, Version};
 use lsp_server::Config;
 use lsp_stream::EngineFault;
 use std::alloc::{AllocError, Global};
@@ -127,8 +128,7 @@ fn push_as_it_is(
         ≡ (line_if head.line_due ++ mark_of version head.side) ++ spelling.now) }
 {
     buffer.clear();
-    push_line(buffer, head.line_due)?;
-    push_mark(buffer, version, head.side)?;
+    push_front(buffer, head, version)?;
     if buffer.is_empty() {
         return Ok(Output::Frame);
     }
@@ -159,38 +159,4 @@ fn put_before(buffer: &mut [u8], index: usize, bytes: &[u8]) -> usize
     let start = index - bytes.len();
     buffer[start..index].copy_from_slice(bytes);
     start
-}
-
-/// The line of version 2, if it is due.
-fn line_bytes(line_due: bool) -> &'static [u8]
-    ensures is { result.now ≡ line_if line_due }
-    ensures short { length result.now ≤ 18 }
-{
-    if line_due { VERSION_LINE } else { b"" }
-}
-
-/// The mark of a record.
-fn mark_bytes(version: Version, side: Side) -> &'static [u8]
-    ensures is { result.now ≡ mark_of version side }
-    ensures short { length result.now ≤ 1 }
-{
-    match (version, side) {
-        (Version::One, _) => b"",
-        (Version::Two, Side::Client) => b">",
-        (Version::Two, Side::Server) => b"<",
-    }
-}
-
-/// Writes the line of version 2, if it is due.
-pub fn push_line(buffer: &mut Vec<u8>, line_due: bool) -> Result<(), AllocError>
-    ensures { OnOk result (buffer.new.items ≡ buffer.old.items ++ line_if line_due) }
-{
-    buffer.extend_from_slice(line_bytes(line_due))
-}
-
-/// Writes the mark of a record.
-pub fn push_mark(buffer: &mut Vec<u8>, version: Version, side: Side) -> Result<(), AllocError>
-    ensures { OnOk result (buffer.new.items ≡ buffer.old.items ++ mark_of version side) }
-{
-    buffer.extend_from_slice(mark_bytes(version, side))
 }

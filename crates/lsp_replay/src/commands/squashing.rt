@@ -8,7 +8,7 @@ ghost use Rattle.lsp_replay.specs.Engines.{line_if};
 ghost use Rattle.lsp_replay.specs.Squashed.{squashed_in, end_bytes};
 ghost use Rattle.lsp_replay.specs.inside.Squashed.{run_of};
 
-use crate::commands::normalising::{push_line, push_mark};
+use crate::commands::front::{push_front, push_line};
 use crate::handler::{Given, Handler, Output};
 use crate::outcome::Outcome;
 use crate::session::joining::Writing;
@@ -199,14 +199,4 @@ impl Handler for Squashing {
         push_line(buffer, line_due)?;
         Ok(Some(self.session.outcome()))
     }
-}
-
-/// Writes the bytes before a record's frame: the line of version 2, if it is due, and the mark.
-fn push_front(output: &mut Vec<u8>, head: Head, version: Version) -> Result<(), AllocError>
-    ensures { OnOk result
-        (output.new.items
-        ≡ output.old.items ++ (line_if head.line_due ++ mark_of version head.side)) }
-{
-    push_line(output, head.line_due)?;
-    push_mark(output, version, head.side)
 }
