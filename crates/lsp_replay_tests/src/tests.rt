@@ -1,6 +1,7 @@
 //! Rows of inputs, with the result and the output of each engine.
 
 mod documents;
+mod failing_runs;
 mod failures;
 mod in_time;
 mod pieces;
