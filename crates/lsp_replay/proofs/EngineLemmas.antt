@@ -39,14 +39,14 @@ module _ (reading : LogRules) (run_output : List Record → RunOutput) (received
     records = w.records ++ r ∷ [];
     is_after = is_after;
     out = w.out ++ on.out;
-    courses = λ others. ap run_output (append_assoc w.records (r ∷ []) others) ∙ w.courses (r ∷ others) ∙ ap (written_first w.out) (on.run_output others) ∙ written_again w.out on.out (new others);
+    outputs = λ others. ap run_output (append_assoc w.records (r ∷ []) others) ∙ w.outputs (r ∷ others) ∙ ap (written_first w.out) (on.run_output others) ∙ written_again w.out on.out (new others);
     wrote = Appends-trans received received_now received_new w.out on.out w.wrote on.wrote;
   }
 
   pub went_to_end : (log : Log) (more : List ℕ) (s : Splitter) (now : List Record → RunOutput) (received_now received_new : Option (List ℕ)) (r : Record) (answer : Result Outcome EngineFault) (w : IsProgress reading run_output received input more s now received_now)
       → IsReadAs reading input log → log.records ≡ w.records ++ r ∷ [] → Ends now received_now received_new r answer → Stopped reading run_output input received received_new answer
   went_to_end log more s now received_now received_new r answer w reads is ends =
-      let whole : run_output log.records ≡ written_first w.out (stopped ends.out answer) = ap run_output is ∙ w.courses (r ∷ []) ∙ ap (written_first w.out) (ends.run_output []) in
+      let whole : run_output log.records ≡ written_first w.out (stopped ends.out answer) = ap run_output is ∙ w.outputs (r ∷ []) ∙ ap (written_first w.out) (ends.run_output []) in
       record {
         log = log;
         reads = reads;
@@ -58,7 +58,7 @@ module _ (reading : LogRules) (run_output : List Record → RunOutput) (received
   pub went_so_far : (more : List ℕ) (s : Splitter) (now : List Record → RunOutput) (received_now received_new : Option (List ℕ)) (IsRest : Log → Type 0) (w : IsProgress reading run_output received input more s now received_now)
       → IsQuiet now → Appends received_now received_new [] → IsRest (log_at s w.records more) → Reached reading run_output input received received_new IsRest
   went_so_far more s now received_now received_new IsRest w quiet nothing rest =
-      let whole : run_output w.records ≡ written_first w.out (now []) = ap run_output (sym (append-nil w.records)) ∙ w.courses [] in
+      let whole : run_output w.records ≡ written_first w.out (now []) = ap run_output (sym (append-nil w.records)) ∙ w.outputs [] in
       let out : (run_output w.records).out ≡ w.out ++ [] = ap (λ (c : RunOutput). c.out) whole ∙ ap (λ z. w.out ++ z) quiet.silent in
       record {
         log = log_at s w.records more;
@@ -71,7 +71,7 @@ module _ (reading : LogRules) (run_output : List Record → RunOutput) (received
   broken_at : (log : Log) (more : List ℕ) (s : Splitter) (now : List Record → RunOutput) (received_now received_new : Option (List ℕ)) (r : Record) (w : IsProgress reading run_output received input more s now received_now)
       → IsReadAs reading input log → log.records ≡ w.records ++ r ∷ [] → AppendsFront received_now received_new (now (r ∷ [])).out → Broken reading run_output input received received_new
   broken_at log more s now received_now received_new r w reads is cut =
-      let whole : run_output log.records ≡ written_first w.out (now (r ∷ [])) = ap run_output is ∙ w.courses (r ∷ []) in
+      let whole : run_output log.records ≡ written_first w.out (now (r ∷ [])) = ap run_output is ∙ w.outputs (r ∷ []) in
       record {
         log = log;
         reads = reads;
@@ -81,7 +81,7 @@ module _ (reading : LogRules) (run_output : List Record → RunOutput) (received
   short_at : (unflushed : Bool) (log : Log) (more : List ℕ) (s : Splitter) (now : List Record → RunOutput) (received_now received_new : Option (List ℕ)) (r : Record) (w : IsProgress reading run_output received input more s now received_now)
       → IsReadAs reading input log → log.records ≡ w.records ++ r ∷ [] → AppendsShort unflushed received_now received_new (now (r ∷ [])).out → RanOut reading run_output unflushed input received received_new
   short_at unflushed log more s now received_now received_new r w reads is cut =
-      let whole : run_output log.records ≡ written_first w.out (now (r ∷ [])) = ap run_output is ∙ w.courses (r ∷ []) in
+      let whole : run_output log.records ≡ written_first w.out (now (r ∷ [])) = ap run_output is ∙ w.outputs (r ∷ []) in
       record {
         log = log;
         reads = reads;
@@ -158,7 +158,7 @@ module _ (reading : LogRules) (run_output : List Record → RunOutput) (received
         records = w.records;
         is_after = subst (λ (z : List ℕ). IsAfter reading input z w.records n) rest is_after;
         out = w.out;
-        courses = w.courses;
+        outputs = w.outputs;
         wrote = w.wrote;
       }
 
@@ -200,7 +200,7 @@ module _ (reading : LogRules) (run_output : List Record → RunOutput) (received
 
   -- what the course of the records says of the end
   went_whole : (s : Splitter) (now : List Record → RunOutput) (received_now : Option (List ℕ)) (w : IsProgress reading run_output received input [] s now received_now) → run_output w.records ≡ written_first w.out (now [])
-  went_whole s now received_now w = ap run_output (sym (append-nil w.records)) ∙ w.courses []
+  went_whole s now received_now w = ap run_output (sym (append-nil w.records)) ∙ w.outputs []
 
   went_last : (s : Splitter) (now : List Record → RunOutput) (received_now : Option (List ℕ)) (w : IsProgress reading run_output received input [] s now received_now)
       → last_of run_output (log_at s w.records []) ≡ (now []).last s.line_due

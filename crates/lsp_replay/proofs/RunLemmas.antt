@@ -94,7 +94,7 @@ module _ (reading : LogRules) (run_output : List Record → RunOutput) (left rec
           records = [];
           is_after = is_after (take len buf) (take (len - size) (drop size buf)) (record { known = whole; accepted = accepted; is = front ∙ ap (λ z. line_of version ++ z) piece });
           out = [];
-          courses = λ others. refl;
+          outputs = λ others. refl;
           wrote = Appends-nil received;
         };
         placed = omega (arith, placed, all, fits);
@@ -146,7 +146,7 @@ module _ (reading : LogRules) (run_output : List Record → RunOutput) (left rec
             due = at.due;
           };
           out = w.out;
-          courses = w.courses;
+          outputs = w.outputs;
           wrote = w.wrote;
         };
         placed = omega (arith, placed, r.placed, sum, len);

@@ -26,7 +26,7 @@ use Rattle.lsp_log.specs.Laws.{IsFirstOf, FirstLaw, VersionLaw}
 use Rattle.lsp_log.proofs.UniqueLemmas.{first_byte}
 use Rattle.lsp_replay.proofs.EngineLemmas.{empty_rest, still_short}
 
--- ---- courses: a record that ended a run ends it whatever follows, and more records give more output
+-- ---- outputs: a record that ended a run ends it whatever follows, and more records give more output
 
 abbrev IsCanonicalOf : View → Session → List Record → Type 0
 IsCanonicalOf view s rs = (more : List Record) (answer : Result Outcome EngineFault) → (run_output_in view s rs).stop ≡ Some answer → run_output_in view s (rs ++ more) ≡ run_output_in view s rs

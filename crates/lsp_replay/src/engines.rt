@@ -243,7 +243,7 @@ pub fn normalise<R: Source, W: Sink>(
         (ports (R.seen reader.old) (W.seen writer.old))
         (ports (R.seen reader.new) (W.seen writer.new)) result }
     // Without squash, what was written is a log of which `replay` reports the same, and its own
-    // normal form.
+    // canonical form.
     ensures canonical_log { settings.squash ≡ false → WritesLog settings (IsCanonicalLog settings)
         (ports (R.seen reader.old) (W.seen writer.old))
         (ports (R.seen reader.new) (W.seen writer.new)) result }

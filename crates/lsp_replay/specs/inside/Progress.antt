@@ -52,15 +52,14 @@ IsHandleFault old unflushed received_old received_new r (BadLog place)
 
 -- The progress since a start. The records of the input were handled and their output written, up to
 -- the bytes `more` that are still to come. `run_output` and `received` are of the start,
--- `run_output_now` and
--- `received_now` of now.
+-- `run_output_now` and `received_now` of now.
 pub record IsProgress (reading : LogRules) (run_output : List Record → RunOutput)
     (received : Option (List ℕ)) (input more : List ℕ) (s : Splitter)
     (run_output_now : List Record → RunOutput) (received_now : Option (List ℕ)) : Type 0 where
   pub records : List Record
   pub is_after : IsAfter reading input more records s
   pub out : List ℕ
-  pub courses : (others : List Record) →
+  pub outputs : (others : List Record) →
       run_output (records ++ others) ≡ written_first out (run_output_now others)
   pub wrote : Appends received received_now out
 
