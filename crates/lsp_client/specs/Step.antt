@@ -91,7 +91,8 @@ unfoldable pub sent_body : SyncKind → List DocumentItem → Command → List �
 sent_body kind table command = body_of (message_of kind table command)
 
 -- Why a command is refused: as the store refuses it, then because the body to send is too long.
-abbrev pub order_refusal : Bounds → SyncKind → List DocumentItem → Command → Option documents.Refusal
+abbrev pub order_refusal : Bounds → SyncKind → List DocumentItem → Command →
+    Option documents.Refusal
 order_refusal limits kind table command =
     else_refused
     (command_refusal limits table command)

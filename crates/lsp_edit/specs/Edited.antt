@@ -4,7 +4,7 @@ use Rattle.std.specs.Str.{chars, is_utf8}
 use Rattle.lsp_text.specs.LineStarts.{Indexes}
 use Rattle.lsp_edit.specs.declared.change.Change.{Change}
 use Rattle.lsp_edit.specs.declared.indexed.kept_lines.KeptLines.{KeptLines}
-use Rattle.lsp_edit.specs.declared.indexed.kept_lines.KeptLines.TheVariants.{Own, Lent}
+use Rattle.lsp_edit.specs.declared.indexed.kept_lines.KeptLines.TheVariants.{Own, Borrowed}
 use Rattle.lsp_edit.specs.Items.{Item, plain, text_of}
 use Rattle.lsp_edit.specs.Batch.{Edit, Fault, after_change}
 use Rattle.lsp_edit.specs.Keeps.{Keeps}
@@ -54,7 +54,7 @@ pub record Applied (units : ℕ → ℕ) (edited : Edited) (change : Edit) (next
 -- The line starts in kept lines.
 abbrev pub lines_of : KeptLines → List ℕ
 lines_of (Own lines) = lines
-lines_of (Lent lines) = lines.now
+lines_of (Borrowed lines) = lines.now
 
 -- What is true of the fields of pieces. The lines are those of the old text. The spans are parts of
 -- it and of new texts, and no two neighbours touch. They keep each CRLF of it whole, and there are

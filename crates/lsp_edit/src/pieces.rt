@@ -120,7 +120,7 @@ impl<'a> Pieces<'a> {
           changes = 0;
         } }
     {
-        Self::begin(alloc, before, KeptLines::Lent(lines))
+        Self::begin(alloc, before, KeptLines::Borrowed(lines))
     }
 
     /// Composes two runs of changes; `second` is over the text that `first` leaves. The result is
@@ -154,7 +154,7 @@ impl<'a> Pieces<'a> {
         Ok(Pieces {
             alloc,
             before: first.before,
-            lines: KeptLines::Lent(first.lines.get()),
+            lines: KeptLines::Borrowed(first.lines.get()),
             spans: Spans::Many(Row::new(spans)),
             len: second.len,
             changes: first.changes.saturating_add(second.changes),
@@ -303,7 +303,7 @@ impl<'a> Pieces<'a> {
     /// changes or parts of them.
     ///
     /// No span is empty or cut inside a character, and two runs of the old text that touch are one.
-    /// There are at most one span and two more for each change.
+    /// After n changes there are at most 2n + 1 spans.
     pub fn spans(&self) -> &[Span<'a>]
         ensures parts { parts_of result.now ≡ self.now.parts }
         ensures items { items_of self.now.edited.before (parts_of result.now)

@@ -159,7 +159,7 @@ impl<'a> Plain<'a> {
         ensures { IfOk result (λ text. string_bytes text ≡ edited_bytes self.now) }
     {
         let text = text_of(self.alloc, &self.characters, &self.items)?;
-        spelled(self.alloc, &text)
+        encoded(self.alloc, &text)
     }
 
     /// Returns the items, one for each character of the current text.
@@ -258,7 +258,7 @@ fn characters(alloc: Global, text: &str) -> Result<Vec<char>, AllocError>
 }
 
 /// Returns the text of characters.
-fn spelled(alloc: Global, characters: &[char]) -> Result<String, AllocError>
+fn encoded(alloc: Global, characters: &[char]) -> Result<String, AllocError>
     ensures { IfOk result (λ text. string_bytes text ≡ encode_utf8_all characters.now) }
 {
     let mut text = String::new(alloc);
@@ -355,7 +355,7 @@ fn place_of(alloc: Global, old: &[char], index: usize) -> Result<usize, AllocErr
     requires { index ≤ length old.now }
     ensures { IfOk result (λ place. place ≡ length (encode_utf8_all (take index old.now))) }
 {
-    let front = spelled(alloc, &old[..index])?;
+    let front = encoded(alloc, &old[..index])?;
     Ok(front.len())
 }
 
@@ -382,7 +382,7 @@ fn put_gap(
         let start = lines.position(before, encoding, place_of(alloc, old, low)?);
         let stop = lines.position(before, encoding, place_of(alloc, old, high)?);
         let range = Some(Range { start, stop });
-        let text = spelled(alloc, text)?;
+        let text = encoded(alloc, text)?;
         changes.push(Change { range, text })?;
     }
     Ok(())

@@ -220,7 +220,7 @@ frames_within : (n max_body : ℕ) (stream : List ℕ) → length stream ≤ n �
 frames_within zero max_body stream within =
     elim (decision_law max_body stream) [
       | inl first ↦ absurd (omega (arith, within, first_shorter max_body stream first))
-      | inr none ↦ record { bodies = []; rest = stream; frames = record { spelled = refl; longest = none } }
+      | inr none ↦ record { bodies = []; rest = stream; frames = record { framed = refl; longest = none } }
     ]
 frames_within (suc n) max_body stream within =
     elim (decision_law max_body stream) [
@@ -229,9 +229,9 @@ frames_within (suc n) max_body stream within =
           record {
             bodies = first.body ∷ others.bodies;
             rest = others.rest;
-            frames = record { spelled = (first.frame, first.rest, first.is_frame, first.is, others.frames.spelled); longest = others.frames.longest };
+            frames = record { framed = (first.frame, first.rest, first.is_frame, first.is, others.frames.framed); longest = others.frames.longest };
           }
-      | inr none ↦ record { bodies = []; rest = stream; frames = record { spelled = refl; longest = none } }
+      | inr none ↦ record { bodies = []; rest = stream; frames = record { framed = refl; longest = none } }
     ]
 
 pub all_frames_law : AllFramesLaw

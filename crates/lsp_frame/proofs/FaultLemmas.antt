@@ -112,16 +112,16 @@ decided_hopeless max_body bytes k header.BadCharset at more spelling body tail s
     judged_hopeless max_body bytes more (body ++ tail) k (length body) header.BadCharset s.lines at s.each s.good (e ∙ ap (λ x. x ++ tail) s.is ∙ append_assoc (header_of s.lines) body tail)
 
 -- The body of a spelling is the rest behind a good header.
-pub record SameBody (max_body : ℕ) (body spelled tail : List ℕ) (wanted : ℕ) : Type 0 where
-  pub is : body ≡ spelled ++ tail
-  pub len : wanted ≡ length spelled
+pub record SameBody (max_body : ℕ) (body framed tail : List ℕ) (wanted : ℕ) : Type 0 where
+  pub is : body ≡ framed ++ tail
+  pub len : wanted ≡ length framed
 
-pub same_body : (max_body : ℕ) (lines : List Line) (buffered body spelling spelled tail : List ℕ) (wanted : ℕ) → AreLines lines → buffered ≡ header_of lines ++ body → judge max_body lines ≡ Ok wanted → IsFrameOf max_body spelling spelled → buffered ≡ spelling ++ tail → SameBody max_body body spelled tail wanted
-same_body max_body lines buffered body spelling spelled tail wanted each is good s e =
-    let both : header_of lines ++ body ≡ header_of s.lines ++ (spelled ++ tail) = sym is ∙ e ∙ ap (λ x. x ++ tail) s.is ∙ append_assoc (header_of s.lines) spelled tail in
-    let same = same_header lines s.lines body (spelled ++ tail) each s.each both in
-    let error : judge max_body lines ≡ Ok (length spelled) = ap (judge max_body) same.0 ∙ s.good in
-    let l : wanted ≡ length spelled = cc in
+pub same_body : (max_body : ℕ) (lines : List Line) (buffered body spelling framed tail : List ℕ) (wanted : ℕ) → AreLines lines → buffered ≡ header_of lines ++ body → judge max_body lines ≡ Ok wanted → IsFrameOf max_body spelling framed → buffered ≡ spelling ++ tail → SameBody max_body body framed tail wanted
+same_body max_body lines buffered body spelling framed tail wanted each is good s e =
+    let both : header_of lines ++ body ≡ header_of s.lines ++ (framed ++ tail) = sym is ∙ e ∙ ap (λ x. x ++ tail) s.is ∙ append_assoc (header_of s.lines) framed tail in
+    let same = same_header lines s.lines body (framed ++ tail) each s.each both in
+    let error : judge max_body lines ≡ Ok (length framed) = ap (judge max_body) same.0 ∙ s.good in
+    let l : wanted ≡ length framed = cc in
     record { is = same.1; len = l }
 
 pub no_frame_in_header : (max_body : ℕ) (buffered spelling body more : List ℕ) → BeginsHeader buffered → IsFrameOf max_body spelling body → buffered ≡ spelling ++ more → ⊥

@@ -22,7 +22,7 @@ bound_law max_body spelling body is_frame_of =
 
 pub frames_law : FramesLaw
 frames_law max_body stream bodies others rest other first second =
-    same_frames max_body stream bodies others rest other first.spelled second.spelled first.longest second.longest
+    same_frames max_body stream bodies others rest other first.framed second.framed first.longest second.longest
 
 pub fault_law : FaultLaw
 fault_law max_body bytes j k fault other first second =

@@ -6,7 +6,7 @@ use Rattle.lsp_frame.specs.Header.{Line, AreLines, lines_bytes, header_of, Begin
 use Rattle.lsp_frame.specs.Verdict.{judge}
 use Rattle.lsp_frame.specs.Frame.{IsFrameOf, HasNoFrame}
 use Rattle.lsp_frame.specs.Faults.{IsBadHeaderAt, IsHeaderTooLongAt, IsJudgedAt, IsDecidedAt, IsDecided, header_fault_at, place_after}
-use Rattle.lsp_frame.specs.Stream.{Framing, IsFrame, IsPart, IsSpelled, IsSound, IsRead, IsStreamFault, IsFeedFault, given_up}
+use Rattle.lsp_frame.specs.Stream.{Framing, IsFrame, IsPart, AreFrames, IsSound, IsRead, IsStreamFault, IsFeedFault, released}
 use Rattle.lsp_frame.specs.inside.Stream.{IsHolding, HasTaken, IsFaulty}
 use Rattle.lsp_frame.specs.Laws.{SameFrame}
 use Rattle.lsp_frame.specs.declared.fault.HeaderFault.{HeaderFault}
@@ -53,13 +53,13 @@ same_frame max_body spelling other body other_body x y s t e =
     }
 
 -- The frames of a stream are one list.
-pub same_frames : (max_body : ℕ) (stream : List ℕ) (bodies others : List (List ℕ)) (rest other : List ℕ) → IsSpelled max_body stream bodies rest → IsSpelled max_body stream others other → HasNoFrame max_body rest → HasNoFrame max_body other → (bodies ≡ others) × (rest ≡ other)
+pub same_frames : (max_body : ℕ) (stream : List ℕ) (bodies others : List (List ℕ)) (rest other : List ℕ) → AreFrames max_body stream bodies rest → AreFrames max_body stream others other → HasNoFrame max_body rest → HasNoFrame max_body other → (bodies ≡ others) × (rest ≡ other)
 same_frames max_body stream [] [] rest other a b m n = (refl, sym a ∙ b)
 same_frames max_body stream [] (body ∷ others) rest other a b m n = absurd (m b.0 body b.1 b.2 (sym a ∙ b.3))
 same_frames max_body stream (body ∷ bodies) [] rest other a b m n = absurd (n a.0 body a.1 a.2 (sym b ∙ a.3))
 same_frames max_body stream (body ∷ bodies) (other_body ∷ others) rest other a b m n =
     let s = same_frame max_body a.0 b.0 body other_body a.1 b.1 a.2 b.2 (sym a.3 ∙ b.3) in
-    let later : IsSpelled max_body a.1 others other = subst (λ (z : List ℕ). IsSpelled max_body z others other) (sym s.rest_is) b.4 in
+    let later : AreFrames max_body a.1 others other = subst (λ (z : List ℕ). AreFrames max_body z others other) (sym s.rest_is) b.4 in
     let i = same_frames max_body a.1 bodies others rest other a.4 later m n in
     let e0 : body ≡ other_body = s.body_is in
     let e1 : bodies ≡ others = i.0 in
@@ -158,7 +158,7 @@ same_fault max_body start bytes fault other a b =
 -- A stream is read in one way.
 pub same_read : (max_body : ℕ) (stream : List ℕ) (bodies others : List (List ℕ)) (fault other : Option FrameFault) → IsRead max_body stream bodies fault → IsRead max_body stream others other → (bodies ≡ others) × (fault ≡ other)
 same_read max_body stream bodies others fault other a b =
-    let s = same_frames max_body stream bodies others a.rest b.rest a.frames.spelled b.frames.spelled a.frames.longest b.frames.longest in
+    let s = same_frames max_body stream bodies others a.rest b.rest a.frames.framed b.frames.framed a.frames.longest b.frames.longest in
     let end_here = subst (λ (z : List ℕ). MatchOption other (IsSound max_body z) (IsDecided max_body (place_after 0 (length stream - length z)) z)) (sym s.1) b.end in
     (s.0, same_end fault other a.end end_here)
   where
@@ -176,19 +176,19 @@ pub nothing_part : (max_body : ℕ) → IsPart max_body []
 nothing_part max_body = inl (record { begins = record { lines = []; rest = 13 ∷ 10 ∷ []; each = tt; is = refl; more = omega arith }; short = omega arith })
 
 -- A frame more, and bytes more.
-pub spelled_push : (max_body : ℕ) (stream : List ℕ) (bodies : List (List ℕ)) (buffered body : List ℕ) → IsSpelled max_body stream bodies buffered → IsFrameOf max_body buffered body → IsSpelled max_body stream (bodies ++ body ∷ []) []
-spelled_push max_body stream [] buffered body a s = (buffered, [], s, a ∙ sym (append-nil buffered), refl)
-spelled_push max_body stream (first ∷ bodies) buffered body a s = (a.0, a.1, a.2, a.3, spelled_push max_body a.1 bodies buffered body a.4 s)
+pub framed_push : (max_body : ℕ) (stream : List ℕ) (bodies : List (List ℕ)) (buffered body : List ℕ) → AreFrames max_body stream bodies buffered → IsFrameOf max_body buffered body → AreFrames max_body stream (bodies ++ body ∷ []) []
+framed_push max_body stream [] buffered body a s = (buffered, [], s, a ∙ sym (append-nil buffered), refl)
+framed_push max_body stream (first ∷ bodies) buffered body a s = (a.0, a.1, a.2, a.3, framed_push max_body a.1 bodies buffered body a.4 s)
 
-pub spelled_more : (max_body : ℕ) (stream : List ℕ) (bodies : List (List ℕ)) (buffered more : List ℕ) → IsSpelled max_body stream bodies buffered → IsSpelled max_body (stream ++ more) bodies (buffered ++ more)
-spelled_more max_body stream [] buffered more a = ap (λ z. z ++ more) a
-spelled_more max_body stream (first ∷ bodies) buffered more a =
-    (a.0, a.1 ++ more, a.2, ap (λ z. z ++ more) a.3 ∙ append_assoc a.0 a.1 more, spelled_more max_body a.1 bodies buffered more a.4)
+pub framed_more : (max_body : ℕ) (stream : List ℕ) (bodies : List (List ℕ)) (buffered more : List ℕ) → AreFrames max_body stream bodies buffered → AreFrames max_body (stream ++ more) bodies (buffered ++ more)
+framed_more max_body stream [] buffered more a = ap (λ z. z ++ more) a
+framed_more max_body stream (first ∷ bodies) buffered more a =
+    (a.0, a.1 ++ more, a.2, ap (λ z. z ++ more) a.3 ∙ append_assoc a.0 a.1 more, framed_more max_body a.1 bodies buffered more a.4)
 
-pub spelled_len : (max_body : ℕ) (stream : List ℕ) (bodies : List (List ℕ)) (buffered : List ℕ) → IsSpelled max_body stream bodies buffered → length buffered ≤ length stream
-spelled_len max_body stream [] buffered a = omega (arith, ap length a)
-spelled_len max_body stream (first ∷ bodies) buffered a =
-    let later = spelled_len max_body a.1 bodies buffered a.4 in
+pub framed_len : (max_body : ℕ) (stream : List ℕ) (bodies : List (List ℕ)) (buffered : List ℕ) → AreFrames max_body stream bodies buffered → length buffered ≤ length stream
+framed_len max_body stream [] buffered a = omega (arith, ap length a)
+framed_len max_body stream (first ∷ bodies) buffered a =
+    let later = framed_len max_body a.1 bodies buffered a.4 in
     omega (arith, later, ap length a.3, length-append a.0 a.1)
 
 -- The place behind one more frame.
@@ -196,17 +196,17 @@ pub place_more : (whole buffered place : ℕ) → buffered ≤ whole → place �
 place_more whole buffered place less e = omega (arith, less, e)
 
 -- A framer that gave a frame up.
-pub given_none : (f n : Framing) → n ≡ given_up f → f.failed ≡ false → (IsFrame n.limits.max_body n.buffered → ⊥) × (n.failed ≡ false)
+pub given_none : (f n : Framing) → n ≡ released f → f.failed ≡ false → (IsFrame n.limits.max_body n.buffered → ⊥) × (n.failed ≡ false)
 given_none f n e sound = subst (λ (g : Framing). (IsFrame g.limits.max_body g.buffered → ⊥) × (g.failed ≡ false)) (sym e) (no_empty_frame f.limits.max_body, sound)
 
-pub given_behind : (max_body : ℕ) (stream : List ℕ) (bodies more : List (List ℕ)) (f n : Framing) (body : List ℕ) → IsHolding max_body stream bodies f → n ≡ given_up f → IsFrameOf f.limits.max_body f.buffered body → more ≡ bodies ++ body ∷ [] → HasTaken max_body stream more n
+pub given_behind : (max_body : ℕ) (stream : List ℕ) (bodies more : List (List ℕ)) (f n : Framing) (body : List ℕ) → IsHolding max_body stream bodies f → n ≡ released f → IsFrameOf f.limits.max_body f.buffered body → more ≡ bodies ++ body ∷ [] → HasTaken max_body stream more n
 given_behind max_body stream bodies more f n body at e s m =
     let is_frame_of : IsFrameOf max_body f.buffered body = subst (λ (k : ℕ). IsFrameOf k f.buffered body) at.limit s in
-    let spelled : IsSpelled max_body stream more [] = subst (λ (b : List (List ℕ)). IsSpelled max_body stream b []) (sym m) (spelled_push max_body stream bodies f.buffered body at.spelled is_frame_of) in
-    let rest_after : HasTaken max_body stream more (given_up f) = record {
+    let framed : AreFrames max_body stream more [] = subst (λ (b : List (List ℕ)). AreFrames max_body stream b []) (sym m) (framed_push max_body stream bodies f.buffered body at.framed is_frame_of) in
+    let rest_after : HasTaken max_body stream more (released f) = record {
       holding = record {
-        spelled = spelled;
-        place = place_more (length stream) (length f.buffered) f.place (spelled_len max_body stream bodies f.buffered at.spelled) at.place;
+        framed = framed;
+        place = place_more (length stream) (length f.buffered) f.place (framed_len max_body stream bodies f.buffered at.framed) at.place;
         sound = at.sound;
         part = nothing_part max_body;
         limit = at.limit;
@@ -220,10 +220,10 @@ pub fed_holding : (max_body : ℕ) (stream : List ℕ) (bodies : List (List ℕ)
 fed_holding max_body stream bodies f n more at e part =
     let fed : Framing = record f { buffered = f.buffered ++ more } in
     let part_here : IsPart f.limits.max_body (f.buffered ++ more) = subst (λ (g : Framing). IsPart g.limits.max_body g.buffered) e part in
-    let less = spelled_len max_body stream bodies f.buffered at.holding.spelled in
+    let less = framed_len max_body stream bodies f.buffered at.holding.framed in
     let same : length stream - length f.buffered ≡ length (stream ++ more) - length (f.buffered ++ more) = omega (arith, less, length-append stream more, length-append f.buffered more) in
     let holding : IsHolding max_body (stream ++ more) bodies (record f { buffered = f.buffered ++ more }) = record {
-      spelled = spelled_more max_body stream bodies f.buffered more at.holding.spelled;
+      framed = framed_more max_body stream bodies f.buffered more at.holding.framed;
       place = at.holding.place ∙ ap (place_after 0) same;
       sound = at.holding.sound;
       part = subst (λ (k : ℕ). IsPart k (f.buffered ++ more)) at.holding.limit part_here;
@@ -259,11 +259,11 @@ decided_more max_body bytes more k header.BadCharset at = judged_more max_body b
 
 pub faulty_more : (max_body : ℕ) (stream more : List ℕ) (bodies : List (List ℕ)) (fault : FrameFault) → IsFaulty max_body stream bodies fault → IsFaulty max_body (stream ++ more) bodies fault
 faulty_more max_body stream more bodies fault at =
-    let less = spelled_len max_body stream bodies at.rest at.spelled in
+    let less = framed_len max_body stream bodies at.rest at.framed in
     let same : length stream - length at.rest ≡ length (stream ++ more) - length (at.rest ++ more) = omega (arith, less, length-append stream more, length-append at.rest more) in
     record {
       rest = at.rest ++ more;
-      spelled = spelled_more max_body stream bodies at.rest more at.spelled;
+      framed = framed_more max_body stream bodies at.rest more at.framed;
       decided = record {
         kind = at.decided.kind;
         k = at.decided.k;
@@ -278,7 +278,7 @@ faulty_read max_body stream bodies fault at =
     record {
       rest = at.rest;
       frames = record {
-        spelled = at.spelled;
+        framed = at.framed;
         longest = λ spelling body more s e. at.hopeless [] spelling body more s (append-nil at.rest ∙ e);
       };
       end = at.decided;
@@ -314,7 +314,7 @@ pub behind_read : (max_body : ℕ) (stream : List ℕ) (bodies : List (List ℕ)
 behind_read max_body stream bodies f at =
     record {
       rest = f.buffered;
-      frames = record { spelled = at.holding.spelled; longest = part_longest max_body f.buffered at.holding.part at.none };
+      frames = record { framed = at.holding.framed; longest = part_longest max_body f.buffered at.holding.part at.none };
       end = part_sound max_body f.buffered at.holding.part;
     }
 
@@ -336,12 +336,12 @@ fault_behind max_body stream piece at bodies f n fault rest_after fed some =
     let why = stream_fault_of f n (take (length piece - at) (drop at piece)) fault fed rest_after.holding.sound some in
     let here : IsDecidedAt max_body (f.buffered ++ take (length piece - at) (drop at piece)) why.decided.k why.decided.kind =
     subst (λ (m : ℕ). IsDecidedAt m (f.buffered ++ take (length piece - at) (drop at piece)) why.decided.k why.decided.kind) rest_after.holding.limit why.decided.decided in
-    let less = spelled_len max_body (stream ++ take at piece) bodies f.buffered rest_after.holding.spelled in
+    let less = framed_len max_body (stream ++ take at piece) bodies f.buffered rest_after.holding.framed in
     let same : length (stream ++ take at piece) - length f.buffered ≡ length ((stream ++ take at piece) ++ take (length piece - at) (drop at piece)) - length (f.buffered ++ take (length piece - at) (drop at piece)) =
     omega (arith, less, length-append (stream ++ take at piece) (take (length piece - at) (drop at piece)), length-append f.buffered (take (length piece - at) (drop at piece))) in
     let faulty : IsFaulty max_body ((stream ++ take at piece) ++ take (length piece - at) (drop at piece)) bodies fault = record {
       rest = f.buffered ++ take (length piece - at) (drop at piece);
-      spelled = spelled_more max_body (stream ++ take at piece) bodies f.buffered (take (length piece - at) (drop at piece)) rest_after.holding.spelled;
+      framed = framed_more max_body (stream ++ take at piece) bodies f.buffered (take (length piece - at) (drop at piece)) rest_after.holding.framed;
       decided = record {
         kind = why.decided.kind;
         k = why.decided.k;
@@ -357,7 +357,7 @@ pub new_behind : (limits : Bounds) (f : Framing) → f ≡ record { place = 0; b
 new_behind limits f e =
     let fresh : Framing = record { place = 0; buffered = []; failed = false; limits = limits } in
     let rest_after : HasTaken limits.max_body [] [] (record { place = 0; buffered = []; failed = false; limits = limits }) = record {
-      holding = record { spelled = refl; place = refl; sound = refl; part = nothing_part limits.max_body; limit = refl };
+      holding = record { framed = refl; place = refl; sound = refl; part = nothing_part limits.max_body; limit = refl };
       none = no_empty_frame limits.max_body;
     } in
     subst (λ (g : Framing). HasTaken limits.max_body [] [] g) (sym e) rest_after

@@ -71,20 +71,20 @@ IsFeedFault old new piece Failed = (old.failed ≡ true) × (new ≡ old)
 IsFeedFault old new piece NoMemory = (old.failed ≡ false) × (new ≡ old)
 
 -- The framer after its buffered frame was released.
-abbrev pub given_up : Framing → Framing
-given_up f = record f { place = place_after f.place (length f.buffered); buffered = [] }
+abbrev pub released : Framing → Framing
+released f = record f { place = place_after f.place (length f.buffered); buffered = [] }
 
 -- The bytes are frames of these bodies, one after another, and then the rest.
-abbrev pub IsSpelled : ℕ → List ℕ → List (List ℕ) → List ℕ → Type 0
-IsSpelled max_body stream [] rest = stream ≡ rest
-IsSpelled max_body stream (body ∷ bodies) rest =
+abbrev pub AreFrames : ℕ → List ℕ → List (List ℕ) → List ℕ → Type 0
+AreFrames max_body stream [] rest = stream ≡ rest
+AreFrames max_body stream (body ∷ bodies) rest =
     (spelling : List ℕ) × (rest_after : List ℕ) × IsFrameOf max_body spelling body
-    × (stream ≡ spelling ++ rest_after) × IsSpelled max_body rest_after bodies rest
+    × (stream ≡ spelling ++ rest_after) × AreFrames max_body rest_after bodies rest
 
 -- The frames of the stream have these bodies, and the rest begins with no frame.
 pub record HasFrames (max_body : ℕ) (stream : List ℕ) (bodies : List (List ℕ))
     (rest : List ℕ) : Type 0 where
-  pub spelled : IsSpelled max_body stream bodies rest
+  pub framed : AreFrames max_body stream bodies rest
   pub longest : HasNoFrame max_body rest
 
 -- No fault was decided in the bytes.

@@ -3,7 +3,7 @@
 ghost use Rattle.std.specs.Prelude.{◌≡◌, ◌+◌, ◌<◌, ◌≤◌, ◌↔◌, ℕ, List, true, false, [], ◌++◌, length, take, Ok, Err, IfOk, IfErr, OnOk, IsTrue, IsErrOf, MatchOption};
 ghost use Rattle.lsp_frame.specs.Frame.{IsFrameOf, HasNoFrame, IsHopeless};
 ghost use Rattle.lsp_frame.specs.Faults.{IsDecided, place_after};
-ghost use Rattle.lsp_frame.specs.Stream.{IsFrame, IsPart, HoldsOne, IsFeedFault, given_up};
+ghost use Rattle.lsp_frame.specs.Stream.{IsFrame, IsPart, HoldsOne, IsFeedFault, released};
 
 pub(crate) mod header;
 pub(crate) mod notes;
@@ -136,7 +136,7 @@ impl Framer {
     /// frame is buffered.
     pub fn next(&mut self)
         ensures given { self.old.failed ≡ false →
-            IsFrame self.old.limits.max_body self.old.buffered → self.new ≡ given_up self.old }
+            IsFrame self.old.limits.max_body self.old.buffered → self.new ≡ released self.old }
         ensures none { (self.old.failed ≡ false →
             IsFrame self.old.limits.max_body self.old.buffered → ⊥) → self.new ≡ self.old }
     {

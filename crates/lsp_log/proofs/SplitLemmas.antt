@@ -5,7 +5,7 @@ use Rattle.std.proofs.lemmas.List.{length-append, take-append-drop}
 use Rattle.lsp_frame.specs.Frame.{IsFrameOf}
 use Rattle.lsp_frame.specs.Header.{header_of, lines_bytes}
 use Rattle.lsp_frame.specs.Faults.{place_after, IsDecided}
-use Rattle.lsp_frame.specs.Stream.{Framing, IsFrame, IsPart, HoldsOne, IsFeedFault, IsStreamFault, given_up}
+use Rattle.lsp_frame.specs.Stream.{Framing, IsFrame, IsPart, HoldsOne, IsFeedFault, IsStreamFault, released}
 use Rattle.lsp_stream.specs.Faults.{engine_fault}
 use Rattle.lsp_frame.specs.declared.fault.FrameFault.{FrameFault}
 use Rattle.lsp_frame.specs.declared.fault.FrameFault.TheVariants as fault_of
@@ -183,7 +183,7 @@ known_reads reading input more body records s was is is_frame_of at =
     }
 
 given_known : (reading : LogRules) (input more body : List ℕ) (records : List Record) (s : Splitter) (f : Framing) (was : Side) (side : Option Side) (mark place : ℕ) → s.side ≡ Some was
-    → f ≡ given_up s.framer → IsSide s.version side → mark_part s.version side ≡ [] → mark ≡ length (mark_of s.version was)
+    → f ≡ released s.framer → IsSide s.version side → mark_part s.version side ≡ [] → mark ≡ length (mark_of s.version was)
     → place ≡ min (min (s.place + mark) (2 ^ 64 - 1) + length s.framer.buffered) (2 ^ 64 - 1) → IsFrameOf reading.max_body s.framer.buffered body → IsAfter reading input more records s
     → IsAfter reading input more (records ++ record_at s body ∷ []) (record { framer = f; version = s.version; side = side; place = place; line_due = false })
 given_known reading input more body records s f was side mark place is e sided none marked placed is_frame_of at =
@@ -193,7 +193,7 @@ given_known reading input more body records s f was side mark place is e sided n
     let whole : length (buffered_of s ++ more) ≡ length (buffered_of s) + length more = length-append (buffered_of s) more in
     let framed : length (s.framer.buffered ++ more) ≡ length s.framer.buffered + length more = length-append s.framer.buffered more in
     let reads = known_reads reading input more body records s was is is_frame_of at in
-    let is_after : IsAfter reading input more (records ++ record_at s body ∷ []) (record { framer = given_up s.framer; version = s.version; side = side; place = place; line_due = false }) = record {
+    let is_after : IsAfter reading input more (records ++ record_at s body ∷ []) (record { framer = released s.framer; version = s.version; side = side; place = place; line_due = false }) = record {
       reads = record {
         version = reads.version;
         accepted = reads.accepted;
@@ -220,7 +220,7 @@ given_reads reading input more body records s some is_frame_of at =
     known_reads reading input more body records s known.side known.is is_frame_of at
 
 pub given_stands : (reading : LogRules) (input more body : List ℕ) (records : List Record) (s : Splitter) (f : Framing) (side : Option Side) (mark place : ℕ) → (s.side ≡ None → ⊥)
-    → f ≡ given_up s.framer → IsSide s.version side → mark_part s.version side ≡ [] → ((was : Side) → mark ≡ length (mark_of s.version was))
+    → f ≡ released s.framer → IsSide s.version side → mark_part s.version side ≡ [] → ((was : Side) → mark ≡ length (mark_of s.version was))
     → place ≡ min (min (s.place + mark) (2 ^ 64 - 1) + length s.framer.buffered) (2 ^ 64 - 1) → IsFrameOf reading.max_body s.framer.buffered body → IsAfter reading input more records s
     → IsAfter reading input more (records ++ record_at s body ∷ [])
     (record { framer = f; version = s.version; side = side; place = place; line_due = false })
@@ -228,7 +228,7 @@ given_stands reading input more body records s f side mark place some e sided no
     let known : KnownSide s.side = known_side s.side some in
     given_known reading input more body records s f known.side side mark place known.is e sided none (marked known.side) placed is_frame_of at
 
-pub given_ready : (s : Splitter) (f : Framing) (side : Option Side) (place : ℕ) → f ≡ given_up s.framer → s.framer.failed ≡ false
+pub given_ready : (s : Splitter) (f : Framing) (side : Option Side) (place : ℕ) → f ≡ released s.framer → s.framer.failed ≡ false
     → IsReady (record { framer = f; version = s.version; side = side; place = place; line_due = false })
 given_ready s f side place e sound =
     subst (λ (g : Framing). IsReady (record { framer = g; version = s.version; side = side; place = place; line_due = false })) (sym e)

@@ -33,8 +33,8 @@ pub record IsReplacedBy (limits : Bounds) (units : ℕ → ℕ) (table : List Do
 -- The canonical batch of an accepted batch does the same, within greater limits too.
 abbrev pub CanonicalBatchLaw : Type 0
 CanonicalBatchLaw =
-    (small great : Bounds) (encoding : Encoding) (table : List DocumentItem) (uri : List ℕ) (version : ℤ)
-    (batch : List Edit) → AreInRange small → AreWithin small great
+    (small great : Bounds) (encoding : Encoding) (table : List DocumentItem) (uri : List ℕ)
+    (version : ℤ) (batch : List Edit) → AreInRange small → AreWithin small great
     → change_refusal small (units_in encoding) table uri version batch ≡ None
     → IsReplacedBy great (units_in encoding) table uri version batch
     (canonical_batch (units_in encoding) table uri batch)
@@ -69,8 +69,8 @@ WithinLaw =
 -- The whole text after a batch does the same as the batch, within greater limits too.
 abbrev pub WholeTextLaw : Type 0
 WholeTextLaw =
-    (small great : Bounds) (encoding : Encoding) (table : List DocumentItem) (uri : List ℕ) (version : ℤ)
-    (batch : List Edit) → AreInRange small → AreWithin small great
+    (small great : Bounds) (encoding : Encoding) (table : List DocumentItem) (uri : List ℕ)
+    (version : ℤ) (batch : List Edit) → AreInRange small → AreWithin small great
     → AllWithin small table → AreTexts batch
     → change_refusal small (units_in encoding) table uri version batch ≡ None
     → IsReplacedBy great (units_in encoding) table uri version batch

@@ -71,7 +71,8 @@ else_refused (Some first) later = Some first
 else_refused None later = later
 
 -- Why the canonical message of a batch is refused: as the change is, then as its body is.
-abbrev pub message_refusal : Bounds → (ℕ → ℕ) → List DocumentItem → List ℕ → ℤ → List Edit → Option Refusal
+abbrev pub message_refusal : Bounds → (ℕ → ℕ) → List DocumentItem → List ℕ → ℤ → List Edit →
+    Option Refusal
 message_refusal limits units table uri version batch =
     else_refused (change_refusal limits units table uri version batch)
     (body_refusal limits (canonical_body units table uri version batch))
@@ -107,12 +108,12 @@ pub record IsCanonicalOn (units : ℕ → ℕ) (table : List DocumentItem) (uri 
 
 -- A canonical batch is accepted where the batch was, has the same result, and has the same
 -- canonical message.
-pub record IsCanonicalOf (limits : Bounds) (units : ℕ → ℕ) (table : List DocumentItem) (uri : List ℕ)
-    (version : ℤ) (batch settled : List Edit) : Type 0 where
-  pub accepted : message_refusal limits units table uri version settled ≡ None
-  pub leaves : after_change units table uri version settled
+pub record IsCanonicalOf (limits : Bounds) (units : ℕ → ℕ) (table : List DocumentItem)
+    (uri : List ℕ) (version : ℤ) (batch canonical : List Edit) : Type 0 where
+  pub accepted : message_refusal limits units table uri version canonical ≡ None
+  pub leaves : after_change units table uri version canonical
       ≡ after_change units table uri version batch
-  pub same_frame : canonical_frame units table uri version settled
+  pub same_frame : canonical_frame units table uri version canonical
       ≡ canonical_frame units table uri version batch
 
 -- The receiver reads the message as the one that was written, and its params as the URI, the

@@ -79,7 +79,8 @@ refusal_on limits units None version batch = Some not_open
 refusal_on limits units (Some entry) version batch = entry_refusal limits units entry version batch
 
 -- Why a change of the document of a URI is refused.
-abbrev pub change_refusal : Bounds → (ℕ → ℕ) → List DocumentItem → List ℕ → ℤ → List Edit → Option Refusal
+abbrev pub change_refusal : Bounds → (ℕ → ℕ) → List DocumentItem → List ℕ → ℤ → List Edit →
+    Option Refusal
 change_refusal limits units table uri version batch
     = refusal_on limits units (entry_at table uri) version batch
 

@@ -45,7 +45,8 @@ impl Model for GapText {
 
     ghost view = { λ text. without_gap text.bytes };
 
-    ghost invariant = { λ text. IsGapText (without_gap text.bytes) text.starts.front text.starts.back };
+    ghost invariant = { λ text.
+        IsGapText (without_gap text.bytes) text.starts.front text.starts.back };
 }
 
 /// Whether bytes can be written over those from `start` to `stop` while the gap and all line starts

@@ -9,7 +9,7 @@ use lsp_text::Lines;
 #[derive(Drop)]
 pub enum KeptLines<'a> {
     Own(Lines),
-    Lent(&'a Lines),
+    Borrowed(&'a Lines),
 }
 
 impl<'a> KeptLines<'a> {
@@ -19,7 +19,7 @@ impl<'a> KeptLines<'a> {
     {
         match self {
             KeptLines::Own(lines) => lines,
-            KeptLines::Lent(lines) => lines,
+            KeptLines::Borrowed(lines) => lines,
         }
     }
 }

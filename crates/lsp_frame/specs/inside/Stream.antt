@@ -4,13 +4,13 @@ use Rattle.std.specs.Prelude.{false}
 use Rattle.lsp_frame.specs.Frame.{IsHopeless}
 use Rattle.lsp_frame.specs.Faults.{IsDecided, place_after}
 use Rattle.lsp_frame.specs.declared.fault.FrameFault.{FrameFault}
-use Rattle.lsp_frame.specs.Stream.{Framing, IsFrame, IsPart, IsSpelled}
+use Rattle.lsp_frame.specs.Stream.{Framing, IsFrame, IsPart, AreFrames}
 
 -- A framer has released the frames of a stream with these bodies, and has buffered one more or a
 -- part of one.
 pub record IsHolding (max_body : ℕ) (stream : List ℕ) (bodies : List (List ℕ))
     (framer : Framing) : Type 0 where
-  pub spelled : IsSpelled max_body stream bodies framer.buffered
+  pub framed : AreFrames max_body stream bodies framer.buffered
   pub place : framer.place ≡ place_after 0 (length stream - length framer.buffered)
   pub sound : framer.failed ≡ false
   pub part : IsPart max_body framer.buffered
@@ -26,6 +26,6 @@ pub record HasTaken (max_body : ℕ) (stream : List ℕ) (bodies : List (List �
 pub record IsFaulty (max_body : ℕ) (stream : List ℕ) (bodies : List (List ℕ))
     (fault : FrameFault) : Type 0 where
   pub rest : List ℕ
-  pub spelled : IsSpelled max_body stream bodies rest
+  pub framed : AreFrames max_body stream bodies rest
   pub decided : IsDecided max_body (place_after 0 (length stream - length rest)) rest fault
   pub hopeless : IsHopeless max_body rest

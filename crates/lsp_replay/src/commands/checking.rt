@@ -136,7 +136,7 @@ fn code_word(code: Option<ErrorCode>) -> &'static str
     }
 }
 
-/// The letters of a refusal, as docs/FORMATS.md lists them.
+/// The code of a refusal, as docs/FORMATS.md lists them.
 fn label(refusal: Refusal) -> &'static str
     ensures { result.now ≡ label refusal }
 {

@@ -29,7 +29,8 @@ impl Model for GapBytes {
           back = drop bytes.high bytes.buffer.items;
         } };
 
-    ghost invariant = { λ bytes. (bytes.low ≤ bytes.high) × (bytes.high ≤ length bytes.buffer.items) };
+    ghost invariant = { λ bytes. (bytes.low ≤ bytes.high)
+        × (bytes.high ≤ length bytes.buffer.items) };
 }
 
 impl GapBytes {

@@ -34,7 +34,8 @@ impl Model for GapStarts {
           back = drop starts.high starts.buffer.items;
         } };
 
-    ghost invariant = { λ starts. (starts.low ≤ starts.high) × (starts.high ≤ length starts.buffer.items) };
+    ghost invariant = { λ starts. (starts.low ≤ starts.high)
+        × (starts.high ≤ length starts.buffer.items) };
 }
 
 /// Turns offsets into distances to the end of the text, or distances into offsets.

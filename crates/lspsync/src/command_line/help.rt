@@ -112,7 +112,7 @@ fn digits(alloc: Global, number: usize) -> Result<String, AllocError> {
 }
 
 static PROGRAM: &str =
-    "Keeps a copy of each open text equal to the editor's (Language Server Protocol 3.17), and reads recorded sessions";
+    "Keeps a copy of each open text as the editor's messages say (Language Server Protocol 3.17), and reads recorded sessions";
 
 static NOTES: &str =
     "Each command reads standard input and writes standard output. A log is what an editor sent to its language
@@ -178,8 +178,8 @@ static CONVERT: &str =
 
 static CONVERT_EXAMPLE: &str =
     "The output begins with the line `lsp-session-log 2`. Then come the messages, each after a mark:
-`>` for the editor's, byte for byte, and `<` for the reply that a server gives to it. All log
-commands read both versions. The status is 1 where something was refused.
+`>` for the editor's, byte for byte, and `<` for the server's reply. The other commands on logs
+read both versions, `convert` reads version 1 alone. The status is 1 where something was refused.
 
 Example, and what its output says:
   ./lspsync convert < examples/whole-text.log
