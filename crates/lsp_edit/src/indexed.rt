@@ -166,9 +166,7 @@ impl IndexedText {
     {
         let alloc = *self.text.allocator();
         let draft = Draft::left_by(alloc, &self.text, &self.lines, encoding, changes)?;
-        if draft.len() > max_len {
-            return Err(TextFault::TooLong);
-        }
+        may_be_left(&draft, max_len)?;
         Ok(draft)
     }
 
@@ -333,6 +331,18 @@ fn may_have_len(pieces: &Pieces<'_>, max_len: usize) -> Result<(), TextFault>
         × (max_len < length (edited_bytes pieces.now.edited))) }
 {
     if pieces.text_len() > max_len {
+        return Err(TextFault::TooLong);
+    }
+    Ok(())
+}
+
+/// Fails if the text that a batch leaves has more than `max_len` bytes. Takes no memory.
+fn may_be_left(draft: &Draft, max_len: usize) -> Result<(), TextFault>
+    ensures ok { OnOk result (length draft.now ≤ max_len) }
+    ensures utf8 { IsUtf8 draft.now }
+    ensures error { IfErr result (λ fault. (fault ≡ TooLong) × (max_len < length draft.now)) }
+{
+    if draft.len() > max_len {
         return Err(TextFault::TooLong);
     }
     Ok(())
