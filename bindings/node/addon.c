@@ -13,7 +13,7 @@ enum {
     NUMBERS_OF_EDIT = 6,
     NUMBERS_OF_SETTINGS = 6,
     MESSAGE_LEN = 96,
-    REPORTED_STEP = 65536 /* the collector hears of a document's size once it has changed by so many bytes */
+    REPORTED_STEP = 65536 /* the collector hears of a document's size after changes of so many bytes */
 };
 
 static const unsigned char no_bytes[1];
@@ -133,9 +133,7 @@ static int arguments(napi_env env, napi_callback_info info, size_t wanted, napi_
 static int elements(napi_env env, napi_value value, napi_typedarray_type wanted, const void **found, size_t *count) {
     napi_typedarray_type type;
     void *data = NULL;
-    bool is_array = false;
-    if (napi_is_typedarray(env, value, &is_array) != napi_ok || !is_array ||
-        napi_get_typedarray_info(env, value, &type, count, &data, NULL, NULL) != napi_ok || type != wanted)
+    if (napi_get_typedarray_info(env, value, &type, count, &data, NULL, NULL) != napi_ok || type != wanted)
         return 0;
     *found = *count > 0 ? data : no_bytes;
     return 1;
@@ -143,10 +141,11 @@ static int elements(napi_env env, napi_value value, napi_typedarray_type wanted,
 
 /* Documents */
 
-/* A document, and how many bytes of it the collector knows of. */
+/* A document, how many bytes of it the collector knows of, and how many were put in since. */
 typedef struct {
     laspidru_handle handle;
     int64_t reported;
+    size_t put_in;
 } document;
 
 /* Says to the collector how much memory a document has now: else a program that drops many would keep them too long. */
@@ -156,9 +155,9 @@ static void report_size(napi_env env, document *it) {
     if (laspidru_document_size(&it->handle, &length) != LASPIDRU_OK)
         length.bytes = 0;
     int64_t change = (int64_t)length.bytes - it->reported;
-    int is_great = change >= REPORTED_STEP || change <= -REPORTED_STEP || length.bytes == 0;
-    if (is_great && change != 0 && napi_adjust_external_memory(env, change, &all) == napi_ok)
+    if (change != 0 && napi_adjust_external_memory(env, change, &all) == napi_ok)
         it->reported += change;
+    it->put_in = 0;
 }
 
 static void free_document(napi_env env, void *data, void *hint) {
@@ -170,9 +169,7 @@ static void free_document(napi_env env, void *data, void *hint) {
 }
 
 static int document_of(napi_env env, napi_value value, document **found) {
-    napi_valuetype type;
-    return napi_typeof(env, value, &type) == napi_ok && type == napi_external &&
-           napi_get_value_external(env, value, (void **)found) == napi_ok;
+    return napi_get_value_external(env, value, (void **)found) == napi_ok;
 }
 
 /* open(text): a document */
@@ -217,6 +214,7 @@ typedef struct {
     size_t count;
     const void *texts;
     size_t texts_len;
+    size_t put_in; /* the bytes of all edits */
 } batch;
 
 static void free_batch(batch *it) {
@@ -225,8 +223,8 @@ static void free_batch(batch *it) {
 }
 
 /* Reads the arguments (document, encoding, numbers, texts). `numbers` is a Uint32Array with six of each edit: the start's line
-   and character, the end's, how many bytes its text has, and 1 where it is of the whole text. `texts` is a Uint8Array.
-   Where it returns false it has thrown, and there is nothing to free. */
+   and character, the end's, how many bytes its text has, and 1 where it is of the whole text. `texts` is a Uint8Array, which
+   may be longer than the texts. Where it returns false it has thrown, and there is nothing to free. */
 static int read_batch(napi_env env, napi_callback_info info, batch *it) {
     napi_value found[MOST_ARGUMENTS];
     const void *numbers;
@@ -239,6 +237,7 @@ static int read_batch(napi_env env, napi_callback_info info, batch *it) {
         return 0;
     }
     it->count = len / NUMBERS_OF_EDIT;
+    it->put_in = 0;
     it->edits = it->count <= FEW_EDITS ? it->few : malloc(it->count * sizeof *it->edits);
     if (it->edits == NULL) {
         refuse(env, LASPIDRU_OUT_OF_MEMORY);
@@ -247,8 +246,16 @@ static int read_batch(napi_env env, napi_callback_info info, batch *it) {
     for (size_t i = 0; i < it->count; i++) {
         const laspidru_u32 *n = (const laspidru_u32 *)numbers + NUMBERS_OF_EDIT * i;
         it->edits[i] = (laspidru_edit){{n[0], n[1]}, {n[2], n[3]}, n[4], n[5] != 0};
+        it->put_in += n[4];
     }
     return 1;
+}
+
+/* After a batch was made: the size is reported where that is due. */
+static void note_batch(napi_env env, const batch *it) {
+    it->document->put_in += it->put_in;
+    if (it->document->put_in >= REPORTED_STEP)
+        report_size(env, it->document);
 }
 
 /* change(document, encoding, numbers, texts) */
@@ -262,7 +269,7 @@ static napi_value change(napi_env env, napi_callback_info info) {
     free_batch(&it);
     if (code != LASPIDRU_OK)
         return refuse_change(env, code, fault);
-    report_size(env, it.document);
+    note_batch(env, &it);
     return NULL;
 }
 
@@ -277,7 +284,7 @@ static napi_value apply_edits(napi_env env, napi_callback_info info) {
     free_batch(&it);
     if (code != LASPIDRU_OK)
         return refuse_text_edits(env, code, fault);
-    report_size(env, it.document);
+    note_batch(env, &it);
     return NULL;
 }
 

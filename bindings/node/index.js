@@ -18,30 +18,48 @@ function uint(value) {
   throw refusal('OUT_OF_RANGE', `${value} is no line and no character`);
 }
 
-/** A text as UTF-8. A lone surrogate becomes U+FFFD, which is one UTF-16 unit too. */
-function utf8(text) {
+/** A text as it is. In UTF-8 a lone surrogate becomes U+FFFD, which is one UTF-16 unit too. */
+function checked(text) {
   if (typeof text !== 'string') throw new TypeError('a text is no string');
-  return Buffer.from(text);
+  return text;
 }
 
+const NUMBERS = 6; // of each change, as the addon takes it
 const WHOLE = { start: { line: 0, character: 0 }, end: { line: 0, character: 0 } };
+const ROOM = Buffer.allocUnsafeSlow(65536); // for the texts of a short batch
+
+/** The bytes of texts, one after the other. How many each has comes into its numbers. */
+function joined(texts, units, numbers) {
+  // (a UTF-16 unit has at most 3 bytes)
+  const bytes = 3 * units <= ROOM.length ? ROOM : Buffer.allocUnsafe(texts.reduce((sum, text) => sum + Buffer.byteLength(text), 0));
+  let used = 0;
+  for (let index = 0; index < texts.length; index++) {
+    const length = bytes.write(texts[index], used);
+    numbers[NUMBERS * index + 4] = length;
+    used += length;
+  }
+  return bytes;
+}
 
 /** Changes as the addon takes them: six numbers of each, and the bytes of all texts. */
 function passed(changes) {
-  const numbers = new Uint32Array(6 * changes.length);
-  const texts = changes.map(({ range, text }, index) => {
+  if (!Array.isArray(changes)) throw new TypeError('changes are no array');
+  const numbers = new Uint32Array(NUMBERS * changes.length);
+  const texts = [];
+  let units = 0;
+  for (let index = 0; index < changes.length; index++) {
+    const { range, text } = changes[index];
     const { start, end } = range ?? WHOLE;
-    const bytes = utf8(text);
-    const first = 6 * index;
+    const first = NUMBERS * index;
     numbers[first] = uint(start.line);
     numbers[first + 1] = uint(start.character);
     numbers[first + 2] = uint(end.line);
     numbers[first + 3] = uint(end.character);
-    numbers[first + 4] = bytes.length;
     numbers[first + 5] = range ? 0 : 1;
-    return bytes;
-  });
-  return [numbers, texts.length === 1 ? texts[0] : Buffer.concat(texts)];
+    units += checked(text).length;
+    texts.push(text);
+  }
+  return [numbers, joined(texts, units, numbers)];
 }
 
 /** Text edits as the addon takes them. */
@@ -69,7 +87,7 @@ class TextDocument {
     this.#uri = uri;
     this.#languageId = languageId;
     this.#version = version;
-    this.#document = addon.open(utf8(content));
+    this.#document = addon.open(Buffer.from(checked(content)));
   }
 
   static create(uri, languageId, version, content) {
@@ -86,7 +104,7 @@ class TextDocument {
 
   /** The text that text edits leave, as a formatter returns them. All count in the text as it is, and `document` stays as it is. */
   static applyEdits(document, edits) {
-    const copy = addon.open(utf8(document.getText()));
+    const copy = addon.open(Buffer.from(document.getText()));
     try {
       addon.applyEdits(copy, UTF16, ...passedEdits(edits));
       return addon.text(copy);

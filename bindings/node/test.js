@@ -64,7 +64,10 @@ for (const other of [undefined, null, 1, ['a'], Buffer.from('a')]) {
   assert.throws(() => TextDocument.update(document, [change(at(0, 0), at(0, 0), other)], 3), TypeError);
   assert.throws(() => TextDocument.applyEdits(document, [{ range: { start: at(0, 0), end: at(0, 0) }, newText: other }]), TypeError);
 }
-assert.throws(() => TextDocument.update(document, undefined, 3), TypeError);
+for (const other of [undefined, { text: '' }, 'text', new Array(1)]) {
+  assert.throws(() => TextDocument.update(document, other, 3), TypeError);
+  assert.throws(() => TextDocument.canonical(document, other), TypeError);
+}
 assert.throws(() => TextDocument.applyEdits(document, [{ newText: 'all' }]), TypeError);
 assert.strictEqual(document.getText(), 'Qa\r\nXY\u{1F600}');
 assert.strictEqual(document.version, 2);
@@ -74,6 +77,13 @@ const halves = TextDocument.create('file:///h', 'plain', 1, '');
 TextDocument.update(halves, [change(at(0, 0), at(0, 0), 'a\uD83D'), change(at(0, 0), at(0, 0), '\uDE00b'), { text: 'c\uD83D' },
   change(at(0, 0), at(0, 1), '\uDE00d')], 2);
 assert.strictEqual(halves.getText(), '\uFFFDd\uFFFD');
+
+// Long texts, and texts of all lengths in bytes.
+const texts = ['\u{1F600}'.repeat(50000), '', '\u00e9'.repeat(33333), 'a\u20ac'];
+for (const count of [1, 2, 3, 4]) {
+  const appended = texts.slice(0, count).map((text) => change(at(9, 0), at(9, 0), text));
+  assert.strictEqual(TextDocument.update(TextDocument.create('file:///t', 'plain', 1, ''), appended, 2).getText(), texts.slice(0, count).join(''));
+}
 
 const five = Array.from({ length: 5 }, () => change(at(0, 0), at(0, 0), '\u00e9'));
 TextDocument.update(document, five, 3);
