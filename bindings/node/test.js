@@ -130,6 +130,10 @@ for (const refused of [() => long.getText(), () => long.lineCount, () => long.li
   assert.throws(refused, { name: 'RangeError', code: 'EMPTY' });
 }
 
+// The collector closes what nobody closed (node --expose-gc).
+for (let count = 0; count < 1000; count++) TextDocument.create('file:///g', 'plain', 1, 'g'.repeat(1000));
+if (global.gc) global.gc();
+
 const example = (name) => fs.readFileSync(path.join(__dirname, '..', '..', 'examples', name + '.log'));
 const stale = check(example('stale-version'));
 assert.strictEqual(stale.output.toString(), '1 reply\n2 changed\n3 refused S5\n4 refused S4\n5 changed\n');
