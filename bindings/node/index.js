@@ -11,11 +11,12 @@ function refusal(code, message = code) {
   return Object.assign(new RangeError(message), { code });
 }
 
-/** A line or a character as it is, where the library can take it: an integer from 0 to 2^32 - 1. */
-function uint(value) {
+/** A line or a character as it is, where the library can take it: an integer from 0 to 2^32 - 1. Of a batch `kind` and `index` say where. */
+function uint(value, kind, index) {
   if (value >>> 0 === value) return value;
   if (typeof value !== 'number') throw new TypeError('a line or a character is no number');
-  throw refusal('OUT_OF_RANGE', `${value} is no line and no character`);
+  const error = refusal('OUT_OF_RANGE', `${kind ? `${kind} ${index}: ` : ''}${value} is no line and no character`);
+  throw kind ? Object.assign(error, { [kind]: index }) : error;
 }
 
 /** A text as it is. In UTF-8 a lone surrogate becomes U+FFFD, which is one UTF-16 unit too. */
@@ -42,7 +43,7 @@ function joined(texts, units, numbers) {
 }
 
 /** Changes as the addon takes them: six numbers of each, and the bytes of all texts. */
-function passed(changes) {
+function passed(changes, kind = 'change') {
   if (!Array.isArray(changes)) throw new TypeError('changes are no array');
   const numbers = new Uint32Array(NUMBERS * changes.length);
   const texts = [];
@@ -51,10 +52,10 @@ function passed(changes) {
     const { range, text } = changes[index];
     const { start, end } = range ?? WHOLE;
     const first = NUMBERS * index;
-    numbers[first] = uint(start.line);
-    numbers[first + 1] = uint(start.character);
-    numbers[first + 2] = uint(end.line);
-    numbers[first + 3] = uint(end.character);
+    numbers[first] = uint(start.line, kind, index);
+    numbers[first + 1] = uint(start.character, kind, index);
+    numbers[first + 2] = uint(end.line, kind, index);
+    numbers[first + 3] = uint(end.character, kind, index);
     numbers[first + 5] = range ? 0 : 1;
     units += checked(text).length;
     texts.push(text);
@@ -67,7 +68,7 @@ function passedEdits(edits) {
   return passed(edits.map(({ range, newText }) => {
     if (!range) throw new TypeError('a text edit has no range');
     return { range, text: newText };
-  }));
+  }), 'edit');
 }
 
 /** A change as LSP writes it, from what the addon returns. */

@@ -45,10 +45,10 @@ for (const number of [-1, 0.5, NaN, 2 ** 32, Infinity]) {
   assert.throws(() => document.getText({ start: at(0, 0), end: at(number, 0) }), refused);
   for (const [start, end] of [[at(number, 0), at(0, 0)], [at(0, number), at(0, 0)], [at(0, 0), at(number, 0)], [at(0, 0), at(0, number)]]) {
     for (const refusing of [TextDocument.update, TextDocument.canonical]) {
-      assert.throws(() => refusing(document, [change(start, end, '')], 3), refused);
+      assert.throws(() => refusing(document, [{ text: '' }, change(start, end, '')], 3), { ...refused, change: 1 });
     }
     for (const refusing of [TextDocument.applyEdits, TextDocument.batchOfEdits]) {
-      assert.throws(() => refusing(document, [{ range: { start, end }, newText: '' }]), refused);
+      assert.throws(() => refusing(document, [{ range: { start, end }, newText: '' }]), { ...refused, edit: 0 });
     }
   }
 }

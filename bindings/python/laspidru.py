@@ -155,14 +155,14 @@ def _number(value, bits, code=OUT_OF_RANGE):
     return value
 
 
-def _utf8(text, change=None):
+def _utf8(text):
     """The bytes of a text. A lone surrogate has none."""
     if not isinstance(text, str):
         raise TypeError("a text is a str")
     try:
         return text.encode()
     except UnicodeEncodeError as error:
-        raise LaspidruError(NOT_UTF8, change) from error
+        raise LaspidruError(NOT_UTF8) from error
 
 
 def _encoding(name):
@@ -198,10 +198,13 @@ def _batch(changes):
     edits, texts = (_Edit * len(changes))(), []
     for number, (edit, change) in enumerate(zip(edits, changes)):
         range_, text = _parts(change)
-        texts.append(_utf8(text, number))
-        edit.len, edit.is_whole = len(texts[-1]), range_ is None
-        if range_ is not None:
-            edit.start, edit.end = _ends(range_)
+        try:
+            texts.append(_utf8(text))
+            edit.len, edit.is_whole = len(texts[-1]), range_ is None
+            if range_ is not None:
+                edit.start, edit.end = _ends(range_)
+        except LaspidruError as error:
+            raise LaspidruError(error.code, number) from error
     return edits, b"".join(texts)
 
 

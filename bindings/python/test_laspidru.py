@@ -132,8 +132,9 @@ class Tests(unittest.TestCase):
                 self.refuses(11, document.byte_offset, place)
                 for refusing, make in ((document.change, change), (document.canonical, change),
                                        (document.apply_edits, edit), (document.batch_of_edits, edit)):
-                    self.refuses(11, refusing, [make(place, at(0, 0), "")])
-                    self.refuses(11, refusing, [make(at(0, 0), place, "")])
+                    for start, end in ((place, at(0, 0)), (at(0, 0), place)):
+                        fault = self.refuses(11, refusing, [make(at(0, 0), at(0, 0), ""), make(start, end, "")])
+                        self.assertEqual((fault.change, str(fault)), (1, "change 1: out of range"))
         for number in (-1, 2 ** 64, 2 ** 64 + 5):
             self.refuses(11, document.position, number)
             self.refuses(12, check, b"", max_body=number)
