@@ -28,10 +28,10 @@ SUMS = $(RELEASES)/laspidru-$(VERSION).sha256
 
 help:
 	@echo 'make library        the library with its heap: $(STATIC) and $(SHARED); needs a C compiler'
-	@echo 'make install        installs programs, library, header, man page and completions (PREFIX, DESTDIR); builds nothing'
+	@echo 'make install        installs programs, library, header, man pages and completions (PREFIX, DESTDIR); builds nothing'
 	@echo 'make uninstall      takes them away again'
 	@echo 'make release        $(RELEASES)/laspidru-$(VERSION).tar.gz and its SHA-256 sums; builds what is not current; needs rt'
-	@echo 'make verify         builds the release of the sums again from nothing, and compares (SUMS=file); needs rt, 10 to 30 minutes'
+	@echo 'make verify         builds the release of the sums again in a new clone, and compares (SUMS=file); needs rt, 10 to 30 minutes'
 	@echo 'make check-install  tests all this with small stand-ins for what is built'
 
 library: $(STATIC) $(SHARED)
@@ -71,15 +71,18 @@ install: needed
 	sed -e 's|@PREFIX@|$(PREFIX)|; s|@LIBDIR@|$(LIBDIR)|; s|@INCLUDEDIR@|$(INCLUDEDIR)|; s|@VERSION@|$(VERSION)|' install/laspidru.pc.in \
 	    >"$(DESTDIR)$(LIBDIR)/pkgconfig/laspidru.pc"
 	sed -e 's|@VERSION@|$(VERSION)|' install/lspsync.1 >"$(DESTDIR)$(DATADIR)/man/man1/lspsync.1"
-	chmod 644 "$(DESTDIR)$(LIBDIR)/pkgconfig/laspidru.pc" "$(DESTDIR)$(DATADIR)/man/man1/lspsync.1"
+	sed -e 's|@VERSION@|$(VERSION)|' install/lsp_simulate.1 >"$(DESTDIR)$(DATADIR)/man/man1/lsp_simulate.1"
+	chmod 644 "$(DESTDIR)$(LIBDIR)/pkgconfig/laspidru.pc" "$(DESTDIR)$(DATADIR)/man/man1/lspsync.1" "$(DESTDIR)$(DATADIR)/man/man1/lsp_simulate.1"
 	$(INSTALL) -m 644 install/lspsync.bash "$(DESTDIR)$(DATADIR)/bash-completion/completions/lspsync"
 	$(INSTALL) -m 644 install/_lspsync "$(DESTDIR)$(DATADIR)/zsh/site-functions/_lspsync"
 	$(INSTALL) -m 644 install/lspsync.fish "$(DESTDIR)$(DATADIR)/fish/vendor_completions.d/lspsync.fish"
+	@[ -n "$(DESTDIR)" ] || install/loader "$(LIBDIR)" "$(SONAME)"
 
 uninstall:
 	rm -f "$(DESTDIR)$(BINDIR)/lspsync" "$(DESTDIR)$(BINDIR)/lsp_simulate" "$(DESTDIR)$(INCLUDEDIR)/laspidru.h" \
 	    "$(DESTDIR)$(LIBDIR)/liblaspidru.a" "$(DESTDIR)$(LIBDIR)/liblaspidru.so.$(VERSION)" "$(DESTDIR)$(LIBDIR)/$(SONAME)" \
 	    "$(DESTDIR)$(LIBDIR)/liblaspidru.so" "$(DESTDIR)$(LIBDIR)/pkgconfig/laspidru.pc" "$(DESTDIR)$(DATADIR)/man/man1/lspsync.1" \
+	    "$(DESTDIR)$(DATADIR)/man/man1/lsp_simulate.1" \
 	    "$(DESTDIR)$(DATADIR)/bash-completion/completions/lspsync" "$(DESTDIR)$(DATADIR)/zsh/site-functions/_lspsync" \
 	    "$(DESTDIR)$(DATADIR)/fish/vendor_completions.d/lspsync.fish"
 

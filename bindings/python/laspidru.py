@@ -8,14 +8,16 @@
 The shared library is the one that LASPIDRU_LIBRARY names, or liblaspidru.so.0 where the loader finds it."""
 import collections
 import ctypes
+import operator
 import os
 import re
 import threading
+import urllib.parse
 from ctypes import POINTER, byref, c_bool, c_char_p, c_size_t, c_uint32, c_uint64, c_void_p
 
 UTF8, UTF16, UTF32 = 8, 16, 32
 ENCODINGS = {"utf-8": UTF8, "utf-16": UTF16, "utf-32": UTF32}
-INSIDE_CHARACTER, REVERSED_RANGE, OUT_OF_MEMORY, OUT_OF_RANGE = 6, 7, 2, 11
+NOT_UTF8, OUT_OF_MEMORY, INSIDE_CHARACTER, REVERSED_RANGE, BAD_ENCODING, OUT_OF_RANGE, BAD_LIMIT = 1, 2, 6, 7, 8, 11, 12
 CUT, BAD_FRAME, BODY_TOO_LONG, BAD_LOG, OVERLAP = 20, 21, 22, 23, 25
 WHY = {1: "the text is not UTF-8", 2: "out of memory", 3: "the handle is in use", 4: "the document is closed",
        5: "the text is too long", 6: "a position lies inside a character", 7: "a range is reversed",
@@ -64,7 +66,10 @@ class _Ending(ctypes.Structure):
 
 
 def _library():
-    library = ctypes.CDLL(os.environ.get("LASPIDRU_LIBRARY", "liblaspidru.so.0"))
+    try:
+        library = ctypes.CDLL(os.environ.get("LASPIDRU_LIBRARY", "liblaspidru.so.0"))
+    except OSError as error:
+        raise ImportError(f"{error}; LASPIDRU_LIBRARY names the shared library") from error
     handle, size = POINTER(_Handle), POINTER(c_size_t)
     batch = [handle, c_uint32, POINTER(_Edit), c_size_t, c_char_p, c_size_t]
     log = [handle, POINTER(_LogSettings), c_char_p, c_size_t, POINTER(_Ending)]
@@ -142,11 +147,37 @@ def _demand_edits(code, fault):
     _demand(code)
 
 
+def _number(value, bits, code=OUT_OF_RANGE):
+    """An integer of at least 0 that has so many bits. ctypes would take any, and drop bits."""
+    value = operator.index(value)
+    if not 0 <= value < 1 << bits:
+        raise LaspidruError(code)
+    return value
+
+
+def _utf8(text):
+    """The bytes of a text. A lone surrogate has none."""
+    if not isinstance(text, str):
+        raise TypeError("a text is a str")
+    try:
+        return text.encode()
+    except UnicodeEncodeError as error:
+        raise LaspidruError(NOT_UTF8) from error
+
+
+def _encoding(name):
+    if name not in ENCODINGS:
+        raise LaspidruError(BAD_ENCODING)
+    return ENCODINGS[name]
+
+
 def _place(position):
     """A position as LSP writes it, or as an object with its members."""
     if isinstance(position, dict):
-        return _Place(position["line"], position["character"])
-    return _Place(position.line, position.character)
+        line, character = position["line"], position["character"]
+    else:
+        line, character = position.line, position.character
+    return _Place(_number(line, 32), _number(character, 32))
 
 
 def _parts(change):
@@ -163,14 +194,25 @@ def _ends(range_):
 
 
 def _batch(changes):
+    """The changes of a didChange as the library takes them."""
     edits, texts = (_Edit * len(changes))(), []
-    for edit, change in zip(edits, changes):
+    for number, (edit, change) in enumerate(zip(edits, changes)):
         range_, text = _parts(change)
-        texts.append(text.encode())
-        edit.len, edit.is_whole = len(texts[-1]), range_ is None
-        if range_ is not None:
-            edit.start, edit.end = _ends(range_)
+        try:
+            texts.append(_utf8(text))
+            edit.len, edit.is_whole = len(texts[-1]), range_ is None
+            if range_ is not None:
+                edit.start, edit.end = _ends(range_)
+        except LaspidruError as error:
+            raise LaspidruError(error.code, number) from error
     return edits, b"".join(texts)
+
+
+def _batch_of_edits(edits):
+    """Text edits as the library takes them."""
+    if any(_parts(edit)[0] is None for edit in edits):
+        raise TypeError("a text edit has a range")
+    return _batch(edits)
 
 
 class Document:
@@ -178,8 +220,8 @@ class Document:
 
     def __init__(self, text, encoding="utf-16"):
         self._handle, self._lock, self._text = _Handle(), threading.Lock(), None
-        self._encoding = ENCODINGS[encoding]
-        data = text.encode()
+        self._encoding = _encoding(encoding)
+        data = _utf8(text)
         _demand(_LIBRARY.laspidru_document_open(byref(self._handle), data, len(data)))
 
     def close(self):
@@ -204,9 +246,7 @@ class Document:
 
     def line(self, number):
         """A line, counted from 0, without its line end. The rest of the text is not read."""
-        if not 0 <= number < 2 ** 32:
-            raise LaspidruError(OUT_OF_RANGE)
-        line, copied = _Line(), c_size_t()
+        number, line, copied = _number(number, 32), _Line(), c_size_t()
         with self._lock:
             _demand(_LIBRARY.laspidru_document_line(byref(self._handle), number, byref(line)))
             room = line.end - line.start
@@ -251,7 +291,7 @@ class Document:
 
     def apply_edits(self, edits):
         """Makes text edits, as a formatter returns them, or raises EditsFault and makes none of them. All count in the text as it is."""
-        passed, texts = _batch(edits)
+        passed, texts = _batch_of_edits(edits)
         fault = _EditsFault()
         with self._lock:
             code = _LIBRARY.laspidru_document_apply_edits(
@@ -262,7 +302,7 @@ class Document:
 
     def batch_of_edits(self, edits):
         """The canonical batch of what text edits mean on the text: the changes of the didChange that reports them."""
-        passed, texts = _batch(edits)
+        passed, texts = _batch_of_edits(edits)
         batch, fault = _Handle(), _EditsFault()
         with self._lock:
             code = _LIBRARY.laspidru_document_batch_of_edits(
@@ -272,15 +312,14 @@ class Document:
 
     def byte_offset(self, position):
         """The byte offset of a position. One after the line's end is the line's end."""
-        offset = c_size_t()
+        place, offset = _place(position), c_size_t()
         with self._lock:
-            _demand(_LIBRARY.laspidru_document_offset(
-                byref(self._handle), self._encoding, _place(position), byref(offset)))
+            _demand(_LIBRARY.laspidru_document_offset(byref(self._handle), self._encoding, place, byref(offset)))
         return offset.value
 
     def position(self, byte_offset):
         """The exact position of a byte offset, as LSP writes it."""
-        place = _Place()
+        byte_offset, place = _number(byte_offset, 64), _Place()
         with self._lock:
             _demand(_LIBRARY.laspidru_document_position(
                 byref(self._handle), self._encoding, byte_offset, byref(place)))
@@ -314,12 +353,38 @@ def _no_room():
     return ctypes.create_string_buffer(1)
 
 
-class TextDocument(Document):
-    """A document with the members of pygls' TextDocument."""
+WORD_START, WORD_END = re.compile("[A-Za-z_0-9]*$"), re.compile("^[A-Za-z_0-9]*")
 
-    def __init__(self, uri, source="", version=None, language_id=None, encoding="utf-16"):
-        super().__init__(source, encoding)
+
+def _path(uri):
+    """The path of a file's URI."""
+    parts = urllib.parse.urlsplit(uri)
+    path = urllib.parse.unquote(parts.path)
+    return f"//{parts.netloc}{path}" if parts.scheme == "file" and parts.netloc and path else path
+
+
+def _file_text(path):
+    with open(path, encoding="utf-8", newline="") as file:
+        return file.read()
+
+
+class TextDocument(Document):
+    """A document with the members and parameters of pygls' TextDocument (1.3 and 2.0); docs/EMBEDDING.md says what differs.
+
+    With no `source` it is the file of the URI, which is read once, here. Positions count units of `encoding`, or else of
+    `position_codec.encoding`, or else of "utf-16". `local` and `sync_kind` are ignored: each change says whether it has a range."""
+
+    def __init__(self, uri, source=None, version=None, language_id=None, local=True, sync_kind=None, position_codec=None, *,
+                 encoding=None):
         self.uri, self.version, self.language_id = uri, version, language_id
+        self.path = _path(uri)
+        self.filename = os.path.basename(self.path)
+        self.position_codec = position_codec
+        super().__init__(_file_text(self.path) if source is None else source,
+                         encoding or getattr(position_codec, "encoding", "utf-16"))
+
+    def __str__(self):
+        return str(self.uri)
 
     @property
     def source(self):
@@ -328,7 +393,7 @@ class TextDocument(Document):
     @property
     def lines(self):
         """The lines, each with its line end, as LSP counts them: CR, LF and CRLF end a line and nothing else does."""
-        return [line for line in re.findall(r"[^\r\n]*(?:\r\n|\r|\n)|[^\r\n]+\Z", self.text)]
+        return re.findall(r"[^\r\n]*(?:\r\n|\r|\n)|[^\r\n]+\Z", self.text)
 
     def apply_change(self, change):
         self.change([change])
@@ -337,13 +402,15 @@ class TextDocument(Document):
         """The index in `source` of a position."""
         return len(self.text.encode()[:self.byte_offset(position)].decode())
 
-    def word_at_position(self, position, pattern=r"\w*"):
-        """The word that a position is in or touches."""
-        at = self.offset_at_position(position)
-        for word in re.finditer(pattern, self.text):
-            if word.start() <= at <= word.end() and word.group():
-                return word.group()
-        return ""
+    def word_at_position(self, position, re_start_word=WORD_START, re_end_word=WORD_END):
+        """The word at a position: the first match of `re_start_word` in what its line has before it, then the last match of
+        `re_end_word` in the rest of that line."""
+        number = _place(position).line
+        if number >= self.line_count:
+            return ""
+        line = self.line(number).encode()
+        at = self.byte_offset(position) - self.byte_offset({"line": number, "character": 0})
+        return re_start_word.findall(line[:at].decode())[0] + re_end_word.findall(line[at:].decode())[-1]
 
 
 # What a command on a log wrote, as bytes; its status, which is 1 where something was refused; how many messages there were, and how
@@ -352,7 +419,10 @@ LogOutput = collections.namedtuple("LogOutput", "output status messages refused"
 
 
 def _run(name, log, encoding="utf-16", max_body=16777216, max_text=16777216, max_docs=1024, max_changes=65536, squash=False):
-    settings = _LogSettings(max_body, max_text, max_docs, max_changes, ENCODINGS[encoding], squash)
+    if not isinstance(log, bytes):
+        raise TypeError("a log is bytes")
+    limits = [_number(limit, 64, BAD_LIMIT) for limit in (max_body, max_text, max_docs, max_changes)]
+    settings = _LogSettings(*limits, _encoding(encoding), squash)
     handle, ending, copied = _Handle(), _Ending(), c_size_t()
     code = getattr(_LIBRARY, "laspidru_log_" + name)(byref(handle), byref(settings), log, len(log), byref(ending))
     try:

@@ -2,7 +2,10 @@
 import os
 import random
 import re
+import tempfile
+import types
 import unittest
+import urllib.parse
 
 import laspidru
 from laspidru import Document, EditsFault, LaspidruError, LogFault, TextDocument, check, convert, normalise, replay
@@ -46,6 +49,18 @@ def denoted(text, position, encoding):
         count += units(text[index], encoding)
         index += 1
     return index if count <= position["character"] else None
+
+
+def positions(text, encoding):
+    """The exact position of each index of the text, or None inside a CRLF: LSP 3.17 as a plain program."""
+    found, line, character = [], 0, 0
+    for index, one in enumerate(text + "$"):
+        is_inside = one == "\n" and text[:index].endswith("\r")
+        found.append(None if is_inside else at(line, character))
+        character += units(one, encoding)
+        if one == "\n" or one == "\r" and text[index + 1:index + 2] != "\n":
+            line, character = line + 1, 0
+    return found
 
 
 def changed(text, changes, encoding):
@@ -101,9 +116,46 @@ class Tests(unittest.TestCase):
         document = Document("a\r\nb\U0001F600\u2028\n")
         self.assertEqual([document.line(number) for number in range(3)], ["a", "b\U0001F600\u2028", ""])
         for number in (-1, 3, 2 ** 32):
-            with self.assertRaises(LaspidruError) as raised:
-                document.line(number)
-            self.assertEqual(raised.exception.code, 11)
+            self.refuses(11, document.line, number)
+
+    def refuses(self, code, call, *arguments, **named):
+        with self.assertRaises(LaspidruError) as raised:
+            call(*arguments, **named)
+        self.assertEqual(raised.exception.code, code)
+        return raised.exception
+
+    def test_numbers(self):
+        """Numbers that are none of the library's are refused, and don't wrap."""
+        document = Document("ab\ncd")
+        for number in (-1, 2 ** 32, 2 ** 64 + 5):
+            for place in (at(number, 0), at(0, number)):
+                self.refuses(11, document.byte_offset, place)
+                for refusing, make in ((document.change, change), (document.canonical, change),
+                                       (document.apply_edits, edit), (document.batch_of_edits, edit)):
+                    for start, end in ((place, at(0, 0)), (at(0, 0), place)):
+                        fault = self.refuses(11, refusing, [make(at(0, 0), at(0, 0), ""), make(start, end, "")])
+                        self.assertEqual((fault.change, str(fault)), (1, "change 1: out of range"))
+        for number in (-1, 2 ** 64, 2 ** 64 + 5):
+            self.refuses(11, document.position, number)
+            self.refuses(12, check, b"", max_body=number)
+        for other in (0.0, "0", None):
+            for refused in (lambda: document.line(other), lambda: document.position(other), lambda: document.byte_offset(at(0, other)),
+                            lambda: document.change([change(at(other, 0), at(0, 0), "")]), lambda: check(b"", max_text=other)):
+                self.assertRaises(TypeError, refused)
+        self.assertEqual(document.text, "ab\ncd")
+
+    def test_texts(self):
+        document = Document("ab")
+        self.refuses(1, Document, "a\ud83d")
+        fault = self.refuses(1, document.change, [{"text": ""}, change(at(0, 0), at(0, 0), "\ude00")])
+        self.assertEqual((fault.change, str(fault)), (1, "change 1: the text is not UTF-8"))
+        self.refuses(1, document.apply_edits, [edit(at(0, 0), at(0, 0), "\ude00")])
+        for refused in (lambda: Document(b"a"), lambda: document.change([{"text": None}]), lambda: check("text"),
+                        lambda: document.apply_edits([{"newText": "all"}]), lambda: document.batch_of_edits([{"newText": ""}])):
+            self.assertRaises(TypeError, refused)
+        self.refuses(8, Document, "a", "utf-7")
+        self.refuses(8, check, b"", encoding="utf-7")
+        self.assertEqual(document.text, "ab")
 
     def test_closed(self):
         document = Document("a")
@@ -137,6 +189,29 @@ class Tests(unittest.TestCase):
         self.assertEqual(document.word_at_position(at(1, 2)), "three")
         document.apply_change({"text": "\U0001F600x"})
         self.assertEqual((document.source, document.offset_at_position(at(0, 2))), ("\U0001F600x", 1))
+        self.assertEqual((str(document), document.path, document.filename, document.version), ("file:///a", "/a", "a", 1))
+        self.assertEqual(TextDocument("file:///a%20b/c.py", "").path, "/a b/c.py")
+        self.assertEqual(TextDocument("untitled:1", "").filename, "1")
+
+    def test_words(self):
+        document = TextDocument("file:///a", "\U0001F600one two-3\r\n", encoding="utf-16")
+        words = [document.word_at_position(at(0, character)) for character in (0, 2, 4, 5, 6, 9, 10, 99)]
+        self.assertEqual(words, ["", "one", "one", "one", "two", "two", "3", "3"])
+        self.assertEqual((document.word_at_position(at(1, 0)), document.word_at_position(at(2, 0))), ("", ""))
+        self.assertEqual(document.word_at_position(at(0, 7), re.compile(r"[\w-]*$"), re.compile(r"^[\w-]*")), "two-3")
+
+    def test_file(self):
+        with tempfile.TemporaryDirectory() as folder:
+            path = os.path.join(folder, "a b.txt")
+            with open(path, "wb") as file:
+                file.write("one\r\n\u00e9".encode())
+            document = TextDocument("file://" + urllib.parse.quote(path))
+        self.assertEqual((document.source, document.filename), ("one\r\n\u00e9", "a b.txt"))
+
+    def test_position_codec(self):
+        codec = types.SimpleNamespace(encoding="utf-32")
+        document = TextDocument("file:///a", "\U0001F600x", None, None, True, 2, codec)
+        self.assertEqual((document.offset_at_position(at(0, 1)), document.position_codec), (1, codec))
 
     def test_random(self):
         """Random batches against the plain program, in three encodings; as many as LASPIDRU_BATCHES says."""
@@ -162,10 +237,26 @@ class Tests(unittest.TestCase):
                 self.assertEqual(changed(old, canonical, encoding), wanted)
                 lines = [document.line(number) for number in range(document.line_count)]
                 self.assertEqual(lines, re.split("\r\n|\r|\n", wanted))
+                self.has_places(document, wanted, place(), encoding)
             else:
                 with self.assertRaises(LaspidruError) as raised:
                     document.change(changes)
                 self.assertEqual((raised.exception.change, document.text), (wanted, old))
+
+    def has_places(self, document, text, place, encoding):
+        """Compares the offset of a position, and the position of each offset, with the plain program."""
+        index = denoted(text, place, encoding)
+        if index is None:
+            self.refuses(6, document.byte_offset, place)
+        else:
+            self.assertEqual(document.byte_offset(place), len(text[:index].encode()))
+        wanted = {len(text[:index].encode()): position for index, position in enumerate(positions(text, encoding)) if position}
+        for offset in range(len(text.encode()) + 2):
+            if offset in wanted:
+                self.assertEqual(document.position(offset), wanted[offset])
+                self.assertEqual(document.byte_offset(wanted[offset]), offset)
+            else:
+                self.refuses(6, document.position, offset)
 
     def test_random_edits(self):
         """Random text edits against the plain program, in three encodings; as many as LASPIDRU_BATCHES says."""

@@ -9,11 +9,27 @@ pub const INSIDE_CHARACTER: u32 = 6;
 pub const REVERSED_RANGE: u32 = 7;
 pub const OUT_OF_RANGE: u32 = 11;
 pub const BAD_LIMIT: u32 = 12;
+pub const ENDED: u32 = 13;
+pub const NOT_OPEN: u32 = 14;
+pub const ALREADY_OPEN: u32 = 15;
+pub const TOO_MANY_DOCUMENTS: u32 = 16;
+pub const STALE_VERSION: u32 = 17;
+pub const TOO_MANY_CHANGES: u32 = 18;
+pub const INVALID_PARAMS: u32 = 19;
 pub const CUT: u32 = 20;
 pub const BAD_FRAME: u32 = 21;
 pub const BODY_TOO_LONG: u32 = 22;
 pub const BAD_LOG: u32 = 23;
+pub const TOO_MANY_TURNS: u32 = 24;
 pub const OVERLAP: u32 = 25;
+
+// Kinds of a server's answer.
+pub const REPLIED: u32 = 0;
+pub const CHANGED: u32 = 1;
+pub const DROPPED: u32 = 2;
+pub const IGNORED: u32 = 3;
+pub const REFUSED: u32 = 4;
+pub const EXITED: u32 = 5;
 
 #[repr(C)]
 pub struct Handle {
@@ -61,6 +77,34 @@ pub struct Length {
 pub struct Line {
     pub start: usize,
     pub end: usize,
+}
+
+#[repr(C)]
+pub struct Settings {
+    pub max_body: usize,
+    pub max_text: usize,
+    pub max_docs: usize,
+    pub max_changes: usize,
+    pub encoding: u32,
+    pub is_fixed: bool,
+    pub is_full: bool,
+}
+
+#[repr(C)]
+#[derive(Default)]
+pub struct Answer {
+    pub kind: u32,
+    pub reason: u32,
+    pub status: u32,
+    pub error: i32,
+    pub reply_len: usize,
+}
+
+#[repr(C)]
+#[derive(Default)]
+pub struct Opened {
+    pub version: i32,
+    pub bytes: usize,
 }
 
 #[repr(C)]
@@ -154,6 +198,36 @@ extern "C" {
         batch: *mut Handle,
         index: usize,
         edit: *mut Edit,
+        out: *mut u8,
+        out_len: usize,
+        copied: *mut usize,
+    ) -> u32;
+    pub fn laspidru_server_new(server: *mut Handle, settings: *const Settings) -> u32;
+    pub fn laspidru_server_handle(
+        server: *mut Handle,
+        body: *const u8,
+        body_len: usize,
+        answer: *mut Answer,
+    ) -> u32;
+    pub fn laspidru_server_reply(
+        server: *mut Handle,
+        start: usize,
+        out: *mut u8,
+        out_len: usize,
+        copied: *mut usize,
+    ) -> u32;
+    pub fn laspidru_server_documents(server: *mut Handle, len: *mut usize) -> u32;
+    pub fn laspidru_server_document(
+        server: *mut Handle,
+        uri: *const u8,
+        uri_len: usize,
+        document: *mut Opened,
+    ) -> u32;
+    pub fn laspidru_server_text(
+        server: *mut Handle,
+        uri: *const u8,
+        uri_len: usize,
+        start: usize,
         out: *mut u8,
         out_len: usize,
         copied: *mut usize,

@@ -17,6 +17,10 @@ mod ffi;
 pub mod log;
 #[cfg(feature = "lsp-types")]
 mod lsp;
+pub mod server;
+
+/// The limits that `lspsync` has by default: max_body, max_text, max_docs and max_changes.
+const DEFAULT_LIMITS: [usize; 4] = [16_777_216, 16_777_216, 1_024, 65_536];
 
 /// What a position's character counts.
 #[derive(Clone, Copy, Debug, PartialEq, Eq, Hash)]

@@ -1,6 +1,6 @@
 //! The commands of `lspsync` on the bytes of a log.
 
-use crate::{Encoding, ffi};
+use crate::{DEFAULT_LIMITS, Encoding, ffi};
 use std::fmt;
 
 /// How a log is read. The default is that of `lspsync`.
@@ -17,14 +17,8 @@ pub struct LogSettings {
 
 impl Default for LogSettings {
     fn default() -> Self {
-        LogSettings {
-            max_body: 16_777_216,
-            max_text: 16_777_216,
-            max_docs: 1_024,
-            max_changes: 65_536,
-            encoding: Encoding::Utf16,
-            squash: false,
-        }
+        let [max_body, max_text, max_docs, max_changes] = DEFAULT_LIMITS;
+        LogSettings { max_body, max_text, max_docs, max_changes, encoding: Encoding::Utf16, squash: false }
     }
 }
 
@@ -43,6 +37,8 @@ pub enum LogError {
     OutOfMemory,
     /// A limit is out of its range.
     BadLimit,
+    /// More than 2^64 - 1 reads and writes would be needed.
+    TooManyTurns,
     /// The log has a fault at a byte offset; `output` is what was written up to it.
     Fault { fault: LogFault, place: u64, output: Vec<u8> },
 }
@@ -65,6 +61,7 @@ impl fmt::Display for LogError {
         match self {
             LogError::OutOfMemory => write!(f, "out of memory"),
             LogError::BadLimit => write!(f, "a limit is out of its range"),
+            LogError::TooManyTurns => write!(f, "too many reads and writes"),
             LogError::Fault { fault: LogFault::Cut, place, .. } => write!(f, "truncated at {place}"),
             LogError::Fault { fault: LogFault::BadFrame(number), place, .. } => write!(f, "frame fault F{number} at {place}"),
             LogError::Fault { fault: LogFault::BodyTooLong, place, .. } => write!(f, "body too long at {place}"),
@@ -131,6 +128,7 @@ fn run(command: ffi::LogCommand, log: &[u8], settings: &LogSettings) -> Result<O
         }
         ffi::OUT_OF_MEMORY => return Err(LogError::OutOfMemory),
         ffi::BAD_LIMIT => return Err(LogError::BadLimit),
+        ffi::TOO_MANY_TURNS => return Err(LogError::TooManyTurns),
         ffi::CUT => LogFault::Cut,
         ffi::BAD_FRAME => LogFault::BadFrame(ending.frame),
         ffi::BODY_TOO_LONG => LogFault::BodyTooLong,

@@ -1,0 +1,27 @@
+"""Makes the wheel of the module laspidru, for pip. It needs Python alone, so `pip install` works without a network."""
+import base64
+import hashlib
+import os
+import zipfile
+
+FOLDER = os.path.dirname(os.path.abspath(__file__))
+VERSION = "0.1.0"
+INFO = f"laspidru-{VERSION}.dist-info"
+
+
+def _files():
+    with open(os.path.join(FOLDER, "laspidru.py"), "rb") as file:
+        yield "laspidru.py", file.read()
+    yield f"{INFO}/METADATA", f"Metadata-Version: 2.1\nName: laspidru\nVersion: {VERSION}\nRequires-Python: >=3.8\n".encode()
+    yield f"{INFO}/WHEEL", b"Wheel-Version: 1.0\nGenerator: wheel_of_module\nRoot-Is-Purelib: true\nTag: py3-none-any\n"
+
+
+def build_wheel(wheel_directory, config_settings=None, metadata_directory=None):
+    name, record = f"laspidru-{VERSION}-py3-none-any.whl", ""
+    with zipfile.ZipFile(os.path.join(wheel_directory, name), "w") as wheel:
+        for path, data in _files():
+            wheel.writestr(path, data)
+            digest = base64.urlsafe_b64encode(hashlib.sha256(data).digest()).rstrip(b"=").decode()
+            record += f"{path},sha256={digest},{len(data)}\n"
+        wheel.writestr(f"{INFO}/RECORD", record + f"{INFO}/RECORD,,\n")
+    return name

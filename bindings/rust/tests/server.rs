@@ -1,0 +1,111 @@
+use laspidru::server::{Answer, Refusal, Server, ServerError, Settings};
+use laspidru::Encoding;
+
+const URI: &str = "file:///a";
+
+fn request(id: u32, method: &str, params: &str) -> String {
+    format!(r#"{{"jsonrpc":"2.0","id":{id},"method":"{method}","params":{params}}}"#)
+}
+
+fn notification(method: &str, params: &str) -> String {
+    format!(r#"{{"jsonrpc":"2.0","method":"{method}","params":{params}}}"#)
+}
+
+fn open(text: &str) -> String {
+    let document = format!(r#"{{"textDocument":{{"uri":"{URI}","languageId":"c","version":1,"text":"{text}"}}}}"#);
+    notification("textDocument/didOpen", &document)
+}
+
+fn change(version: i32, text: &str) -> String {
+    let params =
+        format!(r#"{{"textDocument":{{"uri":"{URI}","version":{version}}},"contentChanges":[{{"text":"{text}"}}]}}"#);
+    notification("textDocument/didChange", &params)
+}
+
+/// Has the server answered by a frame, with this error code?
+fn replies(server: &mut Server, body: &str, wanted: Option<i32>) -> Result<bool, ServerError> {
+    Ok(match server.handle(body.as_bytes())? {
+        Answer::Reply { frame, code } => frame.starts_with(b"Content-Length: ") && code == wanted,
+        _ => false,
+    })
+}
+
+fn initialized() -> Result<Server, ServerError> {
+    let mut server = Server::new(&Settings::default())?;
+    assert!(replies(&mut server, &request(1, "initialize", r#"{"capabilities":{}}"#), None)?);
+    assert_eq!(server.handle(notification("initialized", "{}").as_bytes())?, Answer::Ignored);
+    Ok(server)
+}
+
+#[test]
+fn a_session() -> Result<(), ServerError> {
+    let mut server = initialized()?;
+    assert_eq!(server.handle(open("one").as_bytes())?, Answer::Changed);
+    assert_eq!(server.document_count(), 1);
+    assert_eq!((server.version(URI), server.text(URI).as_deref()), (Some(1), Some("one")));
+    assert_eq!(server.handle(change(7, "two\u{1F600}").as_bytes())?, Answer::Changed);
+    assert_eq!((server.version(URI), server.text(URI).as_deref()), (Some(7), Some("two\u{1F600}")));
+    assert_eq!((server.version("file:///b"), server.text("")), (None, None));
+    assert!(replies(&mut server, &request(2, "textDocument/hover", "{}"), Some(-32601))?);
+    assert!(replies(&mut server, &request(3, "shutdown", "null"), None)?);
+    assert_eq!(server.handle(notification("exit", "null").as_bytes())?, Answer::Exit(0));
+    assert_eq!(server.handle(open("one").as_bytes()), Err(ServerError::Ended));
+    Ok(())
+}
+
+#[test]
+fn refused_notifications_leave_the_documents() -> Result<(), ServerError> {
+    let mut server = initialized()?;
+    assert_eq!(server.handle(change(2, "two").as_bytes())?, Answer::Refused(Refusal::NotOpen));
+    assert_eq!(server.handle(open("").as_bytes())?, Answer::Changed);
+    assert_eq!(server.text(URI).as_deref(), Some(""));
+    assert_eq!(server.handle(open("two").as_bytes())?, Answer::Refused(Refusal::AlreadyOpen));
+    assert_eq!(server.handle(change(1, "two").as_bytes())?, Answer::Refused(Refusal::StaleVersion));
+    assert_eq!((server.version(URI), server.text(URI).as_deref()), (Some(1), Some("")));
+    Ok(())
+}
+
+#[test]
+fn each_refusal_has_its_name() -> Result<(), ServerError> {
+    let settings = Settings { max_text: 8, max_docs: 1, max_changes: 1, is_fixed: true, ..Settings::default() };
+    let mut server = Server::new(&settings)?;
+    assert_eq!(server.handle(open("").as_bytes())?, Answer::Dropped);
+    assert!(replies(&mut server, &request(1, "initialize", r#"{"capabilities":{}}"#), None)?);
+    assert_eq!(server.handle(open("\u{1F600}").as_bytes())?, Answer::Changed);
+    let ranged = |start, end| format!(r#"{{"range":{{"start":{{"line":0,"character":{start}}},"end":{{"line":0,"character":{end}}}}},"text":""}}"#);
+    let rows = [
+        (ranged(0, 1), Refusal::InsideCharacter),
+        (ranged(2, 0), Refusal::ReversedRange),
+        (r#"{"text":"123456789"}"#.to_owned(), Refusal::TooLong),
+        (format!("{0},{0}", ranged(0, 0)), Refusal::TooManyChanges),
+        (r#"{"text":1}"#.to_owned(), Refusal::InvalidParams),
+    ];
+    for (changes, refusal) in rows {
+        let params = format!(r#"{{"textDocument":{{"uri":"{URI}","version":2}},"contentChanges":[{changes}]}}"#);
+        let body = notification("textDocument/didChange", &params);
+        assert_eq!(server.handle(body.as_bytes())?, Answer::Refused(refusal), "{changes}");
+    }
+    let other = open("").replace(URI, "file:///b");
+    assert_eq!(server.handle(other.as_bytes())?, Answer::Refused(Refusal::TooManyDocuments));
+    assert_eq!(server.text(URI).as_deref(), Some("\u{1F600}"));
+    Ok(())
+}
+
+#[test]
+fn settings() -> Result<(), ServerError> {
+    let bad = Settings { max_body: 1, ..Settings::default() };
+    assert_eq!(Server::new(&bad).map(drop), Err(ServerError::BadLimit));
+    let fixed = Settings { encoding: Encoding::Utf8, is_fixed: true, ..Settings::default() };
+    let mut server = Server::new(&fixed)?;
+    let body = request(1, "initialize", r#"{"capabilities":{}}"#);
+    let Answer::Reply { frame, .. } = server.handle(body.as_bytes())? else { panic!("no reply") };
+    assert!(String::from_utf8_lossy(&frame).contains(r#""positionEncoding":"utf-8""#));
+    Ok(())
+}
+
+#[test]
+fn goes_to_another_thread() -> Result<(), ServerError> {
+    let server = initialized()?;
+    assert_eq!(std::thread::spawn(move || server.document_count()).join().unwrap(), 0);
+    Ok(())
+}
