@@ -1,5 +1,5 @@
 -- Batches of changes on one document, as one: what the fields that are kept are.
-use Rattle.std.proofs.Common.{ℕ, ℤ, ◌≡◌, ◌≤◌, true, false, nat_lt, int_le, List, [], ◌++◌, length, sum_by, IsUtf8, encode_utf8_all, Option, None, Ok, Err, ◌⊎◌, refl, sym, ap, ap₂, ◌∙◌, subst, arith}
+use Rattle.std.proofs.Common.{ℕ, ℤ, ◌≡◌, ◌≤◌, true, false, nat_lt, int_le, if◌then◌else◌, List, [], ◌++◌, length, sum_by, IsUtf8, encode_utf8_all, Option, None, Some, Ok, Err, ◌⊎◌, refl, sym, ap, ap₂, ◌∙◌, subst, arith}
 use Rattle.std.proofs.lemmas.Bool.{le-ltb}
 use Rattle.std.proofs.lemmas.List.Sums.{sum_by-le-sum_by}
 use Rattle.std.proofs.lemmas.Str.{chars-encodes, encodes-chars, scalars-chars}
@@ -27,7 +27,7 @@ use Rattle.lsp_store.specs.Message.{AreTexts, body_refusal, change_body}
 use Rattle.lsp_store.specs.Opened.{entry_under}
 use Rattle.lsp_store.specs.Squash.{HasReached, IsSquashAfter, SquashData, add_refusal, reached_entry, squash_after, items_meant, squash_batch, squash_of, squash_refusal}
 use Rattle.lsp_message.specs.Params.{DocumentItem}
-use Rattle.lsp_store.specs.Table.{IsLeftToMeaning, Refusal, batch_bytes, changed, greatest_batch, entry_refusal, meant_text}
+use Rattle.lsp_store.specs.Table.{IsLeftToMeaning, Refusal, batch_bytes, changed, greatest_batch, entry_refusal, meant_text, too_many_changes}
 use Rattle.lsp_store.proofs.MessageLemmas.{accepted_parts}
 use Rattle.lsp_store.proofs.ProperLemmas.{bytes_sum}
 use Rattle.lsp_store.proofs.RefusalLemmas.{only_memory}
@@ -107,12 +107,10 @@ module _ (uri : List ℕ) (limits : Bounds) (encoding : Encoding) (joined : Join
   pub batch_is : made ≡ squash_batch kept
   batch_is = is ∙ ap squash_batch view
 
-  pub few_refusal : length made ≤ limits.max_changes → body_refusal limits (change_body uri version made) ≡ squash_refusal kept
-  few_refusal few =
-      let few_kept : nat_lt kept.limits.max_changes (length (squash_batch kept)) ≡ false =
-      le-ltb kept.limits.max_changes (length (squash_batch kept)) (omega (arith, few, ap length batch_is, ap (λ (k : SquashData). k.limits.max_changes) view)) in
-      ap (λ (b : List Edit). body_refusal limits (change_body uri version b)) batch_is
-      ∙ (ap (λ (k : SquashData). body_refusal k.limits (change_body k.uri k.version (squash_batch kept))) view ∙ sym (rw few_kept refl))
+  pub written_refusal : (if nat_lt limits.max_changes (length made) then Some too_many_changes else body_refusal limits (change_body uri version made)) ≡ squash_refusal kept
+  written_refusal =
+      ap (λ (b : List Edit). if nat_lt limits.max_changes (length b) then Some too_many_changes else body_refusal limits (change_body uri version b)) batch_is
+      ∙ ap (λ (k : SquashData). if nat_lt k.limits.max_changes (length (squash_batch kept)) then Some too_many_changes else body_refusal k.limits (change_body k.uri k.version (squash_batch kept))) view
 
 -- ---- the message of all batches is accepted on the document as it was, and leaves the one that was reached
 

@@ -11,7 +11,7 @@ pub(crate) mod batches;
 pub(crate) mod reached;
 
 use crate::fault::StoreFault;
-use crate::store::canonical::{framed_change, may_be_written};
+use crate::store::canonical::framed_batch;
 use crate::store::document::Document;
 use crate::store::stored::Stored;
 use lsp_edit::{Change, Joined};
@@ -122,9 +122,8 @@ impl Squash {
         ensures error { IfErr result (IsRefusal (squash_refusal self.now)) }
     {
         let batch = self.joined.canonical(self.encoding)?;
-        may_be_written(&self.limits, &batch)?;
         let alloc = *self.uri.allocator();
         let version = self.reached.version;
-        framed_change(alloc, &self.limits, &self.uri, version, batch)
+        framed_batch(alloc, &self.limits, &self.uri, version, batch)
     }
 }

@@ -1,6 +1,6 @@
 //! The open documents, in order of opening.
 
-ghost use Rattle.std.specs.Prelude.{◌≡◌, ◌≢◌, ◌≤◌, ◌↔◌, ℕ, IsTrue, ℤ, List, [], Some, None, Err, option_map, IfErr, OnErr, OnOk, map, length, slice_get, string_bytes};
+ghost use Rattle.std.specs.Prelude.{◌≡◌, ◌≢◌, ◌<◌, ◌≤◌, ◌↔◌, ℕ, IsTrue, ℤ, List, [], Some, None, Err, option_map, IfErr, OnErr, OnOk, map, length, slice_get, string_bytes};
 ghost use Rattle.lsp_edit.specs.Edited.{edit_of};
 ghost use Rattle.lsp_store.specs.declared.fault.StoreFault.TheVariants.{NotOpen, NoMemory};
 ghost use Rattle.lsp_message.specs.Params.{DocumentItem};
@@ -33,13 +33,15 @@ pub struct Store {
 }
 
 impl Model for Store {
-    ghost use Rattle.std.specs.Prelude.{map};
+    ghost use Rattle.std.specs.Prelude.{◌≤◌, length, map};
     ghost use Rattle.lsp_store.specs.Opened.{StoreData, entry_of};
 
     ghost Value = { StoreData };
 
     ghost view = { λ store.
         record { limits = store.limits; table = map entry_of store.documents.entries } };
+
+    ghost invariant = { λ store. length store.documents.entries ≤ store.limits.max_docs };
 }
 
 impl Store {
@@ -60,12 +62,10 @@ impl Store {
         self.limits
     }
 
-    /// Returns the number of open documents. Costs one step.
-    ///
-    /// There are never more than `max_docs`: [`store_laws`](crate::store_laws) states it of the
-    /// table of every list of accepted commands, and a store's table is one.
+    /// Returns the number of open documents, at most `max_docs`. Costs one step.
     pub fn len(&self) -> usize
-        ensures { result ≡ length self.now.table }
+        ensures len { result ≡ length self.now.table }
+        ensures limit { result ≤ self.now.limits.max_docs }
     {
         self.documents.len()
     }
@@ -116,6 +116,7 @@ impl Store {
             (record { uri = uri.now; language = language; version = version; text = text.now }))
             ≡ Some fault) }
         ensures short { OnOk result (length text.now ≤ 1073741824) }
+        ensures room { OnOk result (length self.now.table < self.now.limits.max_docs) }
         ensures memory { result ≢ Err NoMemory }
     {
         if self.documents.contains_key(uri) {

@@ -9,7 +9,7 @@ ghost use Rattle.lsp_store.specs.Squash.{HasReached, IsSquashAfter, squash_frame
 ghost use Rattle.lsp_store.specs.Table.{changed, entry_refusal};
 
 use crate::fault::StoreFault;
-use crate::store::canonical::{framed_change, may_be_written};
+use crate::store::canonical::framed_batch;
 use crate::store::document::Document;
 use lsp_edit::{Change, Joined, TextFault};
 use lsp_frame::Limits;
@@ -125,8 +125,7 @@ impl Batches {
         ensures error { IfErr result (IsRefusal (squash_refusal self.now)) }
     {
         let batch = self.joined.canonical(self.encoding)?;
-        may_be_written(&self.limits, &batch)?;
         let alloc = *self.uri.allocator();
-        framed_change(alloc, &self.limits, &self.uri, self.version, batch)
+        framed_batch(alloc, &self.limits, &self.uri, self.version, batch)
     }
 }

@@ -1,16 +1,16 @@
 //! The canonical message of an accepted batch of changes.
 
-ghost use Rattle.std.specs.Prelude.{◌≡◌, ◌<◌, ◌≤◌, ◌↔◌, ◌++◌, List, None, Err, IfErr, IfOk, OnErr, OnOk, length, map};
+ghost use Rattle.std.specs.Prelude.{◌≡◌, ◌<◌, ◌≤◌, ◌↔◌, ◌+◌, ◌-◌, ◌++◌, if◌then◌else◌, nat_lt, List, None, Some, Err, IfErr, IfOk, OnErr, OnOk, length, map, take};
 ghost use Rattle.lsp_frame.specs.Frame.{frame};
 ghost use Rattle.lsp_text.specs.Units.{units_in};
 ghost use Rattle.lsp_edit.specs.Batch.{Edit};
 ghost use Rattle.lsp_edit.specs.Edited.{edit_of};
 ghost use Rattle.lsp_message.specs.Outgoing.{OutgoingData, body_of};
 ghost use Rattle.lsp_message.specs.Sent.{IsProper, IsReadAsSent, IsReadBack};
-ghost use Rattle.lsp_store.specs.declared.fault.StoreFault.TheVariants.{NoMemory, TooManyChanges};
+ghost use Rattle.lsp_store.specs.declared.fault.StoreFault.TheVariants.{BodyTooLong, NoMemory, TooManyChanges};
 ghost use Rattle.lsp_store.specs.Faults.{IsRefusal};
 ghost use Rattle.lsp_store.specs.Opened.{MayTakeMemory};
-ghost use Rattle.lsp_store.specs.Table.{change_refusal};
+ghost use Rattle.lsp_store.specs.Table.{change_refusal, too_many_changes};
 ghost use Rattle.lsp_store.specs.Message.{AreTexts, DoAlike, IsCanonicalOn, IsReadAgain, IsCanonicalOf};
 ghost use Rattle.lsp_store.specs.Message.{body_refusal, canonical_batch, canonical_body, canonical_frame, change_body, message_refusal};
 
@@ -23,7 +23,7 @@ use lsp_text::Encoding;
 use std::alloc::Global;
 
 /// Refuses a batch with more changes than the limit allows. Takes no memory.
-pub fn may_be_written(limits: &Limits, changes: &[Change]) -> Result<(), StoreFault>
+fn may_be_written(limits: &Limits, changes: &[Change]) -> Result<(), StoreFault>
     ensures ok { OnOk result (length changes.now ≤ limits.now.max_changes) }
     ensures error { IfErr result (λ fault. (fault ≡ TooManyChanges)
         × (limits.now.max_changes < length changes.now)) }
@@ -38,7 +38,7 @@ pub fn may_be_written(limits: &Limits, changes: &[Change]) -> Result<(), StoreFa
 const USUAL_LENGTH: usize = 256;
 
 /// Returns the frame of the `textDocument/didChange` of a batch.
-pub fn framed_change(
+fn framed_change(
     alloc: Global,
     limits: &Limits,
     uri: &str,
@@ -62,6 +62,30 @@ pub fn framed_change(
     framed(alloc, limits, &body)
 }
 
+/// Returns the frame of the `textDocument/didChange` of a batch that may have too many changes.
+/// Out of memory only where it hasn't.
+pub fn framed_batch(
+    alloc: Global,
+    limits: &Limits,
+    uri: &str,
+    version: i32,
+    changes: Vec<Change>,
+) -> Result<Vec<u8>, StoreFault>
+    ensures framed { IfOk result
+        (λ bytes. bytes.items ≡ frame (change_body uri.now version (map edit_of changes.items))) }
+    ensures few { OnOk result (length changes.items ≤ limits.now.max_changes) }
+    ensures within { OnOk result
+        (body_refusal limits.now (change_body uri.now version (map edit_of changes.items)) ≡ None) }
+    ensures error { IfErr result (IsRefusal
+        (if nat_lt limits.now.max_changes (length (map edit_of changes.items)) then
+        Some too_many_changes else
+        body_refusal limits.now (change_body uri.now version (map edit_of changes.items)))) }
+    ensures memory { result ≡ Err NoMemory → length changes.items ≤ limits.now.max_changes }
+{
+    may_be_written(limits, &changes)?;
+    framed_change(alloc, limits, uri, version, changes)
+}
+
 /// Appends the body of the `textDocument/didChange` of a batch, unless it is too long.
 fn push_body(
     bytes: &mut Vec<u8>,
@@ -81,6 +105,18 @@ fn push_body(
 {
     let start = bytes.len();
     push_change(bytes, uri, version, &changes)?;
+    keep_within(bytes, start, limits)
+}
+
+/// Removes the body that begins at `start`, if it is too long. Takes no memory.
+fn keep_within(bytes: &mut Vec<u8>, start: usize, limits: &Limits) -> Result<(), StoreFault>
+    requires { start ≤ length bytes.old.items }
+    ensures within { OnOk result (length bytes.old.items ≤ start + limits.now.max_body) }
+    ensures kept { OnOk result (bytes.new.items ≡ bytes.old.items) }
+    ensures error { IfErr result (λ fault. (fault ≡ BodyTooLong (length bytes.old.items - start))
+        × (start + limits.now.max_body < length bytes.old.items)) }
+    ensures cut { OnErr result (bytes.new.items ≡ take start bytes.old.items) }
+{
     let len = bytes.len() - start;
     if len > limits.max_body() {
         bytes.truncate(start);
