@@ -23,6 +23,7 @@ use lsp_reader::{Incoming, Scratch};
 use lsp_store::{Store, StoreFault};
 use lsp_text::Encoding;
 use std::alloc::{AllocError, Global};
+use std::fmt;
 use std::marker::Model;
 
 /// The server's end of one session (LSP 3.17, Server lifecycle, Text Document Synchronization).
@@ -54,6 +55,19 @@ impl Model for Server {
     } };
 
     ghost invariant = { λ s. s.phase ≡ Running → IsSome s.encoding };
+}
+
+/// Shows all that clauses see.
+impl fmt::Debug for Server {
+    fn fmt<W: fmt::Write>(&self, f: &mut fmt::Formatter<W>) -> fmt::Result {
+        f.debug_struct("Server")
+            .field("choice", &self.choice)
+            .field("sync", &self.sync)
+            .field("phase", &self.phase)
+            .field("encoding", &self.encoding)
+            .field("store", &self.store)
+            .finish_non_exhaustive()
+    }
 }
 
 impl Server {

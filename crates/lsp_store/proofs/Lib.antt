@@ -7,3 +7,5 @@ pub mod ProperLemmas
 pub mod MessageLemmas
 pub mod LawLemmas
 pub mod SquashLemmas
+pub mod LineContentLemmas
+pub mod UnitsBeforeLemmas

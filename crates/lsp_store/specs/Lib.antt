@@ -4,3 +4,5 @@ pub mod Opened
 pub mod Message
 pub mod Laws
 pub mod Squash
+pub mod LineContent
+pub mod UnitsBefore

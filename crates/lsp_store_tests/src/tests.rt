@@ -10,6 +10,7 @@ mod positions;
 mod refused;
 mod squash;
 mod text_edits;
+mod units;
 
 use lsp_edit::Change;
 use lsp_frame::Limits;

@@ -1,20 +1,29 @@
 //! An open document as a caller reads it.
 
-ghost use Rattle.std.specs.Prelude.{◌≡◌, ◌≤◌, ℕ, IfErr, IfNone, IfOk, IfSome, Some, length, map, option_map};
+ghost use Rattle.std.specs.Prelude.{◌≡◌, ◌↔◌, ◌<◌, ◌≤◌, ℕ, IfErr, IfNone, IfOk, IfSome, OnSome, Some, length, map, option_map};
 ghost use Rattle.std.specs.Result.{result_ok};
 ghost use Rattle.std.specs.Str.{IsCharBoundary, IsUtf8, chars};
 ghost use Rattle.lsp_text.specs.LineStarts.{Indexes, IsPlace};
 ghost use Rattle.lsp_text.specs.Positions.{denoted, exact_position};
 ghost use Rattle.lsp_text.specs.Text.{place_of};
+ghost use Rattle.lsp_text.specs.TextLines.{line_ends};
 ghost use Rattle.lsp_text.specs.Units.{units_in};
 ghost use Rattle.lsp_edit.specs.Edited.{edit_of};
 ghost use Rattle.lsp_edit.specs.TextEdits.{IsBatchOfEdits, IsEditsFault};
+ghost use Rattle.lsp_store.specs.UnitsBefore.{HasUnitsBefore};
+ghost use Rattle.lsp_store.specs.LineContent.{IsContent, IsSlice};
 ghost use Rattle.lsp_store.specs.Opened.{entry_under};
 
+mod content;
+mod units;
+
+use crate::store::document::content::content_of;
+use crate::store::document::units::{offset_after, units_before};
 use crate::store::stored::Stored;
 use lsp_edit::{Change, MAX_OLD_TEXT, TextEdit, TextEditFault};
 use lsp_text::{Encoding, InsideCharacter, Lines, Position};
 use std::marker::Model;
+use std::ops::Range;
 
 /// An open document (LSP 3.17, TextDocumentItem). It borrows from the store.
 #[derive(Debug, Drop)]
@@ -77,6 +86,19 @@ impl<'a> Document<'a> {
         self.stored.text.lines()
     }
 
+    /// Returns the byte offsets of a line's content, without its line end (LSP 3.17, Position), as
+    /// a range to slice [`Document::text`] with. Lines are counted from 0.
+    ///
+    /// Returns `None` if the text has no such line. In constant time.
+    pub fn line(&self, line: u32) -> Option<Range<usize>>
+        ensures content { IfSome result (IsContent self.now.text line) }
+        ensures slice { IfSome result (IsSlice self.now.text) }
+        ensures some { OnSome result (line ≤ line_ends (chars self.now.text)) }
+        ensures none { IfNone result (line_ends (chars self.now.text) < line) }
+    {
+        content_of(self.text(), self.lines(), line)
+    }
+
     /// Returns the byte offset that a position denotes in the text (LSP 3.17, Position). It is the
     /// end of the text where there is no such line, and the end of the line's content for a
     /// character after it.
@@ -112,6 +134,31 @@ impl<'a> Document<'a> {
         lines
             .is_place(text, offset)
             .then(|| lines.position(text, encoding, offset))
+    }
+
+    /// Returns how many units the whole text has before a byte offset (LSP 3.17, Position). It is
+    /// the index of a string of JavaScript in UTF-16, and of one of Python in UTF-32.
+    /// [`Document::offset_of_units`] is its inverse.
+    ///
+    /// Returns `None` for an offset past the end or inside a character. Costs the text up to the
+    /// offset, in UTF-8 nothing. Takes no memory.
+    pub fn units_before(&self, encoding: Encoding, offset: usize) -> Option<usize>
+        ensures { (units : ℕ) → (result ≡ Some units)
+            ↔ HasUnitsBefore (units_in encoding) (chars self.now.text) offset units }
+    {
+        units_before(encoding, self.text(), offset)
+    }
+
+    /// Returns the byte offset before which the whole text has so many units (LSP 3.17, Position).
+    /// [`Document::units_before`] is its inverse.
+    ///
+    /// Returns `None` where the text has fewer units, and where they end inside a character. Costs
+    /// the text up to the offset. Takes no memory.
+    pub fn offset_of_units(&self, encoding: Encoding, units: usize) -> Option<usize>
+        ensures { (offset : ℕ) → (result ≡ Some offset)
+            ↔ HasUnitsBefore (units_in encoding) (chars self.now.text) offset units }
+    {
+        offset_after(encoding, self.text(), units)
     }
 
     /// Returns the batch that means what text edits mean on the text (LSP 3.17, TextEdit[]), for

@@ -1,0 +1,10 @@
+use Rattle.std.proofs.Common.{◌≡◌, ◌↔◌, Some, subst}
+use Rattle.std.specs.Str.{chars}
+use Rattle.lsp_text.specs.Units.{units_in}
+use Rattle.lsp_store.specs.UnitsBefore.{HasUnitsBefore}
+use Rattle.lsp_store.proofs.store.document.Document.units_before.Goals as goal
+
+pub returns : goal.returns
+returns c = λ units.
+    subst (λ bytes. (c.units_before.result ≡ Some units) ↔ HasUnitsBefore (units_in c.args.encoding) (chars bytes) c.args.offset units) c.text.ensures.text
+    (c.units_before.ensures units)
