@@ -1,12 +1,12 @@
 //! What a body asks of a server.
 
-ghost use Rattle.std.specs.Prelude.{◌≡◌, option_map, Some, None, Err, IfOk, IfSome, string_bytes};
+ghost use Rattle.std.specs.Prelude.{◌≡◌, ℕ, List, option_map, Some, None, Err, IfOk, IfSome, IsUtf8, OnErr, string_bytes};
 ghost use Rattle.serde_json.specs.Data.{Data};
 ghost use Rattle.serde_json.specs.Read.{read as read_value};
 ghost use Rattle.serde_json.specs.View.{view};
-ghost use Rattle.lsp_message.specs.Message.{reading, message_of};
-ghost use Rattle.lsp_message.specs.Params.{change_of};
-ghost use Rattle.lsp_message.specs.Seen.{id_view, message_view};
+ghost use Rattle.lsp_message.specs.Message.{reading, message_of, not_json};
+ghost use Rattle.lsp_message.specs.Params.{change_of, TakesMemory};
+ghost use Rattle.lsp_message.specs.Seen.{id_view, message_view, IsReadFault};
 ghost use Rattle.lsp_reader.specs.Incoming.{incoming_of, incoming_by, request_of, notification_of, did_change};
 ghost use Rattle.lsp_reader.specs.Seen.{incoming_view};
 
@@ -59,13 +59,15 @@ pub enum Incoming {
 }
 
 impl Incoming {
-    /// Reads what a body asks. Fails only where memory runs out.
+    /// Reads what a body asks. Fails only where memory runs out, and never for a body that isn't
+    /// UTF-8.
     ///
     /// One pass, linear in the body. Beside the memory of its result it takes a scratch: 16 KB and
     /// the body's length. To read many bodies, keep one scratch and call [`Incoming::read_with`].
     #[inline(never)]
     pub fn read(alloc: Global, body: &[u8]) -> Result<Incoming, AllocError>
-        ensures { IfOk result (λ m. incoming_view m ≡ incoming_of (reading body.now)) }
+        ensures ok { IfOk result (λ m. incoming_view m ≡ incoming_of (reading body.now)) }
+        ensures memory { OnErr result (IsUtf8 body.now) }
     {
         let mut scratch = Scratch::new(alloc);
         read_body(alloc, body, &mut scratch)
@@ -80,7 +82,8 @@ impl Incoming {
         body: &[u8],
         scratch: &mut Scratch,
     ) -> Result<Incoming, AllocError>
-        ensures { IfOk result (λ m. incoming_view m ≡ incoming_of (reading body.now)) }
+        ensures ok { IfOk result (λ m. incoming_view m ≡ incoming_of (reading body.now)) }
+        ensures memory { OnErr result (IsUtf8 body.now) }
     {
         if body.len() > MAX_KEPT {
             return Incoming::read(alloc, body);
@@ -104,7 +107,8 @@ impl Incoming {
 }
 
 fn read_body(alloc: Global, body: &[u8], scratch: &mut Scratch) -> Result<Incoming, AllocError>
-    ensures { IfOk result (λ m. incoming_view m ≡ incoming_of (reading body.now)) }
+    ensures ok { IfOk result (λ m. incoming_view m ≡ incoming_of (reading body.now)) }
+    ensures memory { OnErr result (IsUtf8 body.now) }
 {
     let Ok(text) = std::str::from_utf8(body) else {
         return Ok(Incoming::NotJson);
@@ -112,8 +116,19 @@ fn read_body(alloc: Global, body: &[u8], scratch: &mut Scratch) -> Result<Incomi
     match read_text(alloc, text, scratch) {
         Ok(Some(incoming)) => Ok(incoming),
         Ok(None) => read_tree(alloc, body),
-        Err(Fault::NotJson) => Ok(Incoming::NotJson),
-        Err(Fault::NoMemory) => Err(AllocError),
+        Err(fault) => unread_text(fault),
+    }
+}
+
+/// Returns what a text asks that can't be read. Out of memory only where its reading was.
+fn unread_text(fault: Fault) -> Result<Incoming, AllocError>
+    ensures ok { IfOk result
+        (λ m. (fault ≡ Fault.NotJson) × (incoming_view m ≡ incoming_of not_json)) }
+    ensures memory { OnErr result (fault ≡ Fault.NoMemory) }
+{
+    match fault {
+        Fault::NotJson => Ok(Incoming::NotJson),
+        Fault::NoMemory => Err(AllocError),
     }
 }
 
@@ -124,9 +139,20 @@ fn read_tree(alloc: Global, body: &[u8]) -> Result<Incoming, AllocError>
 {
     match read(alloc, body) {
         Ok(message) => Incoming::of(alloc, message),
-        Err(ReadFault::NotJson) => Ok(Incoming::NotJson),
-        Err(ReadFault::NotAMessage { id }) => Ok(Incoming::NotAMessage { id }),
-        Err(ReadFault::NoMemory) => Err(AllocError),
+        Err(fault) => unread_body(fault),
+    }
+}
+
+/// Returns what a body asks that is no message. Out of memory only where its reading was.
+fn unread_body(fault: ReadFault) -> Result<Incoming, AllocError>
+    ensures ok { IfOk result (λ m. (body : List ℕ) → IsReadFault body fault
+        → incoming_view m ≡ incoming_of (reading body)) }
+    ensures memory { OnErr result (fault ≡ ReadFault.NoMemory) }
+{
+    match fault {
+        ReadFault::NotJson => Ok(Incoming::NotJson),
+        ReadFault::NotAMessage { id } => Ok(Incoming::NotAMessage { id }),
+        ReadFault::NoMemory => Err(AllocError),
     }
 }
 
@@ -191,8 +217,9 @@ fn notification(
 }
 
 fn change(alloc: Global, params: Option<Value>) -> Result<Incoming, AllocError>
-    ensures { IfOk result (λ m. incoming_view m
+    ensures ok { IfOk result (λ m. incoming_view m
         ≡ did_change (change_of (option_map view params))) }
+    ensures memory { OnErr result (TakesMemory (option_map view params)) }
 {
     match params_change(alloc, params) {
         Ok(params) => Ok(Incoming::DidChange(Some(params))),
