@@ -1,15 +1,23 @@
 -- What the last flush answered.
-use Rattle.std.specs.Prelude.{ℕ, ◌≡◌, Bool, true, false, Result, Ok, Err, OnOk, IfErr}
+use Rattle.std.specs.Prelude.{ℕ, ◌≡◌, ◌⊎◌, true, false, Result, Ok, Err, OnOk, IfErr}
+use Rattle.std.proofs.Common.{inl, inr, subst}
 use Rattle.lsp_replay.specs.declared.outcome.Outcome.{Outcome}
 use Rattle.lsp_stream.specs.declared.fault.EngineFault.{EngineFault}
-use Rattle.lsp_stream.specs.declared.fault.EngineFault.TheVariants.{Write}
-use Rattle.lsp_stream.specs.Ports.{Rose}
+use Rattle.lsp_stream.specs.declared.fault.EngineFault.TheVariants.{TooManyTurns, Write}
+use Rattle.lsp_stream.specs.Ports.{Rose, WriterState}
+use Rattle.lsp_stream.specs.Turns.{Spends, WritesWithin}
+use Rattle.lspsync.specs.declared.run.TheConstants.{MAX_TURNS}
 use Rattle.lspsync.specs.Run.{IsFlushed, answer_of}
 
-pub flushed_of : (failed : Bool) (old new : ℕ) (answer : Result (Unit {0}) EngineFault) → OnOk answer ((failed ≡ false) × Rose old new)
-    → IfErr answer (λ fault. fault ≡ Write → (failed ≡ true) × Rose old new) → IsFlushed failed old new answer
-flushed_of failed old new (Ok _) ok err = ok
-flushed_of failed old new (Err fault) ok err = λ is. (err is).0
+pub flushed_of : (before after : WriterState) (most left : ℕ) (answer : Result (Unit {0}) EngineFault) → most ≡ MAX_TURNS
+    → OnOk answer ((after.failed ≡ false) × Rose before.calls after.calls) → OnOk answer (after.flushed ≡ true)
+    → IfErr answer (λ fault. (fault ≡ Write) ⊎ (fault ≡ TooManyTurns))
+    → WritesWithin most left before after answer → IsFlushed before after answer
+flushed_of before after most left (Ok _) all ok passed fault calls = (passed, ok.0, ok.1)
+flushed_of before after most left (Err _) all ok passed (inl is) calls = inl (is, (calls.failed is).0, (calls.failed is).1)
+flushed_of before after most left (Err _) all ok passed (inr is) calls =
+    inr (is, subst (λ n. Spends before.calls after.calls MAX_TURNS n) (calls.none_left is)
+    (subst (λ n. Spends before.calls after.calls n left) all calls.spent))
 
 -- A status is answered only after a flush that succeeded.
 pub status_after : (P : Type 0) (ran : Result Outcome EngineFault) (flushed : Result (Unit {0}) EngineFault) → OnOk flushed P → OnOk (answer_of ran flushed) P

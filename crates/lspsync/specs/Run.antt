@@ -8,6 +8,7 @@ use Rattle.clap.specs.declared.error.kind.ErrorKind.TheVariants as kind
 use Rattle.lsp_stream.specs.declared.fault.EngineFault.{EngineFault}
 use Rattle.lsp_stream.specs.declared.fault.EngineFault.TheVariants.{Read, Write, Frame, Truncated, BodyTooLong, NoMemory, TooManyTurns, BadLog}
 use Rattle.lsp_stream.specs.Ports.{Ports, Rose, WriterState, ports}
+use Rattle.lsp_stream.specs.Turns.{Spends}
 use Rattle.lsp_replay.specs.declared.outcome.Outcome.{Outcome}
 use Rattle.lsp_replay.specs.Run.{Engine, IsEngineRun, check_engine, convert_engine, normalise_engine, replay_engine, serve_engine}
 use Rattle.lspsync.specs.declared.command_line.Call.{Call}
@@ -35,10 +36,14 @@ engine_of (call.Replay settings) = replay_engine settings
 engine_of (call.Normalise settings) = normalise_engine settings
 engine_of (call.Convert settings) = convert_engine settings
 
--- The last flush. If it succeeded, the writer has not failed, and a call was made.
-abbrev pub IsFlushed : Bool → ℕ → ℕ → Result (Unit {0}) EngineFault → Type 0
-IsFlushed failed count_old count_new (Ok _) = (failed ≡ false) × Rose count_old count_new
-IsFlushed failed count_old count_new (Err fault) = fault ≡ Write → failed ≡ true
+-- The last flush, and what it answered. After one that succeeded all that was written is passed on.
+-- Else the writer failed at it, or each flush that was allowed was made and interrupted.
+abbrev pub IsFlushed : WriterState → WriterState → Result (Unit {0}) EngineFault → Type 0
+IsFlushed before after (Ok _) = (after.flushed ≡ true) × (after.failed ≡ false)
+    × Rose before.calls after.calls
+IsFlushed before after (Err fault) =
+    ((fault ≡ Write) × (after.failed ≡ true) × Rose before.calls after.calls)
+    ⊎ ((fault ≡ TooManyTurns) × Spends before.calls after.calls MAX_TURNS 0)
 
 -- A fault of the engine comes before one of the flush.
 abbrev pub answer_of : Result Outcome EngineFault → Result (Unit {0}) EngineFault →
@@ -47,8 +52,8 @@ answer_of (Ok outcome) (Ok _) = Ok outcome.status
 answer_of (Ok outcome) (Err fault) = Err fault
 answer_of (Err fault) flushed = Err fault
 
--- The engine of a call ran, and what it wrote was passed on; the answer is the outcome's status, or
--- the first fault.
+-- The engine of a call ran, and then its output was flushed, whatever the engine answered. The
+-- answer is the outcome's status, or the first fault.
 pub record IsPerformed (asked : Call) (before after : Ports)
     (answer : Result ℕ EngineFault) : Type 0 where
   pub result : Result Outcome EngineFault
@@ -57,7 +62,7 @@ pub record IsPerformed (asked : Call) (before after : Ports)
   pub writer : WriterState
   pub ran : IsEngineRun (engine_of asked) MAX_TURNS before (ports after.reader writer) result
   pub kept : Keeps writer.written after.writer.written
-  pub flush : IsFlushed after.writer.failed writer.calls after.writer.calls flushed
+  pub flush : IsFlushed writer after.writer flushed
   pub answered : answer ≡ answer_of result flushed
 
 -- The line that reports a fault.

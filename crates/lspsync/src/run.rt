@@ -185,8 +185,7 @@ fn print_help<W: Sink>(alloc: Global, help: &clap::Error, output: &mut W) -> Res
 /// Flushes the output. An interrupted flush is repeated.
 fn flush<W: Sink>(output: &mut W) -> Result<(), EngineFault>
     ensures kept { Keeps (W.seen output.old).written (W.seen output.new).written }
-    ensures flushed { IsFlushed (W.seen output.new).failed (W.seen output.old).calls
-        (W.seen output.new).calls result }
+    ensures flushed { IsFlushed (W.seen output.old) (W.seen output.new) result }
     ensures passed_on { OnOk result ((W.seen output.new).flushed ≡ true) }
 {
     flush_out(output, &mut Turns::new(MAX_TURNS))
