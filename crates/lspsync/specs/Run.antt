@@ -52,8 +52,8 @@ answer_of (Ok outcome) (Ok _) = Ok outcome.status
 answer_of (Ok outcome) (Err fault) = Err fault
 answer_of (Err fault) flushed = Err fault
 
--- The engine of a call ran, and then its output was flushed, whatever the engine answered. The answer
--- is the outcome's status, or the first fault.
+-- The engine of a call ran, and then its output was flushed, whatever the engine answered. The
+-- answer is the outcome's status, or the first fault.
 pub record IsPerformed (asked : Call) (before after : Ports)
     (answer : Result ℕ EngineFault) : Type 0 where
   pub result : Result Outcome EngineFault

@@ -21,7 +21,7 @@ type Failing = (
     &'static str,
 );
 
-static FAILING: [Failing; 10] = [
+static FAILING: [Failing; 12] = [
     ("serve", &[Take(172), Fails], &[], 152, READ_FAULT),
     ("serve", &[], &[Take(100), Fails], 100, WRITE_FAULT),
     ("serve", &[], &[Take(100), Take(0)], 100, WRITE_FAULT),
@@ -35,6 +35,21 @@ static FAILING: [Failing; 10] = [
         WRITE_FAULT,
     ),
     ("check", &[Take(340), Fails], &[], 18, READ_FAULT),
+    // the flush after a fault fails too, and the first fault is the one that is reported
+    (
+        "check",
+        &[Take(340), Fails],
+        &[ALL, ALL, Fails],
+        18,
+        READ_FAULT,
+    ),
+    (
+        "serve",
+        &[Take(172), Fails],
+        &[ALL, ALL, Fails],
+        152,
+        READ_FAULT,
+    ),
     ("check", &[], &[ALL, ALL, Fails], 18, WRITE_FAULT),
     ("check", &[], &[ALL, ALL, ALL, Fails], 28, WRITE_FAULT),
     ("replay", &[Fails], &[], 0, READ_FAULT),
