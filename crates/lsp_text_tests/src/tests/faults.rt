@@ -1,6 +1,6 @@
-//! The text of the fault.
+//! The text of each fault.
 
-use lsp_text::InsideCharacter;
+use lsp_text::{InsideCharacter, UnknownEncoding};
 use std::alloc::{AllocError, Global};
 use std::process::Abort;
 use std::test::Fail;
@@ -10,8 +10,14 @@ fn prints(alloc: Global, wanted: &str) -> Result<bool, AllocError> {
     Ok(text.as_str() == wanted)
 }
 
+fn prints_unknown(alloc: Global, wanted: &str) -> Result<bool, AllocError> {
+    let text = format!(in alloc; "{}", UnknownEncoding)?;
+    Ok(text.as_str() == wanted)
+}
+
 #[test]
-fn the_fault_has_its_text(rt: HostRuntime) -> Result<(), Fail> {
+fn each_fault_has_its_text(rt: HostRuntime) -> Result<(), Fail> {
     assert!(rt; prints(rt.alloc(), "the position lies inside a character")?);
+    assert!(rt; prints_unknown(rt.alloc(), "no encoding has this name")?);
     Ok(())
 }

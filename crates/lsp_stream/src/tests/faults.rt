@@ -1,0 +1,35 @@
+//! The text of each fault.
+
+use crate::fault::EngineFault;
+use lsp_frame::FrameFault;
+use std::alloc::{AllocError, Global};
+use std::process::Abort;
+use std::test::Fail;
+
+static FAULTS: [(EngineFault, &str); 8] = [
+    (EngineFault::Read, "read fault"),
+    (EngineFault::Write, "write fault"),
+    (
+        EngineFault::Frame(FrameFault::BadLength { place: 19 }),
+        "frame fault F5 at 19",
+    ),
+    (EngineFault::Truncated { place: 21 }, "truncated at 21"),
+    (EngineFault::BodyTooLong { place: 0 }, "body too long at 0"),
+    (EngineFault::NoMemory, "out of memory"),
+    (EngineFault::TooManyTurns, "too many turns"),
+    (EngineFault::BadLog { place: 64 }, "bad log at 64"),
+];
+
+fn prints(alloc: Global, row: &(EngineFault, &str)) -> Result<bool, AllocError> {
+    let fault = row.0;
+    let text = format!(in alloc; "{fault}")?;
+    Ok(text.as_str() == row.1)
+}
+
+#[test]
+fn each_fault_has_its_text(rt: HostRuntime) -> Result<(), Fail> {
+    for row in &FAULTS {
+        assert!(rt; prints(rt.alloc(), row)?, "{}", row.1);
+    }
+    Ok(())
+}
