@@ -16,8 +16,11 @@ pub flushed_of : (before after : WriterState) (most left : ℕ) (answer : Result
 flushed_of before after most left (Ok _) all ok passed fault calls = (passed, ok.0, ok.1)
 flushed_of before after most left (Err _) all ok passed (inl is) calls = inl (is, (calls.failed is).0, (calls.failed is).1)
 flushed_of before after most left (Err _) all ok passed (inr is) calls =
-    inr (is, subst (λ n. Spends before.calls after.calls MAX_TURNS n) (calls.none_left is)
-    (subst (λ n. Spends before.calls after.calls n left) all calls.spent))
+    inr (
+      is,
+      subst (λ n. Spends before.calls after.calls MAX_TURNS n) (calls.none_left is)
+          (subst (λ n. Spends before.calls after.calls n left) all calls.spent),
+    )
 
 -- A status is answered only after a flush that succeeded.
 pub status_after : (P : Type 0) (ran : Result Outcome EngineFault) (flushed : Result (Unit {0}) EngineFault) → OnOk flushed P → OnOk (answer_of ran flushed) P
