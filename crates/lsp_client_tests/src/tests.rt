@@ -1,6 +1,7 @@
 //! Sessions of a client: calls and bodies, each with the expected result.
 
 mod agreed;
+mod faults;
 mod phases;
 mod refused;
 mod session;

@@ -1,6 +1,6 @@
 //! The server's end of a session: one body in, one answer out.
 
-ghost use Rattle.std.specs.Prelude.{◌≡◌, ◌≢◌, ◌↔◌, ℕ, List, Option, None, Some, Ok, Err, IfOk, IfErr, OnOk, OnErr, IsOk, IsSome, IsErrOf, option_map};
+ghost use Rattle.std.specs.Prelude.{◌≡◌, ◌≢◌, ◌↔◌, ℕ, List, Option, None, Some, Ok, Err, IfOk, IfErr, OnOk, OnErr, IsOk, IsSome, IsErrOf, IsUtf8, option_map};
 ghost use Rattle.lsp_frame.specs.Frame.{frame};
 ghost use Rattle.lsp_message.specs.Message.{reading};
 ghost use Rattle.lsp_message.specs.Outgoing.{error_reply, body_of};
@@ -164,6 +164,7 @@ impl Server {
     pub fn read(&mut self, body: &[u8]) -> Result<Incoming, AllocError>
         ensures incoming { IfOk result (λ m. incoming_view m ≡ incoming_of (reading body.now)) }
         ensures unchanged { self.new ≡ self.old }
+        ensures memory { OnErr result (IsUtf8 body.now) }
     {
         Incoming::read_with(self.alloc, body, &mut self.scratch)
     }
@@ -279,7 +280,7 @@ impl Server {
                 self.phase = Phase::Down;
                 Ok(Answer::Reply { frame, code: None })
             }
-            Phase::Down | Phase::Ended => self.fail(Some(id), ErrorCode::InvalidRequest),
+            _ => self.fail(Some(id), ErrorCode::InvalidRequest),
         }
     }
 
@@ -297,7 +298,7 @@ impl Server {
         let error = match self.phase {
             Phase::New => ErrorCode::ServerNotInitialized,
             Phase::Running => ErrorCode::MethodNotFound,
-            Phase::Down | Phase::Ended => ErrorCode::InvalidRequest,
+            _ => ErrorCode::InvalidRequest,
         };
         self.fail(Some(id), error)
     }
@@ -315,6 +316,20 @@ impl Server {
         Answer::Exit(status)
     }
 
+    /// Returns the params of a document message that is obeyed, else its answer: it is dropped
+    /// outside phase Running, and refused where its params don't fit.
+    fn admit<P: Drop>(&self, params: Option<P>) -> Result<P, Answer>
+        ensures admitted { IfOk result (λ p. (self.now.phase ≡ Running) × (params ≡ Some p)) }
+        ensures dropped { OnErr result (self.now.phase ≢ Running → result ≡ Err Answer.Dropped) }
+        ensures refused { OnErr result (self.now.phase ≡ Running → (params ≡ None)
+            × (result ≡ Err (Answer.Refused Refusal.InvalidParams))) }
+    {
+        if self.phase != Phase::Running {
+            return Err(Answer::Dropped);
+        }
+        params.ok_or(Answer::Refused(Refusal::InvalidParams))
+    }
+
     fn did_open(&mut self, params: Option<OpenParams>) -> Result<Answer, AllocError>
         requires { self.old.phase ≢ Ended }
         ensures answer { IfOk result
@@ -326,13 +341,10 @@ impl Server {
         ensures quiet { OnErr result
             (IsQuiet (step_on self.old (did_open (option_map open_view params))).answer → ⊥) }
     {
-        if self.phase != Phase::Running {
-            return Ok(Answer::Dropped);
+        match self.admit(params) {
+            Ok(params) => self.open(params),
+            Err(answer) => Ok(answer),
         }
-        let Some(params) = params else {
-            return Ok(Answer::Refused(Refusal::InvalidParams));
-        };
-        self.open(params)
     }
 
     fn open(&mut self, params: OpenParams) -> Result<Answer, AllocError>
@@ -363,13 +375,10 @@ impl Server {
         ensures quiet { OnErr result
             (IsQuiet (step_on self.old (did_change (option_map change_view params))).answer → ⊥) }
     {
-        if self.phase != Phase::Running {
-            return Ok(Answer::Dropped);
+        match self.admit(params) {
+            Ok(params) => self.change(params),
+            Err(answer) => Ok(answer),
         }
-        let Some(params) = params else {
-            return Ok(Answer::Refused(Refusal::InvalidParams));
-        };
-        self.change(params)
     }
 
     fn change(&mut self, params: ChangeParams) -> Result<Answer, AllocError>
@@ -400,13 +409,10 @@ impl Server {
         ensures quiet { OnErr result
             (IsQuiet (step_on self.old (did_close (option_map close_view params))).answer → ⊥) }
     {
-        if self.phase != Phase::Running {
-            return Ok(Answer::Dropped);
+        match self.admit(params) {
+            Ok(params) => self.close(params),
+            Err(answer) => Ok(answer),
         }
-        let Some(params) = params else {
-            return Ok(Answer::Refused(Refusal::InvalidParams));
-        };
-        self.close(params)
     }
 
     fn close(&mut self, params: CloseParams) -> Result<Answer, AllocError>
