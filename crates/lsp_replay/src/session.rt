@@ -5,7 +5,7 @@
 //! - `results`: the result of `initialize`.
 //! - `counting`: what counts as refused.
 
-ghost use Rattle.std.specs.Prelude.{◌≡◌, ◌≢◌, ◌⊎◌, IfErr, IfOk, OnOk, MatchOption, Some, None};
+ghost use Rattle.std.specs.Prelude.{◌≡◌, ◌≢◌, ◌⊎◌, IfErr, IfOk, OnErr, OnOk, MatchOption, Some, None};
 ghost use Rattle.lsp_message.specs.Seen.{change_view, id_view};
 ghost use Rattle.lsp_server.specs.Seen.{incoming_view};
 ghost use Rattle.lsp_replay.specs.Session.{bad, counted, opened, judge_at, judge_incoming, is_early, expected_after, versioned, outcome_of};
@@ -161,11 +161,7 @@ impl Session {
             ⊎ ((fault ≡ EngineFault.BadLog head.place)
             × ((judge_at self.old head body.now).verdict ≡ bad))) }
     {
-        let verdict = self.judge(head, body)?;
-        if verdict == Verdict::Bad {
-            return Err(EngineFault::BadLog { place: head.place });
-        }
-        Ok(verdict)
+        in_log(self.judge(head, body)?, head.place)
     }
 
     /// Notes the version of the log, which its first record says.
@@ -232,6 +228,8 @@ impl Session {
             (λ v. verdict_view v ≡ (judge_incoming self.old (incoming_view incoming)).verdict) }
         ensures session { OnOk result
             (self.new ≡ (judge_incoming self.old (incoming_view incoming)).session) }
+        ensures memory { OnErr result
+            ((judge_incoming self.old (incoming_view incoming)).verdict ≢ bad) }
     {
         if self.server.phase() == Phase::Ended || self.is_early(&incoming) {
             return Ok(Verdict::Bad);
@@ -277,4 +275,16 @@ impl Session {
             _ => Ok(None),
         }
     }
+}
+
+/// Refuses a record that can't be in a log, and whose first byte is at this offset.
+pub(crate) fn in_log(verdict: Verdict, place: u64) -> Result<Verdict, EngineFault>
+    ensures in_log { IfOk result (λ v. (v ≡ verdict) × (verdict_view verdict ≢ bad)) }
+    ensures error { IfErr result
+        (λ fault. (fault ≡ EngineFault.BadLog place) × (verdict_view verdict ≡ bad)) }
+{
+    if verdict == Verdict::Bad {
+        return Err(EngineFault::BadLog { place });
+    }
+    Ok(verdict)
 }

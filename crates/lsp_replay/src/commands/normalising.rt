@@ -12,7 +12,7 @@ use crate::commands::front::{line_bytes, mark_bytes, push_front, push_line};
 use crate::handler::{Given, Handler, Output};
 use crate::outcome::Outcome;
 use crate::session::writing::Appended;
-use crate::session::{Session, Verdict};
+use crate::session::{Session, in_log};
 use lsp_frame::put_header;
 use lsp_log::{Head, Version};
 use lsp_server::Config;
@@ -57,9 +57,7 @@ impl Handler for Normalise {
     ) -> Result<Given, EngineFault> {
         buffer.resize(FRONT_ROOM, 0)?;
         let (verdict, appended) = self.session.judge_and_write(head, body, buffer)?;
-        if verdict == Verdict::Bad {
-            return Err(EngineFault::BadLog { place: head.place });
-        }
+        in_log(verdict, head.place)?;
         let version = self.session.version();
         let output = push_record(buffer, head, version, spelling, appended)?;
         Ok(Given::more(output))
@@ -108,12 +106,20 @@ fn push_record(
     let Some(appended) = appended else {
         return Ok(push_as_it_is(buffer, head, version, spelling)?);
     };
+    within_limit(appended, head.place)?;
+    let start = put_front(buffer, head, version);
+    Ok(Output::BytesFrom(start))
+}
+
+/// Refuses a canonical body over the limit, of the record at this offset.
+fn within_limit(appended: Appended, place: u64) -> Result<(), EngineFault>
+    ensures ok { OnOk result (appended ≡ Appended.Body) }
+    ensures error { IfErr result
+        (λ fault. (fault ≡ EngineFault.BodyTooLong place) × (appended ≡ Appended.TooLong)) }
+{
     match appended {
-        Appended::TooLong => Err(EngineFault::BodyTooLong { place: head.place }),
-        Appended::Body => {
-            let start = put_front(buffer, head, version);
-            Ok(Output::BytesFrom(start))
-        }
+        Appended::Body => Ok(()),
+        Appended::TooLong => Err(EngineFault::BodyTooLong { place }),
     }
 }
 

@@ -1,7 +1,8 @@
 //! `normalise` with squash: writes accepted changes of one document, one after another, as one
 //! message.
 
-ghost use Rattle.std.specs.Prelude.{◌≡◌, ◌++◌, refl, OnOk, None, Some, false};
+ghost use Rattle.std.specs.Prelude.{◌≡◌, ◌≢◌, ◌++◌, refl, Err, IfErr, IfOk, OnErr, OnOk, None, Ok, Some, false};
+ghost use Rattle.lsp_store.specs.declared.fault.StoreFault.TheVariants.{NoMemory};
 ghost use Rattle.lsp_log.specs.Log.{mark_of};
 ghost use Rattle.lsp_replay.specs.Session.{opened};
 ghost use Rattle.lsp_replay.specs.Engines.{line_if};
@@ -12,7 +13,7 @@ use crate::commands::front::{push_front, push_line};
 use crate::handler::{Given, Handler, Output};
 use crate::outcome::Outcome;
 use crate::session::joining::Writing;
-use crate::session::{Session, Verdict};
+use crate::session::{Session, in_log};
 use lsp_log::{Head, Version};
 use lsp_server::Config;
 use lsp_store::{Batches, StoreFault};
@@ -72,13 +73,12 @@ impl Texts {
         ensures { OnOk result (output.new.items ≡ output.old.items
             ++ end_bytes (run_of self.now.front.items self.now.singles.items (Some batches.now))) }
     {
-        match batches.message() {
-            Ok(frame) => {
+        match frame_of(batches.message())? {
+            Some(frame) => {
                 output.extend_from_slice(&self.front)?;
                 output.extend_from_slice(&frame)
             }
-            Err(StoreFault::NoMemory) => Err(AllocError),
-            Err(_) => output.extend_from_slice(&self.singles),
+            None => output.extend_from_slice(&self.singles),
         }
     }
 
@@ -91,6 +91,21 @@ impl Texts {
             Some(batches) => self.push_run(output, batches),
             None => Ok(()),
         }
+    }
+}
+
+/// Returns the frame of a run's message, or `None` if the message has too many changes or is too
+/// long. Out of memory only where making it was.
+fn frame_of(message: Result<Vec<u8>, StoreFault>) -> Result<Option<Vec<u8>>, AllocError>
+    ensures frame { IfOk message (λ frame. result ≡ Ok (Some frame)) }
+    ensures refused { IfErr message
+        (λ fault. IfOk result (λ frame. (fault ≢ NoMemory) × (frame ≡ None))) }
+    ensures memory { OnErr result (message ≡ Err NoMemory) }
+{
+    match message {
+        Ok(frame) => Ok(Some(frame)),
+        Err(StoreFault::NoMemory) => Err(AllocError),
+        Err(_) => Ok(None),
     }
 }
 
@@ -164,9 +179,7 @@ impl Handler for Squashing {
     ) -> Result<Given, EngineFault> {
         let run = self.batches.take();
         let (verdict, writing) = self.session.judge_and_join(head, body, run)?;
-        if verdict == Verdict::Bad {
-            return Err(EngineFault::BadLog { place: head.place });
-        }
+        in_log(verdict, head.place)?;
         let version = self.session.version();
         match writing {
             Writing::AsItIs(ended) => {

@@ -1,6 +1,6 @@
 //! How records are joined to the open run of accepted changes.
 
-ghost use Rattle.std.specs.Prelude.{◌≡◌, ◌≢◌, IfOk, OnOk, map, string_bytes, Some, None};
+ghost use Rattle.std.specs.Prelude.{◌≡◌, ◌≢◌, Err, IfErr, IfOk, OnErr, OnOk, map, string_bytes, Ok, Some, None};
 ghost use Rattle.lsp_message.specs.Message.{reading};
 ghost use Rattle.lsp_message.specs.Seen.{change_view};
 ghost use Rattle.lsp_text.specs.Units.{units_in};
@@ -12,7 +12,8 @@ ghost use Rattle.lsp_replay.specs.Session.{bad, judge_at};
 ghost use Rattle.lsp_replay.specs.Engines.{canonical_change_body, change_in};
 ghost use Rattle.lsp_replay.specs.inside.Bodies.{body_view, change_of, judge_read};
 ghost use Rattle.lsp_replay.specs.inside.Joining.{MayBeOpenIn, IsOpenIn, IsOpenAfter, IsWriting, IsChangeWriting, IsBegun, refusal_of, server_after};
-ghost use Rattle.lsp_replay.specs.inside.Verdicts.{IsCanonicalFor, verdict_view};
+ghost use Rattle.lsp_store.specs.declared.fault.StoreFault.TheVariants.{NoMemory};
+ghost use Rattle.lsp_replay.specs.inside.Verdicts.{IsCanonicalFor, canonical_if_refused, verdict_view};
 
 use crate::session::{RecordBody, Session, Verdict};
 use lsp_log::Head;
@@ -133,14 +134,7 @@ impl Session {
             .server
             .store()
             .canonical_message(&params.uri, params.version, encoding, &params.changes);
-        match written {
-            Ok(frame) => Ok(Some(Canonical::Frame(frame))),
-            Err(fault) => match fault {
-                StoreFault::BodyTooLong { .. } => Ok(Some(Canonical::TooLong)),
-                StoreFault::NoMemory => Err(AllocError),
-                _ => Ok(None),
-            },
-        }
+        canonical_of(written)
     }
 
     /// Starts batches with an accepted change of a document.
@@ -157,5 +151,21 @@ impl Session {
         let mut batches = Batches::start(self.alloc, limits, document, encoding)?;
         batches.add(document, params.version, &params.changes)?;
         Ok(batches)
+    }
+}
+
+/// Returns the canonical message that the store made of a change, or `None` if it refuses the
+/// change. Out of memory only where the store was.
+fn canonical_of(written: Result<Vec<u8>, StoreFault>) -> Result<Option<Canonical>, AllocError>
+    ensures frame { IfOk written (λ frame. result ≡ Ok (Some (Canonical.Frame frame))) }
+    ensures refused { IfErr written (λ fault.
+        IfOk result (λ canonical. (fault ≢ NoMemory) × (canonical ≡ canonical_if_refused fault))) }
+    ensures memory { OnErr result (written ≡ Err NoMemory) }
+{
+    match written {
+        Ok(frame) => Ok(Some(Canonical::Frame(frame))),
+        Err(StoreFault::BodyTooLong { .. }) => Ok(Some(Canonical::TooLong)),
+        Err(StoreFault::NoMemory) => Err(AllocError),
+        Err(_) => Ok(None),
     }
 }
