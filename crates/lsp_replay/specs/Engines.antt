@@ -203,8 +203,8 @@ abbrev pub line_if : Bool → List ℕ
 line_if line_due = if line_due then version_line else []
 
 -- The bytes before a record's frame: the line of version 2, if it is due, and the record's mark.
-abbrev pub front_of : Session → Record → List ℕ
-front_of s r = line_if r.head.line_due ++ mark_of s.version r.head.side
+abbrev pub front_of : Record → List ℕ
+front_of r = line_if r.head.line_due ++ mark_of r.head.version r.head.side
 
 -- The canonical body of an accepted change. Other records have none.
 abbrev pub canonical_if : State → Option ChangeData → Verdict → Option (List ℕ)
@@ -226,7 +226,7 @@ written max_body r front (Some body) = if nat_lt max_body (length body) then
 -- The output of `normalise` for a record.
 abbrev pub canonical_output : Session → Record → Judged → RecordOutput
 canonical_output s r j
-    = written s.server.config.limits.max_body r (front_of j.session r)
+    = written s.server.config.limits.max_body r (front_of r)
     (canonical_of_record s r.body j.verdict)
 
 -- `normalise` writes each record, and at the end nothing. A log of version 2 without records is its

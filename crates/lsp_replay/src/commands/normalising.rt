@@ -14,7 +14,7 @@ use crate::outcome::Outcome;
 use crate::session::writing::Appended;
 use crate::session::{Session, Verdict};
 use lsp_frame::put_header;
-use lsp_log::{Head, Version};
+use lsp_log::Head;
 use lsp_server::Config;
 use lsp_stream::EngineFault;
 use std::alloc::{AllocError, Global};
@@ -60,8 +60,7 @@ impl Handler for Normalise {
         if verdict == Verdict::Bad {
             return Err(EngineFault::BadLog { place: head.place });
         }
-        let version = self.session.version();
-        let output = push_record(buffer, head, version, spelling, appended)?;
+        let output = push_record(buffer, head, spelling, appended)?;
         Ok(Given::more(output))
     }
 
@@ -84,7 +83,6 @@ const FRONT_ROOM: usize = 64;
 fn push_record(
     buffer: &mut Vec<u8>,
     head: Head,
-    version: Version,
     spelling: &[u8],
     appended: Option<Appended>,
 ) -> Result<Output, EngineFault>
@@ -94,7 +92,7 @@ fn push_record(
         length room ≡ FRONT_ROOM →
         IsAppended max_body canonical_log appended room buffer.old.items →
         written max_body (record { head = head; spelling = spelling.now; body = body })
-        (line_if head.line_due ++ mark_of version head.side) canonical_log
+        (line_if head.line_due ++ mark_of head.version head.side) canonical_log
         ≡ writes (output_of output spelling.now buffer.new.items)) }
     ensures err { IfErr result
         (λ fault. (fault ≡ EngineFault.NoMemory) ⊎ ((fault ≡ EngineFault.BodyTooLong head.place)
@@ -102,33 +100,28 @@ fn push_record(
         length room ≡ FRONT_ROOM →
         IsAppended max_body canonical_log appended room buffer.old.items →
         written max_body (record { head = head; spelling = spelling.now; body = body })
-        (line_if head.line_due ++ mark_of version head.side) canonical_log
+        (line_if head.line_due ++ mark_of head.version head.side) canonical_log
         ≡ ends [] (Err (EngineFault.BodyTooLong head.place))))) }
 {
     let Some(appended) = appended else {
-        return Ok(push_as_it_is(buffer, head, version, spelling)?);
+        return Ok(push_as_it_is(buffer, head, spelling)?);
     };
     match appended {
         Appended::TooLong => Err(EngineFault::BodyTooLong { place: head.place }),
         Appended::Body => {
-            let start = put_front(buffer, head, version);
+            let start = put_front(buffer, head);
             Ok(Output::BytesFrom(start))
         }
     }
 }
 
 /// Writes a record with its mark, as it is.
-fn push_as_it_is(
-    buffer: &mut Vec<u8>,
-    head: Head,
-    version: Version,
-    spelling: &[u8],
-) -> Result<Output, AllocError>
+fn push_as_it_is(buffer: &mut Vec<u8>, head: Head, spelling: &[u8]) -> Result<Output, AllocError>
     ensures { IfOk result (λ output. output_of output spelling.now buffer.new.items
-        ≡ (line_if head.line_due ++ mark_of version head.side) ++ spelling.now) }
+        ≡ (line_if head.line_due ++ mark_of head.version head.side) ++ spelling.now) }
 {
     buffer.clear();
-    push_front(buffer, head, version)?;
+    push_front(buffer, head)?;
     if buffer.is_empty() {
         return Ok(Output::Frame);
     }
@@ -138,13 +131,13 @@ fn push_as_it_is(
 
 /// Writes the line of version 2, if it is due, the mark and the header into the room right before a
 /// body. Returns the index where they begin.
-fn put_front(buffer: &mut [u8], head: Head, version: Version) -> usize
+fn put_front(buffer: &mut [u8], head: Head) -> usize
     requires { FRONT_ROOM ≤ length buffer.old }
     ensures { drop result buffer.new ≡ line_if head.line_due
-        ++ (mark_of version head.side ++ frame (drop FRONT_ROOM buffer.old)) }
+        ++ (mark_of head.version head.side ++ frame (drop FRONT_ROOM buffer.old)) }
 {
     let header = put_header(buffer, FRONT_ROOM);
-    let mark = put_before(buffer, header, mark_bytes(version, head.side));
+    let mark = put_before(buffer, header, mark_bytes(head));
     put_before(buffer, mark, line_bytes(head.line_due))
 }
 

@@ -13,7 +13,7 @@ use crate::handler::{Given, Handler, Output};
 use crate::outcome::Outcome;
 use crate::session::joining::Writing;
 use crate::session::{Session, Verdict};
-use lsp_log::{Head, Version};
+use lsp_log::Head;
 use lsp_server::Config;
 use lsp_store::{Batches, StoreFault};
 use lsp_stream::EngineFault;
@@ -37,32 +37,27 @@ struct Texts {
 
 impl Texts {
     /// Starts with the record that begins a run, and its canonical frame.
-    fn begin(&mut self, head: Head, version: Version, frame: &[u8]) -> Result<(), AllocError>
+    fn begin(&mut self, head: Head, frame: &[u8]) -> Result<(), AllocError>
         ensures front { OnOk result
-            (self.new.front.items ≡ line_if head.line_due ++ mark_of version head.side) }
+            (self.new.front.items ≡ line_if head.line_due ++ mark_of head.version head.side) }
         ensures singles { OnOk result
-            (self.new.singles.items ≡ (line_if head.line_due ++ mark_of version head.side)
+            (self.new.singles.items ≡ (line_if head.line_due ++ mark_of head.version head.side)
             ++ frame.now) }
     {
         self.front.clear();
-        push_front(&mut self.front, head, version)?;
+        push_front(&mut self.front, head)?;
         self.singles.clear();
-        self.continue_with(head, version, frame)
+        self.continue_with(head, frame)
     }
 
     /// Adds a record, with its canonical frame.
-    fn continue_with(
-        &mut self,
-        head: Head,
-        version: Version,
-        frame: &[u8],
-    ) -> Result<(), AllocError>
+    fn continue_with(&mut self, head: Head, frame: &[u8]) -> Result<(), AllocError>
         ensures front { OnOk result (self.new.front.items ≡ self.old.front.items) }
         ensures singles { OnOk result (self.new.singles.items
             ≡ self.old.singles.items
-            ++ ((line_if head.line_due ++ mark_of version head.side) ++ frame.now)) }
+            ++ ((line_if head.line_due ++ mark_of head.version head.side) ++ frame.now)) }
     {
-        push_front(&mut self.singles, head, version)?;
+        push_front(&mut self.singles, head)?;
         self.singles.extend_from_slice(frame)
     }
 
@@ -167,23 +162,22 @@ impl Handler for Squashing {
         if verdict == Verdict::Bad {
             return Err(EngineFault::BadLog { place: head.place });
         }
-        let version = self.session.version();
         match writing {
             Writing::AsItIs(ended) => {
                 self.texts.push_end(buffer, &ended)?;
-                push_front(buffer, head, version)?;
+                push_front(buffer, head)?;
                 buffer.extend_from_slice(spelling)?;
                 Ok(WRITTEN)
             }
             Writing::TooLong => Err(EngineFault::BodyTooLong { place: head.place }),
             Writing::Continues(frame, batches) => {
-                self.texts.continue_with(head, version, &frame)?;
+                self.texts.continue_with(head, &frame)?;
                 self.batches = Some(batches);
                 Ok(WRITTEN)
             }
             Writing::Begins(frame, ended, batches) => {
                 self.texts.push_end(buffer, &ended)?;
-                self.texts.begin(head, version, &frame)?;
+                self.texts.begin(head, &frame)?;
                 self.batches = Some(batches);
                 Ok(WRITTEN)
             }
