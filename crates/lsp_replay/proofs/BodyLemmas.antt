@@ -1,5 +1,5 @@
 -- A record that is read once is judged, appended and joined as one that is judged from its bytes.
-use Rattle.std.proofs.Common.{◌≡◌, ◌≢◌, ℕ, Bool, List, map, string_bytes, Option, Some, None, refl, sym, ap, ◌∙◌, subst, IfOk}
+use Rattle.std.proofs.Common.{◌≡◌, ◌≢◌, ℕ, List, map, string_bytes, Option, Some, None, refl, sym, ap, ◌∙◌, subst, IfOk}
 use Rattle.std.specs.Prelude.{Result, Ok, Err}
 use Rattle.std.specs.declared.alloc.AllocError.{AllocError}
 use Rattle.lsp_edit.specs.Edited as given
@@ -11,9 +11,8 @@ use Rattle.lsp_message.specs.Message.{reading}
 use Rattle.lsp_message.specs.Params.{ChangeData}
 use Rattle.lsp_message.specs.Seen.{change_view}
 use Rattle.lsp_message.specs.declared.params.ChangeParams.{ChangeParams}
-use Rattle.lsp_server.specs.Answer.{changed}
 use Rattle.lsp_server.specs.Incoming.{incoming_of, did_change}
-use Rattle.lsp_server.specs.Step.{State, encoding_of}
+use Rattle.lsp_server.specs.Step.{encoding_of}
 use Rattle.lsp_server.specs.declared.phase.Phase.TheVariants.{Running}
 use Rattle.lsp_store.specs.Squash.{SquashData}
 use Rattle.lsp_store.specs.Table.{Refusal, change_refusal}
@@ -22,7 +21,7 @@ use Rattle.lsp_replay.specs.declared.session.joining.Writing.{Writing}
 use Rattle.lsp_replay.specs.declared.session.joining.Writing.TheVariants.{AsItIs, TooLong, Continues, Begins}
 use Rattle.lsp_replay.specs.declared.session.writing.Appended.{Appended}
 use Rattle.lsp_replay.specs.Engines.{canonical_change_body, canonical_if, canonical_of_record, change_in}
-use Rattle.lsp_replay.specs.Session.{Session, Verdict, answered, judge_at, judge_from, judge_incoming}
+use Rattle.lsp_replay.specs.Session.{Session, Verdict, judge_at, judge_from, judge_incoming}
 use Rattle.lsp_replay.specs.inside.Bodies.{BodyData, from_client, from_server, IsReceived, body_read, canonical_read, change_of, judge_read}
 use Rattle.lsp_replay.specs.inside.Joining.{IsChangeWriting, IsOpenAfter, IsWriting, refusal_of}
 use Rattle.lsp_replay.specs.inside.Verdicts.{IsAppended}

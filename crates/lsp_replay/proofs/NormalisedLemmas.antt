@@ -6,7 +6,6 @@ use Rattle.lsp_frame.specs.Faults.{place_after}
 use Rattle.lsp_frame.specs.Frame.{frame, IsFrameOf}
 use Rattle.lsp_frame.specs.Limits.{Bounds, AreInRange}
 use Rattle.lsp_frame.proofs.WrittenLemmas.{written_is_frame}
-use Rattle.lsp_replay.specs.declared.engines.Settings.{Settings}
 use Rattle.lsp_replay.specs.declared.outcome.Outcome.{Outcome}
 use Rattle.lsp_stream.specs.declared.fault.EngineFault.{EngineFault}
 use Rattle.lsp_stream.specs.declared.fault.EngineFault.TheVariants.{BadLog, BodyTooLong}
@@ -65,8 +64,8 @@ pub record IsWrittenAs (limits : Bounds) (at : ℕ) (s : Session) (r q : Record)
   pub same_version : q.head.version ≡ r.head.version
   pub due : q.head.line_due ≡ r.head.line_due
   pub same : judge s q ≡ judge s r
-  pub first : normalising.record_output s r (judge s r) ≡ writes (front_of r ++ q.spelling)
-  pub again : normalising.record_output s q (judge s r) ≡ writes (front_of r ++ q.spelling)
+  pub first : normalising.record_output s r (judge s r) ≡ writes (front_of r.head ++ q.spelling)
+  pub again : normalising.record_output s q (judge s r) ≡ writes (front_of r.head ++ q.spelling)
   pub error : replaying.record_output s r (judge s r) ≡ writes []
   pub told_again : replaying.record_output s q (judge s r) ≡ writes []
 
@@ -81,27 +80,27 @@ module _ (limits : Bounds) (ranges : AreInRange limits) where
       same_version = refl;
       due = refl;
       same = refl;
-      first = passing r _ ∙ ap (written s.server.config.limits.max_body r (front_of r)) none;
-      again = passing (canonical_record at r None) _ ∙ ap (written s.server.config.limits.max_body (canonical_record at r None) (front_of r)) none;
+      first = passing r _ ∙ ap (written s.server.config.limits.max_body r (front_of r.head)) none;
+      again = passing (canonical_record at r None) _ ∙ ap (written s.server.config.limits.max_body (canonical_record at r None) (front_of r.head)) none;
       error = passing r _;
       told_again = passing (canonical_record at r None) _;
     }
 
-    fits : (body : List ℕ) → (written s.server.config.limits.max_body r (front_of r) (Some body)).end ≡ None → nat_lt s.server.config.limits.max_body (length body) ≡ false
+    fits : (body : List ℕ) → (written s.server.config.limits.max_body r (front_of r.head) (Some body)).end ≡ None → nat_lt s.server.config.limits.max_body (length body) ≡ false
     fits body e = by (nat_lt s.server.config.limits.max_body (length body)) e
       where
-        by : (over : Bool) → (if over then ends [] (Err (BodyTooLong r.head.place)) else writes (front_of r ++ frame body)).end ≡ None → over ≡ false
+        by : (over : Bool) → (if over then ends [] (Err (BodyTooLong r.head.place)) else writes (front_of r.head ++ frame body)).end ≡ None → over ≡ false
         by true f = absurd (let bad_one : Some (Err (BodyTooLong r.head.place)) ≡ None = f in cc)
         by false f = refl
 
     framed : (q : Record) (body : List ℕ) → nat_lt s.server.config.limits.max_body (length body) ≡ false
-        → written s.server.config.limits.max_body q (front_of r) (Some body) ≡ writes (front_of r ++ frame body)
+        → written s.server.config.limits.max_body q (front_of r.head) (Some body) ≡ writes (front_of r.head ++ frame body)
     framed q body short = rw short refl
 
     changed : (body : List ℕ) → canonical_of_record s r.body (judge s r).verdict ≡ Some body → (canonical_output s r (judge s r)).end ≡ None → IsWrittenAs limits at s r (canonical_record at r (Some body))
     changed body some e =
         let short : nat_lt s.server.config.limits.max_body (length body) ≡ false =
-        fits body (ap (λ n. (written s.server.config.limits.max_body r (front_of r) n).end) (sym some) ∙ e) in
+        fits body (ap (λ n. (written s.server.config.limits.max_body r (front_of r.head) n).end) (sym some) ∙ e) in
         let small : length body ≤ limits.max_body = subst (λ (l : Bounds). length body ≤ l.max_body) received.limit (ltb-false s.server.config.limits.max_body (length body) short) in
         let twice = judged_again limits ranges s r.head r.body body received some small in
         record {
@@ -111,9 +110,9 @@ module _ (limits : Bounds) (ranges : AreInRange limits) where
           same_version = refl;
           due = refl;
           same = twice.0;
-          first = passing r _ ∙ ap (written s.server.config.limits.max_body r (front_of r)) some ∙ framed r body short;
+          first = passing r _ ∙ ap (written s.server.config.limits.max_body r (front_of r.head)) some ∙ framed r body short;
           again =
-              passing (canonical_record at r (Some body)) _ ∙ ap (written s.server.config.limits.max_body (canonical_record at r (Some body)) (front_of r)) twice.1
+              passing (canonical_record at r (Some body)) _ ∙ ap (written s.server.config.limits.max_body (canonical_record at r (Some body)) (front_of r.head)) twice.1
               ∙ framed (canonical_record at r (Some body)) body short;
           error = passing r _;
           told_again = passing (canonical_record at r (Some body)) _;
@@ -149,14 +148,14 @@ module _ (limits : Bounds) (ranges : AreInRange limits) where
 
   module _ (at before : ℕ) (version : Version) (due : Bool) (s : Session) (r q : Record) (rs qs : List Record) (is : IsRecord limits.max_body version before due r)
       (one : IsWrittenAs limits at s r q) (more : AreWritten (at + length (record_bytes version q)) version false (judge s r).session rs qs) where
-    front_is : front_of r ≡ line_if due ++ mark_of version q.head.side
+    front_is : front_of r.head ≡ line_if due ++ mark_of version q.head.side
     front_is =
         ap (λ b. line_if b ++ mark_of r.head.version r.head.side) is.due
         ∙ ap (λ v. line_if due ++ mark_of v r.head.side) is.of_version
         ∙ ap (λ side. line_if due ++ mark_of version side) (sym one.side)
 
-    first : run_output_in normalising s (r ∷ rs) ≡ written_first (front_of r ++ q.spelling) (run_output_in normalising (judge s r).session rs)
-    first = command_output normalising s r rs (judge s r) (front_of r ++ q.spelling) refl one.first
+    first : run_output_in normalising s (r ∷ rs) ≡ written_first (front_of r.head ++ q.spelling) (run_output_in normalising (judge s r).session rs)
+    first = command_output normalising s r rs (judge s r) (front_of r.head ++ q.spelling) refl one.first
 
     told_first : run_output_in replaying s (r ∷ rs) ≡ written_first [] (run_output_in replaying (judge s r).session rs)
     told_first = command_output replaying s r rs (judge s r) [] refl one.error
@@ -174,12 +173,12 @@ module _ (limits : Bounds) (ranges : AreInRange limits) where
         more.are,
       );
       out =
-          ap (λ (c : RunOutput). c.out) first ∙ ap (λ z. (front_of r ++ q.spelling) ++ z) (more.out ∙ ap (λ z. z ++ together version qs []) (front_none rs))
+          ap (λ (c : RunOutput). c.out) first ∙ ap (λ z. (front_of r.head ++ q.spelling) ++ z) (more.out ∙ ap (λ z. z ++ together version qs []) (front_none rs))
           ∙ ap (λ z. (z ++ q.spelling) ++ together version qs []) front_is ∙ four (line_if due) (mark_of version q.head.side) q.spelling (together version qs []);
       last = λ line_due. ap (λ (c : RunOutput). c.last line_due) first ∙ more.last line_due;
       again =
-          command_output normalising s q qs (judge s r) (front_of r ++ q.spelling) one.same one.again
-          ∙ ap (written_first (front_of r ++ q.spelling)) more.again ∙ sym first;
+          command_output normalising s q qs (judge s r) (front_of r.head ++ q.spelling) one.same one.again
+          ∙ ap (written_first (front_of r.head ++ q.spelling)) more.again ∙ sym first;
       same = command_output replaying s q qs (judge s r) [] one.same one.told_again ∙ ap (written_first []) more.same ∙ sym told_first;
       to_end = ap (λ (c : RunOutput). c.stop) told_first ∙ more.to_end;
       outcome = ap (λ (c : RunOutput). c.outcome) first ∙ more.outcome ∙ sym (ap (λ (c : RunOutput). c.outcome) told_first);

@@ -68,7 +68,7 @@ behind_some due (r ∷ rs) some = refl
 
 module _ (t : Session) (before : Option Run) (q : Record) (p : ChangeData) (a : IsAccepted t q p) (d : IsDone t q p) (short : length (canonical_change_body t.server p) ≤ t.server.config.limits.max_body) where
   abbrev its_front : List ℕ
-  its_front = front_of q
+  its_front = front_of q.head
 
   abbrev its_single : List ℕ
   its_single = its_front ++ frame (canonical_change_body t.server p)
@@ -194,7 +194,7 @@ module _ (limits : Bounds) (ranges : AreInRange limits) (at : ℕ) (version : Ve
     done = is_done t one change accepted
 
     abbrev front : List ℕ
-    front = front_of one
+    front = front_of one.head
 
     abbrev one_run : Run
     one_run = record { front = front; singles = front ++ frame (canonical_change_body t.server change); squash = joined_by change (squash_of t.server.config.limits (encoding_of t.server) entry) }
@@ -251,8 +251,8 @@ module _ (limits : Bounds) (ranges : AreInRange limits) (at : ℕ) (version : Ve
 -- the run that an accepted change begins
 abbrev pub run_at : Session → Record → ChangeData → DocumentItem → Run
 run_at s r p entry = record {
-  front = front_of r;
-  singles = front_of r ++ frame (canonical_change_body s.server p);
+  front = front_of r.head;
+  singles = front_of r.head ++ frame (canonical_change_body s.server p);
   squash = joined_by p (squash_of s.server.config.limits (encoding_of s.server) entry);
 }
 
@@ -316,10 +316,10 @@ module _ (limits : Bounds) (ranges : AreInRange limits) (at : ℕ) (version : Ve
   step_out : squash_step t before q (judge t q) ≡ record { out = end_bytes before; end = None; run = Some (run_at t q single.again its_entry) }
   step_out = begun_step t before q single.again single.accepted done_out single.within its_entry found_out (subst (IsApart before) (sym single.same_uri) apart)
 
-  front_in : front_of r ≡ line_if due ++ mark_of version Client
+  front_in : front_of r.head ≡ line_if due ++ mark_of version Client
   front_in = front_is s run r p a done_in fits version of_version ∙ ap (λ b. line_if b ++ mark_of version Client) same_due
 
-  front_out : front_of q ≡ line_if due ++ mark_of version Client
+  front_out : front_of q.head ≡ line_if due ++ mark_of version Client
   front_out =
       front_is t before q single.again single.accepted done_out single.within version of_version ∙ ap (λ b. line_if b ++ mark_of version Client) same_due
 
@@ -417,15 +417,15 @@ module _ (limits : Bounds) (ranges : AreInRange limits) (at : ℕ) (version : Ve
   uri_is = (bytes_eq-Decides p.uri run.squash.uri).0 same
 
   abbrev next_run : Run
-  next_run = longer run p (front_of r ++ frame (canonical_change_body s.server p))
+  next_run = longer run p (front_of r.head ++ frame (canonical_change_body s.server p))
 
   gives_here : squash_step s (Some run) r (judge s r) ≡ record { out = []; end = None; run = Some next_run }
   gives_here = longer_step s (Some run) r p a done_here fits run refl same
 
-  front_here : front_of r ≡ mark_of version Client
+  front_here : front_of r.head ≡ mark_of version Client
   front_here = front_is s (Some run) r p a done_here fits version of_version ∙ ap (λ b. line_if b ++ mark_of version Client) not_due
 
-  front_last : front_of more_q ≡ mark_of version Client
+  front_last : front_of more_q.head ≡ mark_of version Client
   front_last =
       front_is last (Some run) more_q another.again another.accepted done_last another.within version of_version
       ∙ ap (λ b. line_if b ++ mark_of version Client) not_due
@@ -440,7 +440,7 @@ module _ (limits : Bounds) (ranges : AreInRange limits) (at : ℕ) (version : Ve
       longer_step last (Some run) more_q another.again another.accepted done_last another.within run refl (ap (λ u. bytes_eq u run.squash.uri) another.same_uri ∙ same)
       ∙ (λ i. record { out = []; end = None; run = Some (record run { singles = run.singles ++ single_is i; squash = joins_same i }) })
     where
-      single_is : front_of more_q ++ frame (canonical_change_body last.server another.again) ≡ front_of r ++ frame (canonical_change_body s.server p)
+      single_is : front_of more_q.head ++ frame (canonical_change_body last.server another.again) ≡ front_of r.head ++ frame (canonical_change_body s.server p)
       single_is = ap₂ (λ (f b : List ℕ). f ++ frame b) (front_last ∙ sym front_here) (another.own ∙ ap (λ (server : State). canonical_change_body server p) equal)
 
   next_is : server_after s.server p ≡ (judge s r).session.server
@@ -454,7 +454,7 @@ module _ (limits : Bounds) (ranges : AreInRange limits) (at : ℕ) (version : Ve
   same_line [] q some = absurd some
   same_line (x ∷ rs) q some = refl
 
-  pushed : run.singles ++ (front_of r ++ frame (canonical_change_body s.server p)) ≡ first_line due (open_run.ss ++ more_q ∷ []) ++ together version (open_run.ss ++ more_q ∷ []) []
+  pushed : run.singles ++ (front_of r.head ++ frame (canonical_change_body s.server p)) ≡ first_line due (open_run.ss ++ more_q ∷ []) ++ together version (open_run.ss ++ more_q ∷ []) []
   pushed =
       ap₂ (λ (x y : List ℕ). x ++ y) open_run.singles (ap₂ (λ (f b : List ℕ). f ++ frame b) front_here (ap (λ (server : State). canonical_change_body server p) (sym equal)))
       ∙ append_assoc (first_line due open_run.ss) (together version open_run.ss []) (mark_of version Client ++ frame (canonical_change_body last.server p))
@@ -464,15 +464,12 @@ module _ (limits : Bounds) (ranges : AreInRange limits) (at : ℕ) (version : Ve
       ∙ ap (together version open_run.ss) (sym (append-nil (record_bytes version more_q)))
       ∙ sym (together_push version open_run.ss more_q []))
 
-  done_alike : IsAlike (session_after s p) (judge s r).session
-  done_alike = done_here.leaves
-
   like_on : IsAlike (record t { server = (judge s r).session.server }) (judge s r).session
   like_on = (
-    done_alike.0,
-    done_alike.1,
-    done_alike.2 ∙ ap (λ (u : Session). numbered done_alike.0 done_alike.1 (record u { server = server_after s.server p })) open_run.like.2
-        ∙ ap (λ server. numbered done_alike.0 done_alike.1 (record t { server = server })) next_is,
+    done_here.leaves.0,
+    done_here.leaves.1,
+    done_here.leaves.2 ∙ ap (λ (u : Session). numbered done_here.leaves.0 done_here.leaves.1 (record u { server = server_after s.server p })) open_run.like.2
+        ∙ ap (λ server. numbered done_here.leaves.0 done_here.leaves.1 (record t { server = server })) next_is,
   )
 
   pub longer_run : IsLongerRun limits.max_body at version due s run r t before
@@ -492,7 +489,7 @@ module _ (limits : Bounds) (ranges : AreInRange limits) (at : ℕ) (version : Ve
       singles = pushed;
       last = (judge last more_q).session;
       last_like =
-          alike_both (session_after s p) (judge s r).session (judge last more_q).session done_alike
+          alike_both (session_after s p) (judge s r).session (judge last more_q).session done_here.leaves
           (after_out s last p another.again (judge last more_q).session open_run.last_like (another.leaves ∙ ap (λ (server : State). server_after server p) equal) done_last.leaves);
       run_output = λ more.
           ap (squashed_in t before) (append_assoc open_run.ss (more_q ∷ []) more) ∙ open_run.run_output (more_q ∷ more)

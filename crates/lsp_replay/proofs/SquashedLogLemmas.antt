@@ -92,20 +92,20 @@ module _ (limits : Bounds) (ranges : AreInRange limits) where
           ap (λ (server : State). canonical_if server (change_in (incoming_of (reading r.body))) (judge e.last r).verdict) (same_server s e.last e.like)
           ∙ ap (canonical_if s.server (change_in (incoming_of (reading r.body)))) alike.0 ∙ kind.1
 
-      gives_other : squash_step s run r (judge s r) ≡ other_step r (front_of r) run
-      gives_other = step_other s.server r (front_of r) run (change_in (incoming_of (reading r.body))) (judge s r).verdict kind.0 kind.1
+      gives_other : squash_step s run r (judge s r) ≡ other_step r (front_of r.head) run
+      gives_other = step_other s.server r (front_of r.head) run (change_in (incoming_of (reading r.body))) (judge s r).verdict kind.0 kind.1
 
-      gives_last : squash_step e.last e.last_run q (judge e.last q) ≡ record { out = end_bytes e.last_run ++ (front_of r ++ q.spelling); end = None; run = None }
-      gives_last = step_other e.last.server q (front_of q) e.last_run (change_in (incoming_of (reading q.body))) (judge e.last q).verdict not_bad_last none_last
+      gives_last : squash_step e.last e.last_run q (judge e.last q) ≡ record { out = end_bytes e.last_run ++ (front_of r.head ++ q.spelling); end = None; run = None }
+      gives_last = step_other e.last.server q (front_of q.head) e.last_run (change_in (incoming_of (reading q.body))) (judge e.last q).verdict not_bad_last none_last
 
-      front_at : front_of r ≡ line_if (due_after due e.us) ++ mark_of version q.head.side
+      front_at : front_of r.head ≡ line_if (due_after due e.us) ++ mark_of version q.head.side
       front_at =
           ap (λ v. line_if r.head.line_due ++ mark_of v r.head.side) is.of_version
           ∙ ap (λ b. line_if b ++ mark_of version r.head.side) due_r
 
       others : IsSquashedAs limits.max_body at version due s run (r ∷ rs) t before
       others =
-          others_next limits.max_body at version due s run t before e r q rs (front_of r)
+          others_next limits.max_body at version due s run t before e r q rs (front_of r.head)
           (record { is_frame_of = is.is_frame_of; side = is.side; of_version = is.of_version; placed = refl; due = due_r }) gives_other kind.0 front_at gives_last not_bad_last
           (rest (next_at + length (record_bytes version q)) place false None (judge e.last q).session None (held_alike (judge s r).session (judge e.last q).session alike.1 (judged_held limits s r received))
           (refl, alike.1, refl) (subst (λ (step : Step). (squashed_in (judge s r).session step.run rs).stop ≡ None) gives_other goes))
@@ -152,7 +152,7 @@ module _ (limits : Bounds) (ranges : AreInRange limits) where
     one_record none =
         ⊎_elim (λ (kind : IsOtherKind s.server (change_in (incoming_of (reading r.body))) (judge s r).verdict). others kind)
         (λ (kind : IsChangeKind s.server (change_in (incoming_of (reading r.body))) (judge s r).verdict). changes kind run refl)
-        (kind_of s.server r (front_of r) run (change_in (incoming_of (reading r.body))) (judge s r).verdict none)
+        (kind_of s.server r (front_of r.head) run (change_in (incoming_of (reading r.body))) (judge s r).verdict none)
 
   squashed_log : (rs : List Record) (at place : ℕ) (version : Version) (due due_in : Bool) (s : Session) (run : Option Run) (t : Session) (before : Option Run) → IsHeldState limits s.server → IsHeldState limits t.server
       → IsAfter limits.max_body at version due due_in s run t before → AreRecords limits.max_body version place due_in rs → (squashed_in s run rs).stop ≡ None
@@ -179,7 +179,7 @@ same_outcome settings rs goes = outcome_on (opened (log_config settings)) None r
         let on = went_on step.out step.end (squashed_in (judge s r).session step.run rs) goes in
         ap (λ (o : Option (Result Outcome EngineFault)). (continue_with step.out o (squashed_in (judge s r).session step.run rs)).outcome) on.0
         ∙ outcome_on (judge s r).session step.run rs on.1
-        ∙ sym (ap (λ (c : RunOutput). c.outcome) (report_on s r rs (not_bad_of s.server r (front_of r) run (change_in (incoming_of (reading r.body))) (judge s r).verdict on.0)))
+        ∙ sym (ap (λ (c : RunOutput). c.outcome) (report_on s r rs (not_bad_of s.server r (front_of r.head) run (change_in (incoming_of (reading r.body))) (judge s r).verdict on.0)))
 
 -- A log with records: what is written begins with its line.
 module _ (settings : Settings) (ranges : AreInRange settings.limits) (log : Log) (r : Record) (rs : List Record) (is : log.records ≡ r ∷ rs)

@@ -84,7 +84,7 @@ module _ (s : Session) (front singles : List ℕ) (run : Option SquashData) (r :
   here = run_of front singles run
 
   abbrev its_front : List ℕ
-  its_front = front_of r
+  its_front = front_of r.head
 
   by_step : (out : List ℕ) (next : Option Run) → squash_step s here r (judge s r) ≡ record { out = out; end = None; run = next } → (more : List Record) → squashed_in s here (r ∷ more) ≡ after out None (squashed_in now next more)
   by_step out next is more =

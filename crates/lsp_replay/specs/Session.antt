@@ -8,7 +8,7 @@ use Rattle.lsp_text.specs.declared.encoding.Encoding.{Encoding}
 use Rattle.lsp_message.specs.declared.agreement.Announced.{Announced}
 use Rattle.lsp_message.specs.declared.outgoing.ErrorCode.{ErrorCode}
 use Rattle.lsp_message.specs.declared.outgoing.ErrorCode.TheVariants.{MethodNotFound}
-use Rattle.lsp_message.specs.Message.{IdData, OutcomeData, MessageData, Reading, reading}
+use Rattle.lsp_message.specs.Message.{IdData, MessageData, Reading, reading}
 use Rattle.lsp_message.specs.Message as read
 use Rattle.lsp_message.specs.Agreement.{announced_of}
 use Rattle.lsp_server.specs.declared.phase.Phase.{Phase}

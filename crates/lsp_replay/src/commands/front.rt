@@ -2,7 +2,7 @@
 
 ghost use Rattle.std.specs.Prelude.{◌≡◌, ◌≤◌, ◌++◌, length, OnOk};
 ghost use Rattle.lsp_log.specs.Log.{mark_of};
-ghost use Rattle.lsp_replay.specs.Engines.{line_if};
+ghost use Rattle.lsp_replay.specs.Engines.{line_if, front_of};
 
 use lsp_log::{Head, Side, VERSION_LINE, Version};
 use std::alloc::AllocError;
@@ -36,9 +36,7 @@ pub fn push_line(buffer: &mut Vec<u8>, line_due: bool) -> Result<(), AllocError>
 
 /// Writes the bytes before a record's frame: the line of version 2, if it is due, and the mark.
 pub fn push_front(output: &mut Vec<u8>, head: Head) -> Result<(), AllocError>
-    ensures { OnOk result
-        (output.new.items
-        ≡ output.old.items ++ (line_if head.line_due ++ mark_of head.version head.side)) }
+    ensures { OnOk result (output.new.items ≡ output.old.items ++ front_of head) }
 {
     push_line(output, head.line_due)?;
     push_mark(output, head)

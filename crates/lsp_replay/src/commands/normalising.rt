@@ -1,11 +1,11 @@
 //! `normalise`: writes a log in which each accepted change is its canonical message.
 
-ghost use Rattle.std.specs.Prelude.{ℕ, ◌≡◌, ◌≤◌, ◌-◌, ◌⊎◌, ◌++◌, List, [], length, drop, vec_len, Option, false, refl, IfOk, IfErr, OnOk, Err};
+ghost use Rattle.std.specs.Prelude.{ℕ, ◌≡◌, ◌≤◌, ◌-◌, ◌⊎◌, ◌++◌, List, [], length, drop, vec_len, Option, false, refl, IfOk, IfErr, Err};
 ghost use Rattle.lsp_frame.specs.Frame.{frame};
 ghost use Rattle.lsp_log.specs.Log.{mark_of};
 ghost use Rattle.lsp_replay.specs.inside.RunOutput.{output_of};
 ghost use Rattle.lsp_replay.specs.Session.{opened};
-ghost use Rattle.lsp_replay.specs.Engines.{normalising, run_output_in, line_if, written, writes, ends};
+ghost use Rattle.lsp_replay.specs.Engines.{normalising, run_output_in, line_if, front_of, written, writes, ends};
 ghost use Rattle.lsp_replay.specs.inside.Verdicts.{IsAppended};
 
 use crate::commands::front::{line_bytes, mark_bytes, push_front, push_line};
@@ -92,16 +92,14 @@ fn push_record(
         length room ≡ FRONT_ROOM →
         IsAppended max_body canonical_log appended room buffer.old.items →
         written max_body (record { head = head; spelling = spelling.now; body = body })
-        (line_if head.line_due ++ mark_of head.version head.side) canonical_log
-        ≡ writes (output_of output spelling.now buffer.new.items)) }
+        (front_of head) canonical_log ≡ writes (output_of output spelling.now buffer.new.items)) }
     ensures err { IfErr result
         (λ fault. (fault ≡ EngineFault.NoMemory) ⊎ ((fault ≡ EngineFault.BodyTooLong head.place)
         × ((max_body : ℕ) (canonical_log : Option (List ℕ)) (body room : List ℕ) →
         length room ≡ FRONT_ROOM →
         IsAppended max_body canonical_log appended room buffer.old.items →
         written max_body (record { head = head; spelling = spelling.now; body = body })
-        (line_if head.line_due ++ mark_of head.version head.side) canonical_log
-        ≡ ends [] (Err (EngineFault.BodyTooLong head.place))))) }
+        (front_of head) canonical_log ≡ ends [] (Err (EngineFault.BodyTooLong head.place))))) }
 {
     let Some(appended) = appended else {
         return Ok(push_as_it_is(buffer, head, spelling)?);
@@ -118,7 +116,7 @@ fn push_record(
 /// Writes a record with its mark, as it is.
 fn push_as_it_is(buffer: &mut Vec<u8>, head: Head, spelling: &[u8]) -> Result<Output, AllocError>
     ensures { IfOk result (λ output. output_of output spelling.now buffer.new.items
-        ≡ (line_if head.line_due ++ mark_of head.version head.side) ++ spelling.now) }
+        ≡ front_of head ++ spelling.now) }
 {
     buffer.clear();
     push_front(buffer, head)?;

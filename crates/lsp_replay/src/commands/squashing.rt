@@ -2,9 +2,8 @@
 //! message.
 
 ghost use Rattle.std.specs.Prelude.{◌≡◌, ◌++◌, refl, OnOk, None, Some, false};
-ghost use Rattle.lsp_log.specs.Log.{mark_of};
 ghost use Rattle.lsp_replay.specs.Session.{opened};
-ghost use Rattle.lsp_replay.specs.Engines.{line_if};
+ghost use Rattle.lsp_replay.specs.Engines.{front_of};
 ghost use Rattle.lsp_replay.specs.Squashed.{squashed_in, end_bytes};
 ghost use Rattle.lsp_replay.specs.inside.Squashed.{run_of};
 
@@ -38,11 +37,8 @@ struct Texts {
 impl Texts {
     /// Starts with the record that begins a run, and its canonical frame.
     fn begin(&mut self, head: Head, frame: &[u8]) -> Result<(), AllocError>
-        ensures front { OnOk result
-            (self.new.front.items ≡ line_if head.line_due ++ mark_of head.version head.side) }
-        ensures singles { OnOk result
-            (self.new.singles.items ≡ (line_if head.line_due ++ mark_of head.version head.side)
-            ++ frame.now) }
+        ensures front { OnOk result (self.new.front.items ≡ front_of head) }
+        ensures singles { OnOk result (self.new.singles.items ≡ front_of head ++ frame.now) }
     {
         self.front.clear();
         push_front(&mut self.front, head)?;
@@ -54,8 +50,7 @@ impl Texts {
     fn continue_with(&mut self, head: Head, frame: &[u8]) -> Result<(), AllocError>
         ensures front { OnOk result (self.new.front.items ≡ self.old.front.items) }
         ensures singles { OnOk result (self.new.singles.items
-            ≡ self.old.singles.items
-            ++ ((line_if head.line_due ++ mark_of head.version head.side) ++ frame.now)) }
+            ≡ self.old.singles.items ++ (front_of head ++ frame.now)) }
     {
         push_front(&mut self.singles, head)?;
         self.singles.extend_from_slice(frame)

@@ -1,8 +1,5 @@
-use Rattle.std.proofs.Common.{◌≡◌, sym, subst}
-use Rattle.lsp_message.specs.Message.{reading}
-use Rattle.lsp_server.specs.Incoming.{incoming_of}
+use Rattle.std.proofs.Common.{sym, subst}
 use Rattle.lsp_server.specs.Step.{State}
-use Rattle.lsp_replay.specs.Engines.{change_in}
 use Rattle.lsp_replay.specs.inside.Bodies.{body_view}
 use Rattle.lsp_replay.specs.inside.Joining.{MayBeOpenIn}
 use Rattle.lsp_replay.proofs.BodyLemmas.{judged_at, server_at, writing_at}
