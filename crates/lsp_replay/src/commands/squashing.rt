@@ -3,9 +3,8 @@
 
 ghost use Rattle.std.specs.Prelude.{◌≡◌, ◌≢◌, ◌++◌, refl, Err, IfErr, IfOk, OnErr, OnOk, None, Ok, Some, false};
 ghost use Rattle.lsp_store.specs.declared.fault.StoreFault.TheVariants.{NoMemory};
-ghost use Rattle.lsp_log.specs.Log.{mark_of};
 ghost use Rattle.lsp_replay.specs.Session.{opened};
-ghost use Rattle.lsp_replay.specs.Engines.{line_if};
+ghost use Rattle.lsp_replay.specs.Engines.{front_of};
 ghost use Rattle.lsp_replay.specs.Squashed.{squashed_in, end_bytes};
 ghost use Rattle.lsp_replay.specs.inside.Squashed.{run_of};
 
@@ -14,7 +13,7 @@ use crate::handler::{Given, Handler, Output};
 use crate::outcome::Outcome;
 use crate::session::joining::Writing;
 use crate::session::{Session, in_log};
-use lsp_log::{Head, Version};
+use lsp_log::Head;
 use lsp_server::Config;
 use lsp_store::{Batches, StoreFault};
 use lsp_stream::EngineFault;
@@ -38,32 +37,23 @@ struct Texts {
 
 impl Texts {
     /// Starts with the record that begins a run, and its canonical frame.
-    fn begin(&mut self, head: Head, version: Version, frame: &[u8]) -> Result<(), AllocError>
-        ensures front { OnOk result
-            (self.new.front.items ≡ line_if head.line_due ++ mark_of version head.side) }
-        ensures singles { OnOk result
-            (self.new.singles.items ≡ (line_if head.line_due ++ mark_of version head.side)
-            ++ frame.now) }
+    fn begin(&mut self, head: Head, frame: &[u8]) -> Result<(), AllocError>
+        ensures front { OnOk result (self.new.front.items ≡ front_of head) }
+        ensures singles { OnOk result (self.new.singles.items ≡ front_of head ++ frame.now) }
     {
         self.front.clear();
-        push_front(&mut self.front, head, version)?;
+        push_front(&mut self.front, head)?;
         self.singles.clear();
-        self.continue_with(head, version, frame)
+        self.continue_with(head, frame)
     }
 
     /// Adds a record, with its canonical frame.
-    fn continue_with(
-        &mut self,
-        head: Head,
-        version: Version,
-        frame: &[u8],
-    ) -> Result<(), AllocError>
+    fn continue_with(&mut self, head: Head, frame: &[u8]) -> Result<(), AllocError>
         ensures front { OnOk result (self.new.front.items ≡ self.old.front.items) }
         ensures singles { OnOk result (self.new.singles.items
-            ≡ self.old.singles.items
-            ++ ((line_if head.line_due ++ mark_of version head.side) ++ frame.now)) }
+            ≡ self.old.singles.items ++ (front_of head ++ frame.now)) }
     {
-        push_front(&mut self.singles, head, version)?;
+        push_front(&mut self.singles, head)?;
         self.singles.extend_from_slice(frame)
     }
 
@@ -180,23 +170,22 @@ impl Handler for Squashing {
         let run = self.batches.take();
         let (verdict, writing) = self.session.judge_and_join(head, body, run)?;
         in_log(verdict, head.place)?;
-        let version = self.session.version();
         match writing {
             Writing::AsItIs(ended) => {
                 self.texts.push_end(buffer, &ended)?;
-                push_front(buffer, head, version)?;
+                push_front(buffer, head)?;
                 buffer.extend_from_slice(spelling)?;
                 Ok(WRITTEN)
             }
             Writing::TooLong => Err(EngineFault::BodyTooLong { place: head.place }),
             Writing::Continues(frame, batches) => {
-                self.texts.continue_with(head, version, &frame)?;
+                self.texts.continue_with(head, &frame)?;
                 self.batches = Some(batches);
                 Ok(WRITTEN)
             }
             Writing::Begins(frame, ended, batches) => {
                 self.texts.push_end(buffer, &ended)?;
-                self.texts.begin(head, version, &frame)?;
+                self.texts.begin(head, &frame)?;
                 self.batches = Some(batches);
                 Ok(WRITTEN)
             }

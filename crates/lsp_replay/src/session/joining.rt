@@ -50,7 +50,6 @@ impl Session {
     /// Judges a record as [`Session::judge`] does, and joins an accepted change to the batches of
     /// the open run if they are of its document. Else batches of its own begin. It consumes the
     /// open batches.
-    #[tactic(auto, using(crate::proofs::CanonicalLogLemmas::same_server))]
     pub fn judge_and_join(
         &mut self,
         head: Head,
