@@ -151,7 +151,9 @@ impl Session {
             ⊎ ((fault ≡ EngineFault.BadLog head.place)
             × ((judge_at self.old head body.now).verdict ≡ bad))) }
     {
-        in_log(self.judge(head, body)?, head.place)
+        let verdict = self.judge(head, body)?;
+        in_log(&verdict, head.place)?;
+        Ok(verdict)
     }
 
     /// Reads the body of the next record.
@@ -261,13 +263,13 @@ impl Session {
 }
 
 /// Refuses a record that can't be in a log, and whose first byte is at this offset.
-pub(crate) fn in_log(verdict: Verdict, place: u64) -> Result<Verdict, EngineFault>
-    ensures in_log { IfOk result (λ v. (v ≡ verdict) × (verdict_view verdict ≢ bad)) }
+pub(crate) fn in_log(verdict: &Verdict, place: u64) -> Result<(), EngineFault>
+    ensures in_log { OnOk result (verdict_view verdict.now ≢ bad) }
     ensures error { IfErr result
-        (λ fault. (fault ≡ EngineFault.BadLog place) × (verdict_view verdict ≡ bad)) }
+        (λ fault. (fault ≡ EngineFault.BadLog place) × (verdict_view verdict.now ≡ bad)) }
 {
-    if verdict == Verdict::Bad {
+    if *verdict == Verdict::Bad {
         return Err(EngineFault::BadLog { place });
     }
-    Ok(verdict)
+    Ok(())
 }

@@ -1,6 +1,6 @@
 //! `normalise`: writes a log in which each accepted change is its canonical message.
 
-ghost use Rattle.std.specs.Prelude.{ℕ, ◌≡◌, ◌≤◌, ◌-◌, ◌⊎◌, ◌++◌, List, [], length, drop, vec_len, Option, false, refl, IfOk, IfErr, Err};
+ghost use Rattle.std.specs.Prelude.{ℕ, ◌≡◌, ◌≤◌, ◌-◌, ◌⊎◌, ◌++◌, List, [], length, drop, vec_len, Option, false, refl, IfOk, IfErr, OnOk, Err};
 ghost use Rattle.lsp_frame.specs.Frame.{frame};
 ghost use Rattle.lsp_log.specs.Log.{mark_of};
 ghost use Rattle.lsp_replay.specs.inside.RunOutput.{output_of};
@@ -57,7 +57,7 @@ impl Handler for Normalise {
     ) -> Result<Given, EngineFault> {
         buffer.resize(FRONT_ROOM, 0)?;
         let (verdict, appended) = self.session.judge_and_write(head, body, buffer)?;
-        in_log(verdict, head.place)?;
+        in_log(&verdict, head.place)?;
         let output = push_record(buffer, head, spelling, appended)?;
         Ok(Given::more(output))
     }

@@ -169,7 +169,7 @@ impl Handler for Squashing {
     ) -> Result<Given, EngineFault> {
         let run = self.batches.take();
         let (verdict, writing) = self.session.judge_and_join(head, body, run)?;
-        in_log(verdict, head.place)?;
+        in_log(&verdict, head.place)?;
         match writing {
             Writing::AsItIs(ended) => {
                 self.texts.push_end(buffer, &ended)?;

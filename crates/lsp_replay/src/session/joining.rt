@@ -133,7 +133,10 @@ impl Session {
             .server
             .store()
             .canonical_message(&params.uri, params.version, encoding, &params.changes);
-        canonical_of(written)
+        match written {
+            Ok(frame) => Ok(Some(Canonical::Frame(frame))),
+            Err(fault) => refused_canonical(fault),
+        }
     }
 
     /// Starts batches with an accepted change of a document.
@@ -153,18 +156,16 @@ impl Session {
     }
 }
 
-/// Returns the canonical message that the store made of a change, or `None` if it refuses the
-/// change. Out of memory only where the store was.
-fn canonical_of(written: Result<Vec<u8>, StoreFault>) -> Result<Option<Canonical>, AllocError>
-    ensures frame { IfOk written (λ frame. result ≡ Ok (Some (Canonical.Frame frame))) }
-    ensures refused { IfErr written (λ fault.
-        IfOk result (λ canonical. (fault ≢ NoMemory) × (canonical ≡ canonical_if_refused fault))) }
-    ensures memory { OnErr result (written ≡ Err NoMemory) }
+/// Returns what a change has that the store refuses: nothing, or a canonical body that is too long.
+/// Out of memory only where the store was.
+fn refused_canonical(fault: StoreFault) -> Result<Option<Canonical>, AllocError>
+    ensures refused { IfOk result
+        (λ canonical. (fault ≢ NoMemory) × (canonical ≡ canonical_if_refused fault)) }
+    ensures memory { OnErr result (fault ≡ NoMemory) }
 {
-    match written {
-        Ok(frame) => Ok(Some(Canonical::Frame(frame))),
-        Err(StoreFault::BodyTooLong { .. }) => Ok(Some(Canonical::TooLong)),
-        Err(StoreFault::NoMemory) => Err(AllocError),
-        Err(_) => Ok(None),
+    match fault {
+        StoreFault::BodyTooLong { .. } => Ok(Some(Canonical::TooLong)),
+        StoreFault::NoMemory => Err(AllocError),
+        _ => Ok(None),
     }
 }

@@ -97,22 +97,23 @@ impl Session {
             encoding,
             &params.changes,
         );
-        appended_by(written)
+        match written {
+            Ok(()) => Ok(Some(Appended::Body)),
+            Err(fault) => refused_appended(fault),
+        }
     }
 }
 
-/// Says what the store appended for a change, or `None` if it refuses the change. Out of memory
-/// only where the store was.
-fn appended_by(written: Result<(), StoreFault>) -> Result<Option<Appended>, AllocError>
-    ensures body { OnOk written (result ≡ Ok (Some Appended.Body)) }
-    ensures refused { IfErr written (λ fault.
-        IfOk result (λ appended. (fault ≢ NoMemory) × (appended ≡ appended_if_refused fault))) }
-    ensures memory { OnErr result (written ≡ Err NoMemory) }
+/// Says what was appended for a change that the store refuses: nothing, where its canonical body is
+/// too long. Out of memory only where the store was.
+fn refused_appended(fault: StoreFault) -> Result<Option<Appended>, AllocError>
+    ensures refused { IfOk result
+        (λ appended. (fault ≢ NoMemory) × (appended ≡ appended_if_refused fault)) }
+    ensures memory { OnErr result (fault ≡ NoMemory) }
 {
-    match written {
-        Ok(()) => Ok(Some(Appended::Body)),
-        Err(StoreFault::BodyTooLong { .. }) => Ok(Some(Appended::TooLong)),
-        Err(StoreFault::NoMemory) => Err(AllocError),
-        Err(_) => Ok(None),
+    match fault {
+        StoreFault::BodyTooLong { .. } => Ok(Some(Appended::TooLong)),
+        StoreFault::NoMemory => Err(AllocError),
+        _ => Ok(None),
     }
 }

@@ -1,4 +1,4 @@
-use Rattle.std.proofs.Common.{rules, ◌≢◌}
+use Rattle.std.proofs.Common.{◌≢◌}
 use Rattle.lsp_replay.specs.Session.{bad}
 use Rattle.lsp_replay.specs.inside.Verdicts.{verdict_view}
 use Rattle.lsp_replay.proofs.SquashingLemmas.{told_as_it_is, told_more, told_next}
@@ -7,7 +7,7 @@ use Rattle.lsp_replay.proofs.commands.squashing.SquashingHandler.handle.Goals as
 pub returns-in-AsItIs-clause-ok : goal.returns-in-AsItIs-clause-ok
 returns-in-AsItIs-clause-ok c =
     rw (← c.self.view_is)
-    (let not_bad : verdict_view c.in_ok-verdict.verdict ≢ bad = search rules in
+    (let not_bad : verdict_view c.in_ok-verdict.verdict ≢ bad = c.in_ok-in_log.ensures.in_log in
     let writing = rw c.in-AsItIs.is at (c.in_ok-verdict.ensures.writing not_bad) in
     told_as_it_is c.self.inside.session c.self.inside.texts.front.items c.self.inside.texts.singles.items c.self.inside.batches
     (record { head = c.args.head; spelling = c.args.spelling.now; body = c.args.body.now })
@@ -21,7 +21,7 @@ returns-in-AsItIs-clause-ok c =
 pub returns-in-Continues-clause-ok : goal.returns-in-Continues-clause-ok
 returns-in-Continues-clause-ok c =
     rw (← c.self.view_is)
-    (let not_bad : verdict_view c.in_ok-verdict.verdict ≢ bad = search rules in
+    (let not_bad : verdict_view c.in_ok-verdict.verdict ≢ bad = c.in_ok-in_log.ensures.in_log in
     let writing = rw c.in-Continues.is at (c.in_ok-verdict.ensures.writing not_bad) in
     told_more c.self.inside.session c.self.inside.texts.front.items c.self.inside.texts.singles.items c.self.inside.batches
     (record { head = c.args.head; spelling = c.args.spelling.now; body = c.args.body.now })
@@ -34,7 +34,7 @@ returns-in-Continues-clause-ok c =
 pub returns-clause-ok : goal.returns-clause-ok
 returns-clause-ok c =
     rw (← c.self.view_is)
-    (let not_bad : verdict_view c.in_ok-verdict.verdict ≢ bad = search rules in
+    (let not_bad : verdict_view c.in_ok-verdict.verdict ≢ bad = c.in_ok-in_log.ensures.in_log in
     let writing = rw c.in-Begins.is at (c.in_ok-verdict.ensures.writing not_bad) in
     told_next c.self.inside.session c.self.inside.texts.front.items c.self.inside.texts.singles.items c.self.inside.batches
     (record { head = c.args.head; spelling = c.args.spelling.now; body = c.args.body.now })
