@@ -102,7 +102,7 @@ module _ (decision : DecisionLaw) where
 
   abbrev record_of : (max_body place : ℕ) (version : Version) (due : Bool) (bytes : List ℕ) → NextRecord max_body version bytes → Record
   record_of max_body place version due bytes next =
-      record { head = record { side = next.side; place = place_after 0 place; line_due = due }; spelling = next.frame; body = next.body }
+      record { head = record { side = next.side; version = version; place = place_after 0 place; line_due = due }; spelling = next.frame; body = next.body }
 
   shorter : (max_body : ℕ) (version : Version) (bytes : List ℕ) (next : NextRecord max_body version bytes) → suc (length next.more) ≤ length bytes
   shorter max_body version bytes next =
@@ -116,7 +116,7 @@ module _ (decision : DecisionLaw) where
         rest = others.rest;
         is = next.is ∙ sym (append_assoc (mark_of version next.side) next.frame next.more)
             ∙ ap (λ (x : List ℕ). (mark_of version next.side ++ next.frame) ++ x) others.is;
-        each = (record { is_frame_of = next.is_frame; side = next.client; placed = refl; due = refl }, others.each);
+        each = (record { is_frame_of = next.is_frame; side = next.client; of_version = refl; placed = refl; due = refl }, others.each);
         ends = others.ends;
       }
 

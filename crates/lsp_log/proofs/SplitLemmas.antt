@@ -170,6 +170,7 @@ known_reads reading input more body records s was is is_frame_of at =
     let record_here : IsRecord reading.max_body s.version (length (line_of s.version) + length (together s.version records [])) (is_line_due s.version records) (record_at s body) = record {
       is_frame_of = is_frame_of;
       side = λ one. ap side_of is ∙ one_side s.version was (subst (λ (o : Option Side). IsSide s.version o) is at.side) one;
+      of_version = refl;
       placed = at.placed ∙ ap (place_after 0) (omega (arith, len));
       due = at.due;
     } in

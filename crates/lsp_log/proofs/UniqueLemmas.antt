@@ -1,14 +1,12 @@
 -- An input is taken apart in one way.
 use Rattle.std.proofs.Common.{◌≡◌, ◌≢◌, ℕ, ◌+◌, Bool, false, List, [], ◌∷◌, ◌++◌, length, refl, sym, ap, ◌∙◌, subst, arith, append_assoc, append-nil}
 use Rattle.std.proofs.lemmas.List.{append_cancel_left}
-use Rattle.lsp_frame.specs.Faults.{place_after}
 use Rattle.lsp_frame.specs.Frame.{IsFrameOf}
 use Rattle.lsp_frame.specs.Laws.{FrontLaw, SameFrame}
 use Rattle.lsp_log.specs.declared.record.Version.{Version}
 use Rattle.lsp_log.specs.declared.record.Version.TheVariants.{One, Two}
 use Rattle.lsp_log.specs.declared.record.Side.{Side}
 use Rattle.lsp_log.specs.declared.record.Side.TheVariants.{Client, Server}
-use Rattle.lsp_log.specs.declared.record.Head.{Head}
 use Rattle.lsp_log.specs.Log.{Record, IsRecord, AreRecords, HasNoRecord, together, record_bytes, mark_of, line_of, is_line_due}
 use Rattle.lsp_log.specs.Laws.{UniqueLaw, FirstLaw, VersionLaw}
 
@@ -30,9 +28,10 @@ same_mark Two Server Server a b one also e = (refl, append_cancel_left (60 ∷ [
 same_mark Two Client Server a b one also e = let byte = first_byte 62 60 a b e in absurd (omega arith)
 same_mark Two Server Client a b one also e = let byte = first_byte 60 62 a b e in absurd (omega arith)
 
-same_head : (place : ℕ) (due : Bool) (head other : Head) → head.side ≡ other.side → head.place ≡ place_after 0 place → other.place ≡ place_after 0 place
-    → head.line_due ≡ due → other.line_due ≡ due → head ≡ other
-same_head place due head other side c d e f = λ i. record { side = side i; place = (c ∙ sym d) i; line_due = (e ∙ sym f) i }
+same_head : (max_body : ℕ) (version : Version) (place : ℕ) (due : Bool) (r q : Record) → r.head.side ≡ q.head.side → IsRecord max_body version place due r → IsRecord max_body version place due q
+    → r.head ≡ q.head
+same_head max_body version place due r q side is also =
+    λ i. record { side = side i; version = (is.of_version ∙ sym also.of_version) i; place = (is.placed ∙ sym also.placed) i; line_due = (is.due ∙ sym also.due) i }
 
 record IsSame (r q : Record) (rest other : List ℕ) : Type 0 where
   record_is : r ≡ q
@@ -45,7 +44,7 @@ same_record front max_body version place due r q rest other is also e =
     sym (append_assoc (mark_of version r.head.side) r.spelling rest) ∙ e ∙ append_assoc (mark_of version q.head.side) q.spelling other in
     let marks = same_mark version r.head.side q.head.side (r.spelling ++ rest) (q.spelling ++ other) is.side also.side apart in
     let frames : SameFrame r.spelling q.spelling r.body q.body rest other = front max_body r.spelling q.spelling r.body q.body rest other is.is_frame_of also.is_frame_of marks.1 in
-    let heads : r.head ≡ q.head = same_head place due r.head q.head marks.0 is.placed also.placed is.due also.due in
+    let heads : r.head ≡ q.head = same_head max_body version place due r q marks.0 is also in
     record { record_is = λ i. record { head = heads i; spelling = frames.same_bytes i; body = frames.body_is i }; rest_is = frames.rest_is }
 
 -- No record begins a rest.

@@ -43,7 +43,7 @@ mark_of Two Server = 60 ∷ []
 
 -- A record: its frame, the frame's body, and its side and byte offset.
 pub record Record : Type 0 where
-  -- its side and byte offset, and whether the log's line belongs to its output
+  -- its side, its log's version, its byte offset, and whether the log's line belongs to its output
   pub head : Head
   -- the bytes of its frame
   pub spelling : List ℕ
@@ -66,11 +66,12 @@ is_line_due One rs = false
 is_line_due Two [] = true
 is_line_due Two (r ∷ rs) = false
 
--- A record whose first byte is at an offset.
+-- A record of a log of this version, whose first byte is at an offset.
 pub record IsRecord (max_body : ℕ) (version : Version) (place : ℕ) (line_due : Bool)
     (r : Record) : Type 0 where
   pub is_frame_of : IsFrameOf max_body r.spelling r.body
   pub side : version ≡ One → r.head.side ≡ Client
+  pub of_version : r.head.version ≡ version
   pub placed : r.head.place ≡ place_after 0 place
   pub due : r.head.line_due ≡ line_due
 

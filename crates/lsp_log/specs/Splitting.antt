@@ -68,10 +68,11 @@ abbrev pub side_of : Option Side → Side
 side_of None = Client
 side_of (Some side) = side
 
--- The side and byte offset of the record that is coming in, and whether the log's line belongs to
--- its output.
+-- The side of the record that is coming in, its log's version, its byte offset, and whether the
+-- log's line belongs to its output.
 abbrev pub head_of : Splitter → Head
-head_of s = record { side = side_of s.side; place = s.place; line_due = s.line_due }
+head_of s
+    = record { side = side_of s.side; version = s.version; place = s.place; line_due = s.line_due }
 
 -- The record that is coming in, with this body.
 abbrev pub record_at : Splitter → List ℕ → Record

@@ -58,6 +58,8 @@ impl Side {
 pub struct Head {
     /// Who wrote it. In version 1 all records are the client's.
     pub side: Side,
+    /// The version of the log that it is in.
+    pub version: Version,
     /// The byte offset of the record in the input: of its mark in version 2, else of its frame. It
     /// stays at the greatest value of a `u64`.
     pub place: u64,

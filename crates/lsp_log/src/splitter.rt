@@ -161,12 +161,13 @@ impl Splitter {
         self.line_due
     }
 
-    /// Returns the side and the byte offset of the record that is coming in.
+    /// Returns what is known of the record that is coming in, beside its frame.
     pub fn head(&self) -> Head
         ensures { result ≡ head_of self.now }
     {
         Head {
             side: self.side.unwrap_or(Side::Client),
+            version: self.version,
             place: self.place,
             line_due: self.line_due,
         }

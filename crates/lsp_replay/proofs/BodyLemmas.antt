@@ -1,8 +1,9 @@
 -- A record that is read once is judged, appended and joined as one that is judged from its bytes.
-use Rattle.std.proofs.Common.{◌≡◌, ◌≢◌, ℕ, Bool, List, map, string_bytes, Option, Some, None, refl, sym, ap, ◌∙◌, subst, IfOk}
+use Rattle.std.proofs.Common.{◌≡◌, ◌≢◌, ℕ, List, map, string_bytes, Option, Some, None, refl, sym, ap, ◌∙◌, subst, IfOk}
 use Rattle.std.specs.Prelude.{Result, Ok, Err}
 use Rattle.std.specs.declared.alloc.AllocError.{AllocError}
 use Rattle.lsp_edit.specs.Edited as given
+use Rattle.lsp_log.specs.declared.record.Version.{Version}
 use Rattle.lsp_log.specs.declared.record.Head.{Head}
 use Rattle.lsp_log.specs.declared.record.Side.{Side}
 use Rattle.lsp_log.specs.declared.record.Side.TheVariants.{Client, Server}
@@ -10,9 +11,8 @@ use Rattle.lsp_message.specs.Message.{reading}
 use Rattle.lsp_message.specs.Params.{ChangeData}
 use Rattle.lsp_message.specs.Seen.{change_view}
 use Rattle.lsp_message.specs.declared.params.ChangeParams.{ChangeParams}
-use Rattle.lsp_server.specs.Answer.{changed}
 use Rattle.lsp_server.specs.Incoming.{incoming_of, did_change}
-use Rattle.lsp_server.specs.Step.{State, encoding_of}
+use Rattle.lsp_server.specs.Step.{encoding_of}
 use Rattle.lsp_server.specs.declared.phase.Phase.TheVariants.{Running}
 use Rattle.lsp_store.specs.Squash.{SquashData}
 use Rattle.lsp_store.specs.Table.{Refusal, change_refusal}
@@ -21,70 +21,70 @@ use Rattle.lsp_replay.specs.declared.session.joining.Writing.{Writing}
 use Rattle.lsp_replay.specs.declared.session.joining.Writing.TheVariants.{AsItIs, TooLong, Continues, Begins}
 use Rattle.lsp_replay.specs.declared.session.writing.Appended.{Appended}
 use Rattle.lsp_replay.specs.Engines.{canonical_change_body, canonical_if, canonical_of_record, change_in}
-use Rattle.lsp_replay.specs.Session.{Session, Verdict, answered, judge_at, judge_from, judge_incoming, versioned}
-use Rattle.lsp_replay.specs.inside.Bodies.{BodyData, IsReceived, body_read, canonical_read, change_of, judge_read}
+use Rattle.lsp_replay.specs.Session.{Session, Verdict, judge_at, judge_from, judge_incoming}
+use Rattle.lsp_replay.specs.inside.Bodies.{BodyData, from_client, from_server, IsReceived, body_read, canonical_read, change_of, judge_read}
 use Rattle.lsp_replay.specs.inside.Joining.{IsChangeWriting, IsOpenAfter, IsWriting, refusal_of}
 use Rattle.lsp_replay.specs.inside.Verdicts.{IsAppended}
-use Rattle.lsp_replay.proofs.CanonicalLogLemmas.{edits_of, heard_has_none, same_server}
+use Rattle.lsp_replay.proofs.CanonicalLogLemmas.{edits_of, heard_has_none}
 use Rattle.lsp_replay.proofs.JoiningLemmas.{change_open, change_writing, running_accepted, running_refused}
+use Rattle.lsp_replay.proofs.JudgeLemmas.{asks_change}
 
 -- ---- a record is judged as its bytes are
 
-judged_of : (s : Session) (side : Side) (body : List ℕ) → judge_read s (body_read side body) ≡ judge_from s side body
-judged_of s Client body = refl
-judged_of s Server body = refl
+judged_of : (s : Session) (version : Version) (side : Side) (body : List ℕ) → judge_read s (body_read version side body) ≡ judge_from s version side body
+judged_of s version Client body = refl
+judged_of s version Server body = refl
 
-canonical_of : (s : Session) (side : Side) (body : List ℕ) → canonical_read s (body_read side body) ≡ canonical_if s.server (change_in (incoming_of (reading body))) (judge_from s side body).verdict
-canonical_of s Client body = refl
-canonical_of s Server body = sym (heard_has_none s.server (change_in (incoming_of (reading body))) s s.expected body)
+canonical_of : (s : Session) (version : Version) (side : Side) (body : List ℕ)
+    → canonical_read s (body_read version side body) ≡ canonical_if s.server (change_in (incoming_of (reading body))) (judge_from s version side body).verdict
+canonical_of s version Client body = refl
+canonical_of s version Server body = sym (heard_has_none s.server (change_in (incoming_of (reading body))) s s.expected body)
 
-writing_of : (s : Session) (run : Option SquashData) (side : Side) (body : List ℕ) (w : Writing) → IsWriting s.server run (change_of (body_read side body)) (judge_read s (body_read side body)).verdict w
-    → IsWriting s.server run (change_in (incoming_of (reading body))) (judge_from s side body).verdict w
-writing_of s run Client body w is = is
-writing_of s run Server body (AsItIs ended) is = (heard_has_none s.server (change_in (incoming_of (reading body))) s s.expected body, is.1)
-writing_of s run Server body TooLong is = absurd (let none : None ≡ Some is.0 = is.1 in cc)
-writing_of s run Server body (Continues canonical batches) is = absurd (let none : None ≡ Some is.0.params = is.0.is in cc)
-writing_of s run Server body (Begins canonical ended batches) is = absurd (let none : None ≡ Some is.0.params = is.0.is in cc)
+writing_of : (s : Session) (run : Option SquashData) (version : Version) (side : Side) (body : List ℕ) (w : Writing)
+    → IsWriting s.server run (change_of (body_read version side body)) (judge_read s (body_read version side body)).verdict w
+    → IsWriting s.server run (change_in (incoming_of (reading body))) (judge_from s version side body).verdict w
+writing_of s run version Client body w is = is
+writing_of s run version Server body (AsItIs ended) is = (heard_has_none s.server (change_in (incoming_of (reading body))) s s.expected body, is.1)
+writing_of s run version Server body TooLong is = absurd (let none : None ≡ Some is.0 = is.1 in cc)
+writing_of s run version Server body (Continues canonical batches) is = absurd (let none : None ≡ Some is.0.params = is.0.is in cc)
+writing_of s run version Server body (Begins canonical ended batches) is = absurd (let none : None ≡ Some is.0.params = is.0.is in cc)
 
--- a session after the log's version was seen, and the body that it read then
-module _ (s : Session) (head : Head) (body : List ℕ) (t : Session) (read : BodyData) (seen : t ≡ versioned s head.line_due) (is_read : read ≡ body_read head.side body) where
-  pub judged_at : judge_read t read ≡ judge_from (versioned s head.line_due) head.side body
-  judged_at = ap (λ (u : Session). judge_read u read) seen ∙ ap (judge_read (versioned s head.line_due)) is_read ∙ judged_of (versioned s head.line_due) head.side body
-
-  canonical_at : canonical_read t read ≡ canonical_of_record s body (judge_at s head body).verdict
-  canonical_at =
-      ap (λ (u : Session). canonical_read u read) seen
-      ∙ ap (canonical_read (versioned s head.line_due)) is_read
-      ∙ canonical_of (versioned s head.line_due) head.side body
-      ∙ ap (λ (server : State). canonical_if server (change_in (incoming_of (reading body))) (judge_at s head body).verdict) (same_server s head.line_due)
+-- a session, the same after it read a record's body, and what it read
+module _ (s : Session) (head : Head) (body : List ℕ) (t : Session) (read : BodyData) (same : t ≡ s) (is_read : read ≡ body_read head.version head.side body) where
+  pub judged_at : judge_read t read ≡ judge_from s head.version head.side body
+  judged_at = ap (λ (u : Session). judge_read u read) same ∙ ap (judge_read s) is_read ∙ judged_of s head.version head.side body
 
   pub server_at : t.server ≡ s.server
-  server_at = ap (λ (u : Session). u.server) seen ∙ same_server s head.line_due
+  server_at = ap (λ (u : Session). u.server) same
 
   pub appended_at : (a : Option Appended) (old new : List ℕ) → IsAppended t.server.config.limits.max_body (canonical_read t read) a old new
       → IsAppended s.server.config.limits.max_body (canonical_of_record s body (judge_at s head body).verdict) a old new
   appended_at a old new appended =
-      subst (λ (server : State). IsAppended server.config.limits.max_body (canonical_of_record s body (judge_at s head body).verdict) a old new) server_at
-      (subst (λ (c : Option (List ℕ)). IsAppended t.server.config.limits.max_body c a old new) canonical_at appended)
+      subst (λ (c : Option (List ℕ)). IsAppended s.server.config.limits.max_body c a old new) (ap (canonical_read s) is_read ∙ canonical_of s head.version head.side body)
+      (subst (λ (u : Session). IsAppended u.server.config.limits.max_body (canonical_read u read) a old new) same appended)
 
   pub writing_at : (run : Option SquashData) (w : Writing) → IsWriting t.server run (change_of read) (judge_read t read).verdict w
       → IsWriting s.server run (change_in (incoming_of (reading body))) (judge_at s head body).verdict w
   writing_at run w writing =
-      subst (λ (server : State). IsWriting server run (change_in (incoming_of (reading body))) (judge_at s head body).verdict w) (same_server s head.line_due)
-      (writing_of (versioned s head.line_due) run head.side body w
-      (subst (λ (b : BodyData). IsWriting (versioned s head.line_due).server run (change_of b) (judge_read (versioned s head.line_due) b).verdict w) is_read
-      (subst (λ (u : Session). IsWriting u.server run (change_of read) (judge_read u read).verdict w) seen writing)))
+      writing_of s run head.version head.side body w
+      (subst (λ (b : BodyData). IsWriting s.server run (change_of b) (judge_read s b).verdict w) is_read
+      (subst (λ (u : Session). IsWriting u.server run (change_of read) (judge_read u read).verdict w) same writing))
 
 -- ---- a change that a running server is to receive
 
-appended_for : (s : Session) (p : ChangeData) (refusal : Option Refusal) (a : Option Appended) (old new : List ℕ) → s.server.phase ≡ Running → s.expected ≡ None → refusal_of s.server p ≡ refusal
+-- only a client's record is a change
+asked_in : (read : BodyData) (p : ChangeData) → change_of read ≡ Some p → (version : Version) × (read ≡ from_client version (did_change (Some p)))
+asked_in (from_client version m) p is = (version, ap (from_client version) (asks_change m p is))
+asked_in (from_server body) p is = absurd (let none : None ≡ Some p = is in cc)
+
+appended_for : (s : Session) (version : Version) (p : ChangeData) (refusal : Option Refusal) (a : Option Appended) (old new : List ℕ) → s.server.phase ≡ Running → s.expected ≡ None → refusal_of s.server p ≡ refusal
     → (refusal ≡ None → IsAppended s.server.config.limits.max_body (Some (canonical_change_body s.server p)) a old new) → (a ≢ None → refusal ≡ None)
-    → IsAppended s.server.config.limits.max_body (canonical_if s.server (Some p) (judge_incoming s (did_change (Some p))).verdict) a old new
-appended_for s p None a old new running known is canonical accepted =
-    subst (λ (v : Verdict). IsAppended s.server.config.limits.max_body (canonical_if s.server (Some p) v) a old new) (sym (running_accepted s p running known is)) (canonical refl)
-appended_for s p (Some refusal) None old new running known is canonical accepted =
-    subst (λ (c : Option (List ℕ)). IsAppended s.server.config.limits.max_body c None old new) (sym (running_refused s p running known (Some refusal) is (λ (e : Some refusal ≡ None). cc))) refl
-appended_for s p (Some refusal) (Some a) old new running known is canonical accepted = absurd (let none : Some refusal ≡ None = accepted (λ (e : Some a ≡ None). cc) in cc)
+    → IsAppended s.server.config.limits.max_body (canonical_if s.server (Some p) (judge_incoming s version (did_change (Some p))).verdict) a old new
+appended_for s version p None a old new running known is canonical accepted =
+    subst (λ (v : Verdict). IsAppended s.server.config.limits.max_body (canonical_if s.server (Some p) v) a old new) (sym (running_accepted s version p running known is)) (canonical refl)
+appended_for s version p (Some refusal) None old new running known is canonical accepted =
+    subst (λ (c : Option (List ℕ)). IsAppended s.server.config.limits.max_body c None old new) (sym (running_refused s version p running known (Some refusal) is (λ (e : Some refusal ≡ None). cc))) refl
+appended_for s version p (Some refusal) (Some a) old new running known is canonical accepted = absurd (let none : Some refusal ≡ None = accepted (λ (e : Some a ≡ None). cc) in cc)
 
 pub appended_if : (s : Session) (read : BodyData) (p : ChangeParams) (result : Result (Option Appended) AllocError) (old new : List ℕ) → IsReceived s read (change_view p)
     → IfOk result (λ a. change_refusal s.server.config.limits (units_in (encoding_of s.server)) s.server.table (string_bytes p.uri) p.version (map given.edit_of p.changes.items) ≡ None
@@ -92,19 +92,22 @@ pub appended_if : (s : Session) (read : BodyData) (p : ChangeParams) (result : R
     → IfOk result (λ a. a ≢ None → refusal_of s.server (change_view p) ≡ None)
     → IfOk result (λ a. IsAppended s.server.config.limits.max_body (canonical_read s read) a old new)
 appended_if s read p (Ok a) old new received canonical accepted =
-    subst (λ (b : BodyData). IsAppended s.server.config.limits.max_body (canonical_read s b) a old new) (sym received.is)
-    (appended_for s (change_view p) (refusal_of s.server (change_view p)) a old new received.running received.known refl
+    let asked = asked_in read (change_view p) received.is in
+    subst (λ (b : BodyData). IsAppended s.server.config.limits.max_body (canonical_read s b) a old new) (sym asked.1)
+    (appended_for s asked.0 (change_view p) (refusal_of s.server (change_view p)) a old new received.running received.known refl
     (λ may. canonical (rw (← edits_of p.changes.items) may)) accepted)
 appended_if s read p (Err fault) old new received canonical accepted = tt
 
 pub writing_if : (s : Session) (run : Option SquashData) (read : BodyData) (p : ChangeData) (result : Result Writing AllocError) → IsReceived s read p → IfOk result (IsChangeWriting s.server run p)
     → IfOk result (λ w. IsWriting s.server run (change_of read) (judge_read s read).verdict w)
 writing_if s run read p (Ok w) received is =
-    subst (λ (b : BodyData). IsWriting s.server run (change_of b) (judge_read s b).verdict w) (sym received.is) (change_writing s run p w received.running received.known is)
+    let asked = asked_in read p received.is in
+    subst (λ (b : BodyData). IsWriting s.server run (change_of b) (judge_read s b).verdict w) (sym asked.1) (change_writing s asked.0 run p w received.running received.known is)
 writing_if s run read p (Err fault) received is = tt
 
 pub open_if : (s : Session) (run : Option SquashData) (read : BodyData) (p : ChangeData) (result : Result Writing AllocError) → IsReceived s read p → IfOk result (IsChangeWriting s.server run p)
     → IfOk result (λ w. IsOpenAfter (judge_read s read).session.server w)
 open_if s run read p (Ok w) received is =
-    subst (λ (b : BodyData). IsOpenAfter (judge_read s b).session.server w) (sym received.is) (change_open s run p w received.running received.known is)
+    let asked = asked_in read p received.is in
+    subst (λ (b : BodyData). IsOpenAfter (judge_read s b).session.server w) (sym asked.1) (change_open s asked.0 run p w received.running received.known is)
 open_if s run read p (Err fault) received is = tt

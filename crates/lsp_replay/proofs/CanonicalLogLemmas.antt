@@ -23,8 +23,9 @@ use Rattle.lsp_server.specs.declared.phase.Phase.TheVariants.{New, Running, Down
 use Rattle.lsp_server.specs.Answer.{AnswerData, Sent, changed, as_sent}
 use Rattle.lsp_server.specs.Incoming.{did_change}
 use Rattle.lsp_server.specs.Step.{State, edit_from_data, encoding_of, obeyed, change_command, step_in}
-use Rattle.lsp_replay.specs.Session.{Session, Verdict, answered, recorded, bad, Judged, judged, judge_incoming, hear_for, heard, settle_by, settle_in, result_for, versioned}
+use Rattle.lsp_replay.specs.Session.{Session, Verdict, answered, recorded, bad, Judged, judged, judge_incoming, hear_for, heard, settle_by, settle_in, result_for}
 use Rattle.lsp_replay.specs.Engines.{canonical_if, written, writes, ends}
+use Rattle.lsp_log.specs.declared.record.Version.{Version}
 use Rattle.lsp_log.specs.Log.{Record}
 use Rattle.lsp_replay.specs.inside.Verdicts.{IsAppended}
 use Rattle.lsp_replay.specs.declared.session.writing.Appended.TheVariants.{Body, TooLong}
@@ -59,11 +60,6 @@ pub heard_has_none : (server : State) (change : Option ChangeData) (s : Session)
     → canonical_if server change (hear_for s expected body).verdict ≡ None
 heard_has_none server change s expected body = none_unless_answered server change (hear_for s expected body).verdict (heard_for s expected body)
 
--- To see the version changes nothing of the server.
-pub same_server : (s : Session) (line_due : Bool) → (versioned s line_due).server ≡ s.server
-same_server s true = refl
-same_server s false = refl
-
 -- ---- a change that is answered by `changed` was not refused
 
 obeyed_changed : (s : State) (refusal : Option Refusal) (next : List DocumentItem) → as_sent (obeyed s (unless_refused refusal next)).answer ≡ changed → refusal ≡ None
@@ -87,9 +83,9 @@ unless_bad_is false false s j answer e = e
 same_answer : (a b : AnswerData Sent) → answered a ≡ answered b → a ≡ b
 same_answer a b e = cc
 
-pub accepted : (s : Session) (p : ChangeData) → (judge_incoming s (did_change (Some p))).verdict ≡ answered changed
+pub accepted : (s : Session) (version : Version) (p : ChangeData) → (judge_incoming s version (did_change (Some p))).verdict ≡ answered changed
     → change_refusal s.server.config.limits (units_in (encoding_of s.server)) s.server.table p.uri p.version (map edit_from_data p.changes) ≡ None
-accepted s p e = step_changed s.server.phase s.server p (same_answer _ _ (unless_bad_is _ _ s _ changed e))
+accepted s version p e = step_changed s.server.phase s.server p (same_answer _ _ (unless_bad_is _ _ s _ changed e))
 
 -- The changes as they were read are those that the store is given.
 pub edits_of : (changes : List Change) → map edit_from_data (map edit_view changes) ≡ map given.edit_of changes

@@ -9,6 +9,7 @@ use Rattle.lsp_server.specs.declared.phase.Phase.TheVariants.{New, Running, Down
 use Rattle.lsp_server.specs.Answer.{AnswerData, Sent, reply, changed, dropped, ignored, already_ended, refused, exits}
 use Rattle.lsp_server.specs.Incoming.{incoming_of, did_change}
 use Rattle.lsp_server.specs.Step.{State}
+use Rattle.lsp_log.specs.declared.record.Version.{Version}
 use Rattle.lsp_log.specs.declared.record.Side.{Side}
 use Rattle.lsp_log.specs.declared.record.Side.TheVariants.{Client, Server}
 use Rattle.lsp_log.specs.Log.{Record}
@@ -17,12 +18,12 @@ use Rattle.lsp_stream.specs.Ports.{one_more}
 use Rattle.lsp_frame.specs.Frame.{frame}
 use Rattle.lsp_replay.specs.Engines.{change_in, canonical_if, canonical_change_body}
 use Rattle.lsp_replay.specs.inside.Joining.{refusal_of, server_after}
-use Rattle.lsp_replay.specs.Session.{Session, Verdict, answered, recorded, bad, Judged, judge, judge_from, judge_incoming, counted, versioned}
+use Rattle.lsp_replay.specs.Session.{Session, Verdict, answered, recorded, bad, Judged, judge, judge_from, judge_incoming, counted}
 use Rattle.lsp_replay.specs.Squashed.{Run, faulty, change_output, step_if}
 use Rattle.lsp_replay.proofs.AskedLemmas.{IsProperAsked, IsProperIncoming, asked_proper}
 use Rattle.lsp_replay.proofs.JoiningLemmas.{running_accepted}
 use Rattle.lsp_replay.proofs.JudgeLemmas.{asks_change}
-use Rattle.lsp_replay.proofs.CanonicalLogLemmas.{accepted, heard_has_none, same_server}
+use Rattle.lsp_replay.proofs.CanonicalLogLemmas.{accepted, heard_has_none}
 use Rattle.lsp_replay.proofs.NumberedLemmas.{IsAlike, numbered}
 
 -- ---- a record that doesn't end the run is an accepted change within the limit, or is written as it is
@@ -71,8 +72,8 @@ not_bad_of server r front run change (answered answer) e = not_bad answer
 -- ---- an accepted change
 
 -- the session once a change is done, but for its counts
-abbrev pub session_after : Session → Bool → ChangeData → Session
-session_after s due p = record (versioned s due) { server = server_after s.server p }
+abbrev pub session_after : Session → ChangeData → Session
+session_after s p = record s { server = server_after s.server p }
 
 pub record IsAccepted (s : Session) (r : Record) (p : ChangeData) : Type 0 where
   pub side : r.head.side ≡ Client
@@ -81,12 +82,8 @@ pub record IsAccepted (s : Session) (r : Record) (p : ChangeData) : Type 0 where
   pub waits : s.expected ≡ None
   pub may : refusal_of s.server p ≡ None
 
-same_expected : (s : Session) (due : Bool) → (versioned s due).expected ≡ s.expected
-same_expected s true = refl
-same_expected s false = refl
-
-module _ (s : Session) (p : ChangeData) where
-  runs : (phase : Phase) → s.server.phase ≡ phase → (expected : Option IdData) → s.expected ≡ expected → (judge_incoming s (did_change (Some p))).verdict ≡ answered changed
+module _ (s : Session) (version : Version) (p : ChangeData) where
+  runs : (phase : Phase) → s.server.phase ≡ phase → (expected : Option IdData) → s.expected ≡ expected → (judge_incoming s version (did_change (Some p))).verdict ≡ answered changed
       → (s.server.phase ≡ Running) × (s.expected ≡ None)
   runs Running is None none e = (is, none)
   runs Running is (Some id) some e = absurd (let wrong = rw (is, some) at e in cc)
@@ -100,27 +97,24 @@ module _ (s : Session) (p : ChangeData) where
 pub was_accepted : (s : Session) (r : Record) (p : ChangeData) → change_in (incoming_of (reading r.body)) ≡ Some p → (judge s r).verdict ≡ answered changed → IsAccepted s r p
 was_accepted s r p is error = by r.head.side refl
   where
-    at : Session
-    at = versioned s r.head.line_due
-
     asks : incoming_of (reading r.body) ≡ did_change (Some p)
     asks = asks_change (incoming_of (reading r.body)) p is
 
     by : (side : Side) → r.head.side ≡ side → IsAccepted s r p
     by Server server =
-        let heard = ap (λ side. (judge_from at side r.body).verdict) (sym server) ∙ error in
-        let none : canonical_if s.server (Some p) (answered changed) ≡ None = ap (canonical_if s.server (Some p)) (sym heard) ∙ heard_has_none s.server (Some p) at at.expected r.body in
+        let heard = ap (λ side. (judge_from s r.head.version side r.body).verdict) (sym server) ∙ error in
+        let none : canonical_if s.server (Some p) (answered changed) ≡ None = ap (canonical_if s.server (Some p)) (sym heard) ∙ heard_has_none s.server (Some p) s s.expected r.body in
         absurd (let wrong : Some (canonical_change_body s.server p) ≡ None = none in cc)
     by Client client =
-        let told_here : (judge_incoming at (did_change (Some p))).verdict ≡ answered changed =
-        ap (λ x. (judge_incoming at x).verdict) (sym asks) ∙ ap (λ side. (judge_from at side r.body).verdict) (sym client) ∙ error in
-        let where_it_runs = runs at p at.server.phase refl at.expected refl told_here in
+        let told_here : (judge_incoming s r.head.version (did_change (Some p))).verdict ≡ answered changed =
+        ap (λ x. (judge_incoming s r.head.version x).verdict) (sym asks) ∙ ap (λ side. (judge_from s r.head.version side r.body).verdict) (sym client) ∙ error in
+        let where_it_runs = runs s r.head.version p s.server.phase refl s.expected refl told_here in
         record {
           side = client;
           asks = asks;
-          running = ap (λ (server : State). server.phase) (sym (same_server s r.head.line_due)) ∙ where_it_runs.0;
-          waits = sym (same_expected s r.head.line_due) ∙ where_it_runs.1;
-          may = subst (λ (server : State). refusal_of server p ≡ None) (same_server s r.head.line_due) (accepted at p told_here);
+          running = where_it_runs.0;
+          waits = where_it_runs.1;
+          may = accepted s r.head.version p told_here;
         }
 
 pub proper_change : (r : Record) (p : ChangeData) → incoming_of (reading r.body) ≡ did_change (Some p) → IsProperAsked p
@@ -129,34 +123,17 @@ proper_change r p asks = subst IsProperIncoming asks (asked_proper r.body)
 -- What becomes of it.
 pub record IsDone (s : Session) (r : Record) (p : ChangeData) : Type 0 where
   pub error : (judge s r).verdict ≡ answered changed
-  pub leaves : IsAlike (session_after s r.head.line_due p) (judge s r).session
+  pub leaves : IsAlike (session_after s p) (judge s r).session
 
-done_session : (at : Session) (p : ChangeData) → at.server.phase ≡ Running → at.expected ≡ None → refusal_of at.server p ≡ None
-    → (counted (judge_incoming at (did_change (Some p)))).session ≡ numbered (one_more at.records) (one_more at.messages) (record at { server = server_after at.server p })
-done_session at p running waits may = rw (running, waits, may) refl
+done_session : (s : Session) (version : Version) (p : ChangeData) → s.server.phase ≡ Running → s.expected ≡ None → refusal_of s.server p ≡ None
+    → (counted (judge_incoming s version (did_change (Some p)))).session ≡ numbered (one_more s.records) (one_more s.messages) (session_after s p)
+done_session s version p running waits may = rw (running, waits, may) refl
 
 pub is_done : (s : Session) (r : Record) (p : ChangeData) → IsAccepted s r p → IsDone s r p
 is_done s r p a = record {
-  error = ap (λ (j : Judged). j.verdict) here ∙ running_accepted at p running waits may;
-  leaves = (
-    one_more at.records,
-    one_more at.messages,
-    ap (λ (j : Judged). (counted j).session) here ∙ done_session at p running waits may
-        ∙ ap (λ (server : State). numbered (one_more at.records) (one_more at.messages) (record at { server = server_after server p })) (same_server s r.head.line_due),
-  );
+  error = ap (λ (j : Judged). j.verdict) here ∙ running_accepted s r.head.version p a.running a.waits a.may;
+  leaves = (one_more s.records, one_more s.messages, ap (λ (j : Judged). (counted j).session) here ∙ done_session s r.head.version p a.running a.waits a.may);
 }
   where
-    at : Session
-    at = versioned s r.head.line_due
-
-    here : judge_from at r.head.side r.body ≡ judge_incoming at (did_change (Some p))
-    here = ap (λ side. judge_from at side r.body) a.side ∙ ap (judge_incoming at) a.asks
-
-    running : at.server.phase ≡ Running
-    running = ap (λ (server : State). server.phase) (same_server s r.head.line_due) ∙ a.running
-
-    waits : at.expected ≡ None
-    waits = same_expected s r.head.line_due ∙ a.waits
-
-    may : refusal_of at.server p ≡ None
-    may = subst (λ (server : State). refusal_of server p ≡ None) (sym (same_server s r.head.line_due)) a.may
+    here : judge_from s r.head.version r.head.side r.body ≡ judge_incoming s r.head.version (did_change (Some p))
+    here = ap (λ side. judge_from s r.head.version side r.body) a.side ∙ ap (judge_incoming s r.head.version) a.asks

@@ -19,18 +19,14 @@ use Rattle.lsp_server.specs.Step.{State, step_in, step_on, begins, settled}
 use Rattle.lsp_log.specs.declared.record.Version.{Version}
 use Rattle.lsp_log.specs.declared.record.Version.TheVariants.{One, Two}
 use Rattle.lsp_stream.specs.Ports.{one_more}
-use Rattle.lsp_replay.specs.Session.{Session, Verdict, answered, recorded, bad, Judged, judged, judge_incoming, handled, hear_for, heard, settle_by, result_for, same_id, is_ended, is_early, is_new, expected_of, count_if, is_refused, versioned}
+use Rattle.lsp_replay.specs.Session.{Session, Verdict, answered, recorded, bad, Judged, judged, judge_incoming, handled, hear_for, heard, settle_by, result_for, same_id, is_ended, is_early, is_new, expected_of, count_if, is_refused}
 use Rattle.lsp_replay.proofs.AskedLemmas.{IsProperIncoming}
 
 -- ---- a log of version 1 and one of version 2, side by side
 
 -- the session of the log of version 2, which was given so many records
-abbrev pub twin : Session → Version → ℕ → Session
-twin s version n = record s { version = version; records = n }
-
-pub versioned_twin : (s : Session) (version : Version) (n : ℕ) (due : Bool) → (due ≡ false → version ≡ Two) → versioned (twin s version n) due ≡ twin s Two n
-versioned_twin s version n true is = refl
-versioned_twin s version n false is = ap (λ v. twin s v n) (is refl)
+abbrev pub twin : Session → ℕ → Session
+twin s n = record s { records = n }
 
 abbrev pub IsGood : Verdict → Type 0
 IsGood (answered answer) = ⊤
@@ -42,13 +38,14 @@ good_tests true b s j good = absurd good
 good_tests false true s j good = absurd good
 good_tests false false s j good = (refl, refl)
 
-handled_on : (s : Session) (m : IncomingData) → is_ended s.server.phase ≡ false → is_early s m ≡ false → judge_incoming s m ≡ handled s m (step_on s.server m).state (as_sent (step_on s.server m).answer)
-handled_on s m a b = rw (a, b) refl
+handled_on : (s : Session) (version : Version) (m : IncomingData) → is_ended s.server.phase ≡ false → is_early s m ≡ false
+    → judge_incoming s version m ≡ handled s version m (step_on s.server m).state (as_sent (step_on s.server m).answer)
+handled_on s version m a b = rw (a, b) refl
 
 -- no result is waited for in a log of version 1
-none_expected : (b : Bool) (version : Version) (m : IncomingData) (expected : Option IdData) → version ≡ One → expected ≡ None → (if b then expected_of version m expected else expected) ≡ None
-none_expected true version m expected one none = ap (λ v. expected_of v m expected) one ∙ none
-none_expected false version m expected one none = none
+none_expected : (b : Bool) (m : IncomingData) (expected : Option IdData) → expected ≡ None → (if b then expected_of One m expected else expected) ≡ None
+none_expected true m expected none = none
+none_expected false m expected none = none
 
 -- ---- the result of `initialize`
 
@@ -104,7 +101,6 @@ next_of s server answer = record s {
 abbrev pub rest_after : Session → ℕ → State → AnswerData Sent → Option IdData → Session
 rest_after s n server answer expected = record {
   server = server;
-  version = Two;
   expected = expected;
   records = one_more n;
   messages = one_more s.messages;
@@ -137,38 +133,36 @@ follows_step s n Ended server m proper = refl
 
 -- ---- a client's record is judged alike in both logs
 
-module _ (s : Session) (n : ℕ) (m : IncomingData) (one : s.version ≡ One) (none : s.expected ≡ None) (good : IsGood (judge_incoming s m).verdict) where
+module _ (s : Session) (n : ℕ) (m : IncomingData) (none : s.expected ≡ None) (good : IsGood (judge_incoming s One m).verdict) where
   tests : (is_ended s.server.phase ≡ false) × (is_early s m ≡ false)
-  tests = good_tests (is_ended s.server.phase) (is_early s m) s (handled s m (step_on s.server m).state (as_sent (step_on s.server m).answer)) good
+  tests = good_tests (is_ended s.server.phase) (is_early s m) s (handled s One m (step_on s.server m).state (as_sent (step_on s.server m).answer)) good
 
-  pub judged_one : judge_incoming s m ≡ judged (answered (as_sent (step_on s.server m).answer)) (record s {
+  pub judged_one : judge_incoming s One m ≡ judged (answered (as_sent (step_on s.server m).answer)) (record s {
     server = (step_on s.server m).state;
     expected = None;
     messages = one_more s.messages;
     refusals = count_if (is_refused (as_sent (step_on s.server m).answer)) s.refusals;
   })
   judged_one =
-      handled_on s m tests.0 tests.1
+      handled_on s One m tests.0 tests.1
       ∙ ap (λ (e : Option IdData). judged (answered (as_sent (step_on s.server m).answer)) (record s {
         server = (step_on s.server m).state;
         expected = e;
         messages = one_more s.messages;
         refusals = count_if (is_refused (as_sent (step_on s.server m).answer)) s.refusals;
-      })) (none_expected (is_new s.server.phase) s.version m s.expected one none)
+      })) (none_expected (is_new s.server.phase) m s.expected none)
 
-  pub judged_two : judge_incoming (twin s Two n) m ≡ judged (answered (as_sent (step_on s.server m).answer)) (record s {
+  pub judged_two : judge_incoming (twin s n) Two m ≡ judged (answered (as_sent (step_on s.server m).answer)) (record s {
     server = (step_on s.server m).state;
-    version = Two;
     expected = waits s.server.phase m;
     records = n;
     messages = one_more s.messages;
     refusals = count_if (is_refused (as_sent (step_on s.server m).answer)) s.refusals;
   })
   judged_two =
-      handled_on (twin s Two n) m tests.0 tests.1
+      handled_on (twin s n) Two m tests.0 tests.1
       ∙ ap (λ (e : Option IdData). judged (answered (as_sent (step_on s.server m).answer)) (record s {
         server = (step_on s.server m).state;
-        version = Two;
         expected = (if is_new s.server.phase then expected_of Two m e else e);
         records = n;
         messages = one_more s.messages;

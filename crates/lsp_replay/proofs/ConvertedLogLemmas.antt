@@ -18,12 +18,12 @@ use Rattle.lsp_log.specs.declared.record.Side.TheVariants.{Client, Server}
 use Rattle.lsp_stream.specs.Ports.{one_more}
 use Rattle.lsp_log.specs.Log.{Record, IsRecord, AreRecords, together, record_bytes, line_of, version_line, is_line_due}
 use Rattle.lsp_replay.specs.RunOutput.{RunOutput, written_first}
-use Rattle.lsp_replay.specs.Session.{Session, Verdict, answered, recorded, bad, Judged, judged, judge, judge_from, judge_incoming, counted, versioned, opened}
+use Rattle.lsp_replay.specs.Session.{Session, Verdict, answered, recorded, bad, Judged, judged, judge, judge_from, judge_incoming, counted, opened}
 use Rattle.lsp_replay.specs.Engines.{RecordOutput, writes, unless_bad, run_output_in, replaying, converting, line_if, line_before, reply_record, log_config, converted}
 use Rattle.lsp_replay.specs.Laws.{IsReplyWithin, AreRepliesWithin, ConvertedLaw, all_of}
 use Rattle.lsp_replay.proofs.AskedLemmas.{asked_proper}
 use Rattle.lsp_replay.proofs.NormalisedLemmas.{command_output, went_on, Passes, passes}
-use Rattle.lsp_replay.proofs.ConvertedLemmas.{twin, versioned_twin, IsGood, Follows, next_of, rest_after, waits, follows_step, judged_one, judged_two}
+use Rattle.lsp_replay.proofs.ConvertedLemmas.{twin, IsGood, Follows, next_of, rest_after, waits, follows_step, judged_one, judged_two}
 
 -- what stands in front of the first record
 abbrev front_if : Bool → List Record → List ℕ
@@ -58,10 +58,10 @@ some_records n = omega arith
 -- ---- the records of the log of version 2
 
 client_at : ℕ → Bool → Record → Record
-client_at at due r = record { head = record { side = Client; place = place_after 0 at; line_due = due }; spelling = r.spelling; body = r.body }
+client_at at due r = record { head = record { side = Client; version = Two; place = place_after 0 at; line_due = due }; spelling = r.spelling; body = r.body }
 
 server_at : ℕ → OutgoingData → Record
-server_at at m = record { head = record { side = Server; place = place_after 0 at; line_due = false }; spelling = frame (body_of m); body = body_of m }
+server_at at m = record { head = record { side = Server; version = Two; place = place_after 0 at; line_due = false }; spelling = frame (body_of m); body = body_of m }
 
 five : (a b c d e : List ℕ) → (((a ++ b) ++ c) ++ d) ++ e ≡ a ++ ((b ++ c) ++ (d ++ e))
 five a b c d e = append_assoc ((a ++ b) ++ c) d e ∙ ap (λ z. z ++ (d ++ e)) (append_assoc a b c) ∙ append_assoc a (b ++ c) (d ++ e)
@@ -71,8 +71,8 @@ good_gives r (answered answer) g e = tt
 good_gives r recorded g e = tt
 good_gives r bad g e = let wrong : Some (Err (BadLog r.head.place)) ≡ None = e in absurd (cc)
 
-judged_client : (s : Session) (r : Record) → r.head.line_due ≡ false → r.head.side ≡ Client → judge s r ≡ counted (judge_incoming s (incoming_of (reading r.body)))
-judged_client s r due side = ap (λ d. counted (judge_from (versioned s d) r.head.side r.body)) due ∙ ap (λ k. counted (judge_from s k r.body)) side
+judged_client : (s : Session) (r : Record) → r.head.version ≡ One → r.head.side ≡ Client → judge s r ≡ counted (judge_incoming s One (incoming_of (reading r.body)))
+judged_client s r one side = ap (λ v. counted (judge_from s v r.head.side r.body)) one ∙ ap (λ k. counted (judge_from s One k r.body)) side
 
 module _ (limits : Bounds) (ranges : AreInRange limits) where
   -- The records that are written of some, the first at a place, and what is told of them in the other session.
@@ -85,11 +85,11 @@ module _ (limits : Bounds) (ranges : AreInRange limits) where
   module _ (at before : ℕ) (due : Bool) (s t : Session) (n : ℕ) (r : Record) (rs : List Record) (is : IsRecord limits.max_body One before false r) (counts : Counts due s.records) where
     first_is : IsRecord limits.max_body Two at due (client_at at due r)
     unfolding client_at
-    first_is = record { is_frame_of = is.is_frame_of; side = λ e. refl; placed = refl; due = refl }
+    first_is = record { is_frame_of = is.is_frame_of; side = λ e. refl; of_version = refl; placed = refl; due = refl }
 
     plain : (server : State) (answer : AnswerData Sent) (e : Option IdData) → reply_record (answered answer) ≡ [] → judge s r ≡ judged (answered answer) (next_of s server answer)
         → judge t (client_at at due r) ≡ judged (answered answer) (rest_after s n server answer e) → e ≡ None
-        → ((later m : ℕ) → AreConverted later false (next_of s server answer) (twin (next_of s server answer) Two m) rs) → AreConverted at due s t (r ∷ rs)
+        → ((later m : ℕ) → AreConverted later false (next_of s server answer) (twin (next_of s server answer) m) rs) → AreConverted at due s t (r ∷ rs)
     unfolding client_at
     plain server answer e no_reply one two none more =
         let q = client_at at due r in
@@ -115,7 +115,7 @@ module _ (limits : Bounds) (ranges : AreInRange limits) where
     replied : (server : State) (o : OutgoingData) (e : Option IdData) → length (body_of o) ≤ limits.max_body
         → judge s r ≡ judged (answered (reply (sent o))) (next_of s server (reply (sent o)))
         → judge t (client_at at due r) ≡ judged (answered (reply (sent o))) (rest_after s n server (reply (sent o)) e) → Follows (rest_after s n server (reply (sent o)) e) (reply o)
-        → ((later m : ℕ) → AreConverted later false (next_of s server (reply (sent o))) (twin (next_of s server (reply (sent o))) Two m) rs) → AreConverted at due s t (r ∷ rs)
+        → ((later m : ℕ) → AreConverted later false (next_of s server (reply (sent o))) (twin (next_of s server (reply (sent o))) m) rs) → AreConverted at due s t (r ∷ rs)
     unfolding client_at server_at
     replied server o e fits one two follows more =
         let q = client_at at due r in
@@ -126,7 +126,7 @@ module _ (limits : Bounds) (ranges : AreInRange limits) where
         let error : run_output_in replaying s (r ∷ rs) ≡ written_first [] (run_output_in replaying (next_of s server answer) rs) = command_output replaying s r rs (judged (answered answer) (next_of s server answer)) [] one refl in
         let wrote : run_output_in converting s (r ∷ rs) ≡ written_first (line_before s ++ codes ">" ++ r.spelling ++ (codes "<" ++ frame (body_of o))) (run_output_in converting (next_of s server answer) rs) =
         command_output converting s r rs (judged (answered answer) (next_of s server answer)) (line_before s ++ codes ">" ++ r.spelling ++ (codes "<" ++ frame (body_of o))) one refl in
-        let heard : judge (rest_after s n server answer e) p ≡ judged recorded (twin (next_of s server answer) Two (one_more (one_more n))) = ap counted follows in
+        let heard : judge (rest_after s n server answer e) p ≡ judged recorded (twin (next_of s server answer) (one_more (one_more n))) = ap counted follows in
         record {
           qs = q ∷ p ∷ m.qs;
           are = (
@@ -135,6 +135,7 @@ module _ (limits : Bounds) (ranges : AreInRange limits) where
               record {
                 is_frame_of = written_is_frame limits.max_body (body_of o) fits (omega (arith, fits, ranges.greatest_body));
                 side = λ x. refl_or_not x;
+                of_version = refl;
                 placed = refl;
                 due = refl;
               },
@@ -148,7 +149,7 @@ module _ (limits : Bounds) (ranges : AreInRange limits) where
               ∙ five (line_if due) (codes ">") r.spelling (codes "<" ++ frame (body_of o)) (together Two m.qs []);
           same =
               command_output replaying t q (p ∷ m.qs) (judged (answered answer) (rest_after s n server answer e)) [] two refl
-              ∙ ap (written_first []) (command_output replaying (rest_after s n server answer e) p m.qs (judged recorded (twin (next_of s server answer) Two (one_more (one_more n)))) [] heard refl)
+              ∙ ap (written_first []) (command_output replaying (rest_after s n server answer e) p m.qs (judged recorded (twin (next_of s server answer) (one_more (one_more n)))) [] heard refl)
               ∙ ap (written_first []) m.same ∙ sym error;
         }
       where
@@ -158,7 +159,7 @@ module _ (limits : Bounds) (ranges : AreInRange limits) where
     extend : (server : State) (answer : AnswerData OutgoingData) (e : Option IdData) → IsReplyWithin limits.max_body (answered (as_sent answer))
         → judge s r ≡ judged (answered (as_sent answer)) (next_of s server (as_sent answer))
         → judge t (client_at at due r) ≡ judged (answered (as_sent answer)) (rest_after s n server (as_sent answer) e) → Follows (rest_after s n server (as_sent answer) e) answer
-        → ((later m : ℕ) → AreConverted later false (next_of s server (as_sent answer)) (twin (next_of s server (as_sent answer)) Two m) rs) → AreConverted at due s t (r ∷ rs)
+        → ((later m : ℕ) → AreConverted later false (next_of s server (as_sent answer)) (twin (next_of s server (as_sent answer)) m) rs) → AreConverted at due s t (r ∷ rs)
     extend server (reply o) e short one two follows more = replied server o e (short (body_of o) refl) one two follows more
     extend server changed e short one two follows more = plain server changed e refl one two follows more
     extend server dropped e short one two follows more = plain server dropped e refl one two follows more
@@ -167,24 +168,24 @@ module _ (limits : Bounds) (ranges : AreInRange limits) where
     extend server (refused why) e short one two follows more = plain server (refused why) e refl one two follows more
     extend server (exits status) e short one two follows more = plain server (exits status) e refl one two follows more
 
-  converted_log : (at before : ℕ) (due : Bool) (s : Session) (version : Version) (n : ℕ) (rs : List Record) → s.version ≡ One → s.expected ≡ None → (due ≡ false → version ≡ Two) → Counts due s.records
-      → AreRecords limits.max_body One before false rs → (run_output_in converting s rs).stop ≡ None → AreRepliesWithin limits.max_body s rs → AreConverted at due s (twin s version n) rs
+  converted_log : (at before : ℕ) (due : Bool) (s : Session) (n : ℕ) (rs : List Record) → s.expected ≡ None → Counts due s.records → AreRecords limits.max_body One before false rs
+      → (run_output_in converting s rs).stop ≡ None → AreRepliesWithin limits.max_body s rs → AreConverted at due s (twin s n) rs
   unfolding client_at
-  converted_log at before due s version n [] one none error counts each goes short = record { qs = []; are = tt; out = refl; same = refl }
-  converted_log at before due s version n (r ∷ rs) one none error counts each goes short =
+  converted_log at before due s n [] none counts each goes short = record { qs = []; are = tt; out = refl; same = refl }
+  converted_log at before due s n (r ∷ rs) none counts each goes short =
       let m = incoming_of (reading r.body) in
       let step = step_on s.server m in
       let g = writes (line_before s ++ codes ">" ++ r.spelling ++ reply_record (judge s r).verdict) in
       let on = went_on (unless_bad r (judge s r).verdict g).out (unless_bad r (judge s r).verdict g).end (run_output_in converting (judge s r).session rs) goes in
-      let client = judged_client s r each.0.due (each.0.side refl) in
-      let good : IsGood (judge_incoming s m).verdict = subst IsGood (ap (λ (j : Judged). j.verdict) client) (good_gives r (judge s r).verdict g on.0) in
-      let here : judge s r ≡ judged (answered (as_sent step.answer)) (next_of s step.state (as_sent step.answer)) = client ∙ ap counted (judged_one s n m one none good) in
-      let there : judge (twin s version n) (client_at at due r) ≡ judged (answered (as_sent step.answer)) (rest_after s n step.state (as_sent step.answer) (waits s.server.phase m)) =
-      ap (λ (u : Session). counted (judge_incoming u m)) (versioned_twin s version n due error) ∙ ap counted (judged_two s n m one none good) in
+      let client = judged_client s r each.0.of_version (each.0.side refl) in
+      let good : IsGood (judge_incoming s One m).verdict = subst IsGood (ap (λ (j : Judged). j.verdict) client) (good_gives r (judge s r).verdict g on.0) in
+      let here : judge s r ≡ judged (answered (as_sent step.answer)) (next_of s step.state (as_sent step.answer)) = client ∙ ap counted (judged_one s n m none good) in
+      let there : judge (twin s n) (client_at at due r) ≡ judged (answered (as_sent step.answer)) (rest_after s n step.state (as_sent step.answer) (waits s.server.phase m)) =
+      ap counted (judged_two s n m none good) in
       let next : (judge s r).session ≡ next_of s step.state (as_sent step.answer) = ap (λ (j : Judged). j.session) here in
-      extend at before due s (twin s version n) n r rs each.0 counts step.state step.answer (waits s.server.phase m)
+      extend at before due s (twin s n) n r rs each.0 counts step.state step.answer (waits s.server.phase m)
       (subst (IsReplyWithin limits.max_body) (ap (λ (j : Judged). j.verdict) here) short.0) here there (follows_step s n s.server.phase s.server m (asked_proper r.body))
-      (λ later k. converted_log later (before + length (record_bytes One r)) false (next_of s step.state (as_sent step.answer)) Two k rs one refl (λ e. refl) (some_records s.records) each.1
+      (λ later k. converted_log later (before + length (record_bytes One r)) false (next_of s step.state (as_sent step.answer)) k rs refl (some_records s.records) each.1
       (subst (λ (u : Session). (run_output_in converting u rs).stop ≡ None) next on.1) (subst (λ (u : Session). AreRepliesWithin limits.max_body u rs) next short.1))
 
 -- ---- the end
@@ -245,4 +246,4 @@ converted_law settings ranges input log reads whole goes = record {
     each = subst (λ (v : Version). AreRecords settings.limits.max_body v (length (line_of v)) (is_line_due v []) log.records) (reads.accepted refl) reads.each
 
     buffer : AreRepliesWithin settings.limits.max_body s log.records → AreConverted settings.limits ranges (length version_line) true s s log.records
-    buffer short = converted_log settings.limits ranges (length version_line) 0 true s One 0 log.records refl refl (λ e. absurd (let wrong : true ≡ false = e in cc)) refl each goes short
+    buffer short = converted_log settings.limits ranges (length version_line) 0 true s 0 log.records refl refl each goes short

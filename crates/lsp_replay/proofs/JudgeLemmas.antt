@@ -1,5 +1,5 @@
--- What becomes of a record is told by its body, its side and whether the line is due; the canonical body of an accepted change is judged as
--- the change was.
+-- What becomes of a record is told by its body, its side and its log's version; the canonical body of an accepted change is judged as the
+-- change was.
 use Rattle.std.proofs.Common.{◌≡◌, ℕ, ◌≤◌, Bool, true, false, List, length, Option, Some, None, refl, sym, ap, ◌∙◌, subst, arith}
 use Rattle.std.specs.Prelude.{if◌then◌else◌}
 use Rattle.serde_json.specs.Data.{Data}
@@ -18,7 +18,7 @@ use Rattle.lsp_log.specs.declared.record.Side.{Side}
 use Rattle.lsp_log.specs.declared.record.Side.TheVariants.{Client, Server}
 use Rattle.lsp_log.specs.declared.record.Head.{Head}
 use Rattle.lsp_log.specs.Log.{Record}
-use Rattle.lsp_replay.specs.Session.{Session, Verdict, answered, recorded, bad, Judged, judged, judge, judge_at, judge_from, judge_incoming, handled, hear_for, heard, settle_by, settle_in, result_for, versioned, is_ended, is_early, is_new, expected_of, count_if, is_refused}
+use Rattle.lsp_replay.specs.Session.{Session, Verdict, answered, recorded, bad, Judged, judged, judge, judge_at, judge_from, judge_incoming, handled, hear_for, heard, settle_by, settle_in, result_for, is_ended, is_early, is_new, expected_of, count_if, is_refused}
 use Rattle.lsp_stream.specs.Ports.{one_more}
 use Rattle.lsp_replay.specs.Engines.{change_in, canonical_if, canonical_of_record, canonical_change_body}
 use Rattle.lsp_replay.proofs.CanonicalLogLemmas.{accepted, heard_has_none}
@@ -49,39 +49,19 @@ module _ (P : Judged → Type 0) (s : Session) where
   of_heard stays refuses goes None body = stays
   of_heard stays refuses goes (Some id) body = of_result stays refuses goes (result_for id (reading body))
 
-  of_incoming : (m : IncomingData) → P (judged bad s) → P (handled s m (step_on s.server m).state (as_sent (step_on s.server m).answer)) → P (judge_incoming s m)
-  of_incoming m refuses goes =
-      both P (is_ended s.server.phase) (judged bad s) (if is_early s m then judged bad s else handled s m (step_on s.server m).state (as_sent (step_on s.server m).answer)) refuses
-      (both P (is_early s m) (judged bad s) (handled s m (step_on s.server m).state (as_sent (step_on s.server m).answer)) refuses goes)
+  of_incoming : (version : Version) (m : IncomingData) → P (judged bad s) → P (handled s version m (step_on s.server m).state (as_sent (step_on s.server m).answer)) → P (judge_incoming s version m)
+  of_incoming version m refuses goes =
+      both P (is_ended s.server.phase) (judged bad s) (if is_early s m then judged bad s else handled s version m (step_on s.server m).state (as_sent (step_on s.server m).answer)) refuses
+      (both P (is_early s m) (judged bad s) (handled s version m (step_on s.server m).state (as_sent (step_on s.server m).answer)) refuses goes)
 
-from_version : (s : Session) (side : Side) (body : List ℕ) → (judge_from s side body).session.version ≡ s.version
-from_version s Client body = of_incoming (λ (j : Judged). j.session.version ≡ s.version) s (incoming_of (reading body)) refl refl
-from_version s Server body = of_heard (λ (j : Judged). j.session.version ≡ s.version) s refl refl (λ encoding. refl) s.expected body
-
--- the version of a log at a record, which the line tells
-pub record IsVersionAt (version : Version) (line_due : Bool) (s : Session) : Type 0 where
-  pub error : line_due ≡ true → version ≡ Two
-  pub kept : line_due ≡ false → s.version ≡ version
-
-versioned_is : (version : Version) (line_due : Bool) (s : Session) → IsVersionAt version line_due s → (versioned s line_due).version ≡ version
-versioned_is version true s is = sym (is.error refl)
-versioned_is version false s is = is.kept refl
-
-pub judged_version : (version : Version) (s : Session) (head : Head) (body : List ℕ) → IsVersionAt version head.line_due s → (judge_at s head body).session.version ≡ version
-judged_version version s head body is = from_version (versioned s head.line_due) head.side body ∙ versioned_is version head.line_due s is
-
-from_held : (limits : Bounds) (s : Session) (side : Side) (body : List ℕ) → IsHeldState limits s.server → IsHeldState limits (judge_from s side body).session.server
-from_held limits s Client body received =
-    of_incoming (λ (j : Judged). IsHeldState limits j.session.server) s (incoming_of (reading body)) received (step_on_held limits s.server (incoming_of (reading body)) (asked_proper body) received)
-from_held limits s Server body received =
+from_held : (limits : Bounds) (s : Session) (version : Version) (side : Side) (body : List ℕ) → IsHeldState limits s.server → IsHeldState limits (judge_from s version side body).session.server
+from_held limits s version Client body received =
+    of_incoming (λ (j : Judged). IsHeldState limits j.session.server) s version (incoming_of (reading body)) received (step_on_held limits s.server (incoming_of (reading body)) (asked_proper body) received)
+from_held limits s version Server body received =
     of_heard (λ (j : Judged). IsHeldState limits j.session.server) s received received (λ encoding. record { limit = received.limit; table = received.table }) s.expected body
 
-at_held : (limits : Bounds) (s : Session) (line_due : Bool) (side : Side) (body : List ℕ) → IsHeldState limits s.server → IsHeldState limits (judge_from (versioned s line_due) side body).session.server
-at_held limits s true side body received = from_held limits (record s { version = Two }) side body received
-at_held limits s false side body received = from_held limits s side body received
-
 pub judged_held : (limits : Bounds) (s : Session) (r : Record) → IsHeldState limits s.server → IsHeldState limits (judge s r).session.server
-judged_held limits s r received = at_held limits s r.head.line_due r.head.side r.body received
+judged_held limits s r received = from_held limits s r.head.version r.head.side r.body received
 
 -- ---- the record of an accepted change
 
@@ -136,60 +116,54 @@ expects_same : (version : Version) (params : Option ChangeData) (expected : Opti
 expects_same One params expected = refl
 expects_same Two params expected = refl
 
-handled_same : (s : Session) (params others : Option ChangeData) (server : State) (answer : AnswerData Sent) → handled s (did_change params) server answer ≡ handled s (did_change others) server answer
-handled_same s params others server answer =
+handled_same : (s : Session) (version : Version) (params others : Option ChangeData) (server : State) (answer : AnswerData Sent)
+    → handled s version (did_change params) server answer ≡ handled s version (did_change others) server answer
+handled_same s version params others server answer =
     ap (λ (e : Option IdData). judged (answered answer) (record s {
       server = server;
       expected = (if is_new s.server.phase then e else s.expected);
       messages = one_more s.messages;
       refusals = count_if (is_refused answer) s.refusals;
-    })) (expects_same s.version params s.expected ∙ sym (expects_same s.version others s.expected))
+    })) (expects_same version params s.expected ∙ sym (expects_same version others s.expected))
 
-again_incoming : (s : Session) (p again : ChangeData) → step_on s.server (did_change (Some again)) ≡ step_on s.server (did_change (Some p))
-    → judge_incoming s (did_change (Some again)) ≡ judge_incoming s (did_change (Some p))
-again_incoming s p again same =
-    ap (λ (step : Step). if is_ended s.server.phase then judged bad s else if is_early s (did_change (Some again)) then judged bad s else handled s (did_change (Some again)) step.state (as_sent step.answer)) same
+again_incoming : (s : Session) (version : Version) (p again : ChangeData) → step_on s.server (did_change (Some again)) ≡ step_on s.server (did_change (Some p))
+    → judge_incoming s version (did_change (Some again)) ≡ judge_incoming s version (did_change (Some p))
+again_incoming s version p again same =
+    ap (λ (step : Step). if is_ended s.server.phase then judged bad s else if is_early s (did_change (Some again)) then judged bad s else handled s version (did_change (Some again)) step.state (as_sent step.answer)) same
     ∙ ap (λ (j : Judged). if is_ended s.server.phase then judged bad s else if is_early s (did_change (Some again)) then judged bad s else j)
-    (handled_same s (Some again) (Some p) (step_on s.server (did_change (Some p))).state (as_sent (step_on s.server (did_change (Some p))).answer))
+    (handled_same s version (Some again) (Some p) (step_on s.server (did_change (Some p))).state (as_sent (step_on s.server (did_change (Some p))).answer))
 
 -- a body is judged as another, and it is its own canonical body
-abbrev IsJudgedAgain : Session → Side → List ℕ → List ℕ → Type 0
-IsJudgedAgain s side body again =
-    (judge_from s side again ≡ judge_from s side body) × (canonical_if s.server (change_in (incoming_of (reading again))) (judge_from s side body).verdict ≡ Some again)
+abbrev IsJudgedAgain : Session → Version → Side → List ℕ → List ℕ → Type 0
+IsJudgedAgain s version side body again =
+    (judge_from s version side again ≡ judge_from s version side body) × (canonical_if s.server (change_in (incoming_of (reading again))) (judge_from s version side body).verdict ≡ Some again)
 
 module _ (limits : Bounds) (ranges : AreInRange limits) where
-  again_client : (s : Session) (body again : List ℕ) → IsHeldState limits s.server → canonical_if s.server (change_in (incoming_of (reading body))) (judge_from s Client body).verdict ≡ Some again
-      → length again ≤ limits.max_body → IsJudgedAgain s Client body again
-  again_client s body again received canonical_log fits =
+  again_client : (s : Session) (version : Version) (body again : List ℕ) → IsHeldState limits s.server
+      → canonical_if s.server (change_in (incoming_of (reading body))) (judge_from s version Client body).verdict ≡ Some again → length again ≤ limits.max_body → IsJudgedAgain s version Client body again
+  again_client s version body again received canonical_log fits =
       let m = incoming_of (reading body) in
-      let c = case_of s.server m (judge_incoming s m).verdict again canonical_log in
+      let c = case_of s.server m (judge_incoming s version m).verdict again canonical_log in
       let p = c.change in
       let proper : IsProperIncoming (did_change (Some p)) = subst IsProperIncoming c.asks (asked_proper body) in
-      let error : (judge_incoming s (did_change (Some p))).verdict ≡ answered changed = ap (λ (x : IncomingData). (judge_incoming s x).verdict) (sym c.asks) ∙ c.error in
+      let error : (judge_incoming s version (did_change (Some p))).verdict ≡ answered changed = ap (λ (x : IncomingData). (judge_incoming s version x).verdict) (sym c.asks) ∙ c.error in
       let here : AreInRange s.server.config.limits = subst AreInRange (sym received.limit) ranges in
       let own : IsHeldState s.server.config.limits s.server = subst (λ (l : Bounds). IsHeldState l s.server) (sym received.limit) received in
       let short : length (canonical_change_body s.server p) ≤ s.server.config.limits.max_body = omega (arith, fits, ap length c.is, ap (λ (l : Bounds). l.max_body) received.limit) in
-      let set : IsSettledChange s.server p = settled_change s.server p here own proper (accepted s p error) short in
+      let set : IsSettledChange s.server p = settled_change s.server p here own proper (accepted s version p error) short in
       let asks : incoming_of (reading again) ≡ did_change (Some set.again) = ap (λ b. incoming_of (reading b)) c.is ∙ set.asks in (
-        ap (judge_incoming s) asks ∙ again_incoming s p set.again set.same_step ∙ ap (judge_incoming s) (sym c.asks),
-        ap (λ (x : IncomingData). canonical_if s.server (change_in x) (judge_incoming s m).verdict) asks ∙ ap (canonical_if s.server (Some set.again)) c.error ∙ ap Some (set.same_body ∙ sym c.is),
+        ap (judge_incoming s version) asks ∙ again_incoming s version p set.again set.same_step ∙ ap (judge_incoming s version) (sym c.asks),
+        ap (λ (x : IncomingData). canonical_if s.server (change_in x) (judge_incoming s version m).verdict) asks ∙ ap (canonical_if s.server (Some set.again)) c.error ∙ ap Some (set.same_body ∙ sym c.is),
       )
 
-  again_from : (s : Session) (side : Side) (body again : List ℕ) → IsHeldState limits s.server → canonical_if s.server (change_in (incoming_of (reading body))) (judge_from s side body).verdict ≡ Some again
-      → length again ≤ limits.max_body → IsJudgedAgain s side body again
-  again_from s Client body again received canonical_log fits = again_client s body again received canonical_log fits
-  again_from s Server body again received canonical_log fits =
+  again_from : (s : Session) (version : Version) (side : Side) (body again : List ℕ) → IsHeldState limits s.server
+      → canonical_if s.server (change_in (incoming_of (reading body))) (judge_from s version side body).verdict ≡ Some again → length again ≤ limits.max_body → IsJudgedAgain s version side body again
+  again_from s version Client body again received canonical_log fits = again_client s version body again received canonical_log fits
+  again_from s version Server body again received canonical_log fits =
       let none : None ≡ Some again = sym (heard_has_none s.server (change_in (incoming_of (reading body))) s s.expected body) ∙ canonical_log in absurd (cc)
-
-  again_at : (s : Session) (line_due : Bool) (side : Side) (body again : List ℕ) → IsHeldState limits s.server
-      → canonical_if s.server (change_in (incoming_of (reading body))) (judge_from (versioned s line_due) side body).verdict ≡ Some again → length again ≤ limits.max_body
-      → (judge_from (versioned s line_due) side again ≡ judge_from (versioned s line_due) side body)
-      × (canonical_if s.server (change_in (incoming_of (reading again))) (judge_from (versioned s line_due) side body).verdict ≡ Some again)
-  again_at s true side body again received canonical_log fits = again_from (record s { version = Two }) side body again received canonical_log fits
-  again_at s false side body again received canonical_log fits = again_from s side body again received canonical_log fits
 
   pub judged_again : (s : Session) (head : Head) (body again : List ℕ) → IsHeldState limits s.server → canonical_of_record s body (judge_at s head body).verdict ≡ Some again → length again ≤ limits.max_body
       → (judge_at s head again ≡ judge_at s head body) × (canonical_of_record s again (judge_at s head body).verdict ≡ Some again)
   judged_again s head body again received canonical_log fits =
-      let same = again_at s head.line_due head.side body again received canonical_log fits in
+      let same = again_from s head.version head.side body again received canonical_log fits in
       (ap (λ (j : Judged). record j { session = record j.session { records = one_more j.session.records } }) same.0, same.1)

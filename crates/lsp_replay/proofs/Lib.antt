@@ -17,6 +17,7 @@ pub mod QuietLemmas
 pub mod ConvertedLogLemmas
 pub mod SquashingLemmas
 pub mod JoiningLemmas
+pub mod RefusedChangeLemmas
 pub mod BodyLemmas
 pub mod SquashedLemmas
 pub mod NumberedLemmas

@@ -6,7 +6,6 @@ use Rattle.lsp_frame.specs.Faults.{place_after}
 use Rattle.lsp_frame.specs.Frame.{frame, IsFrameOf}
 use Rattle.lsp_frame.specs.Limits.{Bounds, AreInRange}
 use Rattle.lsp_frame.proofs.WrittenLemmas.{written_is_frame}
-use Rattle.lsp_replay.specs.declared.engines.Settings.{Settings}
 use Rattle.lsp_replay.specs.declared.outcome.Outcome.{Outcome}
 use Rattle.lsp_stream.specs.declared.fault.EngineFault.{EngineFault}
 use Rattle.lsp_stream.specs.declared.fault.EngineFault.TheVariants.{BadLog, BodyTooLong}
@@ -15,12 +14,12 @@ use Rattle.lsp_log.specs.declared.record.Version.TheVariants.{One, Two}
 use Rattle.lsp_log.specs.declared.record.Head.{Head}
 use Rattle.lsp_log.specs.Log.{Record, Log, IsRecord, AreRecords, IsVersion, together, record_bytes, mark_of, line_of, version_line, is_line_due}
 use Rattle.lsp_replay.specs.RunOutput.{RunOutput, written_first}
-use Rattle.lsp_replay.specs.Session.{Session, Verdict, answered, recorded, bad, Judged, judge, judge_at, opened}
+use Rattle.lsp_replay.specs.Session.{Session, Verdict, answered, recorded, bad, Judged, judge, opened}
 use Rattle.lsp_replay.specs.Engines.{View, RecordOutput, writes, ends, continue_with, unless_bad, run_output_in, normalising, replaying, canonical_output, canonical_of_record, written, front_of, line_if, log_config, canonical_log}
 use Rattle.lsp_replay.specs.Laws.{CanonicalLogLaw, all_of}
 use Rattle.lsp_replay.proofs.StateLemmas.{IsHeldState}
 use Rattle.lsp_replay.proofs.LineLemmas.{is_version_one}
-use Rattle.lsp_replay.proofs.JudgeLemmas.{IsVersionAt, judged_version, judged_held, judged_again}
+use Rattle.lsp_replay.proofs.JudgeLemmas.{judged_held, judged_again}
 
 -- ---- a course, a record at a time
 
@@ -62,10 +61,11 @@ pub record IsWrittenAs (limits : Bounds) (at : ℕ) (s : Session) (r q : Record)
   pub is_frame_of : IsFrameOf limits.max_body q.spelling q.body
   pub place : q.head.place ≡ place_after 0 at
   pub side : q.head.side ≡ r.head.side
+  pub same_version : q.head.version ≡ r.head.version
   pub due : q.head.line_due ≡ r.head.line_due
   pub same : judge s q ≡ judge s r
-  pub first : normalising.record_output s r (judge s r) ≡ writes (front_of (judge s r).session r ++ q.spelling)
-  pub again : normalising.record_output s q (judge s r) ≡ writes (front_of (judge s r).session r ++ q.spelling)
+  pub first : normalising.record_output s r (judge s r) ≡ writes (front_of r.head ++ q.spelling)
+  pub again : normalising.record_output s q (judge s r) ≡ writes (front_of r.head ++ q.spelling)
   pub error : replaying.record_output s r (judge s r) ≡ writes []
   pub told_again : replaying.record_output s q (judge s r) ≡ writes []
 
@@ -77,40 +77,42 @@ module _ (limits : Bounds) (ranges : AreInRange limits) where
       is_frame_of = is_frame_of;
       place = refl;
       side = refl;
+      same_version = refl;
       due = refl;
       same = refl;
-      first = passing r _ ∙ ap (written s.server.config.limits.max_body r (front_of (judge s r).session r)) none;
-      again = passing (canonical_record at r None) _ ∙ ap (written s.server.config.limits.max_body (canonical_record at r None) (front_of (judge s r).session r)) none;
+      first = passing r _ ∙ ap (written s.server.config.limits.max_body r (front_of r.head)) none;
+      again = passing (canonical_record at r None) _ ∙ ap (written s.server.config.limits.max_body (canonical_record at r None) (front_of r.head)) none;
       error = passing r _;
       told_again = passing (canonical_record at r None) _;
     }
 
-    fits : (body : List ℕ) → (written s.server.config.limits.max_body r (front_of (judge s r).session r) (Some body)).end ≡ None → nat_lt s.server.config.limits.max_body (length body) ≡ false
+    fits : (body : List ℕ) → (written s.server.config.limits.max_body r (front_of r.head) (Some body)).end ≡ None → nat_lt s.server.config.limits.max_body (length body) ≡ false
     fits body e = by (nat_lt s.server.config.limits.max_body (length body)) e
       where
-        by : (over : Bool) → (if over then ends [] (Err (BodyTooLong r.head.place)) else writes (front_of (judge s r).session r ++ frame body)).end ≡ None → over ≡ false
+        by : (over : Bool) → (if over then ends [] (Err (BodyTooLong r.head.place)) else writes (front_of r.head ++ frame body)).end ≡ None → over ≡ false
         by true f = absurd (let bad_one : Some (Err (BodyTooLong r.head.place)) ≡ None = f in cc)
         by false f = refl
 
     framed : (q : Record) (body : List ℕ) → nat_lt s.server.config.limits.max_body (length body) ≡ false
-        → written s.server.config.limits.max_body q (front_of (judge s r).session r) (Some body) ≡ writes (front_of (judge s r).session r ++ frame body)
+        → written s.server.config.limits.max_body q (front_of r.head) (Some body) ≡ writes (front_of r.head ++ frame body)
     framed q body short = rw short refl
 
     changed : (body : List ℕ) → canonical_of_record s r.body (judge s r).verdict ≡ Some body → (canonical_output s r (judge s r)).end ≡ None → IsWrittenAs limits at s r (canonical_record at r (Some body))
     changed body some e =
         let short : nat_lt s.server.config.limits.max_body (length body) ≡ false =
-        fits body (ap (λ n. (written s.server.config.limits.max_body r (front_of (judge s r).session r) n).end) (sym some) ∙ e) in
+        fits body (ap (λ n. (written s.server.config.limits.max_body r (front_of r.head) n).end) (sym some) ∙ e) in
         let small : length body ≤ limits.max_body = subst (λ (l : Bounds). length body ≤ l.max_body) received.limit (ltb-false s.server.config.limits.max_body (length body) short) in
         let twice = judged_again limits ranges s r.head r.body body received some small in
         record {
           is_frame_of = written_is_frame limits.max_body body small (omega (arith, small, ranges.greatest_body));
           place = refl;
           side = refl;
+          same_version = refl;
           due = refl;
           same = twice.0;
-          first = passing r _ ∙ ap (written s.server.config.limits.max_body r (front_of (judge s r).session r)) some ∙ framed r body short;
+          first = passing r _ ∙ ap (written s.server.config.limits.max_body r (front_of r.head)) some ∙ framed r body short;
           again =
-              passing (canonical_record at r (Some body)) _ ∙ ap (written s.server.config.limits.max_body (canonical_record at r (Some body)) (front_of (judge s r).session r)) twice.1
+              passing (canonical_record at r (Some body)) _ ∙ ap (written s.server.config.limits.max_body (canonical_record at r (Some body)) (front_of r.head)) twice.1
               ∙ framed (canonical_record at r (Some body)) body short;
           error = passing r _;
           told_again = passing (canonical_record at r (Some body)) _;
@@ -144,19 +146,16 @@ module _ (limits : Bounds) (ranges : AreInRange limits) where
     to_end : (run_output_in replaying s rs).stop ≡ None
     outcome : (run_output_in normalising s rs).outcome ≡ (run_output_in replaying s rs).outcome
 
-  module _ (at before : ℕ) (version : Version) (due : Bool) (s : Session) (r q : Record) (rs qs : List Record) (is : IsRecord limits.max_body version before due r) (error : IsVersionAt version due s)
+  module _ (at before : ℕ) (version : Version) (due : Bool) (s : Session) (r q : Record) (rs qs : List Record) (is : IsRecord limits.max_body version before due r)
       (one : IsWrittenAs limits at s r q) (more : AreWritten (at + length (record_bytes version q)) version false (judge s r).session rs qs) where
-    fresh : IsVersionAt version r.head.line_due s
-    fresh = subst (λ (b : Bool). IsVersionAt version b s) (sym is.due) error
-
-    front_is : front_of (judge s r).session r ≡ line_if due ++ mark_of version q.head.side
+    front_is : front_of r.head ≡ line_if due ++ mark_of version q.head.side
     front_is =
-        ap (λ b. line_if b ++ mark_of (judge s r).session.version r.head.side) is.due
-        ∙ ap (λ v. line_if due ++ mark_of v r.head.side) (judged_version version s r.head r.body fresh)
+        ap (λ b. line_if b ++ mark_of r.head.version r.head.side) is.due
+        ∙ ap (λ v. line_if due ++ mark_of v r.head.side) is.of_version
         ∙ ap (λ side. line_if due ++ mark_of version side) (sym one.side)
 
-    first : run_output_in normalising s (r ∷ rs) ≡ written_first (front_of (judge s r).session r ++ q.spelling) (run_output_in normalising (judge s r).session rs)
-    first = command_output normalising s r rs (judge s r) (front_of (judge s r).session r ++ q.spelling) refl one.first
+    first : run_output_in normalising s (r ∷ rs) ≡ written_first (front_of r.head ++ q.spelling) (run_output_in normalising (judge s r).session rs)
+    first = command_output normalising s r rs (judge s r) (front_of r.head ++ q.spelling) refl one.first
 
     told_first : run_output_in replaying s (r ∷ rs) ≡ written_first [] (run_output_in replaying (judge s r).session rs)
     told_first = command_output replaying s r rs (judge s r) [] refl one.error
@@ -167,18 +166,19 @@ module _ (limits : Bounds) (ranges : AreInRange limits) where
         record {
           is_frame_of = one.is_frame_of;
           side = λ e. one.side ∙ is.side e;
+          of_version = one.same_version ∙ is.of_version;
           placed = one.place;
           due = one.due ∙ is.due;
         },
         more.are,
       );
       out =
-          ap (λ (c : RunOutput). c.out) first ∙ ap (λ z. (front_of (judge s r).session r ++ q.spelling) ++ z) (more.out ∙ ap (λ z. z ++ together version qs []) (front_none rs))
+          ap (λ (c : RunOutput). c.out) first ∙ ap (λ z. (front_of r.head ++ q.spelling) ++ z) (more.out ∙ ap (λ z. z ++ together version qs []) (front_none rs))
           ∙ ap (λ z. (z ++ q.spelling) ++ together version qs []) front_is ∙ four (line_if due) (mark_of version q.head.side) q.spelling (together version qs []);
       last = λ line_due. ap (λ (c : RunOutput). c.last line_due) first ∙ more.last line_due;
       again =
-          command_output normalising s q qs (judge s r) (front_of (judge s r).session r ++ q.spelling) one.same one.again
-          ∙ ap (written_first (front_of (judge s r).session r ++ q.spelling)) more.again ∙ sym first;
+          command_output normalising s q qs (judge s r) (front_of r.head ++ q.spelling) one.same one.again
+          ∙ ap (written_first (front_of r.head ++ q.spelling)) more.again ∙ sym first;
       same = command_output replaying s q qs (judge s r) [] one.same one.told_again ∙ ap (written_first []) more.same ∙ sym told_first;
       to_end = ap (λ (c : RunOutput). c.stop) told_first ∙ more.to_end;
       outcome = ap (λ (c : RunOutput). c.outcome) first ∙ more.outcome ∙ sym (ap (λ (c : RunOutput). c.outcome) told_first);
@@ -190,24 +190,19 @@ module _ (limits : Bounds) (ranges : AreInRange limits) where
       canonical_record at r (canonical_of_record s r.body (judge s r).verdict)
       ∷ normal_from (at + length (record_bytes version (canonical_record at r (canonical_of_record s r.body (judge s r).verdict)))) version (judge s r).session rs
 
-  later : (version : Version) (s : Session) (head : Head) (body : List ℕ) → IsVersionAt version head.line_due s → IsVersionAt version false (judge_at s head body).session
-  later version s head body error = record { error = λ e. absurd (let bad_one : false ≡ true = e in cc); kept = λ _. judged_version version s head body error }
-
-  written_log : (at before : ℕ) (version : Version) (due : Bool) (s : Session) (rs : List Record) → IsHeldState limits s.server → IsVersionAt version due s
+  written_log : (at before : ℕ) (version : Version) (due : Bool) (s : Session) (rs : List Record) → IsHeldState limits s.server
       → AreRecords limits.max_body version before due rs → (run_output_in normalising s rs).stop ≡ None → AreWritten at version due s rs (normal_from at version s rs)
-  written_log at before version due s [] received error each goes =
+  written_log at before version due s [] received each goes =
       record { are = tt; out = refl; last = λ line_due. refl; again = refl; same = refl; to_end = refl; outcome = refl }
-  written_log at before version due s (r ∷ rs) received error each goes =
+  written_log at before version due s (r ∷ rs) received each goes =
       let g = canonical_output s r (judge s r) in
       let on = went_on (unless_bad r (judge s r).verdict g).out (unless_bad r (judge s r).verdict g).end (run_output_in normalising (judge s r).session rs) goes in
       let passing : Passes (judge s r).verdict = passes (judge s r).verdict r g on.0 in
       let inner : g.end ≡ None = ap (λ (h : RecordOutput). h.end) (sym (passing r g)) ∙ on.0 in
       let one = written_as at s r received each.0.is_frame_of passing (canonical_of_record s r.body (judge s r).verdict) refl inner in
       let q = canonical_record at r (canonical_of_record s r.body (judge s r).verdict) in
-      let fresh_here : IsVersionAt version r.head.line_due s = subst (λ (b : Bool). IsVersionAt version b s) (sym each.0.due) error in
-      one_more at before version due s r q rs (normal_from (at + length (record_bytes version q)) version (judge s r).session rs) each.0 error one
-      (written_log (at + length (record_bytes version q)) (before + length (record_bytes version r)) version false (judge s r).session rs (judged_held limits s r received)
-      (later version s r.head r.body fresh_here) each.1 on.1)
+      one_more at before version due s r q rs (normal_from (at + length (record_bytes version q)) version (judge s r).session rs) each.0 one
+      (written_log (at + length (record_bytes version q)) (before + length (record_bytes version r)) version false (judge s r).session rs (judged_held limits s r received) each.1 on.1)
 
 -- ---- the bytes
 
@@ -228,10 +223,6 @@ pub version_is : (max_body : ℕ) (version : Version) (rs : List Record) (bytes 
     → bytes ≡ line_of version ++ together version rs [] → IsVersion true version bytes
 version_is max_body One rs bytes are is = λ wanted more e. is_version_one max_body 0 false rs are wanted more (sym is ∙ e)
 version_is max_body Two rs bytes are is = (refl, (together Two rs [], is))
-
-pub start_at : (settings : Settings) (version : Version) → IsVersionAt version (is_line_due version []) (opened (log_config settings))
-start_at settings One = record { error = λ e. absurd (let bad_one : false ≡ true = e in cc); kept = λ e. refl }
-start_at settings Two = record { error = λ e. refl; kept = λ e. absurd (let bad_one : true ≡ false = e in cc) }
 
 none_together : (limits : Bounds) (ranges : AreInRange limits) (at : ℕ) (version : Version) (s : Session) (rs : List Record) → rs ≡ [] → together version (normal_from limits ranges at version s rs) [] ≡ []
 none_together limits ranges at version s [] e = refl
@@ -263,7 +254,7 @@ canonical_log_law settings ranges input log reads whole goes = record {
     qs = normal_from settings.limits ranges start log.version s log.records
 
     w : AreWritten settings.limits ranges start log.version (is_line_due log.version []) s log.records qs
-    w = written_log settings.limits ranges start start log.version (is_line_due log.version []) s log.records (record { limit = refl; table = tt }) (start_at settings log.version) reads.each goes
+    w = written_log settings.limits ranges start start log.version (is_line_due log.version []) s log.records (record { limit = refl; table = tt }) reads.each goes
 
     next : Log
     next = record { version = log.version; records = qs; rest = [] }

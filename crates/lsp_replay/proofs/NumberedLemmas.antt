@@ -9,13 +9,14 @@ use Rattle.lsp_message.specs.Message.{IdData, reading}
 use Rattle.lsp_server.specs.Answer.{as_sent}
 use Rattle.lsp_server.specs.Incoming.{IncomingData, incoming_of}
 use Rattle.lsp_server.specs.Step.{step_on}
+use Rattle.lsp_log.specs.declared.record.Version.{Version}
 use Rattle.lsp_log.specs.declared.record.Side.{Side}
 use Rattle.lsp_log.specs.declared.record.Side.TheVariants.{Client, Server}
 use Rattle.lsp_log.specs.Log.{Record}
-use Rattle.lsp_replay.specs.Session.{Session, bad, Judged, counted, judged, judge, judge_from, judge_incoming, handled, hear_for, heard, settle_by, settle_in, result_for, versioned, is_ended, is_early}
+use Rattle.lsp_replay.specs.Session.{Session, bad, Judged, counted, judged, judge, judge_from, judge_incoming, handled, hear_for, heard, settle_by, settle_in, result_for, is_ended, is_early}
 
 abbrev pub numbered : ℕ → ℕ → Session → Session
-numbered records messages s = record { server = s.server; version = s.version; expected = s.expected; records = records; messages = messages; refusals = s.refusals }
+numbered records messages s = record { server = s.server; expected = s.expected; records = records; messages = messages; refusals = s.refusals }
 
 -- A session differs from another in these counts alone.
 abbrev pub IsAlike : Session → Session → Type 0
@@ -45,20 +46,16 @@ module _ (n m : ℕ) where
   alike_heard s None body = (refl, (n, m, refl))
   alike_heard s (Some id) body = alike_result s (result_for id (reading body))
 
-  alike_incoming : (s : Session) (x : IncomingData) → AreAlike (judge_incoming s x) (judge_incoming (numbered n m s) x)
-  alike_incoming s x =
+  alike_incoming : (s : Session) (version : Version) (x : IncomingData) → AreAlike (judge_incoming s version x) (judge_incoming (numbered n m s) version x)
+  alike_incoming s version x =
       let step = step_on s.server x in
-      alike_if (is_ended s.server.phase) (judged bad s) (if is_early s x then judged bad s else handled s x step.state (as_sent step.answer))
-      (judged bad (numbered n m s)) (if is_early s x then judged bad (numbered n m s) else handled (numbered n m s) x step.state (as_sent step.answer)) (refl, (n, m, refl))
-      (alike_if (is_early s x) (judged bad s) (handled s x step.state (as_sent step.answer)) (judged bad (numbered n m s)) (handled (numbered n m s) x step.state (as_sent step.answer)) (refl, (n, m, refl)) (refl, (n, (handled (numbered n m s) x step.state (as_sent step.answer)).session.messages, refl)))
+      alike_if (is_ended s.server.phase) (judged bad s) (if is_early s x then judged bad s else handled s version x step.state (as_sent step.answer))
+      (judged bad (numbered n m s)) (if is_early s x then judged bad (numbered n m s) else handled (numbered n m s) version x step.state (as_sent step.answer)) (refl, (n, m, refl))
+      (alike_if (is_early s x) (judged bad s) (handled s version x step.state (as_sent step.answer)) (judged bad (numbered n m s)) (handled (numbered n m s) version x step.state (as_sent step.answer)) (refl, (n, m, refl)) (refl, (n, (handled (numbered n m s) version x step.state (as_sent step.answer)).session.messages, refl)))
 
-  alike_from : (s : Session) (side : Side) (body : List ℕ) → AreAlike (judge_from s side body) (judge_from (numbered n m s) side body)
-  alike_from s Client body = alike_incoming s (incoming_of (reading body))
-  alike_from s Server body = alike_heard s s.expected body
-
-  alike_versioned : (s : Session) (due : Bool) (side : Side) (body : List ℕ) → AreAlike (judge_from (versioned s due) side body) (judge_from (versioned (numbered n m s) due) side body)
-  alike_versioned s true side body = alike_from (versioned s true) side body
-  alike_versioned s false side body = alike_from s side body
+  alike_from : (s : Session) (version : Version) (side : Side) (body : List ℕ) → AreAlike (judge_from s version side body) (judge_from (numbered n m s) version side body)
+  alike_from s version Client body = alike_incoming s version (incoming_of (reading body))
+  alike_from s version Server body = alike_heard s s.expected body
 
 counted_alike : (j k : Judged) → AreAlike j k → AreAlike (counted j) (counted k)
 counted_alike j k is = (is.0, ((counted k).session.records, is.1.1, ap (λ (s : Session). record s { records = (counted k).session.records }) is.1.2))
@@ -66,8 +63,7 @@ counted_alike j k is = (is.0, ((counted k).session.records, is.1.1, ap (λ (s : 
 pub judged_alike : (s t : Session) (r : Record) → IsAlike s t → AreAlike (judge s r) (judge t r)
 judged_alike s t r is =
     subst (λ (u : Session). AreAlike (judge s r) (judge u r)) (sym is.2)
-    (counted_alike (judge_from (versioned s r.head.line_due) r.head.side r.body) (judge_from (versioned (numbered is.0 is.1 s) r.head.line_due) r.head.side r.body)
-    (alike_versioned is.0 is.1 s r.head.line_due r.head.side r.body))
+    (counted_alike (judge_from s r.head.version r.head.side r.body) (judge_from (numbered is.0 is.1 s) r.head.version r.head.side r.body) (alike_from is.0 is.1 s r.head.version r.head.side r.body))
 
 pub alike_self : (s : Session) → IsAlike s s
 alike_self s = (s.records, s.messages, refl)

@@ -31,11 +31,10 @@ use Rattle.lsp_replay.proofs.SingleLemmas.{IsSingle, is_single, single_record}
 use Rattle.lsp_replay.specs.RunOutput.{written_first}
 use Rattle.lsp_replay.specs.Engines.{run_output_in, replaying, front_of, line_if, change_in, canonical_change_body}
 use Rattle.lsp_replay.specs.inside.Joining.{server_after}
-use Rattle.lsp_replay.specs.Session.{Session, answered, bad, judge, versioned}
+use Rattle.lsp_replay.specs.Session.{Session, answered, bad, judge}
 use Rattle.lsp_replay.specs.Squashed.{Run, joined_by, change_output, longer, squash_step, squashed_in, run_bytes, end_bytes}
 use Rattle.lsp_replay.proofs.CanonicalChangeLemmas.{IsCanonicalChange, canonical_at, canonical_change}
 use Rattle.lsp_replay.proofs.ChangeLemmas.{IsAccepted, IsDone, is_done, proper_change, session_after}
-use Rattle.lsp_replay.proofs.JudgeLemmas.{IsVersionAt, judged_version}
 use Rattle.lsp_replay.proofs.NumberedLemmas.{IsAlike, alike_both, numbered}
 use Rattle.lsp_replay.proofs.OpenRunLemmas.{IsOpenFrom, begins_from, goes_on_from, one_batch, one_message, one_joins, same_encoding, same_text}
 use Rattle.lsp_replay.proofs.SquashLawLemmas.{IsEnded, IsApart, NonEmpty, first_line, report_on, step_on, together_split}
@@ -48,8 +47,7 @@ pub record IsPending (max_body at : ℕ) (version : Version) (due : Bool) (s : S
   pub from : IsOpenFrom t.server run.squash s.server
   pub running : t.server.phase ≡ Running
   pub waits : t.expected ≡ None
-  pub error : IsVersionAt version due t
-  pub like : IsAlike (record (versioned t due) { server = s.server }) s
+  pub like : IsAlike (record t { server = s.server }) s
   pub apart : IsApart before run.squash.uri
   pub front : run.front ≡ line_if due ++ mark_of version Client
   -- its records as single messages
@@ -59,13 +57,8 @@ pub record IsPending (max_body at : ℕ) (version : Version) (due : Bool) (s : S
   pub singles : run.singles ≡ first_line due ss ++ together version ss []
   pub last : Session
   pub last_like : IsAlike s last
-  pub last_version : last.version ≡ version
   pub run_output : (more : List Record) → squashed_in t before (ss ++ more) ≡ written_first (end_bytes before) (squashed_in last (Some run) more)
   pub replay : (more : List Record) → run_output_in replaying t (ss ++ more) ≡ run_output_in replaying last more
-
--- no line is due later
-pub later : (version : Version) (s : Session) → s.version ≡ version → IsVersionAt version false s
-later version s is = record { error = λ e. absurd (let wrong : false ≡ true = e in cc); kept = λ _. is }
 
 pub behind_some : (due : Bool) (rs : List Record) → NonEmpty rs → due_after due rs ≡ false
 behind_some due [] some = absurd some
@@ -75,7 +68,7 @@ behind_some due (r ∷ rs) some = refl
 
 module _ (t : Session) (before : Option Run) (q : Record) (p : ChangeData) (a : IsAccepted t q p) (d : IsDone t q p) (short : length (canonical_change_body t.server p) ≤ t.server.config.limits.max_body) where
   abbrev its_front : List ℕ
-  its_front = front_of (judge t q).session q
+  its_front = front_of q.head
 
   abbrev its_single : List ℕ
   its_single = its_front ++ frame (canonical_change_body t.server p)
@@ -104,19 +97,18 @@ module _ (t : Session) (before : Option Run) (q : Record) (p : ChangeData) (a : 
   not_bad e = let wrong : answered changed ≡ bad = sym d.error ∙ e in cc
 
   -- what stands in front of it
-  pub front_is : (version : Version) → IsVersionAt version q.head.line_due t → its_front ≡ line_if q.head.line_due ++ mark_of version Client
-  front_is version error =
-      ap (λ v. line_if q.head.line_due ++ mark_of v q.head.side) (judged_version version t q.head q.body error) ∙ ap (λ side. line_if q.head.line_due ++ mark_of version side) a.side
+  pub front_is : (version : Version) → q.head.version ≡ version → its_front ≡ line_if q.head.line_due ++ mark_of version Client
+  front_is version of_version =
+      ap (λ v. line_if q.head.line_due ++ mark_of v q.head.side) of_version ∙ ap (λ side. line_if q.head.line_due ++ mark_of version side) a.side
 
 -- ---- no run is open
 
-pub none_ended : (max_body at : ℕ) (version : Version) (due : Bool) (s t : Session) → IsAlike s t → IsVersionAt version due t → IsEnded max_body at version due s None t None
-none_ended max_body at version due s t like error = record {
+pub none_ended : (max_body at : ℕ) (version : Version) (due : Bool) (s t : Session) → IsAlike s t → IsEnded max_body at version due s None t None
+none_ended max_body at version due s t like = record {
   us = [];
   last = t;
   last_run = None;
   like = like;
-  error = error;
   some = λ none. absurd none;
   same_bytes = refl;
   apart = λ uri apart. tt;
@@ -126,9 +118,9 @@ none_ended max_body at version due s t like error = record {
   replay = λ more. refl;
 }
 
-pub none_after : (max_body at : ℕ) (version : Version) (due : Bool) (s t : Session) (like : IsAlike s t) (error : IsVersionAt version due t) → due_after due (none_ended max_body at version due s t like error).us ≡ due
+pub none_after : (max_body at : ℕ) (version : Version) (due : Bool) (s t : Session) (like : IsAlike s t) → due_after due (none_ended max_body at version due s t like).us ≡ due
 unfolding none_ended
-none_after max_body at version due s t like error = refl
+none_after max_body at version due s t like = refl
 
 -- ---- the run ends
 
@@ -140,7 +132,6 @@ module _ (limits : Bounds) (ranges : AreInRange limits) (at : ℕ) (version : Ve
     last = p.last;
     last_run = Some run;
     like = p.last_like;
-    error = subst (λ (b : Bool). IsVersionAt version b p.last) (sym (behind_some due p.ss p.some)) (later version p.last p.last_version);
     some = λ _. p.some;
     same_bytes = refl;
     apart = λ uri apart. apart;
@@ -194,7 +185,7 @@ module _ (limits : Bounds) (ranges : AreInRange limits) (at : ℕ) (version : Ve
 
     -- its one record
     abbrev one : Record
-    one = record { head = record { side = Client; place = place_after 0 at; line_due = due }; spelling = frame body; body = body }
+    one = record { head = record { side = Client; version = version; place = place_after 0 at; line_due = due }; spelling = frame body; body = body }
 
     accepted : IsAccepted t one change
     accepted = record { side = refl; asks = ap (λ b. incoming_of (reading b)) body_is ∙ message.asks; running = p.running; waits = p.waits; may = message.may }
@@ -203,7 +194,7 @@ module _ (limits : Bounds) (ranges : AreInRange limits) (at : ℕ) (version : Ve
     done = is_done t one change accepted
 
     abbrev front : List ℕ
-    front = front_of (judge t one).session one
+    front = front_of one.head
 
     abbrev one_run : Run
     one_run = record { front = front; singles = front ++ frame (canonical_change_body t.server change); squash = joined_by change (squash_of t.server.config.limits (encoding_of t.server) entry) }
@@ -215,7 +206,7 @@ module _ (limits : Bounds) (ranges : AreInRange limits) (at : ℕ) (version : Ve
     step = begun_step t before one change accepted done short entry p.from.found p.apart
 
     same_front : front ≡ run.front
-    same_front = front_is t before one change accepted done short version p.error ∙ sym p.front
+    same_front = front_is t before one change accepted done short version refl ∙ sym p.front
 
     leaves : server_after t.server change ≡ s.server
     leaves = message.leaves ∙ sym p.from.now_is
@@ -235,13 +226,12 @@ module _ (limits : Bounds) (ranges : AreInRange limits) (at : ℕ) (version : Ve
       last = (judge t one).session;
       last_run = Some one_run;
       like =
-          alike_both (record (versioned t due) { server = s.server }) s (judge t one).session p.like
-          (subst (λ (server : State). IsAlike (record (versioned t due) { server = server }) (judge t one).session) leaves done.leaves);
-      error = later version (judge t one).session (judged_version version t one.head one.body p.error);
+          alike_both (record t { server = s.server }) s (judge t one).session p.like
+          (subst (λ (server : State). IsAlike (record t { server = server }) (judge t one).session) leaves done.leaves);
       some = λ _. tt;
       same_bytes = same_end;
       apart = λ uri apart. ap (λ (k : SquashData). bytes_eq uri k.uri) joins ∙ apart;
-      are = (record { is_frame_of = written_is_frame limits.max_body body within (omega (arith, within, ranges.greatest_body)); side = λ e. refl; placed = refl; due = refl }, tt);
+      are = (record { is_frame_of = written_is_frame limits.max_body body within (omega (arith, within, ranges.greatest_body)); side = λ e. refl; of_version = refl; placed = refl; due = refl }, tt);
       bytes =
           one_written ∙ ap (λ f. f ++ frame body) p.front ∙ append_assoc (line_if due) (mark_of version Client) (frame body)
           ∙ ap (λ z. line_if due ++ z) (sym (append-nil (mark_of version Client ++ frame body)));
@@ -261,8 +251,8 @@ module _ (limits : Bounds) (ranges : AreInRange limits) (at : ℕ) (version : Ve
 -- the run that an accepted change begins
 abbrev pub run_at : Session → Record → ChangeData → DocumentItem → Run
 run_at s r p entry = record {
-  front = front_of (judge s r).session r;
-  singles = front_of (judge s r).session r ++ frame (canonical_change_body s.server p);
+  front = front_of r.head;
+  singles = front_of r.head ++ frame (canonical_change_body s.server p);
   squash = joined_by p (squash_of s.server.config.limits (encoding_of s.server) entry);
 }
 
@@ -272,30 +262,19 @@ as_accepted s t r p like a = subst (λ (u : Session). IsAccepted u r p) (sym lik
 pub same_server : (s t : Session) → IsAlike s t → t.server ≡ s.server
 same_server s t like = ap (λ (u : Session). u.server) like.2
 
-same_versioned : (n m : ℕ) (s : Session) (due : Bool) → versioned (numbered n m s) due ≡ numbered n m (versioned s due)
-same_versioned n m s true = refl
-same_versioned n m s false = refl
-
 -- the session after an accepted change
-after_alike : (s t : Session) (due : Bool) (p : ChangeData) (next : Session) → IsAlike s t → IsAlike (session_after s due p) next → IsAlike (record (versioned t due) { server = next.server }) next
-after_alike s t due p next like leaves = (leaves.0, leaves.1, leaves.2 ∙ sym (ap (numbered leaves.0 leaves.1) same))
+after_alike : (s t : Session) (p : ChangeData) (next : Session) → IsAlike s t → IsAlike (session_after s p) next → IsAlike (record t { server = next.server }) next
+after_alike s t p next like leaves = (leaves.0, leaves.1, leaves.2 ∙ sym (ap (numbered leaves.0 leaves.1) same))
   where
-    same : record (versioned t due) { server = next.server } ≡ numbered like.0 like.1 (session_after s due p)
-    same =
-        ap (λ (u : Session). record (versioned u due) { server = next.server }) like.2
-        ∙ ap (λ (u : Session). record u { server = next.server }) (same_versioned like.0 like.1 s due)
-        ∙ ap (λ server. record (numbered like.0 like.1 (versioned s due)) { server = server }) (ap (λ (u : Session). u.server) leaves.2)
+    same : record t { server = next.server } ≡ numbered like.0 like.1 (session_after s p)
+    same = ap (λ (u : Session). record u { server = next.server }) like.2 ∙ ap (λ server. record (numbered like.0 like.1 s) { server = server }) (ap (λ (u : Session). u.server) leaves.2)
 
 -- the same where the record is written otherwise
-after_out : (s t : Session) (due : Bool) (p again : ChangeData) (next : Session) → IsAlike s t → server_after t.server again ≡ server_after s.server p → IsAlike (session_after t due again) next
-    → IsAlike (session_after s due p) next
-after_out s t due p again next like leaves after = (after.0, after.1, after.2 ∙ ap (numbered after.0 after.1) same)
+after_out : (s t : Session) (p again : ChangeData) (next : Session) → IsAlike s t → server_after t.server again ≡ server_after s.server p → IsAlike (session_after t again) next → IsAlike (session_after s p) next
+after_out s t p again next like leaves after = (after.0, after.1, after.2 ∙ ap (numbered after.0 after.1) same)
   where
-    same : session_after t due again ≡ numbered like.0 like.1 (session_after s due p)
-    same =
-        ap (λ (u : Session). record (versioned u due) { server = server_after t.server again }) like.2
-        ∙ ap (λ (u : Session). record u { server = server_after t.server again }) (same_versioned like.0 like.1 s due)
-        ∙ ap (λ server. record (numbered like.0 like.1 (versioned s due)) { server = server }) leaves
+    same : session_after t again ≡ numbered like.0 like.1 (session_after s p)
+    same = ap (λ (u : Session). record u { server = server_after t.server again }) like.2 ∙ ap (λ server. record (numbered like.0 like.1 s) { server = server }) leaves
 
 pub record IsBegunRun (max_body at : ℕ) (version : Version) (due : Bool) (s : Session) (run : Option Run) (r : Record) (t : Session) (before : Option Run) : Type 0 where
   pub next : Run
@@ -303,7 +282,7 @@ pub record IsBegunRun (max_body at : ℕ) (version : Version) (due : Bool) (s : 
   pub pending : IsPending max_body at version due (judge s r).session next t before
 
 module _ (limits : Bounds) (ranges : AreInRange limits) (at : ℕ) (version : Version) (due : Bool) (s : Session) (run : Option Run) (t : Session) (before : Option Run) (r : Record) (p : ChangeData)
-    (like : IsAlike s t) (error : IsVersionAt version due t) (told_in : IsVersionAt version r.head.line_due s) (apart_in : IsApart run p.uri) (apart : IsApart before p.uri) (received : IsHeldState limits s.server)
+    (like : IsAlike s t) (of_version : r.head.version ≡ version) (apart_in : IsApart run p.uri) (apart : IsApart before p.uri) (received : IsHeldState limits s.server)
     (a : IsAccepted s r p) (fits : length (canonical_change_body s.server p) ≤ s.server.config.limits.max_body) (same_due : r.head.line_due ≡ due) where
   there : t.server ≡ s.server
   there = same_server s t like
@@ -311,7 +290,7 @@ module _ (limits : Bounds) (ranges : AreInRange limits) (at : ℕ) (version : Ve
   single : IsSingle limits.max_body at version due t p (single_record at t r p)
   single =
       is_single limits ranges at version due t r p (subst (IsHeldState limits) (sym there) received) (as_accepted s t r p like a)
-      (subst (λ (server : State). length (canonical_change_body server p) ≤ server.config.limits.max_body) (sym there) fits) same_due
+      (subst (λ (server : State). length (canonical_change_body server p) ≤ server.config.limits.max_body) (sym there) fits) of_version same_due
 
   abbrev q : Record
   q = single_record at t r p
@@ -337,12 +316,12 @@ module _ (limits : Bounds) (ranges : AreInRange limits) (at : ℕ) (version : Ve
   step_out : squash_step t before q (judge t q) ≡ record { out = end_bytes before; end = None; run = Some (run_at t q single.again its_entry) }
   step_out = begun_step t before q single.again single.accepted done_out single.within its_entry found_out (subst (IsApart before) (sym single.same_uri) apart)
 
-  front_in : front_of (judge s r).session r ≡ line_if due ++ mark_of version Client
-  front_in = front_is s run r p a done_in fits version told_in ∙ ap (λ b. line_if b ++ mark_of version Client) same_due
+  front_in : front_of r.head ≡ line_if due ++ mark_of version Client
+  front_in = front_is s run r p a done_in fits version of_version ∙ ap (λ b. line_if b ++ mark_of version Client) same_due
 
-  front_out : front_of (judge t q).session q ≡ line_if due ++ mark_of version Client
+  front_out : front_of q.head ≡ line_if due ++ mark_of version Client
   front_out =
-      front_is t before q single.again single.accepted done_out single.within version (subst (λ b. IsVersionAt version b t) (sym same_due) error) ∙ ap (λ b. line_if b ++ mark_of version Client) same_due
+      front_is t before q single.again single.accepted done_out single.within version of_version ∙ ap (λ b. line_if b ++ mark_of version Client) same_due
 
   same_squash : joined_by single.again (squash_of t.server.config.limits (encoding_of t.server) its_entry) ≡ joined_by p (squash_of s.server.config.limits (encoding_of s.server) its_entry)
   same_squash =
@@ -381,8 +360,7 @@ module _ (limits : Bounds) (ranges : AreInRange limits) (at : ℕ) (version : Ve
       from = from_here;
       running = ap (λ (server : State). server.phase) there ∙ a.running;
       waits = ap (λ (u : Session). u.expected) like.2 ∙ a.waits;
-      error = error;
-      like = after_alike s t due p (judge s r).session like (subst (λ b. IsAlike (session_after s b p) (judge s r).session) same_due done_in.leaves);
+      like = after_alike s t p (judge s r).session like done_in.leaves;
       apart = subst (IsApart before) (sym (uri_at s.server.table p.uri its_entry may_in.is_open)) apart;
       front = front_in;
       ss = q ∷ [];
@@ -393,16 +371,14 @@ module _ (limits : Bounds) (ranges : AreInRange limits) (at : ℕ) (version : Ve
           ∙ ap (λ z. line_if due ++ z)
           (ap₂ (λ (side : Side) (b : List ℕ). mark_of version side ++ frame b) (sym a.side) (ap (λ (server : State). canonical_change_body server p) (sym there)) ∙ sym (append-nil (record_bytes version q)));
       last = (judge t q).session;
-      last_like = alike_both (session_after s due p) (judge s r).session (judge t q).session (subst (λ b. IsAlike (session_after s b p) (judge s r).session) same_due done_in.leaves) out_like;
-      last_version = judged_version version t q.head q.body (subst (λ b. IsVersionAt version b t) (sym same_due) error);
+      last_like = alike_both (session_after s p) (judge s r).session (judge t q).session done_in.leaves out_like;
       run_output = λ more. step_on t before q more (end_bytes before) (Some (run_at s r p its_entry)) (step_out ∙ ap (λ o. record { out = end_bytes before; end = None; run = Some o }) same_run);
       replay = λ more. report_on t q more (not_bad t before q single.again single.accepted done_out single.within);
     };
   }
     where
-      out_like : IsAlike (session_after s due p) (judge t q).session
-      out_like = after_out s t due p single.again (judge t q).session like (single.leaves ∙ ap (λ (server : State). server_after server p) there)
-          (subst (λ b. IsAlike (session_after t b single.again) (judge t q).session) same_due done_out.leaves)
+      out_like : IsAlike (session_after s p) (judge t q).session
+      out_like = after_out s t p single.again (judge t q).session like (single.leaves ∙ ap (λ (server : State). server_after server p) there) done_out.leaves
 
 -- ---- a change goes on with the run
 
@@ -412,7 +388,7 @@ pub record IsLongerRun (max_body at : ℕ) (version : Version) (due : Bool) (s :
   pub pending : IsPending max_body at version due (judge s r).session next t before
 
 module _ (limits : Bounds) (ranges : AreInRange limits) (at : ℕ) (version : Version) (due : Bool) (s : Session) (run : Run) (t : Session) (before : Option Run) (r : Record) (p : ChangeData)
-    (open_run : IsPending limits.max_body at version due s run t before) (told_in : IsVersionAt version r.head.line_due s) (same : bytes_eq p.uri run.squash.uri ≡ true) (received : IsHeldState limits s.server)
+    (open_run : IsPending limits.max_body at version due s run t before) (of_version : r.head.version ≡ version) (same : bytes_eq p.uri run.squash.uri ≡ true) (received : IsHeldState limits s.server)
     (a : IsAccepted s r p) (fits : length (canonical_change_body s.server p) ≤ s.server.config.limits.max_body) (not_due : r.head.line_due ≡ false) where
   abbrev last : Session
   last = open_run.last
@@ -423,13 +399,10 @@ module _ (limits : Bounds) (ranges : AreInRange limits) (at : ℕ) (version : Ve
   equal : last.server ≡ s.server
   equal = same_server s last open_run.last_like
 
-  told_last : IsVersionAt version false last
-  told_last = later version last open_run.last_version
-
   another : IsSingle limits.max_body place version false last p (single_record place last r p)
   another =
       is_single limits ranges place version false last r p (subst (IsHeldState limits) (sym equal) received) (as_accepted s last r p open_run.last_like a)
-      (subst (λ (server : State). length (canonical_change_body server p) ≤ server.config.limits.max_body) (sym equal) fits) not_due
+      (subst (λ (server : State). length (canonical_change_body server p) ≤ server.config.limits.max_body) (sym equal) fits) of_version not_due
 
   abbrev more_q : Record
   more_q = single_record place last r p
@@ -444,17 +417,17 @@ module _ (limits : Bounds) (ranges : AreInRange limits) (at : ℕ) (version : Ve
   uri_is = (bytes_eq-Decides p.uri run.squash.uri).0 same
 
   abbrev next_run : Run
-  next_run = longer run p (front_of (judge s r).session r ++ frame (canonical_change_body s.server p))
+  next_run = longer run p (front_of r.head ++ frame (canonical_change_body s.server p))
 
   gives_here : squash_step s (Some run) r (judge s r) ≡ record { out = []; end = None; run = Some next_run }
   gives_here = longer_step s (Some run) r p a done_here fits run refl same
 
-  front_here : front_of (judge s r).session r ≡ mark_of version Client
-  front_here = front_is s (Some run) r p a done_here fits version told_in ∙ ap (λ b. line_if b ++ mark_of version Client) not_due
+  front_here : front_of r.head ≡ mark_of version Client
+  front_here = front_is s (Some run) r p a done_here fits version of_version ∙ ap (λ b. line_if b ++ mark_of version Client) not_due
 
-  front_last : front_of (judge last more_q).session more_q ≡ mark_of version Client
+  front_last : front_of more_q.head ≡ mark_of version Client
   front_last =
-      front_is last (Some run) more_q another.again another.accepted done_last another.within version (subst (λ b. IsVersionAt version b last) (sym not_due) told_last)
+      front_is last (Some run) more_q another.again another.accepted done_last another.within version of_version
       ∙ ap (λ b. line_if b ++ mark_of version Client) not_due
 
   joins_same : joined_by another.again run.squash ≡ joined_by p run.squash
@@ -467,7 +440,7 @@ module _ (limits : Bounds) (ranges : AreInRange limits) (at : ℕ) (version : Ve
       longer_step last (Some run) more_q another.again another.accepted done_last another.within run refl (ap (λ u. bytes_eq u run.squash.uri) another.same_uri ∙ same)
       ∙ (λ i. record { out = []; end = None; run = Some (record run { singles = run.singles ++ single_is i; squash = joins_same i }) })
     where
-      single_is : front_of (judge last more_q).session more_q ++ frame (canonical_change_body last.server another.again) ≡ front_of (judge s r).session r ++ frame (canonical_change_body s.server p)
+      single_is : front_of more_q.head ++ frame (canonical_change_body last.server another.again) ≡ front_of r.head ++ frame (canonical_change_body s.server p)
       single_is = ap₂ (λ (f b : List ℕ). f ++ frame b) (front_last ∙ sym front_here) (another.own ∙ ap (λ (server : State). canonical_change_body server p) equal)
 
   next_is : server_after s.server p ≡ (judge s r).session.server
@@ -481,7 +454,7 @@ module _ (limits : Bounds) (ranges : AreInRange limits) (at : ℕ) (version : Ve
   same_line [] q some = absurd some
   same_line (x ∷ rs) q some = refl
 
-  pushed : run.singles ++ (front_of (judge s r).session r ++ frame (canonical_change_body s.server p)) ≡ first_line due (open_run.ss ++ more_q ∷ []) ++ together version (open_run.ss ++ more_q ∷ []) []
+  pushed : run.singles ++ (front_of r.head ++ frame (canonical_change_body s.server p)) ≡ first_line due (open_run.ss ++ more_q ∷ []) ++ together version (open_run.ss ++ more_q ∷ []) []
   pushed =
       ap₂ (λ (x y : List ℕ). x ++ y) open_run.singles (ap₂ (λ (f b : List ℕ). f ++ frame b) front_here (ap (λ (server : State). canonical_change_body server p) (sym equal)))
       ∙ append_assoc (first_line due open_run.ss) (together version open_run.ss []) (mark_of version Client ++ frame (canonical_change_body last.server p))
@@ -491,15 +464,12 @@ module _ (limits : Bounds) (ranges : AreInRange limits) (at : ℕ) (version : Ve
       ∙ ap (together version open_run.ss) (sym (append-nil (record_bytes version more_q)))
       ∙ sym (together_push version open_run.ss more_q []))
 
-  done_alike : IsAlike (session_after s false p) (judge s r).session
-  done_alike = subst (λ b. IsAlike (session_after s b p) (judge s r).session) not_due done_here.leaves
-
-  like_on : IsAlike (record (versioned t due) { server = (judge s r).session.server }) (judge s r).session
+  like_on : IsAlike (record t { server = (judge s r).session.server }) (judge s r).session
   like_on = (
-    done_alike.0,
-    done_alike.1,
-    done_alike.2 ∙ ap (λ (u : Session). numbered done_alike.0 done_alike.1 (record u { server = server_after s.server p })) open_run.like.2
-        ∙ ap (λ server. numbered done_alike.0 done_alike.1 (record (versioned t due) { server = server })) next_is,
+    done_here.leaves.0,
+    done_here.leaves.1,
+    done_here.leaves.2 ∙ ap (λ (u : Session). numbered done_here.leaves.0 done_here.leaves.1 (record u { server = server_after s.server p })) open_run.like.2
+        ∙ ap (λ server. numbered done_here.leaves.0 done_here.leaves.1 (record t { server = server })) next_is,
   )
 
   pub longer_run : IsLongerRun limits.max_body at version due s run r t before
@@ -510,7 +480,6 @@ module _ (limits : Bounds) (ranges : AreInRange limits) (at : ℕ) (version : Ve
       from = subst (IsOpenFrom t.server next_run.squash) next_is (goes_on_from t.server run.squash s.server open_run.from p same (proper_change r p a.asks) a.may);
       running = open_run.running;
       waits = open_run.waits;
-      error = open_run.error;
       like = like_on;
       apart = open_run.apart;
       front = open_run.front;
@@ -520,10 +489,8 @@ module _ (limits : Bounds) (ranges : AreInRange limits) (at : ℕ) (version : Ve
       singles = pushed;
       last = (judge last more_q).session;
       last_like =
-          alike_both (session_after s false p) (judge s r).session (judge last more_q).session done_alike
-          (after_out s last false p another.again (judge last more_q).session open_run.last_like (another.leaves ∙ ap (λ (server : State). server_after server p) equal)
-          (subst (λ b. IsAlike (session_after last b another.again) (judge last more_q).session) not_due done_last.leaves));
-      last_version = judged_version version last more_q.head more_q.body (subst (λ b. IsVersionAt version b last) (sym not_due) told_last);
+          alike_both (session_after s p) (judge s r).session (judge last more_q).session done_here.leaves
+          (after_out s last p another.again (judge last more_q).session open_run.last_like (another.leaves ∙ ap (λ (server : State). server_after server p) equal) done_last.leaves);
       run_output = λ more.
           ap (squashed_in t before) (append_assoc open_run.ss (more_q ∷ []) more) ∙ open_run.run_output (more_q ∷ more)
           ∙ ap (written_first (end_bytes before)) (step_on last (Some run) more_q more [] (Some next_run) gives_last);

@@ -52,7 +52,7 @@ abbrev pub single_record : ℕ → Session → Record → ChangeData → Record
 single_record at s r p = record { head = record r.head { place = place_after 0 at }; spelling = frame (canonical_change_body s.server p); body = canonical_change_body s.server p }
 
 module _ (limits : Bounds) (ranges : AreInRange limits) (at : ℕ) (version : Version) (due : Bool) (s : Session) (r : Record) (p : ChangeData) (received : IsHeldState limits s.server)
-    (a : IsAccepted s r p) (fits : length (canonical_change_body s.server p) ≤ s.server.config.limits.max_body) (same_due : r.head.line_due ≡ due) where
+    (a : IsAccepted s r p) (fits : length (canonical_change_body s.server p) ≤ s.server.config.limits.max_body) (of_version : r.head.version ≡ version) (same_due : r.head.line_due ≡ due) where
   may : MayChange s.server.config.limits (units_in (encoding_of s.server)) s.server.table p.uri p.version (map edit_from_data p.changes)
   may = change_parts s.server.config.limits (units_in (encoding_of s.server)) s.server.table p.uri p.version (map edit_from_data p.changes) a.may
 
@@ -112,6 +112,7 @@ module _ (limits : Bounds) (ranges : AreInRange limits) (at : ℕ) (version : Ve
     is = record {
       is_frame_of = written_is_frame limits.max_body (canonical_change_body s.server p) within (omega (arith, within, ranges.greatest_body));
       side = λ e. a.side;
+      of_version = of_version;
       placed = refl;
       due = same_due;
     };

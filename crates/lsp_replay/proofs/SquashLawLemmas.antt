@@ -10,7 +10,6 @@ use Rattle.lsp_replay.specs.Engines.{writes, continue_with, unless_bad, run_outp
 use Rattle.lsp_replay.specs.Session.{Session, Verdict, answered, recorded, bad, judge}
 use Rattle.lsp_replay.specs.Squashed.{Run, Step, squash_step, squashed_in, end_bytes}
 use Rattle.lsp_replay.proofs.NumberedLemmas.{IsAlike}
-use Rattle.lsp_replay.proofs.JudgeLemmas.{IsVersionAt}
 
 -- all that is written of some records
 abbrev pub total : RunOutput → List ℕ
@@ -97,7 +96,6 @@ pub record IsEnded (max_body at : ℕ) (version : Version) (due : Bool) (s : Ses
   pub last : Session
   pub last_run : Option Run
   pub like : IsAlike s last
-  pub error : IsVersionAt version (due_after due us) last
   pub some : HasRun run → NonEmpty us
   pub same_bytes : end_bytes last_run ≡ end_bytes run
   pub apart : (uri : List ℕ) → IsApart run uri → IsApart last_run uri

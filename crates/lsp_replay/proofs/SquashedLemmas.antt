@@ -55,7 +55,7 @@ stop_on out bytes (Some e) (Some a) c d same stops = same
 pub stops_in : (s : Session) (run : Option Run) (rs : List Record) → (squashed_in s run rs).stop ≡ (run_output_in normalising s rs).stop
 stops_in s run [] = refl
 stops_in s run (r ∷ rs) =
-    stop_on _ _ _ _ _ _ (step_end s.server r (front_of (judge s r).session r) run (change_in (incoming_of (reading r.body))) (judge s r).verdict)
+    stop_on _ _ _ _ _ _ (step_end s.server r (front_of r.head) run (change_in (incoming_of (reading r.body))) (judge s r).verdict)
     (stops_in (judge s r).session (squash_step s run r (judge s r)).run rs)
 
 outcome_on : (out bytes : List ℕ) (end also : Option (Result Outcome EngineFault)) (c d : RunOutput) → end ≡ also → c.outcome ≡ d.outcome → (continue_with out end c).outcome ≡ (continue_with bytes also d).outcome
@@ -68,7 +68,7 @@ outcome_on out bytes (Some e) (Some a) c d same outcomes = refl
 pub outcome_in : (s : Session) (run : Option Run) (rs : List Record) → (squashed_in s run rs).outcome ≡ (run_output_in normalising s rs).outcome
 outcome_in s run [] = refl
 outcome_in s run (r ∷ rs) =
-    outcome_on _ _ _ _ _ _ (step_end s.server r (front_of (judge s r).session r) run (change_in (incoming_of (reading r.body))) (judge s r).verdict)
+    outcome_on _ _ _ _ _ _ (step_end s.server r (front_of r.head) run (change_in (incoming_of (reading r.body))) (judge s r).verdict)
     (outcome_in (judge s r).session (squash_step s run r (judge s r)).run rs)
 
 pub stops_alike : StopsAlike

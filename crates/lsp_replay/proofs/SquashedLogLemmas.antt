@@ -21,17 +21,17 @@ use Rattle.lsp_replay.specs.Laws.{SquashedLaw, IsSquashed, LeavesAlike, all_of}
 use Rattle.lsp_replay.specs.Session.{Session, answered, bad, judge, opened}
 use Rattle.lsp_replay.specs.Squashed.{Run, Step, squash_step, squashed_in, squashed, end_bytes, other_step}
 use Rattle.lsp_replay.proofs.ChangeLemmas.{IsAccepted, IsOtherKind, IsChangeKind, kind_of, not_bad_of, was_accepted}
-use Rattle.lsp_replay.proofs.JudgeLemmas.{IsVersionAt, judged_held, judged_version}
-use Rattle.lsp_replay.proofs.NormalisedLemmas.{canonical_record, went_on, start_at, version_is}
+use Rattle.lsp_replay.proofs.JudgeLemmas.{judged_held}
+use Rattle.lsp_replay.proofs.NormalisedLemmas.{canonical_record, went_on, version_is}
 use Rattle.lsp_replay.proofs.NumberedLemmas.{IsAlike, alike_self, judged_alike}
-use Rattle.lsp_replay.proofs.PendingLemmas.{IsPending, IsBegunRun, IsLongerRun, behind_some, begun_run, later, longer_run, none_after, none_ended, same_server, some_ended}
+use Rattle.lsp_replay.proofs.PendingLemmas.{IsPending, IsBegunRun, IsLongerRun, behind_some, begun_run, longer_run, none_after, none_ended, same_server, some_ended}
 use Rattle.lsp_replay.proofs.SquashingLemmas.{step_other}
 use Rattle.lsp_replay.proofs.SquashLawLemmas.{IsApart, IsAny, IsEnded, IsSquashedAs, NonEmpty, at_end, begins_next, first_line, goes_on_next, others_next, report_on, total}
 use Rattle.lsp_replay.proofs.StateLemmas.{IsHeldState}
 
 -- How far a log and what was written of it have come, between two records.
 abbrev IsAfter : ℕ → ℕ → Version → Bool → Bool → Session → Option Run → Session → Option Run → Type 0
-IsAfter max_body at version due due_in s None t before = (before ≡ None) × IsAlike s t × IsVersionAt version due t × (due ≡ due_in)
+IsAfter max_body at version due due_in s None t before = (before ≡ None) × IsAlike s t × (due ≡ due_in)
 IsAfter max_body at version due due_in s (Some run) t before = IsPending max_body at version due s run t before × (due_in ≡ false)
 
 record AllEnded (max_body at : ℕ) (version : Version) (due due_in : Bool) (s : Session) (run : Option Run) (t : Session) (before : Option Run) : Type 0 where
@@ -42,7 +42,7 @@ module _ (limits : Bounds) (ranges : AreInRange limits) where
   all_ended : (at : ℕ) (version : Version) (due due_in : Bool) (s : Session) (run : Option Run) (t : Session) (before : Option Run) → IsHeldState limits t.server
       → IsAfter limits.max_body at version due due_in s run t before → AllEnded limits.max_body at version due due_in s run t before
   all_ended at version due due_in s None t before received is =
-      subst (λ (b : Option Run). AllEnded limits.max_body at version due due_in s None t b) (sym is.0) (record { ended = none_ended limits.max_body at version due s t is.1 is.2; same_due = sym is.3 ∙ sym (none_after limits.max_body at version due s t is.1 is.2) })
+      subst (λ (b : Option Run). AllEnded limits.max_body at version due due_in s None t b) (sym is.0) (record { ended = none_ended limits.max_body at version due s t is.1; same_due = sym is.2 ∙ sym (none_after limits.max_body at version due s t is.1) })
   all_ended at version due due_in s (Some run) t before received is =
       let e = some_ended limits ranges at version due s run t before received.limit is.0 in
       record { ended = e; same_due = is.1 ∙ sym (behind_some due e.us (e.some tt)) }
@@ -54,14 +54,10 @@ module _ (limits : Bounds) (ranges : AreInRange limits) where
   held_alike : (s t : Session) → IsAlike s t → IsHeldState limits s.server → IsHeldState limits t.server
   held_alike s t like received = subst (IsHeldState limits) (sym (same_server s t like)) received
 
-  -- the version at a record
-  fresh : (version : Version) (due : Bool) (s : Session) (r : Record) → r.head.line_due ≡ due → IsVersionAt version due s → IsVersionAt version r.head.line_due s
-  fresh version due s r is error = subst (λ (b : Bool). IsVersionAt version b s) (sym is) error
-
   -- ---- one record, and those behind it
 
   module _ (at place : ℕ) (version : Version) (due due_in : Bool) (s : Session) (run : Option Run) (t : Session) (before : Option Run) (r : Record) (rs : List Record)
-      (received : IsHeldState limits s.server) (held_out : IsHeldState limits t.server) (error : IsVersionAt version due_in s) (is_after : IsAfter limits.max_body at version due due_in s run t before)
+      (received : IsHeldState limits s.server) (held_out : IsHeldState limits t.server) (is_after : IsAfter limits.max_body at version due due_in s run t before)
       (is : IsRecord limits.max_body version place due_in r) (goes : (squashed_in (judge s r).session (squash_step s run r (judge s r)).run rs).stop ≡ None)
       (rest : (at place : ℕ) (due : Bool) (run : Option Run) (t : Session) (before : Option Run) → IsHeldState limits t.server → IsAfter limits.max_body at version due false (judge s r).session run t before
       → (squashed_in (judge s r).session run rs).stop ≡ None → IsSquashedAs limits.max_body at version due (judge s r).session run rs t before) where
@@ -70,9 +66,6 @@ module _ (limits : Bounds) (ranges : AreInRange limits) where
 
     abbrev e : IsEnded limits.max_body at version due s run t before
     e = a.ended
-
-    told_r : IsVersionAt version r.head.line_due s
-    told_r = fresh version due_in s r is.due error
 
     due_r : r.head.line_due ≡ due_after due e.us
     due_r = is.due ∙ a.same_due
@@ -99,31 +92,23 @@ module _ (limits : Bounds) (ranges : AreInRange limits) where
           ap (λ (server : State). canonical_if server (change_in (incoming_of (reading r.body))) (judge e.last r).verdict) (same_server s e.last e.like)
           ∙ ap (canonical_if s.server (change_in (incoming_of (reading r.body)))) alike.0 ∙ kind.1
 
-      gives_other : squash_step s run r (judge s r) ≡ other_step r (front_of (judge s r).session r) run
-      gives_other = step_other s.server r (front_of (judge s r).session r) run (change_in (incoming_of (reading r.body))) (judge s r).verdict kind.0 kind.1
+      gives_other : squash_step s run r (judge s r) ≡ other_step r (front_of r.head) run
+      gives_other = step_other s.server r (front_of r.head) run (change_in (incoming_of (reading r.body))) (judge s r).verdict kind.0 kind.1
 
-      same_front : front_of (judge e.last q).session q ≡ front_of (judge s r).session r
-      same_front = ap (λ v. line_if r.head.line_due ++ mark_of v r.head.side) (ap (λ (u : Session). u.version) alike.1.2)
+      gives_last : squash_step e.last e.last_run q (judge e.last q) ≡ record { out = end_bytes e.last_run ++ (front_of r.head ++ q.spelling); end = None; run = None }
+      gives_last = step_other e.last.server q (front_of q.head) e.last_run (change_in (incoming_of (reading q.body))) (judge e.last q).verdict not_bad_last none_last
 
-      gives_last : squash_step e.last e.last_run q (judge e.last q) ≡ record { out = end_bytes e.last_run ++ (front_of (judge s r).session r ++ q.spelling); end = None; run = None }
-      gives_last =
-          step_other e.last.server q (front_of (judge e.last q).session q) e.last_run (change_in (incoming_of (reading q.body))) (judge e.last q).verdict not_bad_last none_last
-          ∙ ap (λ f. other_step q f e.last_run) same_front
-
-      front_at : front_of (judge s r).session r ≡ line_if (due_after due e.us) ++ mark_of version q.head.side
+      front_at : front_of r.head ≡ line_if (due_after due e.us) ++ mark_of version q.head.side
       front_at =
-          ap (λ v. line_if r.head.line_due ++ mark_of v r.head.side) (judged_version version s r.head r.body told_r)
+          ap (λ v. line_if r.head.line_due ++ mark_of v r.head.side) is.of_version
           ∙ ap (λ b. line_if b ++ mark_of version r.head.side) due_r
-
-      later_last : IsVersionAt version false (judge e.last q).session
-      later_last = later version (judge e.last q).session (judged_version version e.last q.head q.body (subst (λ (b : Bool). IsVersionAt version b e.last) (sym due_r) e.error))
 
       others : IsSquashedAs limits.max_body at version due s run (r ∷ rs) t before
       others =
-          others_next limits.max_body at version due s run t before e r q rs (front_of (judge s r).session r)
-          (record { is_frame_of = is.is_frame_of; side = is.side; placed = refl; due = due_r }) gives_other kind.0 front_at gives_last not_bad_last
+          others_next limits.max_body at version due s run t before e r q rs (front_of r.head)
+          (record { is_frame_of = is.is_frame_of; side = is.side; of_version = is.of_version; placed = refl; due = due_r }) gives_other kind.0 front_at gives_last not_bad_last
           (rest (next_at + length (record_bytes version q)) place false None (judge e.last q).session None (held_alike (judge s r).session (judge e.last q).session alike.1 (judged_held limits s r received))
-          (refl, alike.1, later_last, refl) (subst (λ (step : Step). (squashed_in (judge s r).session step.run rs).stop ≡ None) gives_other goes))
+          (refl, alike.1, refl) (subst (λ (step : Step). (squashed_in (judge s r).session step.run rs).stop ≡ None) gives_other goes))
 
     -- an accepted change
     module _ (kind : IsChangeKind s.server (change_in (incoming_of (reading r.body))) (judge s r).verdict) where
@@ -139,7 +124,7 @@ module _ (limits : Bounds) (ranges : AreInRange limits) where
       begins : IsApart run p.uri → IsSquashedAs limits.max_body at version due s run (r ∷ rs) t before
       begins apart =
           let b : IsBegunRun limits.max_body next_at version (due_after due e.us) s run r e.last e.last_run =
-          begun_run limits ranges next_at version (due_after due e.us) s run e.last e.last_run r p e.like e.error told_r apart (e.apart p.uri apart) received accepted kind.3 due_r in
+          begun_run limits ranges next_at version (due_after due e.us) s run e.last e.last_run r p e.like is.of_version apart (e.apart p.uri apart) received accepted kind.3 due_r in
           begins_next limits.max_body at version due s run t before e r rs (Some b.next) b.writes not_bad (any_some b.next rs)
           (rest next_at place (due_after due e.us) (Some b.next) e.last e.last_run held_last (b.pending, refl)
           (subst (λ (step : Step). (squashed_in (judge s r).session step.run rs).stop ≡ None) b.writes goes))
@@ -148,7 +133,7 @@ module _ (limits : Bounds) (ranges : AreInRange limits) where
           → IsSquashedAs limits.max_body at version due s run (r ∷ rs) t before
       continues before_run is_run same pending not_due =
           let l : IsLongerRun limits.max_body at version due s before_run r t before =
-          longer_run limits ranges at version due s before_run t before r p pending told_r same received accepted kind.3 (is.due ∙ not_due) in
+          longer_run limits ranges at version due s before_run t before r p pending is.of_version same received accepted kind.3 (is.due ∙ not_due) in
           let writes = ap (λ o. squash_step s o r (judge s r)) is_run ∙ l.writes in
           goes_on_next limits.max_body at version due s run t before (Some l.next) r rs writes not_bad (any_some l.next rs)
           (rest at place due (Some l.next) t before held_out (l.pending, refl) (subst (λ (step : Step). (squashed_in (judge s r).session step.run rs).stop ≡ None) writes goes))
@@ -167,19 +152,18 @@ module _ (limits : Bounds) (ranges : AreInRange limits) where
     one_record none =
         ⊎_elim (λ (kind : IsOtherKind s.server (change_in (incoming_of (reading r.body))) (judge s r).verdict). others kind)
         (λ (kind : IsChangeKind s.server (change_in (incoming_of (reading r.body))) (judge s r).verdict). changes kind run refl)
-        (kind_of s.server r (front_of (judge s r).session r) run (change_in (incoming_of (reading r.body))) (judge s r).verdict none)
+        (kind_of s.server r (front_of r.head) run (change_in (incoming_of (reading r.body))) (judge s r).verdict none)
 
   squashed_log : (rs : List Record) (at place : ℕ) (version : Version) (due due_in : Bool) (s : Session) (run : Option Run) (t : Session) (before : Option Run) → IsHeldState limits s.server → IsHeldState limits t.server
-      → IsVersionAt version due_in s → IsAfter limits.max_body at version due due_in s run t before → AreRecords limits.max_body version place due_in rs → (squashed_in s run rs).stop ≡ None
+      → IsAfter limits.max_body at version due due_in s run t before → AreRecords limits.max_body version place due_in rs → (squashed_in s run rs).stop ≡ None
       → IsSquashedAs limits.max_body at version due s run rs t before
-  squashed_log [] at place version due due_in s run t before received held_out error is_after each goes =
+  squashed_log [] at place version due due_in s run t before received held_out is_after each goes =
       at_end limits.max_body at version due s run t before (all_ended at version due due_in s run t before held_out is_after).ended
-  squashed_log (r ∷ rs) at place version due due_in s run t before received held_out error is_after each goes =
+  squashed_log (r ∷ rs) at place version due due_in s run t before received held_out is_after each goes =
       let on = went_on (squash_step s run r (judge s r)).out (squash_step s run r (judge s r)).end (squashed_in (judge s r).session (squash_step s run r (judge s r)).run rs) goes in
-      let told_later : IsVersionAt version false (judge s r).session = later version (judge s r).session (judged_version version s r.head r.body (fresh version due_in s r each.0.due error)) in
-      one_record at place version due due_in s run t before r rs received held_out error is_after each.0 on.1
+      one_record at place version due due_in s run t before r rs received held_out is_after each.0 on.1
       (λ next_at next_place next_due next_run next_t next_before next_held next_stands next_goes.
-      squashed_log rs next_at (place + length (record_bytes version r)) version next_due false (judge s r).session next_run next_t next_before (judged_held limits s r received) next_held told_later next_stands each.1 next_goes)
+      squashed_log rs next_at (place + length (record_bytes version r)) version next_due false (judge s r).session next_run next_t next_before (judged_held limits s r received) next_held next_stands each.1 next_goes)
       on.0
 
 -- ---- the bytes
@@ -195,7 +179,7 @@ same_outcome settings rs goes = outcome_on (opened (log_config settings)) None r
         let on = went_on step.out step.end (squashed_in (judge s r).session step.run rs) goes in
         ap (λ (o : Option (Result Outcome EngineFault)). (continue_with step.out o (squashed_in (judge s r).session step.run rs)).outcome) on.0
         ∙ outcome_on (judge s r).session step.run rs on.1
-        ∙ sym (ap (λ (c : RunOutput). c.outcome) (report_on s r rs (not_bad_of s.server r (front_of (judge s r).session r) run (change_in (incoming_of (reading r.body))) (judge s r).verdict on.0)))
+        ∙ sym (ap (λ (c : RunOutput). c.outcome) (report_on s r rs (not_bad_of s.server r (front_of r.head) run (change_in (incoming_of (reading r.body))) (judge s r).verdict on.0)))
 
 -- A log with records: what is written begins with its line.
 module _ (settings : Settings) (ranges : AreInRange settings.limits) (log : Log) (r : Record) (rs : List Record) (is : log.records ≡ r ∷ rs)
@@ -211,8 +195,8 @@ module _ (settings : Settings) (ranges : AreInRange settings.limits) (log : Log)
 
   w : IsSquashedAs settings.limits.max_body start log.version due s None (r ∷ rs) s None
   w =
-      squashed_log settings.limits ranges (r ∷ rs) start start log.version due due s None s None (record { limit = refl; table = tt }) (record { limit = refl; table = tt }) (start_at settings log.version)
-      (refl, alike_self s, start_at settings log.version, refl) each goes
+      squashed_log settings.limits ranges (r ∷ rs) start start log.version due due s None s None (record { limit = refl; table = tt }) (record { limit = refl; table = tt })
+      (refl, alike_self s, refl) each goes
 
   not_due : (version : Version) (qs : List Record) → NonEmpty qs → is_line_due version qs ≡ false
   not_due One qs some = refl

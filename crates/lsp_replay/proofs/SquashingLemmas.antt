@@ -10,11 +10,9 @@ use Rattle.lsp_log.specs.Log.{Record}
 use Rattle.lsp_stream.specs.declared.fault.EngineFault.TheVariants.{BadLog, BodyTooLong}
 use Rattle.lsp_message.specs.Message.{reading}
 use Rattle.lsp_server.specs.Incoming.{incoming_of}
-use Rattle.lsp_log.specs.declared.record.Version.{Version}
-use Rattle.lsp_log.specs.Log.{mark_of}
 use Rattle.lsp_replay.specs.RunOutput.{written_first}
 use Rattle.lsp_replay.specs.inside.RunOutput.{after}
-use Rattle.lsp_replay.specs.Engines.{change_in, front_of, continue_with, line_if, canonical_if, canonical_change_body}
+use Rattle.lsp_replay.specs.Engines.{change_in, front_of, continue_with, canonical_if, canonical_change_body}
 use Rattle.lsp_replay.specs.Session.{Session, Verdict, answered, recorded, bad, judge}
 use Rattle.lsp_replay.specs.Squashed.{Run, Step, squash_step, squashed_in, run_bytes, end_bytes, begun, longer, faulty, change_output, other_step, step_if}
 use Rattle.lsp_replay.specs.inside.Squashed.{run_of}
@@ -81,15 +79,12 @@ gives_begun server p front single old_front singles (Some squash) batches other 
 
 -- ---- the course of a handler, a record at a time
 
-module _ (s : Session) (front singles : List ℕ) (run : Option SquashData) (r : Record) (now : Session) (is_now : now ≡ (judge s r).session) (verdict : Verdict) (error : verdict ≡ (judge s r).verdict) (version : Version) (same_version : version ≡ now.version) where
+module _ (s : Session) (front singles : List ℕ) (run : Option SquashData) (r : Record) (now : Session) (is_now : now ≡ (judge s r).session) (verdict : Verdict) (error : verdict ≡ (judge s r).verdict) where
   abbrev here : Option Run
   here = run_of front singles run
 
   abbrev its_front : List ℕ
-  its_front = line_if r.head.line_due ++ mark_of version r.head.side
-
-  front_here : front_of (judge s r).session r ≡ its_front
-  front_here = ap (λ v. line_if r.head.line_due ++ mark_of v r.head.side) (sym (same_version ∙ ap (λ (u : Session). u.version) is_now))
+  its_front = front_of r.head
 
   by_step : (out : List ℕ) (next : Option Run) → squash_step s here r (judge s r) ≡ record { out = out; end = None; run = next } → (more : List Record) → squashed_in s here (r ∷ more) ≡ after out None (squashed_in now next more)
   by_step out next is more =
@@ -99,15 +94,14 @@ module _ (s : Session) (front singles : List ℕ) (run : Option SquashData) (r :
       → (more : List Record) → squashed_in s here (r ∷ more) ≡ after out None (squashed_in now None more)
   gives_as_it_is out not_bad none is more =
       by_step out None
-      (ap (λ v. step_if s.server r (front_of (judge s r).session r) here (change_in (incoming_of (reading r.body))) v) (sym error)
-      ∙ step_other s.server r (front_of (judge s r).session r) here (change_in (incoming_of (reading r.body))) verdict not_bad none
-      ∙ ap (λ f. other_step r f here) front_here ∙ ap (λ o. record { out = o; end = None; run = None }) (sym is)) more
+      (ap (λ v. step_if s.server r its_front here (change_in (incoming_of (reading r.body))) v) (sym error)
+      ∙ step_other s.server r its_front here (change_in (incoming_of (reading r.body))) verdict not_bad none
+      ∙ ap (λ o. record { out = o; end = None; run = None }) (sym is)) more
 
   changes : (canonical : List ℕ) → (is : IsChange s.server (change_in (incoming_of (reading r.body))) verdict canonical) → squash_step s here r (judge s r) ≡ change_output s.server is.params its_front (its_front ++ canonical) here
   changes canonical is =
-      ap (λ v. step_if s.server r (front_of (judge s r).session r) here (change_in (incoming_of (reading r.body))) v) (sym error)
-      ∙ step_changed s.server r (front_of (judge s r).session r) canonical here (change_in (incoming_of (reading r.body))) verdict is
-      ∙ ap (λ f. change_output s.server is.params f (f ++ canonical) here) front_here
+      ap (λ v. step_if s.server r its_front here (change_in (incoming_of (reading r.body))) v) (sym error)
+      ∙ step_changed s.server r its_front canonical here (change_in (incoming_of (reading r.body))) verdict is
 
   pub gives_more : (canonical : List ℕ) (batches : SquashData) (is : IsChange s.server (change_in (incoming_of (reading r.body))) verdict canonical) → IsLonger run is.params batches
       → (more : List Record) → squashed_in s here (r ∷ more) ≡ after [] None (squashed_in now (run_of front (singles ++ (its_front ++ canonical)) (Some batches)) more)

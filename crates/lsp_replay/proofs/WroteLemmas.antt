@@ -49,7 +49,7 @@ normal_not_ok s [] = tt
 normal_not_ok s (r ∷ rs) =
     not_ok_on (unless_bad r (judge s r).verdict (canonical_output s r (judge s r))).out (unless_bad r (judge s r).verdict (canonical_output s r (judge s r))).end (run_output_in normalising (judge s r).session rs)
     (unless_not_ok r (judge s r).verdict (canonical_output s r (judge s r))
-    (written_not_ok s.server.config.limits.max_body r (front_of (judge s r).session r) (canonical_of_record s r.body (judge s r).verdict)))
+    (written_not_ok s.server.config.limits.max_body r (front_of r.head) (canonical_of_record s r.body (judge s r).verdict)))
     (normal_not_ok (judge s r).session rs)
 
 converted_not_ok : (s : Session) (rs : List Record) → IsNotOk (run_output_in converting s rs).stop

@@ -24,6 +24,7 @@ use Rattle.lsp_server.specs.Answer.{AnswerData, reply, changed, dropped, ignored
 use Rattle.lsp_replay.specs.declared.outcome.Outcome.{Outcome}
 use Rattle.lsp_stream.specs.declared.fault.EngineFault.{EngineFault}
 use Rattle.lsp_stream.specs.declared.fault.EngineFault.TheVariants.{BadLog, BodyTooLong}
+use Rattle.lsp_log.specs.declared.record.Head.{Head}
 use Rattle.lsp_log.specs.Log.{LogRules, Record, version_line, mark_of}
 use Rattle.lsp_replay.specs.RunOutput.{RunOutput, written_first, stopped}
 use Rattle.lsp_server.specs.declared.config.Config.{Config}
@@ -203,8 +204,8 @@ abbrev pub line_if : Bool → List ℕ
 line_if line_due = if line_due then version_line else []
 
 -- The bytes before a record's frame: the line of version 2, if it is due, and the record's mark.
-abbrev pub front_of : Session → Record → List ℕ
-front_of s r = line_if r.head.line_due ++ mark_of s.version r.head.side
+abbrev pub front_of : Head → List ℕ
+front_of head = line_if head.line_due ++ mark_of head.version head.side
 
 -- The canonical body of an accepted change. Other records have none.
 abbrev pub canonical_if : State → Option ChangeData → Verdict → Option (List ℕ)
@@ -226,7 +227,7 @@ written max_body r front (Some body) = if nat_lt max_body (length body) then
 -- The output of `normalise` for a record.
 abbrev pub canonical_output : Session → Record → Judged → RecordOutput
 canonical_output s r j
-    = written s.server.config.limits.max_body r (front_of j.session r)
+    = written s.server.config.limits.max_body r (front_of r.head)
     (canonical_of_record s r.body j.verdict)
 
 -- `normalise` writes each record, and at the end nothing. A log of version 2 without records is its

@@ -8,7 +8,7 @@ use Rattle.lsp_text.specs.declared.encoding.Encoding.{Encoding}
 use Rattle.lsp_message.specs.declared.agreement.Announced.{Announced}
 use Rattle.lsp_message.specs.declared.outgoing.ErrorCode.{ErrorCode}
 use Rattle.lsp_message.specs.declared.outgoing.ErrorCode.TheVariants.{MethodNotFound}
-use Rattle.lsp_message.specs.Message.{IdData, OutcomeData, MessageData, Reading, reading}
+use Rattle.lsp_message.specs.Message.{IdData, MessageData, Reading, reading}
 use Rattle.lsp_message.specs.Message as read
 use Rattle.lsp_message.specs.Agreement.{announced_of}
 use Rattle.lsp_server.specs.declared.phase.Phase.{Phase}
@@ -20,7 +20,7 @@ use Rattle.lsp_server.specs.Step.{State, start, step_on, settled}
 use Rattle.lsp_replay.specs.declared.outcome.Outcome.{Outcome}
 use Rattle.lsp_stream.specs.Ports.{one_more}
 use Rattle.lsp_log.specs.declared.record.Version.{Version}
-use Rattle.lsp_log.specs.declared.record.Version.TheVariants.{One, Two}
+use Rattle.lsp_log.specs.declared.record.Version.TheVariants.{Two}
 use Rattle.lsp_log.specs.declared.record.Side.{Side}
 use Rattle.lsp_log.specs.declared.record.Side.TheVariants.{Client, Server}
 use Rattle.lsp_log.specs.declared.record.Head.{Head}
@@ -30,8 +30,6 @@ use Rattle.lsp_log.specs.Log.{Record}
 pub record Session : Type 0 where
   -- the server that the client's records are handed to
   pub server : State
-  -- the log's version, which its first record says
-  pub version : Version
   -- the id of the accepted `initialize`, until its result has come in a log of version 2
   pub expected : Option IdData
   -- how many records were judged
@@ -108,26 +106,27 @@ expected_of Two (initialize id (Some offers)) expected = Some id
 expected_of version m expected = expected
 
 -- The id whose result is waited for after a message.
-abbrev pub expected_after : Session → IncomingData → Option IdData
-expected_after s m = if is_new s.server.phase then expected_of s.version m s.expected else
+abbrev pub expected_after : Session → Version → IncomingData → Option IdData
+expected_after s version m = if is_new s.server.phase then expected_of version m s.expected else
     s.expected
 
 -- The server answered a message, which is counted.
-abbrev pub handled : Session → IncomingData → State → AnswerData Sent → Judged
-handled s m server answer =
+abbrev pub handled : Session → Version → IncomingData → State → AnswerData Sent → Judged
+handled s version m server answer =
     judged (answered answer) (record s {
       server = server;
-      expected = expected_after s m;
+      expected = expected_after s version m;
       messages = one_more s.messages;
       refusals = count_if (is_refused answer) s.refusals;
     })
 
--- A message after `exit` and an early change are bad. Any other is answered.
-abbrev pub judge_incoming : Session → IncomingData → Judged
-judge_incoming s m =
+-- A message in a log of a version. After `exit` it is bad, and so is an early change. Any other is
+-- answered.
+abbrev pub judge_incoming : Session → Version → IncomingData → Judged
+judge_incoming s version m =
     if is_ended s.server.phase then judged bad s
     else if is_early s m then judged bad s
-    else handled s m (step_on s.server m).state (as_sent (step_on s.server m).answer)
+    else handled s version m (step_on s.server m).state (as_sent (step_on s.server m).answer)
 
 -- ---- a server's record, of which the result of `initialize` alone is read
 
@@ -171,14 +170,10 @@ hear_for s (Some id) body = heard s (result_for id (reading body))
 
 -- ---- any record
 
--- A record of one side.
-abbrev pub judge_from : Session → Side → List ℕ → Judged
-judge_from s Client body = judge_incoming s (incoming_of (reading body))
-judge_from s Server body = hear_for s s.expected body
-
--- The first record of a log of version 2 says its version.
-abbrev pub versioned : Session → Bool → Session
-versioned s line_due = if line_due then record s { version = Two } else s
+-- A record of one side, in a log of a version.
+abbrev pub judge_from : Session → Version → Side → List ℕ → Judged
+judge_from s version Client body = judge_incoming s version (incoming_of (reading body))
+judge_from s version Server body = hear_for s s.expected body
 
 -- One more record was judged.
 abbrev pub counted : Judged → Judged
@@ -186,7 +181,7 @@ counted j = record j { session = record j.session { records = one_more j.session
 
 -- A record with this head and body.
 abbrev pub judge_at : Session → Head → List ℕ → Judged
-judge_at s head body = counted (judge_from (versioned s head.line_due) head.side body)
+judge_at s head body = counted (judge_from s head.version head.side body)
 
 -- The judgement of a record, and the session after it.
 abbrev pub judge : Session → Record → Judged
@@ -197,7 +192,6 @@ abbrev pub opened : Config → Session
 opened config
     = record {
       server = start config;
-      version = One;
       expected = None;
       records = 0;
       messages = 0;

@@ -113,8 +113,7 @@ step_if server r front run change verdict = other_step r front run
 -- The same from the session before the record.
 abbrev pub squash_step : Session → Option Run → Record → Judged → Step
 squash_step s run r j
-    = step_if s.server r (front_of j.session r) run (change_in (incoming_of (reading r.body)))
-    j.verdict
+    = step_if s.server r (front_of r.head) run (change_in (incoming_of (reading r.body))) j.verdict
 
 -- ---- all records
 

@@ -198,7 +198,7 @@ fn write_last<W: Sink, H: Handler>(
         (W.seen writer.new).written
         ((H.run_output handler.old []).last line_due)) }
     ensures kind { IfErr result IsLastFault }
-    // Where the end gives one part, none of it is written when memory runs out.
+    // Where the end has one part, none of it is written when memory runs out.
     ensures whole { IfErr result (λ fault. fault ≡ EngineFault.NoMemory → H.parts handler.old ≡ 0 →
         Appends (W.seen writer.old).written (W.seen writer.new).written []) }
     ensures calls { WritesWithin turns.old.left turns.new.left
@@ -270,7 +270,7 @@ pub fn run_on<R: Source, W: Sink, H: Handler>(
     ensures run { IsLoopRun (reading_by rules) (H.run_output handler.old) H.FLUSHES max_turns
         (ports (R.seen ends.old.reader.now) (W.seen ends.old.writer.now))
         (ports (R.seen ends.new.reader.now) (W.seen ends.new.writer.now)) result }
-    // Where the end gives one part, what is written when memory runs out is the output of records,
+    // Where the end has one part, what is written when memory runs out is the output of records,
     // each whole.
     ensures whole { ((h : H) → H.parts h ≡ 0) → result ≡ Err EngineFault.NoMemory →
         WroteRecords (reading_by rules) (H.run_output handler.old)
@@ -337,7 +337,7 @@ pub fn run_engine<R: Source, W: Sink, H: Handler>(
     ensures run { IsLoopRun (reading_by rules) (H.run_output handler.old) H.FLUSHES max_turns
         (ports (R.seen reader.old) (W.seen writer.old))
         (ports (R.seen reader.new) (W.seen writer.new)) result }
-    // Where the end gives one part, what is written when memory runs out is the output of records,
+    // Where the end has one part, what is written when memory runs out is the output of records,
     // each whole.
     ensures whole { ((h : H) → H.parts h ≡ 0) → result ≡ Err EngineFault.NoMemory →
         WroteRecords (reading_by rules) (H.run_output handler.old)

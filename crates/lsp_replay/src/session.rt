@@ -5,10 +5,10 @@
 //! - `results`: the result of `initialize`.
 //! - `counting`: what counts as refused.
 
-ghost use Rattle.std.specs.Prelude.{◌≡◌, ◌≢◌, ◌⊎◌, IfErr, IfOk, OnOk, MatchOption, Some, None};
+ghost use Rattle.std.specs.Prelude.{◌≡◌, ◌≢◌, ◌⊎◌, IfErr, IfOk, OnErr, OnOk, MatchOption, Some, None};
 ghost use Rattle.lsp_message.specs.Seen.{change_view, id_view};
 ghost use Rattle.lsp_server.specs.Seen.{incoming_view};
-ghost use Rattle.lsp_replay.specs.Session.{bad, counted, opened, judge_at, judge_incoming, is_early, expected_after, versioned, outcome_of};
+ghost use Rattle.lsp_replay.specs.Session.{bad, counted, opened, judge_at, judge_incoming, is_early, expected_after, outcome_of};
 ghost use Rattle.lsp_replay.specs.inside.Bodies.{IsReceived, body_read, body_view, canonical_read, judge_read};
 ghost use Rattle.lsp_replay.specs.inside.Verdicts.{verdict_view};
 
@@ -41,8 +41,8 @@ pub enum Verdict {
 /// The body of a record, read once.
 #[derive(Drop)]
 enum RecordBody<'a> {
-    /// What a client's record asks of the server.
-    Client(Incoming),
+    /// What a client's record in a log of this version asks of the server.
+    Client(Version, Incoming),
     /// The body of a server's record.
     Server(&'a [u8]),
 }
@@ -52,7 +52,6 @@ enum RecordBody<'a> {
 pub struct Session {
     alloc: Global,
     server: Server,
-    version: Version,
     // The id of the accepted `initialize`, until its result has come in a log of version 2.
     expected: Option<Id>,
     records: u64,
@@ -69,7 +68,6 @@ impl Model for Session {
 
     ghost view = { λ s. record {
       server = s.server;
-      version = s.version;
       expected = option_map id_view s.expected;
       records = s.records;
       messages = s.messages;
@@ -85,7 +83,6 @@ impl Session {
         Session {
             alloc,
             server: Server::new(alloc, config),
-            version: Version::One,
             expected: None,
             records: 0,
             messages: 0,
@@ -105,13 +102,6 @@ impl Session {
         ensures { result.now ≡ self.now.server }
     {
         &self.server
-    }
-
-    /// The version of the log, as far as its records say.
-    pub fn version(&self) -> Version
-        ensures { result ≡ self.now.version }
-    {
-        self.version
     }
 
     /// How many bodies were handled.
@@ -162,29 +152,18 @@ impl Session {
             × ((judge_at self.old head body.now).verdict ≡ bad))) }
     {
         let verdict = self.judge(head, body)?;
-        if verdict == Verdict::Bad {
-            return Err(EngineFault::BadLog { place: head.place });
-        }
+        in_log(&verdict, head.place)?;
         Ok(verdict)
     }
 
-    /// Notes the version of the log, which its first record says.
-    fn see_version(&mut self, line_due: bool)
-        ensures { self.new ≡ versioned self.old line_due }
-    {
-        if line_due {
-            self.version = Version::Two;
-        }
-    }
-
-    /// Reads the body of the next record. A first record says the log's version.
+    /// Reads the body of the next record.
     fn read<'a>(&mut self, head: Head, body: &'a [u8]) -> Result<RecordBody<'a>, AllocError>
-        ensures body { IfOk result (λ read. body_view read ≡ body_read head.side body.now) }
-        ensures session { self.new ≡ versioned self.old head.line_due }
+        ensures body { IfOk result
+            (λ read. body_view read ≡ body_read head.version head.side body.now) }
+        ensures unchanged { self.new ≡ self.old }
     {
-        self.see_version(head.line_due);
         match head.side {
-            Side::Client => Ok(RecordBody::Client(self.server.read(body)?)),
+            Side::Client => Ok(RecordBody::Client(head.version, self.server.read(body)?)),
             Side::Server => Ok(RecordBody::Server(body)),
         }
     }
@@ -197,7 +176,7 @@ impl Session {
             (self.new ≡ (counted (judge_read self.old (body_view read.entry))).session) }
     {
         let verdict = match read {
-            RecordBody::Client(incoming) => self.answer(incoming)?,
+            RecordBody::Client(version, incoming) => self.answer(version, incoming)?,
             RecordBody::Server(body) => self.hear(body)?,
         };
         self.records = one_more(self.records);
@@ -211,7 +190,7 @@ impl Session {
         ensures { MatchOption result (canonical_read self.now (body_view read.now) ≡ None)
             (λ params. IsReceived self.now (body_view read.now) (change_view params.now)) }
     {
-        let RecordBody::Client(incoming) = read else {
+        let RecordBody::Client(_, incoming) = read else {
             return None;
         };
         let Incoming::DidChange(params) = incoming else {
@@ -226,17 +205,20 @@ impl Session {
         Some(params)
     }
 
-    /// Judges a client's record.
-    fn answer(&mut self, incoming: Incoming) -> Result<Verdict, AllocError>
+    /// Judges a client's record in a log of this version.
+    fn answer(&mut self, version: Version, incoming: Incoming) -> Result<Verdict, AllocError>
         ensures verdict { IfOk result
-            (λ v. verdict_view v ≡ (judge_incoming self.old (incoming_view incoming)).verdict) }
+            (λ v. verdict_view v
+            ≡ (judge_incoming self.old version (incoming_view incoming)).verdict) }
         ensures session { OnOk result
-            (self.new ≡ (judge_incoming self.old (incoming_view incoming)).session) }
+            (self.new ≡ (judge_incoming self.old version (incoming_view incoming)).session) }
+        ensures memory { OnErr result
+            ((judge_incoming self.old version (incoming_view incoming)).verdict ≢ bad) }
     {
         if self.server.phase() == Phase::Ended || self.is_early(&incoming) {
             return Ok(Verdict::Bad);
         }
-        let expected = self.begun_by(&incoming)?;
+        let expected = self.begun_by(version, &incoming)?;
         let Ok(answer) = self.server.handle_incoming(incoming) else {
             return Err(AllocError);
         };
@@ -261,12 +243,13 @@ impl Session {
 
     /// Returns the id of an `initialize` that is accepted, in a log of version 2, which has its
     /// result.
-    fn begun_by(&self, incoming: &Incoming) -> Result<Option<Id>, AllocError>
+    fn begun_by(&self, version: Version, incoming: &Incoming) -> Result<Option<Id>, AllocError>
         ensures { IfOk result (λ begun. MatchOption begun
-            (expected_after self.now (incoming_view incoming.now) ≡ self.now.expected)
-            (λ id. expected_after self.now (incoming_view incoming.now) ≡ Some (id_view id))) }
+            (expected_after self.now version (incoming_view incoming.now) ≡ self.now.expected)
+            (λ id. expected_after self.now version (incoming_view incoming.now)
+            ≡ Some (id_view id))) }
     {
-        if self.version != Version::Two || self.server.phase() != Phase::New {
+        if version != Version::Two || self.server.phase() != Phase::New {
             return Ok(None);
         }
         match incoming {
@@ -277,4 +260,16 @@ impl Session {
             _ => Ok(None),
         }
     }
+}
+
+/// Refuses a record that can't be in a log, and whose first byte is at this offset.
+pub(crate) fn in_log(verdict: &Verdict, place: u64) -> Result<(), EngineFault>
+    ensures in_log { OnOk result (verdict_view verdict.now ≢ bad) }
+    ensures error { IfErr result
+        (λ fault. (fault ≡ EngineFault.BadLog place) × (verdict_view verdict.now ≡ bad)) }
+{
+    if *verdict == Verdict::Bad {
+        return Err(EngineFault::BadLog { place });
+    }
+    Ok(())
 }

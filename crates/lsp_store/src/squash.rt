@@ -109,7 +109,7 @@ impl Squash {
         Ok(())
     }
 
-    /// Returns the frame of the one message that means all added batches (LSP 3.17,
+    /// Returns the frame of the canonical message of all added batches (LSP 3.17,
     /// DidChangeTextDocument): their canonical batch under the last version. With no batch added it
     /// has no changes, and the document's version.
     ///

@@ -1,40 +1,42 @@
 -- The body of a record, as a session reads it once.
 use Rattle.std.specs.Prelude.{ℕ, ◌≡◌, List, Option, Some, None}
+use Rattle.lsp_log.specs.declared.record.Version.{Version}
 use Rattle.lsp_log.specs.declared.record.Side.{Side}
 use Rattle.lsp_log.specs.declared.record.Side.TheVariants as side
 use Rattle.lsp_message.specs.Message.{reading}
 use Rattle.lsp_message.specs.Params.{ChangeData}
 use Rattle.lsp_server.specs.declared.phase.Phase.TheVariants.{Running}
-use Rattle.lsp_server.specs.Incoming.{IncomingData, incoming_of, did_change}
+use Rattle.lsp_server.specs.Incoming.{IncomingData, incoming_of}
 use Rattle.lsp_server.specs.Seen.{incoming_view}
 use Rattle.lsp_replay.specs.declared.session.RecordBody.{RecordBody}
 use Rattle.lsp_replay.specs.declared.session.RecordBody.TheVariants.{Client, Server}
 use Rattle.lsp_replay.specs.Engines.{change_in, canonical_if}
 use Rattle.lsp_replay.specs.Session.{Session, Judged, judge_incoming, hear_for}
 
--- What a client's record asks of the server, or the body of a server's record.
+-- What a client's record in a log of a version asks of the server, or the body of a server's
+-- record.
 pub data BodyData : Type 0 where
-  from_client : IncomingData → BodyData
+  from_client : Version → IncomingData → BodyData
   from_server : List ℕ → BodyData
 
 -- A body that was read, as its value.
 abbrev pub body_view : RecordBody → BodyData
-body_view (Client incoming) = from_client (incoming_view incoming)
+body_view (Client version incoming) = from_client version (incoming_view incoming)
 body_view (Server body) = from_server body.now
 
--- The body of a record of one side.
-abbrev pub body_read : Side → List ℕ → BodyData
-body_read side.Client body = from_client (incoming_of (reading body))
-body_read side.Server body = from_server body
+-- The body of a record of one side, in a log of a version.
+abbrev pub body_read : Version → Side → List ℕ → BodyData
+body_read version side.Client body = from_client version (incoming_of (reading body))
+body_read version side.Server body = from_server body
 
 -- The judgement of a record.
 abbrev pub judge_read : Session → BodyData → Judged
-judge_read s (from_client m) = judge_incoming s m
+judge_read s (from_client version m) = judge_incoming s version m
 judge_read s (from_server body) = hear_for s s.expected body
 
 -- The parameters of a client's `didChange`, if they are valid.
 abbrev pub change_of : BodyData → Option ChangeData
-change_of (from_client m) = change_in m
+change_of (from_client version m) = change_in m
 change_of (from_server body) = None
 
 -- The canonical body of a record, if it is a change that is accepted.
@@ -43,6 +45,6 @@ canonical_read s read = canonical_if s.server (change_of read) (judge_read s rea
 
 -- A record is a change with these parameters that a running server is to receive.
 pub record IsReceived (s : Session) (read : BodyData) (p : ChangeData) : Type 0 where
-  pub is : read ≡ from_client (did_change (Some p))
+  pub is : change_of read ≡ Some p
   pub running : s.server.phase ≡ Running
   pub known : s.expected ≡ None

@@ -8,6 +8,8 @@ use Rattle.lsp_replay.specs.declared.session.writing.Appended.{Appended}
 use Rattle.lsp_replay.specs.declared.session.writing.Appended.TheVariants as appended
 use Rattle.lsp_replay.specs.declared.session.joining.Canonical.{Canonical}
 use Rattle.lsp_replay.specs.declared.session.joining.Canonical.TheVariants.{Frame, TooLong}
+use Rattle.lsp_store.specs.declared.fault.StoreFault.{StoreFault}
+use Rattle.lsp_store.specs.declared.fault.StoreFault.TheVariants.{BodyTooLong}
 use Rattle.lsp_replay.specs.Session as spec
 
 -- A judgement as its value.
@@ -32,3 +34,13 @@ IsAppended max_body (Some body) None old new = ⊥
 IsAppended max_body (Some body) (Some appended.Body) old new = (new ≡ old ++ body)
     × (length body ≤ max_body)
 IsAppended max_body (Some body) (Some appended.TooLong) old new = max_body < length body
+
+-- A change that the store refuses has no canonical message, but where only its body is too long.
+abbrev pub canonical_if_refused : StoreFault → Option Canonical
+canonical_if_refused (BodyTooLong len) = Some TooLong
+canonical_if_refused fault = None
+
+-- The same of what is appended.
+abbrev pub appended_if_refused : StoreFault → Option Appended
+appended_if_refused (BodyTooLong len) = Some appended.TooLong
+appended_if_refused fault = None

@@ -2,7 +2,7 @@
 
 ghost use Rattle.std.specs.Prelude.{◌≡◌, ◌≤◌, ◌++◌, length, OnOk};
 ghost use Rattle.lsp_log.specs.Log.{mark_of};
-ghost use Rattle.lsp_replay.specs.Engines.{line_if};
+ghost use Rattle.lsp_replay.specs.Engines.{line_if, front_of};
 
 use lsp_log::{Head, Side, VERSION_LINE, Version};
 use std::alloc::AllocError;
@@ -16,11 +16,11 @@ pub fn line_bytes(line_due: bool) -> &'static [u8]
 }
 
 /// The mark of a record.
-pub fn mark_bytes(version: Version, side: Side) -> &'static [u8]
-    ensures is { result.now ≡ mark_of version side }
+pub fn mark_bytes(head: Head) -> &'static [u8]
+    ensures is { result.now ≡ mark_of head.version head.side }
     ensures short { length result.now ≤ 1 }
 {
-    match (version, side) {
+    match (head.version, head.side) {
         (Version::One, _) => b"",
         (Version::Two, Side::Client) => b">",
         (Version::Two, Side::Server) => b"<",
@@ -35,18 +35,17 @@ pub fn push_line(buffer: &mut Vec<u8>, line_due: bool) -> Result<(), AllocError>
 }
 
 /// Writes the bytes before a record's frame: the line of version 2, if it is due, and the mark.
-pub fn push_front(output: &mut Vec<u8>, head: Head, version: Version) -> Result<(), AllocError>
-    ensures { OnOk result
-        (output.new.items
-        ≡ output.old.items ++ (line_if head.line_due ++ mark_of version head.side)) }
+pub fn push_front(output: &mut Vec<u8>, head: Head) -> Result<(), AllocError>
+    ensures { OnOk result (output.new.items ≡ output.old.items ++ front_of head) }
 {
     push_line(output, head.line_due)?;
-    push_mark(output, version, head.side)
+    push_mark(output, head)
 }
 
 /// Writes the mark of a record.
-fn push_mark(buffer: &mut Vec<u8>, version: Version, side: Side) -> Result<(), AllocError>
-    ensures { OnOk result (buffer.new.items ≡ buffer.old.items ++ mark_of version side) }
+fn push_mark(buffer: &mut Vec<u8>, head: Head) -> Result<(), AllocError>
+    ensures { OnOk result
+        (buffer.new.items ≡ buffer.old.items ++ mark_of head.version head.side) }
 {
-    buffer.extend_from_slice(mark_bytes(version, side))
+    buffer.extend_from_slice(mark_bytes(head))
 }

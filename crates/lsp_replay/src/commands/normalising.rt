@@ -5,16 +5,16 @@ ghost use Rattle.lsp_frame.specs.Frame.{frame};
 ghost use Rattle.lsp_log.specs.Log.{mark_of};
 ghost use Rattle.lsp_replay.specs.inside.RunOutput.{output_of};
 ghost use Rattle.lsp_replay.specs.Session.{opened};
-ghost use Rattle.lsp_replay.specs.Engines.{normalising, run_output_in, line_if, written, writes, ends};
+ghost use Rattle.lsp_replay.specs.Engines.{normalising, run_output_in, line_if, front_of, written, writes, ends};
 ghost use Rattle.lsp_replay.specs.inside.Verdicts.{IsAppended};
 
 use crate::commands::front::{line_bytes, mark_bytes, push_front, push_line};
 use crate::handler::{Given, Handler, Output};
 use crate::outcome::Outcome;
 use crate::session::writing::Appended;
-use crate::session::{Session, Verdict};
+use crate::session::{Session, in_log};
 use lsp_frame::put_header;
-use lsp_log::{Head, Version};
+use lsp_log::Head;
 use lsp_server::Config;
 use lsp_stream::EngineFault;
 use std::alloc::{AllocError, Global};
@@ -57,11 +57,8 @@ impl Handler for Normalise {
     ) -> Result<Given, EngineFault> {
         buffer.resize(FRONT_ROOM, 0)?;
         let (verdict, appended) = self.session.judge_and_write(head, body, buffer)?;
-        if verdict == Verdict::Bad {
-            return Err(EngineFault::BadLog { place: head.place });
-        }
-        let version = self.session.version();
-        let output = push_record(buffer, head, version, spelling, appended)?;
+        in_log(&verdict, head.place)?;
+        let output = push_record(buffer, head, spelling, appended)?;
         Ok(Given::more(output))
     }
 
@@ -84,7 +81,6 @@ const FRONT_ROOM: usize = 64;
 fn push_record(
     buffer: &mut Vec<u8>,
     head: Head,
-    version: Version,
     spelling: &[u8],
     appended: Option<Appended>,
 ) -> Result<Output, EngineFault>
@@ -94,41 +90,42 @@ fn push_record(
         length room ≡ FRONT_ROOM →
         IsAppended max_body canonical_log appended room buffer.old.items →
         written max_body (record { head = head; spelling = spelling.now; body = body })
-        (line_if head.line_due ++ mark_of version head.side) canonical_log
-        ≡ writes (output_of output spelling.now buffer.new.items)) }
+        (front_of head) canonical_log ≡ writes (output_of output spelling.now buffer.new.items)) }
     ensures err { IfErr result
         (λ fault. (fault ≡ EngineFault.NoMemory) ⊎ ((fault ≡ EngineFault.BodyTooLong head.place)
         × ((max_body : ℕ) (canonical_log : Option (List ℕ)) (body room : List ℕ) →
         length room ≡ FRONT_ROOM →
         IsAppended max_body canonical_log appended room buffer.old.items →
         written max_body (record { head = head; spelling = spelling.now; body = body })
-        (line_if head.line_due ++ mark_of version head.side) canonical_log
-        ≡ ends [] (Err (EngineFault.BodyTooLong head.place))))) }
+        (front_of head) canonical_log ≡ ends [] (Err (EngineFault.BodyTooLong head.place))))) }
 {
     let Some(appended) = appended else {
-        return Ok(push_as_it_is(buffer, head, version, spelling)?);
+        return Ok(push_as_it_is(buffer, head, spelling)?);
     };
+    within_limit(appended, head.place)?;
+    let start = put_front(buffer, head);
+    Ok(Output::BytesFrom(start))
+}
+
+/// Refuses a canonical body over the limit, of the record at this offset.
+fn within_limit(appended: Appended, place: u64) -> Result<(), EngineFault>
+    ensures ok { OnOk result (appended ≡ Appended.Body) }
+    ensures error { IfErr result
+        (λ fault. (fault ≡ EngineFault.BodyTooLong place) × (appended ≡ Appended.TooLong)) }
+{
     match appended {
-        Appended::TooLong => Err(EngineFault::BodyTooLong { place: head.place }),
-        Appended::Body => {
-            let start = put_front(buffer, head, version);
-            Ok(Output::BytesFrom(start))
-        }
+        Appended::Body => Ok(()),
+        Appended::TooLong => Err(EngineFault::BodyTooLong { place }),
     }
 }
 
 /// Writes a record with its mark, as it is.
-fn push_as_it_is(
-    buffer: &mut Vec<u8>,
-    head: Head,
-    version: Version,
-    spelling: &[u8],
-) -> Result<Output, AllocError>
+fn push_as_it_is(buffer: &mut Vec<u8>, head: Head, spelling: &[u8]) -> Result<Output, AllocError>
     ensures { IfOk result (λ output. output_of output spelling.now buffer.new.items
-        ≡ (line_if head.line_due ++ mark_of version head.side) ++ spelling.now) }
+        ≡ front_of head ++ spelling.now) }
 {
     buffer.clear();
-    push_front(buffer, head, version)?;
+    push_front(buffer, head)?;
     if buffer.is_empty() {
         return Ok(Output::Frame);
     }
@@ -138,13 +135,13 @@ fn push_as_it_is(
 
 /// Writes the line of version 2, if it is due, the mark and the header into the room right before a
 /// body. Returns the index where they begin.
-fn put_front(buffer: &mut [u8], head: Head, version: Version) -> usize
+fn put_front(buffer: &mut [u8], head: Head) -> usize
     requires { FRONT_ROOM ≤ length buffer.old }
     ensures { drop result buffer.new ≡ line_if head.line_due
-        ++ (mark_of version head.side ++ frame (drop FRONT_ROOM buffer.old)) }
+        ++ (mark_of head.version head.side ++ frame (drop FRONT_ROOM buffer.old)) }
 {
     let header = put_header(buffer, FRONT_ROOM);
-    let mark = put_before(buffer, header, mark_bytes(version, head.side));
+    let mark = put_before(buffer, header, mark_bytes(head));
     put_before(buffer, mark, line_bytes(head.line_due))
 }
 

@@ -1,10 +1,10 @@
 //! `normalise` with squash: writes accepted changes of one document, one after another, as one
 //! message.
 
-ghost use Rattle.std.specs.Prelude.{◌≡◌, ◌++◌, refl, OnOk, None, Some, false};
-ghost use Rattle.lsp_log.specs.Log.{mark_of};
+ghost use Rattle.std.specs.Prelude.{◌≡◌, ◌≢◌, ◌++◌, refl, Err, IfErr, IfOk, OnErr, OnOk, None, Ok, Some, false};
+ghost use Rattle.lsp_store.specs.declared.fault.StoreFault.TheVariants.{NoMemory};
 ghost use Rattle.lsp_replay.specs.Session.{opened};
-ghost use Rattle.lsp_replay.specs.Engines.{line_if};
+ghost use Rattle.lsp_replay.specs.Engines.{front_of};
 ghost use Rattle.lsp_replay.specs.Squashed.{squashed_in, end_bytes};
 ghost use Rattle.lsp_replay.specs.inside.Squashed.{run_of};
 
@@ -12,8 +12,8 @@ use crate::commands::front::{push_front, push_line};
 use crate::handler::{Given, Handler, Output};
 use crate::outcome::Outcome;
 use crate::session::joining::Writing;
-use crate::session::{Session, Verdict};
-use lsp_log::{Head, Version};
+use crate::session::{Session, in_log};
+use lsp_log::Head;
 use lsp_server::Config;
 use lsp_store::{Batches, StoreFault};
 use lsp_stream::EngineFault;
@@ -37,32 +37,23 @@ struct Texts {
 
 impl Texts {
     /// Starts with the record that begins a run, and its canonical frame.
-    fn begin(&mut self, head: Head, version: Version, frame: &[u8]) -> Result<(), AllocError>
-        ensures front { OnOk result
-            (self.new.front.items ≡ line_if head.line_due ++ mark_of version head.side) }
-        ensures singles { OnOk result
-            (self.new.singles.items ≡ (line_if head.line_due ++ mark_of version head.side)
-            ++ frame.now) }
+    fn begin(&mut self, head: Head, frame: &[u8]) -> Result<(), AllocError>
+        ensures front { OnOk result (self.new.front.items ≡ front_of head) }
+        ensures singles { OnOk result (self.new.singles.items ≡ front_of head ++ frame.now) }
     {
         self.front.clear();
-        push_front(&mut self.front, head, version)?;
+        push_front(&mut self.front, head)?;
         self.singles.clear();
-        self.continue_with(head, version, frame)
+        self.continue_with(head, frame)
     }
 
     /// Adds a record, with its canonical frame.
-    fn continue_with(
-        &mut self,
-        head: Head,
-        version: Version,
-        frame: &[u8],
-    ) -> Result<(), AllocError>
+    fn continue_with(&mut self, head: Head, frame: &[u8]) -> Result<(), AllocError>
         ensures front { OnOk result (self.new.front.items ≡ self.old.front.items) }
         ensures singles { OnOk result (self.new.singles.items
-            ≡ self.old.singles.items
-            ++ ((line_if head.line_due ++ mark_of version head.side) ++ frame.now)) }
+            ≡ self.old.singles.items ++ (front_of head ++ frame.now)) }
     {
-        push_front(&mut self.singles, head, version)?;
+        push_front(&mut self.singles, head)?;
         self.singles.extend_from_slice(frame)
     }
 
@@ -72,13 +63,12 @@ impl Texts {
         ensures { OnOk result (output.new.items ≡ output.old.items
             ++ end_bytes (run_of self.now.front.items self.now.singles.items (Some batches.now))) }
     {
-        match batches.message() {
-            Ok(frame) => {
+        match frame_of(batches.message())? {
+            Some(frame) => {
                 output.extend_from_slice(&self.front)?;
                 output.extend_from_slice(&frame)
             }
-            Err(StoreFault::NoMemory) => Err(AllocError),
-            Err(_) => output.extend_from_slice(&self.singles),
+            None => output.extend_from_slice(&self.singles),
         }
     }
 
@@ -91,6 +81,21 @@ impl Texts {
             Some(batches) => self.push_run(output, batches),
             None => Ok(()),
         }
+    }
+}
+
+/// Returns the frame of a run's message, or `None` if the message has too many changes or is too
+/// long. Out of memory only where making it was.
+fn frame_of(message: Result<Vec<u8>, StoreFault>) -> Result<Option<Vec<u8>>, AllocError>
+    ensures frame { IfOk message (λ frame. result ≡ Ok (Some frame)) }
+    ensures refused { IfErr message
+        (λ fault. IfOk result (λ frame. (fault ≢ NoMemory) × (frame ≡ None))) }
+    ensures memory { OnErr result (message ≡ Err NoMemory) }
+{
+    match message {
+        Ok(frame) => Ok(Some(frame)),
+        Err(StoreFault::NoMemory) => Err(AllocError),
+        Err(_) => Ok(None),
     }
 }
 
@@ -164,26 +169,23 @@ impl Handler for Squashing {
     ) -> Result<Given, EngineFault> {
         let run = self.batches.take();
         let (verdict, writing) = self.session.judge_and_join(head, body, run)?;
-        if verdict == Verdict::Bad {
-            return Err(EngineFault::BadLog { place: head.place });
-        }
-        let version = self.session.version();
+        in_log(&verdict, head.place)?;
         match writing {
             Writing::AsItIs(ended) => {
                 self.texts.push_end(buffer, &ended)?;
-                push_front(buffer, head, version)?;
+                push_front(buffer, head)?;
                 buffer.extend_from_slice(spelling)?;
                 Ok(WRITTEN)
             }
             Writing::TooLong => Err(EngineFault::BodyTooLong { place: head.place }),
             Writing::Continues(frame, batches) => {
-                self.texts.continue_with(head, version, &frame)?;
+                self.texts.continue_with(head, &frame)?;
                 self.batches = Some(batches);
                 Ok(WRITTEN)
             }
             Writing::Begins(frame, ended, batches) => {
                 self.texts.push_end(buffer, &ended)?;
-                self.texts.begin(head, version, &frame)?;
+                self.texts.begin(head, &frame)?;
                 self.batches = Some(batches);
                 Ok(WRITTEN)
             }

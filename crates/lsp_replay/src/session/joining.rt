@@ -1,6 +1,6 @@
 //! How records are joined to the open run of accepted changes.
 
-ghost use Rattle.std.specs.Prelude.{◌≡◌, ◌≢◌, IfOk, OnOk, map, string_bytes, Some, None};
+ghost use Rattle.std.specs.Prelude.{◌≡◌, ◌≢◌, Err, IfErr, IfOk, OnErr, OnOk, map, string_bytes, Ok, Some, None};
 ghost use Rattle.lsp_message.specs.Message.{reading};
 ghost use Rattle.lsp_message.specs.Seen.{change_view};
 ghost use Rattle.lsp_text.specs.Units.{units_in};
@@ -12,7 +12,8 @@ ghost use Rattle.lsp_replay.specs.Session.{bad, judge_at};
 ghost use Rattle.lsp_replay.specs.Engines.{canonical_change_body, change_in};
 ghost use Rattle.lsp_replay.specs.inside.Bodies.{body_view, change_of, judge_read};
 ghost use Rattle.lsp_replay.specs.inside.Joining.{MayBeOpenIn, IsOpenIn, IsOpenAfter, IsWriting, IsChangeWriting, IsBegun, refusal_of, server_after};
-ghost use Rattle.lsp_replay.specs.inside.Verdicts.{IsCanonicalFor, verdict_view};
+ghost use Rattle.lsp_store.specs.declared.fault.StoreFault.TheVariants.{NoMemory};
+ghost use Rattle.lsp_replay.specs.inside.Verdicts.{IsCanonicalFor, canonical_if_refused, verdict_view};
 
 use crate::session::{RecordBody, Session, Verdict};
 use lsp_log::Head;
@@ -49,7 +50,6 @@ impl Session {
     /// Judges a record as [`Session::judge`] does, and joins an accepted change to the batches of
     /// the open run if they are of its document. Else batches of its own begin. It consumes the
     /// open batches.
-    #[tactic(auto, using(crate::proofs::CanonicalLogLemmas::same_server))]
     pub fn judge_and_join(
         &mut self,
         head: Head,
@@ -135,11 +135,7 @@ impl Session {
             .canonical_message(&params.uri, params.version, encoding, &params.changes);
         match written {
             Ok(frame) => Ok(Some(Canonical::Frame(frame))),
-            Err(fault) => match fault {
-                StoreFault::BodyTooLong { .. } => Ok(Some(Canonical::TooLong)),
-                StoreFault::NoMemory => Err(AllocError),
-                _ => Ok(None),
-            },
+            Err(fault) => refused_canonical(fault),
         }
     }
 
@@ -157,5 +153,19 @@ impl Session {
         let mut batches = Batches::start(self.alloc, limits, document, encoding)?;
         batches.add(document, params.version, &params.changes)?;
         Ok(batches)
+    }
+}
+
+/// Returns what a change has that the store refuses: nothing, or a canonical body that is too long.
+/// Out of memory only where the store was.
+fn refused_canonical(fault: StoreFault) -> Result<Option<Canonical>, AllocError>
+    ensures refused { IfOk result
+        (λ canonical. (fault ≢ NoMemory) × (canonical ≡ canonical_if_refused fault)) }
+    ensures memory { OnErr result (fault ≡ NoMemory) }
+{
+    match fault {
+        StoreFault::BodyTooLong { .. } => Ok(Some(Canonical::TooLong)),
+        StoreFault::NoMemory => Err(AllocError),
+        _ => Ok(None),
     }
 }

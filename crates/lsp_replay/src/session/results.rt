@@ -1,6 +1,6 @@
 //! The result of `initialize` among a server's records, which says the encoding of the changes.
 
-ghost use Rattle.std.specs.Prelude.{◌≡◌, IfOk, OnOk, option_map};
+ghost use Rattle.std.specs.Prelude.{◌≡◌, ◌≢◌, Err, IfErr, IfOk, None, Ok, OnErr, OnOk, Some, option_map};
 ghost use Rattle.serde_json.specs.View.{view};
 ghost use Rattle.lsp_message.specs.Agreement.{announced_of};
 ghost use Rattle.lsp_message.specs.Message.{reading};
@@ -9,7 +9,7 @@ ghost use Rattle.lsp_replay.specs.Session.{hear_for, settle_by, result_for, resu
 ghost use Rattle.lsp_replay.specs.inside.Verdicts.{verdict_view};
 
 use crate::session::{Session, Verdict};
-use lsp_message::{Id, Message, Outcome, ParamsFault, ReadFault, read, result_initialize};
+use lsp_message::{Id, Message, Outcome, ReadFault, read, result_initialize};
 use serde_json::Value;
 use std::alloc::{AllocError, Global};
 
@@ -27,29 +27,25 @@ impl Session {
         };
         match result {
             None => Ok(Verdict::Recorded),
-            Some(result) => self.settle(result),
+            Some(result) => Ok(self.settle(result)),
         }
     }
 
     /// Continues in the encoding that a result of `initialize` announces.
-    fn settle(&mut self, value: Value) -> Result<Verdict, AllocError>
-        ensures verdict { IfOk result
-            (λ v. verdict_view v ≡ (settle_by self.old (announced_of (view value))).verdict) }
-        ensures session { OnOk result
-            (self.new ≡ (settle_by self.old (announced_of (view value))).session) }
+    fn settle(&mut self, value: Value) -> Verdict
+        ensures verdict { verdict_view result
+            ≡ (settle_by self.old (announced_of (view value))).verdict }
+        ensures session { self.new ≡ (settle_by self.old (announced_of (view value))).session }
     {
-        match result_initialize(self.alloc, value) {
-            Ok(announced) => match announced.encoding {
-                Some(encoding) => {
-                    self.server.settle(encoding);
-                    self.expected = None;
-                    Ok(Verdict::Recorded)
-                }
-                None => Ok(Verdict::Bad),
-            },
-            Err(ParamsFault::InvalidParams) => Ok(Verdict::Bad),
-            Err(ParamsFault::NoMemory) => Err(AllocError),
-        }
+        let Ok(announced) = result_initialize(self.alloc, value) else {
+            return Verdict::Bad;
+        };
+        let Some(encoding) = announced.encoding else {
+            return Verdict::Bad;
+        };
+        self.server.settle(encoding);
+        self.expected = None;
+        Verdict::Recorded
     }
 }
 
@@ -79,8 +75,22 @@ fn result_for(alloc: Global, id: &Id, body: &[u8]) -> Result<Option<Value>, Allo
     ensures { IfOk result
         (λ value. option_map view value ≡ result_for (id_view id.now) (reading body.now)) }
 {
-    match read(alloc, body) {
-        Ok(message) => Ok(result_in(id, message)),
+    match message_of(read(alloc, body))? {
+        Some(message) => Ok(result_in(id, message)),
+        None => Ok(None),
+    }
+}
+
+/// Returns the message that was read of a body, if it has one. Out of memory only where reading it
+/// was.
+fn message_of(outcome: Result<Message, ReadFault>) -> Result<Option<Message>, AllocError>
+    ensures read { IfOk outcome (λ message. result ≡ Ok (Some message)) }
+    ensures none { IfErr outcome (λ fault.
+        IfOk result (λ message. (fault ≢ ReadFault.NoMemory) × (message ≡ None))) }
+    ensures memory { OnErr result (outcome ≡ Err ReadFault.NoMemory) }
+{
+    match outcome {
+        Ok(message) => Ok(Some(message)),
         Err(ReadFault::NoMemory) => Err(AllocError),
         Err(_) => Ok(None),
     }

@@ -1,6 +1,6 @@
 //! The canonical bodies of accepted changes, as they are appended to an output.
 
-ghost use Rattle.std.specs.Prelude.{◌≡◌, ◌≢◌, ◌≤◌, vec_len, IfOk, OnOk, map, string_bytes, Some, None};
+ghost use Rattle.std.specs.Prelude.{◌≡◌, ◌≢◌, ◌≤◌, vec_len, Err, IfErr, IfOk, OnErr, OnOk, map, string_bytes, Ok, Some, None};
 ghost use Rattle.lsp_message.specs.Seen.{change_view};
 ghost use Rattle.lsp_text.specs.Units.{units_in};
 ghost use Rattle.lsp_edit.specs.Edited.{edit_of};
@@ -10,7 +10,8 @@ ghost use Rattle.lsp_replay.specs.Session.{judge_at};
 ghost use Rattle.lsp_replay.specs.Engines.{canonical_change_body, canonical_of_record};
 ghost use Rattle.lsp_replay.specs.inside.Bodies.{body_view, canonical_read};
 ghost use Rattle.lsp_replay.specs.inside.Joining.{refusal_of};
-ghost use Rattle.lsp_replay.specs.inside.Verdicts.{IsAppended, verdict_view};
+ghost use Rattle.lsp_store.specs.declared.fault.StoreFault.TheVariants.{NoMemory};
+ghost use Rattle.lsp_replay.specs.inside.Verdicts.{IsAppended, appended_if_refused, verdict_view};
 
 use crate::session::{RecordBody, Session, Verdict};
 use lsp_log::Head;
@@ -98,11 +99,21 @@ impl Session {
         );
         match written {
             Ok(()) => Ok(Some(Appended::Body)),
-            Err(fault) => match fault {
-                StoreFault::BodyTooLong { .. } => Ok(Some(Appended::TooLong)),
-                StoreFault::NoMemory => Err(AllocError),
-                _ => Ok(None),
-            },
+            Err(fault) => refused_appended(fault),
         }
+    }
+}
+
+/// Says what was appended for a change that the store refuses: nothing, where its canonical body is
+/// too long. Out of memory only where the store was.
+fn refused_appended(fault: StoreFault) -> Result<Option<Appended>, AllocError>
+    ensures refused { IfOk result
+        (λ appended. (fault ≢ NoMemory) × (appended ≡ appended_if_refused fault)) }
+    ensures memory { OnErr result (fault ≡ NoMemory) }
+{
+    match fault {
+        StoreFault::BodyTooLong { .. } => Ok(Some(Appended::TooLong)),
+        StoreFault::NoMemory => Err(AllocError),
+        _ => Ok(None),
     }
 }

@@ -66,7 +66,7 @@ fn changed_log(alloc: Global, body: &str) -> Result<Vec<u8>, AllocError> {
 
 /// Is this the output of `normalise` for the input: the first 340 bytes, and a frame of the
 /// canonical body?
-fn is_normal(run: &Report, input: &[u8], length: Option<usize>) -> bool {
+fn is_canonical(run: &Report, input: &[u8], length: Option<usize>) -> bool {
     match length {
         Some(length) => {
             run.answer == Ended(0, 3, 0).answer()
@@ -87,7 +87,7 @@ fn is_written_anew(alloc: Global, row: &(i32, &str, Option<usize>)) -> Result<bo
     let (version, changes, length) = row;
     let input = changed_log(alloc, &change(alloc, *version, changes)?)?;
     let run = run_with(alloc, Command::Normalise, &input, settings()?, SMOOTH)?;
-    if !is_normal(&run, &input, *length) {
+    if !is_canonical(&run, &input, *length) {
         return Ok(false);
     }
     is_written_again(alloc, &run)

@@ -53,7 +53,7 @@ impl Wanted {
             && self.begins_with(&run.output)
     }
 
-    /// The input, and how often memory was refused until it was built.
+    /// The input, and how often the heap refused memory until it was built.
     fn input(&self, alloc: Global) -> Result<(Vec<u8>, u32), AllocError> {
         match self.input.get(alloc) {
             Ok(input) => Ok((input, 0)),

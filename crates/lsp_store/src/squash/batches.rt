@@ -117,7 +117,7 @@ impl Batches {
         Ok(())
     }
 
-    /// Returns the frame of the one message that means all added batches, as
+    /// Returns the frame of the canonical message of all added batches, as
     /// [`crate::Squash::message`] does, with its refusals and costs.
     pub fn message(&self) -> Result<Vec<u8>, StoreFault>
         ensures ok { IfOk result (λ bytes. bytes.items ≡ squash_frame self.now) }

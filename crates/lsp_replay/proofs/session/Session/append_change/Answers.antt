@@ -2,12 +2,12 @@ use Rattle.std.proofs.Common.{rules, ◌≡◌, ◌++◌, ap, refl, map, string_
 use Rattle.std.proofs.lemmas.Int.{to_z-of_z}
 use Rattle.lsp_edit.specs.Edited.{edit_of}
 use Rattle.lsp_text.specs.Units.{units_in}
-use Rattle.lsp_store.specs.declared.fault.StoreFault.TheVariants.{NoMemory}
 use Rattle.lsp_store.specs.Faults.{IsRefusal}
 use Rattle.lsp_store.specs.Message.{canonical_body, message_refusal}
 use Rattle.lsp_server.specs.Step.{encoding_of}
 use Rattle.lsp_replay.proofs.JoiningLemmas.{not_refused, too_long_accepted}
 use Rattle.lsp_replay.proofs.CanonicalLogLemmas.{edits_of, within, over}
+use Rattle.lsp_replay.proofs.RefusedChangeLemmas.{appended_refused, appended_accepted}
 use Rattle.lsp_replay.proofs.session.Session.append_change.Goals as goal
 
 pub returns-in-Ok-clause-canonical : goal.returns-in-Ok-clause-canonical
@@ -23,8 +23,8 @@ returns-in-Ok-clause-canonical c = λ none.
     rw (encoding, limits, table, c.deref.ensures, version, c.deref-2.ensures.value) at c.in-Ok.ensures.accepted in
     rw (edits_of c.args.params.now.changes.items) (appended, within c.args.self.now.server.config.limits _ _ none accepted)
 
-pub returns-in-BodyTooLong-clause-canonical : goal.returns-in-BodyTooLong-clause-canonical
-returns-in-BodyTooLong-clause-canonical c = λ none.
+pub returns-in-Err-clause-canonical : goal.returns-in-Err-clause-canonical
+returns-in-Err-clause-canonical c =
     let version : to_z w32 (of_z w32 c.args.params.now.version) ≡ c.args.params.now.version = to_z-of_z w32 c.args.params.now.version (search rules) in
     let server : c.self.inside.server ≡ c.args.self.now.server = ap (λ s. s.server) c.self.view_is in
     let encoding : c.unwrap_or-encoding.result ≡ encoding_of c.args.self.now.server = rw (c.unwrap_or-encoding.ensures, c.encoding.ensures.value, server) refl in
@@ -32,7 +32,7 @@ returns-in-BodyTooLong-clause-canonical c = λ none.
     let table : c.store.result.now.table ≡ c.args.self.now.server.table = rw (c.store.ensures, server) refl in
     let error : IsRefusal (message_refusal c.args.self.now.server.config.limits (units_in (encoding_of c.args.self.now.server)) c.args.self.now.server.table (string_bytes c.args.params.now.uri) c.args.params.now.version (map edit_of c.args.params.now.changes.items)) c.in-Err.fault =
     rw (encoding, limits, table, c.deref.ensures, version, c.deref-2.ensures.value) at c.in-Err.ensures.error in
-    rw (edits_of c.args.params.now.changes.items) (over c.args.self.now.server.config.limits _ _ c.in-Err.fault none (λ (e : c.in-Err.fault ≡ NoMemory). cc) error).0
+    rw (edits_of c.args.params.now.changes.items) (appended_refused _ _ _ _ _ _ c.in-Err.fault c.refused_appended.result (λ none other. over c.args.self.now.server.config.limits _ _ c.in-Err.fault none other error) c.refused_appended.ensures.refused)
 
 pub returns-in-Ok-clause-accepted : goal.returns-in-Ok-clause-accepted
 returns-in-Ok-clause-accepted c = λ some.
@@ -45,8 +45,8 @@ returns-in-Ok-clause-accepted c = λ some.
     rw (encoding, limits, table, c.deref.ensures, version, c.deref-2.ensures.value) at c.in-Ok.ensures.accepted in
     rw (edits_of c.args.params.now.changes.items) (not_refused _ _ accepted)
 
-pub returns-in-BodyTooLong-clause-accepted : goal.returns-in-BodyTooLong-clause-accepted
-returns-in-BodyTooLong-clause-accepted c = λ some.
+pub returns-in-Err-clause-accepted : goal.returns-in-Err-clause-accepted
+returns-in-Err-clause-accepted c =
     let version : to_z w32 (of_z w32 c.args.params.now.version) ≡ c.args.params.now.version = to_z-of_z w32 c.args.params.now.version (search rules) in
     let server : c.self.inside.server ≡ c.args.self.now.server = ap (λ s. s.server) c.self.view_is in
     let encoding : c.unwrap_or-encoding.result ≡ encoding_of c.args.self.now.server = rw (c.unwrap_or-encoding.ensures, c.encoding.ensures.value, server) refl in
@@ -54,4 +54,4 @@ returns-in-BodyTooLong-clause-accepted c = λ some.
     let table : c.store.result.now.table ≡ c.args.self.now.server.table = rw (c.store.ensures, server) refl in
     let error : IsRefusal (message_refusal c.args.self.now.server.config.limits (units_in (encoding_of c.args.self.now.server)) c.args.self.now.server.table (string_bytes c.args.params.now.uri) c.args.params.now.version (map edit_of c.args.params.now.changes.items)) c.in-Err.fault =
     rw (encoding, limits, table, c.deref.ensures, version, c.deref-2.ensures.value) at c.in-Err.ensures.error in
-    rw (edits_of c.args.params.now.changes.items) (too_long_accepted c.args.self.now.server.config.limits _ c.args.self.now.server.table _ _ _ _ _ (rw c.in-BodyTooLong.is at error))
+    rw (edits_of c.args.params.now.changes.items) (appended_accepted _ _ c.in-Err.fault c.refused_appended.result (λ len is. too_long_accepted c.args.self.now.server.config.limits _ c.args.self.now.server.table _ _ _ _ _ (rw is at error)) c.refused_appended.ensures.refused)

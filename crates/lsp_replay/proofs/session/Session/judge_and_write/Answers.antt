@@ -3,12 +3,12 @@ use Rattle.lsp_replay.proofs.BodyLemmas.{appended_at, judged_at}
 use Rattle.lsp_replay.proofs.session.Session.judge_and_write.Goals as goal
 
 pub returns-clause-verdict : goal.returns-clause-verdict
-returns-clause-verdict c = rw (judged_at c.args.self.now c.args.head c.args.body.now c.read.new.self (body_view c.in_ok-read.read) c.read.ensures.session c.in_ok-read.ensures.body) at c.in_ok-verdict.ensures.verdict
+returns-clause-verdict c = rw (judged_at c.args.self.now c.args.head c.args.body.now c.read.new.self (body_view c.in_ok-read.read) c.read.ensures.unchanged c.in_ok-read.ensures.body) at c.in_ok-verdict.ensures.verdict
 
 pub returns-clause-session : goal.returns-clause-session
-returns-clause-session c = rw (judged_at c.args.self.now c.args.head c.args.body.now c.read.new.self (body_view c.in_ok-read.read) c.read.ensures.session c.in_ok-read.ensures.body) at c.in_ok-verdict.ensures.session
+returns-clause-session c = rw (judged_at c.args.self.now c.args.head c.args.body.now c.read.new.self (body_view c.in_ok-read.read) c.read.ensures.unchanged c.in_ok-read.ensures.body) at c.in_ok-verdict.ensures.session
 
 pub returns-clause-written : goal.returns-clause-written
 returns-clause-written c =
-    appended_at c.args.self.now c.args.head c.args.body.now c.read.new.self (body_view c.in_ok-read.read) c.read.ensures.session c.in_ok-read.ensures.body
+    appended_at c.args.self.now c.args.head c.args.body.now c.read.new.self (body_view c.in_ok-read.read) c.read.ensures.unchanged c.in_ok-read.ensures.body
     c.in_ok-appended.appended c.args.output.now.items c.append_canonical.new.output.items c.in_ok-appended.ensures.written

@@ -1,4 +1,4 @@
-use Rattle.std.proofs.Common.{rules, ◌≢◌}
+use Rattle.std.proofs.Common.{◌≢◌}
 use Rattle.lsp_replay.specs.Session.{bad}
 use Rattle.lsp_replay.specs.inside.Verdicts.{verdict_view}
 use Rattle.lsp_replay.proofs.SquashingLemmas.{told_as_it_is, told_more, told_next}
@@ -7,11 +7,11 @@ use Rattle.lsp_replay.proofs.commands.squashing.SquashingHandler.handle.Goals as
 pub returns-in-AsItIs-clause-ok : goal.returns-in-AsItIs-clause-ok
 returns-in-AsItIs-clause-ok c =
     rw (← c.self.view_is)
-    (let not_bad : verdict_view c.in_ok-verdict.verdict ≢ bad = search rules in
+    (let not_bad : verdict_view c.in_ok-verdict.verdict ≢ bad = c.in_ok-in_log.ensures.in_log in
     let writing = rw c.in-AsItIs.is at (c.in_ok-verdict.ensures.writing not_bad) in
     told_as_it_is c.self.inside.session c.self.inside.texts.front.items c.self.inside.texts.singles.items c.self.inside.batches
     (record { head = c.args.head; spelling = c.args.spelling.now; body = c.args.body.now })
-    c.judge_and_join.new.self c.in_ok-verdict.ensures.session (verdict_view c.in_ok-verdict.verdict) c.in_ok-verdict.ensures.verdict c.version-version.result c.version-version.ensures
+    c.judge_and_join.new.self c.in_ok-verdict.ensures.session (verdict_view c.in_ok-verdict.verdict) c.in_ok-verdict.ensures.verdict
     c.take-run.result c.take-run.ensures.value c.args.buffer.now.items c.requires.empty
     c.in-AsItIs.ended writing.1 not_bad writing.0
     c.push_end.new.output.items c.push_front.new.output.items c.extend_from_slice.new.self.items
@@ -21,11 +21,11 @@ returns-in-AsItIs-clause-ok c =
 pub returns-in-Continues-clause-ok : goal.returns-in-Continues-clause-ok
 returns-in-Continues-clause-ok c =
     rw (← c.self.view_is)
-    (let not_bad : verdict_view c.in_ok-verdict.verdict ≢ bad = search rules in
+    (let not_bad : verdict_view c.in_ok-verdict.verdict ≢ bad = c.in_ok-in_log.ensures.in_log in
     let writing = rw c.in-Continues.is at (c.in_ok-verdict.ensures.writing not_bad) in
     told_more c.self.inside.session c.self.inside.texts.front.items c.self.inside.texts.singles.items c.self.inside.batches
     (record { head = c.args.head; spelling = c.args.spelling.now; body = c.args.body.now })
-    c.judge_and_join.new.self c.in_ok-verdict.ensures.session (verdict_view c.in_ok-verdict.verdict) c.in_ok-verdict.ensures.verdict c.version-version.result c.version-version.ensures
+    c.judge_and_join.new.self c.in_ok-verdict.ensures.session (verdict_view c.in_ok-verdict.verdict) c.in_ok-verdict.ensures.verdict
     c.take-run.result c.take-run.ensures.value c.args.buffer.now.items c.requires.empty
     c.in-Continues.frame.items c.in-Continues.batches writing.0 writing.1
     c.deref.result.now c.continue_with.new.self.front.items c.continue_with.new.self.singles.items
@@ -34,11 +34,11 @@ returns-in-Continues-clause-ok c =
 pub returns-clause-ok : goal.returns-clause-ok
 returns-clause-ok c =
     rw (← c.self.view_is)
-    (let not_bad : verdict_view c.in_ok-verdict.verdict ≢ bad = search rules in
+    (let not_bad : verdict_view c.in_ok-verdict.verdict ≢ bad = c.in_ok-in_log.ensures.in_log in
     let writing = rw c.in-Begins.is at (c.in_ok-verdict.ensures.writing not_bad) in
     told_next c.self.inside.session c.self.inside.texts.front.items c.self.inside.texts.singles.items c.self.inside.batches
     (record { head = c.args.head; spelling = c.args.spelling.now; body = c.args.body.now })
-    c.judge_and_join.new.self c.in_ok-verdict.ensures.session (verdict_view c.in_ok-verdict.verdict) c.in_ok-verdict.ensures.verdict c.version-version.result c.version-version.ensures
+    c.judge_and_join.new.self c.in_ok-verdict.ensures.session (verdict_view c.in_ok-verdict.verdict) c.in_ok-verdict.ensures.verdict
     c.take-run.result c.take-run.ensures.value c.args.buffer.now.items c.requires.empty
     c.in-Begins.frame.items c.in-Begins.ended c.in-Begins.batches writing.0 writing.1 writing.2 writing.3
     c.push_end-in-Begins.new.output.items c.deref-in-Begins.result.now c.begin.new.self.front.items c.begin.new.self.singles.items
