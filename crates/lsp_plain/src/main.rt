@@ -10,6 +10,8 @@
 //! - if there is one, the canonical batch in the body of a `textDocument/didChange`.
 #![tactic(auto)]
 
+ghost use Rattle.std.specs.Prelude.{◌≡◌, ◌≤◌, IfOk, length, encode_utf8_all};
+
 use anyhow::{Context, Result, bail};
 use lsp_edit::plain::{Plain, compose};
 use lsp_edit::{Change, MAX_OLD_TEXT, fits};
@@ -17,7 +19,7 @@ use lsp_message::{params_change, push_change};
 use lsp_text::plain::resolved;
 use lsp_text::{Encoding, Position};
 use serde_json::Value;
-use std::alloc::Global;
+use std::alloc::{AllocError, Global};
 use std::io::{BufRead, BufReader, BufWriter, Write};
 
 /// An old text, positions in it, and a batch of changes.
@@ -93,18 +95,28 @@ fn write_case<W: Write>(alloc: Global, case: &Case, output: &mut W) -> Result<()
     if case.text.len() > MAX_OLD_TEXT || !fits(&case.changes) {
         bail!("a case is too long");
     }
-    write_offsets(alloc, case, output)?;
+    let characters = characters(alloc, &case.text)?;
+    write_offsets(&characters, case, output)?;
     match compose(alloc, &case.text, case.encoding, &case.changes) {
         Ok(plain) => write_meaning(alloc, &plain, case.encoding, output),
         Err(fault) => Ok(writeln!(output, "{fault}")?),
     }
 }
 
-/// Writes the byte offset that each position denotes.
-fn write_offsets<W: Write>(alloc: Global, case: &Case, output: &mut W) -> Result<()> {
-    let characters: Vec<char> = case.text.chars().collect(alloc)?;
+/// Returns the characters of a text.
+fn characters(alloc: Global, text: &str) -> Result<Vec<char>, AllocError>
+    ensures { IfOk result
+        (λ characters. length (encode_utf8_all characters.items) ≡ length text.now) }
+{
+    text.chars().collect(alloc)
+}
+
+/// Writes the byte offset that each position denotes in the text of these characters.
+fn write_offsets<W: Write>(characters: &[char], case: &Case, output: &mut W) -> Result<()>
+    requires { length (encode_utf8_all characters.now) ≤ 2147483648 }
+{
     for position in &case.positions {
-        match resolved(&characters, case.encoding, *position) {
+        match resolved(characters, case.encoding, *position) {
             Some(offset) => write!(output, " {offset}")?,
             None => output.write_all(b" -")?,
         }
