@@ -1,5 +1,5 @@
 use Rattle.std.proofs.Common.{IsUtf8, chars}
-use Rattle.core.specs.Str.Iter.{chars_rest}
+use Rattle.std.specs.Str.Iter.{chars_rest}
 use Rattle.lsp_text.specs.Units.{units_in}
 use Rattle.lsp_store.proofs.UnitsBeforeLemmas.{HasPassed}
 use Rattle.lsp_store.proofs.store.document.units.offset_after.Given as goal
