@@ -1,18 +1,10 @@
-//! What each body is read as, printed by `Debug`.
+//! What each body is read as.
 
+use super::{Call, Row, wrong_row, wrong_text};
 use lsp_message::{Message, ParamsFault, ReadFault, read};
 use std::alloc::{AllocError, Global};
+use std::fmt::Display;
 use std::test::Fail;
-
-fn shown(alloc: Global, body: &str) -> Result<String, AllocError> {
-    let outcome = read(alloc, body.as_bytes());
-    format!(in alloc; "{outcome:?}")
-}
-
-/// Returns whether a body is read as this.
-fn is_read_as(alloc: Global, body: &str, wanted: &str) -> Result<bool, AllocError> {
-    Ok(shown(alloc, body)?.as_str() == wanted)
-}
 
 static NOT_JSON: [&str; 14] = [
     "",
@@ -34,9 +26,10 @@ static NOT_JSON: [&str; 14] = [
 
 #[test]
 fn what_is_no_json_is_refused(rt: HostRuntime) -> Result<(), Fail> {
-    for body in &NOT_JSON {
-        assert!(rt; is_read_as(rt.alloc(), body, "Err(NotJson)")?, "{body}");
-    }
+    assert_eq!(rt;
+        wrong_text(rt.alloc(), Call::Body, &NOT_JSON, "Err(NotJson)")?,
+        None
+    );
     Ok(())
 }
 
@@ -74,170 +67,179 @@ static WITHOUT_ID: [&str; 27] = [
     r#"{"id":9223372036854775808,"error":{},"jsonrpc":"2.0"}"#,
 ];
 
+const NO_ID: &str = "Err(NotAMessage { id: None })";
+
 #[test]
 fn no_message_and_no_id(rt: HostRuntime) -> Result<(), Fail> {
-    for body in &WITHOUT_ID {
-        assert!(rt;
-            is_read_as(rt.alloc(), body, "Err(NotAMessage { id: None })")?,
-            "{body}"
-        );
-    }
+    assert_eq!(rt;
+        wrong_text(rt.alloc(), Call::Body, &WITHOUT_ID, NO_ID)?,
+        None
+    );
     Ok(())
 }
 
-static WITH_ID: [(&str, &str); 9] = [
-    (r#"{"id":9,"method":"x"}"#, "Whole(9)"),
-    (r#"{"id":9,"jsonrpc":2.0,"method":"x"}"#, "Whole(9)"),
-    (r#"{"id":9,"jsonrpc":null,"result":1}"#, "Whole(9)"),
-    (r#"{"id":"a","jsonrpc":"2","method":1}"#, r#"Text("a")"#),
+static WITH_ID: [Row; 9] = [
+    (
+        r#"{"id":9,"method":"x"}"#,
+        "Err(NotAMessage { id: Some(Whole(9)) })",
+    ),
+    (
+        r#"{"id":9,"jsonrpc":2.0,"method":"x"}"#,
+        "Err(NotAMessage { id: Some(Whole(9)) })",
+    ),
+    (
+        r#"{"id":9,"jsonrpc":null,"result":1}"#,
+        "Err(NotAMessage { id: Some(Whole(9)) })",
+    ),
+    (
+        r#"{"id":"a","jsonrpc":"2","method":1}"#,
+        r#"Err(NotAMessage { id: Some(Text("a")) })"#,
+    ),
     // A method that is no string.
-    (r#"{"id":5,"jsonrpc":"2.0","method":1}"#, "Whole(5)"),
+    (
+        r#"{"id":5,"jsonrpc":"2.0","method":1}"#,
+        "Err(NotAMessage { id: Some(Whole(5)) })",
+    ),
     (
         r#"{"id":5,"jsonrpc":"2.0","method":null,"result":1}"#,
-        "Whole(5)",
+        "Err(NotAMessage { id: Some(Whole(5)) })",
     ),
     // Neither a call nor a response.
-    (r#"{"id":1,"jsonrpc":"2.0"}"#, "Whole(1)"),
-    (r#"{"id":"","jsonrpc":"2.0","params":[]}"#, r#"Text("")"#),
-    (r#"{"error":null,"id":1,"jsonrpc":"2.0"}"#, "Whole(1)"),
+    (
+        r#"{"id":1,"jsonrpc":"2.0"}"#,
+        "Err(NotAMessage { id: Some(Whole(1)) })",
+    ),
+    (
+        r#"{"id":"","jsonrpc":"2.0","params":[]}"#,
+        r#"Err(NotAMessage { id: Some(Text("")) })"#,
+    ),
+    (
+        r#"{"error":null,"id":1,"jsonrpc":"2.0"}"#,
+        "Err(NotAMessage { id: Some(Whole(1)) })",
+    ),
 ];
-
-/// Returns whether a body is no message, with this id.
-fn has_id(alloc: Global, body: &str, id: &str) -> Result<bool, AllocError> {
-    let wanted = format!(in alloc; "Err(NotAMessage {{ id: Some({id}) }})")?;
-    is_read_as(alloc, body, &wanted)
-}
 
 #[test]
 fn no_message_with_an_id(rt: HostRuntime) -> Result<(), Fail> {
-    for (body, id) in &WITH_ID {
-        assert!(rt; has_id(rt.alloc(), body, id)?, "{body}");
-    }
+    assert_eq!(rt; wrong_row(rt.alloc(), Call::Body, &WITH_ID)?, None);
     Ok(())
 }
 
-static CALLS: [(&str, &str); 12] = [
+static CALLS: [Row; 12] = [
     (
         r#"{"jsonrpc":"2.0","method":"$/x"}"#,
-        r#"Notification { method: "$/x", params: None }"#,
+        r#"Ok(Notification { method: "$/x", params: None })"#,
     ),
     (
         r#"{"jsonrpc":"2.0","method":"x","params":null}"#,
-        r#"Notification { method: "x", params: Some(Null) }"#,
+        r#"Ok(Notification { method: "x", params: Some(Null) })"#,
     ),
     (
         r#" { "y" : {} , "error":1, "jsonrpc":"2.0","method":"x","params":[],"result":[] } "#,
-        r#"Notification { method: "x", params: Some(Array []) }"#,
+        r#"Ok(Notification { method: "x", params: Some(Array []) })"#,
     ),
     (
         r#"{"method":"a","jsonrpc":"2.0","method":"b"}"#,
-        r#"Notification { method: "b", params: None }"#,
+        r#"Ok(Notification { method: "b", params: None })"#,
     ),
     (
         r#"{"id":7,"jsonrpc":"2.0","method":"x"}"#,
-        r#"Request { id: Whole(7), method: "x", params: None }"#,
+        r#"Ok(Request { id: Whole(7), method: "x", params: None })"#,
     ),
     (
         r#"{"id":8,"jsonrpc":"2.0","method":"$/x"}"#,
-        r#"Request { id: Whole(8), method: "$/x", params: None }"#,
+        r#"Ok(Request { id: Whole(8), method: "$/x", params: None })"#,
     ),
     (
         r#"{"id":"","jsonrpc":"2.0","method":""}"#,
-        r#"Request { id: Text(""), method: "", params: None }"#,
+        r#"Ok(Request { id: Text(""), method: "", params: None })"#,
     ),
     (
         r#"{"id":"q","jsonrpc":"2.0","method":"textDocument/hover"}"#,
-        r#"Request { id: Text("q"), method: "textDocument/hover", params: None }"#,
+        r#"Ok(Request { id: Text("q"), method: "textDocument/hover", params: None })"#,
     ),
     (
         r#"{"id":"q","jsonrpc":"2.0","method":"exit","params":7}"#,
-        r#"Request { id: Text("q"), method: "exit", params: Some(Number(7)) }"#,
+        r#"Ok(Request { id: Text("q"), method: "exit", params: Some(Number(7)) })"#,
     ),
     (
         r#"{"id":9223372036854775807,"jsonrpc":"2.0","method":"x"}"#,
-        r#"Request { id: Whole(9223372036854775807), method: "x", params: None }"#,
+        r#"Ok(Request { id: Whole(9223372036854775807), method: "x", params: None })"#,
     ),
     (
         r#"{"id":-9223372036854775808,"jsonrpc":"2.0","method":"x"}"#,
-        r#"Request { id: Whole(-9223372036854775808), method: "x", params: None }"#,
+        r#"Ok(Request { id: Whole(-9223372036854775808), method: "x", params: None })"#,
     ),
     (
         r#"{"id":1,"jsonrpc":"2.0","id":2,"method":"x"}"#,
-        r#"Request { id: Whole(2), method: "x", params: None }"#,
+        r#"Ok(Request { id: Whole(2), method: "x", params: None })"#,
     ),
 ];
-
-fn is_call(alloc: Global, body: &str, message: &str) -> Result<bool, AllocError> {
-    let wanted = format!(in alloc; "Ok({message})")?;
-    is_read_as(alloc, body, &wanted)
-}
 
 #[test]
 fn calls_are_read(rt: HostRuntime) -> Result<(), Fail> {
-    for (body, message) in &CALLS {
-        assert!(rt; is_call(rt.alloc(), body, message)?, "{body}");
-    }
+    assert_eq!(rt; wrong_row(rt.alloc(), Call::Body, &CALLS)?, None);
     Ok(())
 }
 
-static ANSWERS: [(&str, &str); 7] = [
+static ANSWERS: [Row; 7] = [
     (
         r#"{"id":1,"jsonrpc":"2.0","result":null}"#,
-        "id: Some(Whole(1)), outcome: Given(Null)",
+        "Ok(Response { id: Some(Whole(1)), outcome: Given(Null) })",
     ),
     (
         r#"{"error":null,"id":1,"jsonrpc":"2.0","result":null}"#,
-        "id: Some(Whole(1)), outcome: Given(Null)",
+        "Ok(Response { id: Some(Whole(1)), outcome: Given(Null) })",
     ),
     (
         r#"{"error":{},"id":1,"jsonrpc":"2.0","result":1}"#,
-        "id: Some(Whole(1)), outcome: Failed",
+        "Ok(Response { id: Some(Whole(1)), outcome: Failed })",
     ),
     (
         r#"{"error":0,"id":"1","jsonrpc":"2.0"}"#,
-        r#"id: Some(Text("1")), outcome: Failed"#,
+        r#"Ok(Response { id: Some(Text("1")), outcome: Failed })"#,
     ),
     (
         r#"{"error":{},"id":null,"jsonrpc":"2.0"}"#,
-        "id: None, outcome: Failed",
+        "Ok(Response { id: None, outcome: Failed })",
     ),
     (
         r#"{"id":null,"jsonrpc":"2.0","result":[]}"#,
-        "id: None, outcome: Given(Array [])",
+        "Ok(Response { id: None, outcome: Given(Array []) })",
     ),
     (
         r#"{"x":[],"id":1,"jsonrpc":"2.0","params":7,"result":"r"}"#,
-        r#"id: Some(Whole(1)), outcome: Given(String("r"))"#,
+        r#"Ok(Response { id: Some(Whole(1)), outcome: Given(String("r")) })"#,
     ),
 ];
 
-fn is_answer(alloc: Global, body: &str, members: &str) -> Result<bool, AllocError> {
-    let wanted = format!(in alloc; "Ok(Response {{ {members} }})")?;
-    is_read_as(alloc, body, &wanted)
-}
-
 #[test]
 fn answers_are_read(rt: HostRuntime) -> Result<(), Fail> {
-    for (body, members) in &ANSWERS {
-        assert!(rt; is_answer(rt.alloc(), body, members)?, "{body}");
-    }
+    assert_eq!(rt; wrong_row(rt.alloc(), Call::Body, &ANSWERS)?, None);
     Ok(())
 }
 
-#[test]
-fn texts_are_unescaped(rt: HostRuntime) -> Result<(), Fail> {
-    let body =
-        "{\"jsonrpc\":\"2.0\",\"method\":\"\\\"\\\\\\/\\b\\f\\n\\r\\t\\u0000\\u2028\\ud83d\\uDE00\u{2028}\u{7f}\"}";
-    match read(rt.alloc(), body.as_bytes())? {
-        Message::Notification { method, .. } => {
-            assert_eq!(rt;
-                method.as_str(),
-                "\"\\/\u{8}\u{c}\n\r\t\0\u{2028}\u{1f600}\u{2028}\u{7f}"
-            )
-        }
-        _other => return Err(Fail::from("a notification")),
+const ESCAPED: &str =
+    "{\"jsonrpc\":\"2.0\",\"method\":\"\\\"\\\\\\/\\b\\f\\n\\r\\t\\u0000\\u2028\\ud83d\\uDE00\u{2028}\u{7f}\"}";
+
+const UNESCAPED: &str = "\"\\/\u{8}\u{c}\n\r\t\0\u{2028}\u{1f600}\u{2028}\u{7f}";
+
+/// Returns whether this is a notification of this method.
+fn is_notification(outcome: &Result<Message, ReadFault>, wanted: &str) -> bool {
+    match outcome {
+        Ok(Message::Notification { method, .. }) => method.as_str() == wanted,
+        _ => false,
     }
-    Ok(())
+}
+
+fn is_unescaped(alloc: Global) -> bool {
+    let outcome = read(alloc, ESCAPED.as_bytes());
+    is_notification(&outcome, UNESCAPED)
+}
+
+#[test]
+fn texts_are_unescaped(rt: HostRuntime) {
+    assert!(rt; is_unescaped(rt.alloc()));
 }
 
 /// A cut character, one that is too long, a surrogate, and bytes that no character has.
@@ -249,83 +251,127 @@ static NOT_UTF8: [&[u8]; 5] = [
     b"{\"jsonrpc\":\"2.0\",\"method\":\"\xff\"}",
 ];
 
-fn is_no_json(alloc: Global, body: &[u8]) -> bool {
-    read(alloc, body) == Err(ReadFault::NotJson)
+/// Returns what a body is, in words.
+fn word_of(alloc: Global, body: &[u8]) -> &'static str {
+    match read(alloc, body) {
+        Ok(_) => "a message",
+        Err(ReadFault::NotJson) => "no JSON",
+        Err(ReadFault::NotAMessage { id: None }) => "no message",
+        Err(_) => "another fault",
+    }
+}
+
+/// Returns the number of the first of these bodies that is JSON.
+fn first_json(alloc: Global, bodies: &[&[u8]]) -> Option<usize> {
+    for (number, body) in bodies.iter().enumerate() {
+        if word_of(alloc, body) != "no JSON" {
+            return Some(number);
+        }
+    }
+    None
 }
 
 #[test]
 fn bytes_are_utf8(rt: HostRuntime) {
-    for body in &NOT_UTF8 {
-        assert!(rt; is_no_json(rt.alloc(), body), "{body:?}");
-    }
+    assert_eq!(rt; first_json(rt.alloc(), &NOT_UTF8), None);
 }
 
-/// Returns arrays in one another, to this depth.
-fn nested(alloc: Global, depth: usize) -> Result<String, AllocError> {
-    let mut text = String::new(alloc);
-    for _ in 0..depth {
-        text.push('[')?;
+/// A depth, and what a body is that nests so deep.
+type Depth = (usize, &'static str);
+
+fn push_times(text: &mut String, bracket: char, count: usize) -> Result<(), AllocError> {
+    for _ in 0..count {
+        text.push(bracket)?;
     }
-    for _ in 0..depth {
-        text.push(']')?;
-    }
+    Ok(())
+}
+
+/// Returns arrays in one another, to this depth, between two texts.
+fn nested(alloc: Global, before: &str, depth: usize, after: &str) -> Result<String, AllocError> {
+    let mut text = String::from_str(alloc, before)?;
+    push_times(&mut text, '[', depth)?;
+    push_times(&mut text, ']', depth)?;
+    text.push_str(after)?;
     Ok(text)
 }
 
-/// Returns whether a body of arrays to this depth is JSON. It is no message.
-fn is_json(alloc: Global, depth: usize) -> Result<bool, Fail> {
-    let arrays = nested(alloc, depth)?;
-    match read(alloc, arrays.as_bytes()) {
-        Err(ReadFault::NotAMessage { id: None }) => Ok(true),
-        Err(ReadFault::NotJson) => Ok(false),
-        _other => Err(Fail::from("no message")),
-    }
+/// Returns what is read of arrays to this depth, between two texts.
+fn word_of_nested(
+    alloc: Global,
+    before: &str,
+    depth: usize,
+    after: &str,
+) -> Result<&'static str, AllocError> {
+    let body = nested(alloc, before, depth, after)?;
+    Ok(word_of(alloc, body.as_bytes()))
 }
+
+/// Returns the first depth at which such a body is something else.
+fn wrong_depth(
+    alloc: Global,
+    before: &str,
+    after: &str,
+    rows: &[Depth],
+) -> Result<Option<usize>, AllocError> {
+    for (depth, wanted) in rows {
+        if word_of_nested(alloc, before, *depth, after)? != *wanted {
+            return Ok(Some(*depth));
+        }
+    }
+    Ok(None)
+}
+
+static ARRAYS: [Depth; 3] = [(127, "no message"), (128, "no JSON"), (200, "no JSON")];
 
 #[test]
 fn a_body_nests_127_deep(rt: HostRuntime) -> Result<(), Fail> {
-    for (depth, fits) in [(127, true), (128, false), (200, false)] {
-        assert!(rt; is_json(rt.alloc(), depth)? == fits, "{depth}");
-    }
+    assert_eq!(rt; wrong_depth(rt.alloc(), "", "", &ARRAYS)?, None);
     Ok(())
 }
 
-/// Returns whether a message is read whose params are arrays to this depth.
-fn is_message(alloc: Global, depth: usize) -> Result<bool, Fail> {
-    let arrays = nested(alloc, depth)?;
-    let body = format!(in alloc; "{{\"jsonrpc\":\"2.0\",\"method\":\"x\",\"params\":{arrays}}}")?;
-    match read(alloc, body.as_bytes()) {
-        Ok(_) => Ok(true),
-        Err(ReadFault::NotJson) => Ok(false),
-        Err(_) => Err(Fail::from("no JSON")),
-    }
-}
+static PARAMS: [Depth; 3] = [(126, "a message"), (127, "no JSON"), (200, "no JSON")];
+
+const BEFORE_PARAMS: &str = r#"{"jsonrpc":"2.0","method":"x","params":"#;
 
 #[test]
 fn a_message_nests_127_deep(rt: HostRuntime) -> Result<(), Fail> {
-    for (depth, fits) in [(126, true), (127, false), (200, false)] {
-        assert!(rt; is_message(rt.alloc(), depth)? == fits, "{depth}");
-    }
+    assert_eq!(rt; wrong_depth(rt.alloc(), BEFORE_PARAMS, "}", &PARAMS)?, None);
     Ok(())
 }
 
-fn is_text(text: Result<String, AllocError>, wanted: &str) -> Result<bool, AllocError> {
-    Ok(text?.as_str() == wanted)
+/// Returns whether `to_string` returns this.
+fn is_text<T: Display>(alloc: Global, fault: &T, wanted: &str) -> Result<bool, AllocError> {
+    let text = fault.to_string(alloc)?;
+    Ok(text.as_str() == wanted)
+}
+
+fn read_fault_is_text(alloc: Global, fault: ReadFault, wanted: &str) -> Result<bool, AllocError> {
+    is_text(alloc, &fault, wanted)
+}
+
+fn no_message_is_text(alloc: Global) -> Result<bool, AllocError> {
+    let fault = ReadFault::NotAMessage { id: None };
+    read_fault_is_text(alloc, fault, "the body is no message")
+}
+
+fn read_faults_are_texts(alloc: Global) -> Result<bool, AllocError> {
+    Ok(
+        read_fault_is_text(alloc, ReadFault::NotJson, "the body is no JSON")?
+            && no_message_is_text(alloc)?
+            && read_fault_is_text(alloc, ReadFault::NoMemory, "out of memory")?,
+    )
+}
+
+fn params_faults_are_texts(alloc: Global) -> Result<bool, AllocError> {
+    Ok(
+        is_text(alloc, &ParamsFault::InvalidParams, "invalid params")?
+            && is_text(alloc, &ParamsFault::NoMemory, "out of memory")?,
+    )
 }
 
 #[test]
 fn faults_have_their_texts(rt: HostRuntime) -> Result<(), Fail> {
-    let alloc = rt.alloc();
-    let no_message = ReadFault::NotAMessage { id: None };
-    assert!(rt; is_text(ReadFault::NotJson.to_string(alloc), "the body is no JSON")?);
-    assert!(rt; is_text(no_message.to_string(alloc), "the body is no message")?);
-    assert!(rt; is_text(ReadFault::NoMemory.to_string(alloc), "out of memory")?);
-    assert!(rt;
-        is_text(
-            ParamsFault::InvalidParams.to_string(alloc),
-            "invalid params"
-        )?
-    );
-    assert!(rt; is_text(ParamsFault::NoMemory.to_string(alloc), "out of memory")?);
+    assert!(rt; read_faults_are_texts(rt.alloc())?);
+    assert!(rt; params_faults_are_texts(rt.alloc())?);
     Ok(())
 }

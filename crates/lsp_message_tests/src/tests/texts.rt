@@ -1,31 +1,157 @@
 //! The body of each message, and what it is read as.
 
-use super::{changed, closed, error_reply, initialized, opened, text, unchanged};
+use lsp_edit::Change;
 use lsp_message::{
-    ChangeParams, ErrorCode, Id, Message, Offers, Outcome, Outgoing, SyncKind, params_change,
-    params_close, params_initialize, params_open, read, result_initialize, write,
+    ChangeParams, CloseParams, ErrorCode, Id, Message, Offers, OpenParams, Outcome, Outgoing,
+    SyncKind, params_change, params_close, params_initialize, params_open, read, result_initialize,
+    write,
 };
-use lsp_text::Encoding;
+use lsp_text::{Encoding, Position, Range};
 use serde_json::Value;
-use std::alloc::Global;
+use std::alloc::{AllocError, Global};
 use std::test::Fail;
 
-/// Returns whether a message is written as this text of so many bytes.
-fn is_written(
+/// A message that is written.
+#[derive(Clone, Copy)]
+enum Sent {
+    /// `initialize`, and whether it offers UTF-8 and UTF-32.
+    Initialize(bool, bool),
+    Initialized,
+    Open,
+    /// A change of these characters of line 0, or of the whole text, to this text.
+    Change(Option<(u32, u32)>, &'static str),
+    /// A change with an empty list.
+    NoChange,
+    Close,
+    Shutdown,
+    Exit,
+    InitializeResult(Encoding, SyncKind),
+    ShutdownResult,
+    /// An error, and the id of the request.
+    Error(ErrorCode, Option<i64>),
+    /// An error of a request whose id is a text.
+    ErrorOf(ErrorCode, &'static str),
+}
+
+fn text(alloc: Global, text: &str) -> Result<String, AllocError> {
+    String::from_str(alloc, text)
+}
+
+fn message(alloc: Global, sent: Sent) -> Result<Outgoing, AllocError> {
+    match sent {
+        Sent::Initialize(utf8, utf32) => Ok(Outgoing::Initialize(Offers::new(utf8, utf32))),
+        Sent::Initialized => Ok(Outgoing::Initialized),
+        Sent::Open => Ok(Outgoing::DidOpen(opened(alloc)?)),
+        Sent::Change(range, with) => Ok(Outgoing::DidChange(changed(alloc, range, with)?)),
+        Sent::NoChange => Ok(Outgoing::DidChange(unchanged(alloc)?)),
+        Sent::Close => Ok(Outgoing::DidClose(closed(alloc)?)),
+        Sent::Shutdown => Ok(Outgoing::Shutdown),
+        Sent::Exit => Ok(Outgoing::Exit),
+        Sent::InitializeResult(encoding, kind) => Ok(Outgoing::InitializeResult {
+            id: Id::Whole(1),
+            encoding,
+            kind,
+        }),
+        Sent::ShutdownResult => Ok(Outgoing::ShutdownResult { id: Id::Whole(2) }),
+        Sent::Error(error, id) => Ok(error_reply(error, id.map(Id::Whole))),
+        Sent::ErrorOf(error, id) => Ok(error_reply(error, Some(Id::Text(text(alloc, id)?)))),
+    }
+}
+
+fn error_reply(error: ErrorCode, id: Option<Id>) -> Outgoing {
+    Outgoing::ErrorReply { id, error }
+}
+
+fn opened(alloc: Global) -> Result<OpenParams, AllocError> {
+    Ok(OpenParams {
+        uri: text(alloc, "file:///a")?,
+        language: text(alloc, "plaintext")?,
+        version: 1,
+        text: text(alloc, "abc")?,
+    })
+}
+
+fn closed(alloc: Global) -> Result<CloseParams, AllocError> {
+    Ok(CloseParams {
+        uri: text(alloc, "file:///a")?,
+    })
+}
+
+/// Returns a range of line 0.
+fn in_line(start: u32, stop: u32) -> Range {
+    Range {
+        start: Position {
+            line: 0,
+            character: start,
+        },
+        stop: Position {
+            line: 0,
+            character: stop,
+        },
+    }
+}
+
+/// Returns a list of one change.
+fn one_change(
     alloc: Global,
-    message: &Outgoing,
-    length: usize,
-    wanted: &str,
-) -> Result<bool, Fail> {
-    let body = write(alloc, message)?;
+    range: Option<(u32, u32)>,
+    with: &str,
+) -> Result<Vec<Change>, AllocError> {
+    let change = Change {
+        range: range.map(|(start, stop)| in_line(start, stop)),
+        text: text(alloc, with)?,
+    };
+    Ok(vec![in alloc; change]?)
+}
+
+/// Returns a change to version 2, of a range of line 0 or of the whole text.
+fn changed(
+    alloc: Global,
+    range: Option<(u32, u32)>,
+    with: &str,
+) -> Result<ChangeParams, AllocError> {
+    params_of(alloc, one_change(alloc, range, with)?)
+}
+
+fn unchanged(alloc: Global) -> Result<ChangeParams, AllocError> {
+    params_of(alloc, Vec::new(alloc))
+}
+
+fn params_of(alloc: Global, changes: Vec<Change>) -> Result<ChangeParams, AllocError> {
+    Ok(ChangeParams {
+        uri: text(alloc, "file:///a")?,
+        version: 2,
+        changes,
+    })
+}
+
+/// A message, and the length and the text of its body.
+type Row = (Sent, usize, &'static str);
+
+fn written(alloc: Global, sent: Sent) -> Result<Vec<u8>, AllocError> {
+    write(alloc, &message(alloc, sent)?)
+}
+
+/// Returns whether a message is written as this text of so many bytes.
+fn is_written(alloc: Global, row: &Row) -> Result<bool, AllocError> {
+    let (sent, length, wanted) = *row;
+    let body = written(alloc, sent)?;
     Ok(body.as_slice() == wanted.as_bytes() && body.len() == length)
 }
 
-/// What an `initialize` offers, the length of its body, and its body.
-static INITIALIZE: [(bool, bool, usize, &str); 4] = [
+/// Returns the number of the first message that is written as something else.
+fn wrong_row(alloc: Global, rows: &[Row]) -> Result<Option<usize>, AllocError> {
+    for (number, row) in rows.iter().enumerate() {
+        if !is_written(alloc, row)? {
+            return Ok(Some(number));
+        }
+    }
+    Ok(None)
+}
+
+static INITIALIZE: [Row; 4] = [
     (
-        false,
-        false,
+        Sent::Initialize(false, false),
         149,
         concat!(
             r#"{"id":1,"jsonrpc":"2.0","method":"initialize","params":{"capabilities":{"general":"#,
@@ -33,8 +159,7 @@ static INITIALIZE: [(bool, bool, usize, &str); 4] = [
         ),
     ),
     (
-        true,
-        false,
+        Sent::Initialize(true, false),
         157,
         concat!(
             r#"{"id":1,"jsonrpc":"2.0","method":"initialize","params":{"capabilities":{"general":"#,
@@ -42,8 +167,7 @@ static INITIALIZE: [(bool, bool, usize, &str); 4] = [
         ),
     ),
     (
-        false,
-        true,
+        Sent::Initialize(false, true),
         158,
         concat!(
             r#"{"id":1,"jsonrpc":"2.0","method":"initialize","params":{"capabilities":{"general":"#,
@@ -51,8 +175,7 @@ static INITIALIZE: [(bool, bool, usize, &str); 4] = [
         ),
     ),
     (
-        true,
-        true,
+        Sent::Initialize(true, true),
         166,
         concat!(
             r#"{"id":1,"jsonrpc":"2.0","method":"initialize","params":{"capabilities":{"general":"#,
@@ -63,277 +186,361 @@ static INITIALIZE: [(bool, bool, usize, &str); 4] = [
 
 #[test]
 fn initialize_has_its_text(rt: HostRuntime) -> Result<(), Fail> {
-    for (utf8, utf32, length, wanted) in &INITIALIZE {
-        let message = Outgoing::Initialize(Offers::new(*utf8, *utf32));
-        assert!(rt;
-            is_written(rt.alloc(), &message, *length, wanted)?,
-            "{wanted}"
-        );
-    }
+    assert_eq!(rt; wrong_row(rt.alloc(), &INITIALIZE)?, None);
     Ok(())
 }
 
-const INITIALIZED: &str = r#"{"jsonrpc":"2.0","method":"initialized","params":{}}"#;
-
-const SHUTDOWN: &str = r#"{"id":2,"jsonrpc":"2.0","method":"shutdown"}"#;
-
-const EXIT: &str = r#"{"jsonrpc":"2.0","method":"exit"}"#;
+static LIFECYCLE: [Row; 3] = [
+    (
+        Sent::Initialized,
+        52,
+        r#"{"jsonrpc":"2.0","method":"initialized","params":{}}"#,
+    ),
+    (
+        Sent::Shutdown,
+        44,
+        r#"{"id":2,"jsonrpc":"2.0","method":"shutdown"}"#,
+    ),
+    (Sent::Exit, 33, r#"{"jsonrpc":"2.0","method":"exit"}"#),
+];
 
 #[test]
 fn the_lifecycle_has_its_texts(rt: HostRuntime) -> Result<(), Fail> {
-    let alloc = rt.alloc();
-    assert!(rt; is_written(alloc, &Outgoing::Initialized, 52, INITIALIZED)?);
-    assert!(rt; is_written(alloc, &Outgoing::Shutdown, 44, SHUTDOWN)?);
-    assert!(rt; is_written(alloc, &Outgoing::Exit, 33, EXIT)?);
+    assert_eq!(rt; wrong_row(rt.alloc(), &LIFECYCLE)?, None);
     Ok(())
 }
 
-const DID_OPEN: &str = concat!(
-    r#"{"jsonrpc":"2.0","method":"textDocument/didOpen","params":{"textDocument":"#,
-    r#"{"languageId":"plaintext","text":"abc","uri":"file:///a","version":1}}}"#,
-);
-
-const DID_CLOSE: &str = concat!(
-    r#"{"jsonrpc":"2.0","method":"textDocument/didClose","params":{"textDocument":{"uri":"file:///a"}}}"#,
-);
+static OPENING_AND_CLOSING: [Row; 2] = [
+    (
+        Sent::Open,
+        145,
+        concat!(
+            r#"{"jsonrpc":"2.0","method":"textDocument/didOpen","params":{"textDocument":"#,
+            r#"{"languageId":"plaintext","text":"abc","uri":"file:///a","version":1}}}"#,
+        ),
+    ),
+    (
+        Sent::Close,
+        96,
+        r#"{"jsonrpc":"2.0","method":"textDocument/didClose","params":{"textDocument":{"uri":"file:///a"}}}"#,
+    ),
+];
 
 #[test]
 fn opening_and_closing_have_their_texts(rt: HostRuntime) -> Result<(), Fail> {
-    let open = Outgoing::DidOpen(opened(rt.alloc())?);
-    assert!(rt; is_written(rt.alloc(), &open, 145, DID_OPEN)?);
-    let close = Outgoing::DidClose(closed(rt.alloc())?);
-    assert!(rt; is_written(rt.alloc(), &close, 96, DID_CLOSE)?);
+    assert_eq!(rt; wrong_row(rt.alloc(), &OPENING_AND_CLOSING)?, None);
     Ok(())
 }
 
-const DID_CHANGE: &str = concat!(
-    r#"{"jsonrpc":"2.0","method":"textDocument/didChange","params":{"contentChanges":[{"range":{"end":"#,
-    r#"{"character":2,"line":0},"start":{"character":1,"line":0}},"text":"X"}],"#,
-    r#""textDocument":{"uri":"file:///a","version":2}}}"#,
-);
-
-const DID_CHANGE_WHOLE: &str = concat!(
-    r#"{"jsonrpc":"2.0","method":"textDocument/didChange","params":{"contentChanges":[{"text":"aXc"}],"#,
-    r#""textDocument":{"uri":"file:///a","version":2}}}"#,
-);
-
-const DID_CHANGE_NOTHING: &str = concat!(
-    r#"{"jsonrpc":"2.0","method":"textDocument/didChange","params":{"contentChanges":[],"#,
-    r#""textDocument":{"uri":"file:///a","version":2}}}"#,
-);
-
-/// Returns whether the message of this change is written as this text.
-fn change_is_written(
-    alloc: Global,
-    params: ChangeParams,
-    length: usize,
-    wanted: &str,
-) -> Result<bool, Fail> {
-    is_written(alloc, &Outgoing::DidChange(params), length, wanted)
-}
+static CHANGES: [Row; 3] = [
+    (
+        Sent::Change(Some((1, 2)), "X"),
+        215,
+        concat!(
+            r#"{"jsonrpc":"2.0","method":"textDocument/didChange","params":{"contentChanges":[{"range":{"end":"#,
+            r#"{"character":2,"line":0},"start":{"character":1,"line":0}},"text":"X"}],"#,
+            r#""textDocument":{"uri":"file:///a","version":2}}}"#,
+        ),
+    ),
+    (
+        Sent::Change(None, "aXc"),
+        143,
+        concat!(
+            r#"{"jsonrpc":"2.0","method":"textDocument/didChange","params":{"contentChanges":[{"text":"aXc"}],"#,
+            r#""textDocument":{"uri":"file:///a","version":2}}}"#,
+        ),
+    ),
+    (
+        Sent::NoChange,
+        129,
+        concat!(
+            r#"{"jsonrpc":"2.0","method":"textDocument/didChange","params":{"contentChanges":[],"#,
+            r#""textDocument":{"uri":"file:///a","version":2}}}"#,
+        ),
+    ),
+];
 
 #[test]
 fn changes_have_their_texts(rt: HostRuntime) -> Result<(), Fail> {
-    let alloc = rt.alloc();
-    let ranged = changed(alloc, Some((1, 2)), "X")?;
-    assert!(rt; change_is_written(alloc, ranged, 215, DID_CHANGE)?);
-    let whole = changed(alloc, None, "aXc")?;
-    assert!(rt; change_is_written(alloc, whole, 143, DID_CHANGE_WHOLE)?);
-    let nothing = unchanged(alloc)?;
-    assert!(rt; change_is_written(alloc, nothing, 129, DID_CHANGE_NOTHING)?);
+    assert_eq!(rt; wrong_row(rt.alloc(), &CHANGES)?, None);
     Ok(())
 }
 
-/// A new text, and how it is written. Only quotes, backslashes and bytes below 32 are escaped.
-static ESCAPES: [(&str, &str); 4] = [
-    ("\"\\/", r#"\"\\/"#),
-    ("\u{8}\t\n\u{c}\r", r"\b\t\n\f\r"),
-    ("\0\u{b}\u{1f} \u{7f}", "\\u0000\\u000b\\u001f \u{7f}"),
-    ("\u{e9}\u{2028}\u{1f600}", "\u{e9}\u{2028}\u{1f600}"),
+/// A change to a new text, and its member of the body. Only quotes, backslashes and bytes below 32
+/// are escaped.
+static ESCAPES: [(Sent, &str); 4] = [
+    (Sent::Change(None, "\"\\/"), r#"{"text":"\"\\/"}"#),
+    (
+        Sent::Change(None, "\u{8}\t\n\u{c}\r"),
+        r#"{"text":"\b\t\n\f\r"}"#,
+    ),
+    (
+        Sent::Change(None, "\0\u{b}\u{1f} \u{7f}"),
+        "{\"text\":\"\\u0000\\u000b\\u001f \u{7f}\"}",
+    ),
+    (
+        Sent::Change(None, "\u{e9}\u{2028}\u{1f600}"),
+        "{\"text\":\"\u{e9}\u{2028}\u{1f600}\"}",
+    ),
 ];
 
-/// Returns whether the message of a new text contains this.
-fn is_escaped(alloc: Global, given: &str, wanted: &str) -> Result<bool, Fail> {
-    let message = Outgoing::DidChange(changed(alloc, None, given)?);
-    let body = String::from_utf8(write(alloc, &message)?)?;
-    let member = format!(in alloc; "{{\"text\":\"{wanted}\"}}")?;
-    Ok(body.as_str().contains(member.as_str()))
+/// Returns whether a body is a text that contains this one.
+fn contains(body: &[u8], wanted: &str) -> bool {
+    match str::from_utf8(body) {
+        Ok(body) => body.contains(wanted),
+        Err(_) => false,
+    }
+}
+
+fn is_escaped(alloc: Global, sent: Sent, wanted: &str) -> Result<bool, AllocError> {
+    let body = written(alloc, sent)?;
+    Ok(contains(&body, wanted))
+}
+
+/// Returns the number of the first text that is written as something else.
+fn wrong_escape(alloc: Global) -> Result<Option<usize>, AllocError> {
+    for (number, (sent, wanted)) in ESCAPES.iter().enumerate() {
+        if !is_escaped(alloc, *sent, wanted)? {
+            return Ok(Some(number));
+        }
+    }
+    Ok(None)
 }
 
 #[test]
 fn texts_are_escaped(rt: HostRuntime) -> Result<(), Fail> {
-    for (given, wanted) in &ESCAPES {
-        assert!(rt; is_escaped(rt.alloc(), given, wanted)?, "{wanted}");
-    }
+    assert_eq!(rt; wrong_escape(rt.alloc())?, None);
     Ok(())
 }
 
-const RESULT: &str = concat!(
-    r#"{"id":1,"jsonrpc":"2.0","result":{"capabilities":{"positionEncoding":"utf-16","#,
-    r#""textDocumentSync":{"change":2,"openClose":true}}}}"#,
-);
-
-const RESULT_UTF8_FULL: &str = concat!(
-    r#"{"id":1,"jsonrpc":"2.0","result":{"capabilities":{"positionEncoding":"utf-8","#,
-    r#""textDocumentSync":{"change":1,"openClose":true}}}}"#,
-);
-
-const RESULT_OF_SHUTDOWN: &str = r#"{"id":2,"jsonrpc":"2.0","result":null}"#;
+static RESULTS: [Row; 3] = [
+    (
+        Sent::InitializeResult(Encoding::Utf16, SyncKind::Incremental),
+        129,
+        concat!(
+            r#"{"id":1,"jsonrpc":"2.0","result":{"capabilities":{"positionEncoding":"utf-16","#,
+            r#""textDocumentSync":{"change":2,"openClose":true}}}}"#,
+        ),
+    ),
+    (
+        Sent::InitializeResult(Encoding::Utf8, SyncKind::Full),
+        128,
+        concat!(
+            r#"{"id":1,"jsonrpc":"2.0","result":{"capabilities":{"positionEncoding":"utf-8","#,
+            r#""textDocumentSync":{"change":1,"openClose":true}}}}"#,
+        ),
+    ),
+    (
+        Sent::ShutdownResult,
+        38,
+        r#"{"id":2,"jsonrpc":"2.0","result":null}"#,
+    ),
+];
 
 #[test]
 fn results_have_their_texts(rt: HostRuntime) -> Result<(), Fail> {
-    let alloc = rt.alloc();
-    let usual = initialized(Encoding::Utf16, SyncKind::Incremental);
-    assert!(rt; is_written(alloc, &usual, 129, RESULT)?);
-    let other = initialized(Encoding::Utf8, SyncKind::Full);
-    assert!(rt; is_written(alloc, &other, 128, RESULT_UTF8_FULL)?);
-    let shutdown = Outgoing::ShutdownResult { id: Id::Whole(2) };
-    assert!(rt; is_written(alloc, &shutdown, 38, RESULT_OF_SHUTDOWN)?);
+    assert_eq!(rt; wrong_row(rt.alloc(), &RESULTS)?, None);
     Ok(())
 }
 
-/// An error, the id of the request, and the length and the body of the reply.
-type Refusal = (ErrorCode, Option<i64>, usize, &'static str);
-
-static ERRORS: [Refusal; 5] = [
+static ERRORS: [Row; 5] = [
     (
-        ErrorCode::ParseError,
-        None,
+        Sent::Error(ErrorCode::ParseError, None),
         75,
         r#"{"error":{"code":-32700,"message":"parse error"},"id":null,"jsonrpc":"2.0"}"#,
     ),
     (
-        ErrorCode::InvalidRequest,
-        None,
+        Sent::Error(ErrorCode::InvalidRequest, None),
         79,
         r#"{"error":{"code":-32600,"message":"invalid request"},"id":null,"jsonrpc":"2.0"}"#,
     ),
     (
-        ErrorCode::MethodNotFound,
-        Some(7),
+        Sent::Error(ErrorCode::MethodNotFound, Some(7)),
         77,
         r#"{"error":{"code":-32601,"message":"method not found"},"id":7,"jsonrpc":"2.0"}"#,
     ),
     (
-        ErrorCode::InvalidParams,
-        Some(-3),
+        Sent::Error(ErrorCode::InvalidParams, Some(-3)),
         76,
         r#"{"error":{"code":-32602,"message":"invalid params"},"id":-3,"jsonrpc":"2.0"}"#,
     ),
     (
-        ErrorCode::ServerNotInitialized,
-        Some(9223372036854775807),
+        Sent::Error(ErrorCode::ServerNotInitialized, Some(9223372036854775807)),
         101,
         r#"{"error":{"code":-32002,"message":"server not initialized"},"id":9223372036854775807,"jsonrpc":"2.0"}"#,
     ),
 ];
 
-fn error_is_written(alloc: Global, row: &Refusal) -> Result<bool, Fail> {
-    let (error, id, length, wanted) = *row;
-    is_written(
-        alloc,
-        &error_reply(id.map(Id::Whole), error),
-        length,
-        wanted,
-    )
-}
+static ERRORS_OF_TEXTS: [Row; 1] = [(
+    Sent::ErrorOf(ErrorCode::ServerNotInitialized, "q"),
+    85,
+    r#"{"error":{"code":-32002,"message":"server not initialized"},"id":"q","jsonrpc":"2.0"}"#,
+)];
 
 #[test]
 fn errors_have_their_texts(rt: HostRuntime) -> Result<(), Fail> {
-    for row in &ERRORS {
-        assert!(rt; error_is_written(rt.alloc(), row)?, "{}", row.3);
-    }
-    let id = Id::Text(text(rt.alloc(), "q")?);
-    let reply = error_reply(Some(id), ErrorCode::ServerNotInitialized);
-    assert!(rt;
-        is_written(
-            rt.alloc(),
-            &reply,
-            85,
-            r#"{"error":{"code":-32002,"message":"server not initialized"},"id":"q","jsonrpc":"2.0"}"#,
-        )?
-    );
+    assert_eq!(rt; wrong_row(rt.alloc(), &ERRORS)?, None);
+    assert_eq!(rt; wrong_row(rt.alloc(), &ERRORS_OF_TEXTS)?, None);
     Ok(())
 }
 
-/// Returns the params of the call that a written message is read as.
-fn params_read(alloc: Global, message: &Outgoing) -> Result<Option<Value>, Fail> {
-    let body = write(alloc, message)?;
-    match read(alloc, &body)? {
-        Message::Request { params, .. } => Ok(params),
-        Message::Notification { params, .. } => Ok(params),
-        Message::Response { .. } => Err(Fail::from("a call")),
+/// Returns what a written message is read as.
+fn read_back(alloc: Global, sent: Sent) -> Result<Message, Fail> {
+    let body = written(alloc, sent)?;
+    Ok(read(alloc, &body)?)
+}
+
+/// Returns the params of a call.
+fn params_in(message: Message) -> Option<Value> {
+    match message {
+        Message::Request { params, .. } => params,
+        Message::Notification { params, .. } => params,
+        Message::Response { .. } => None,
     }
 }
 
-fn open_is_read(alloc: Global) -> Result<bool, Fail> {
-    let params = params_read(alloc, &Outgoing::DidOpen(opened(alloc)?))?;
-    Ok(params_open(alloc, params)? == opened(alloc)?)
+fn is_open(alloc: Global, params: Option<Value>, wanted: &OpenParams) -> bool {
+    match params_open(alloc, params) {
+        Ok(given) => given == *wanted,
+        Err(_) => false,
+    }
 }
 
-fn change_is_read(alloc: Global) -> Result<bool, Fail> {
-    let message = Outgoing::DidChange(changed(alloc, Some((1, 2)), "X")?);
-    let params = params_read(alloc, &message)?;
-    Ok(params_change(alloc, params)? == changed(alloc, Some((1, 2)), "X")?)
+fn is_change(alloc: Global, params: Option<Value>, wanted: &ChangeParams) -> bool {
+    match params_change(alloc, params) {
+        Ok(given) => given == *wanted,
+        Err(_) => false,
+    }
 }
 
-fn close_is_read(alloc: Global) -> Result<bool, Fail> {
-    let params = params_read(alloc, &Outgoing::DidClose(closed(alloc)?))?;
-    Ok(params_close(alloc, params)? == closed(alloc)?)
+fn is_close(alloc: Global, params: Option<Value>, wanted: &CloseParams) -> bool {
+    match params_close(alloc, params) {
+        Ok(given) => given == *wanted,
+        Err(_) => false,
+    }
 }
 
-fn offers_are_read(alloc: Global) -> Result<bool, Fail> {
-    let offers = Offers::new(true, false);
-    let params = params_read(alloc, &Outgoing::Initialize(offers))?;
-    Ok(params_initialize(alloc, params)? == offers)
+fn is_initialize(alloc: Global, params: Option<Value>, wanted: Offers) -> bool {
+    match params_initialize(alloc, params) {
+        Ok(given) => given == wanted,
+        Err(_) => false,
+    }
+}
+
+/// Returns whether the params are those of the message.
+fn are_params_of(alloc: Global, params: Option<Value>, sent: &Outgoing) -> bool {
+    match sent {
+        Outgoing::DidOpen(wanted) => is_open(alloc, params, wanted),
+        Outgoing::DidChange(wanted) => is_change(alloc, params, wanted),
+        Outgoing::DidClose(wanted) => is_close(alloc, params, wanted),
+        Outgoing::Initialize(wanted) => is_initialize(alloc, params, *wanted),
+        _ => false,
+    }
+}
+
+/// Returns whether the params of a written message are read as they were.
+fn params_are_read(alloc: Global, sent: Sent) -> Result<bool, Fail> {
+    let params = params_in(read_back(alloc, sent)?);
+    Ok(are_params_of(alloc, params, &message(alloc, sent)?))
+}
+
+static CALLS: [Sent; 4] = [
+    Sent::Open,
+    Sent::Change(Some((1, 2)), "X"),
+    Sent::Close,
+    Sent::Initialize(true, false),
+];
+
+/// Returns the number of the first call whose params are read as others.
+fn wrong_params(alloc: Global) -> Result<Option<usize>, Fail> {
+    for (number, sent) in CALLS.iter().enumerate() {
+        if !params_are_read(alloc, *sent)? {
+            return Ok(Some(number));
+        }
+    }
+    Ok(None)
 }
 
 #[test]
 fn written_params_are_read(rt: HostRuntime) -> Result<(), Fail> {
-    assert!(rt; open_is_read(rt.alloc())?);
-    assert!(rt; change_is_read(rt.alloc())?);
-    assert!(rt; close_is_read(rt.alloc())?);
-    assert!(rt; offers_are_read(rt.alloc())?);
+    assert_eq!(rt; wrong_params(rt.alloc())?, None);
     Ok(())
 }
 
-/// Returns the result that a written reply to request 1 is read as.
-fn result_read(alloc: Global, message: &Outgoing) -> Result<Value, Fail> {
-    let body = write(alloc, message)?;
-    let (id, outcome) = match read(alloc, &body)? {
-        Message::Response { id, outcome } => (id, outcome),
-        _call => return Err(Fail::from("a response")),
-    };
+/// Returns the result, if the response is to request 1.
+fn result_of(id: Option<Id>, outcome: Outcome) -> Option<Value> {
     match outcome {
-        Outcome::Given(value) if id == Some(Id::Whole(1)) => Ok(value),
-        _other => Err(Fail::from("the result of request 1")),
+        Outcome::Given(value) if id == Some(Id::Whole(1)) => Some(value),
+        _other => None,
+    }
+}
+
+/// Returns the result of request 1.
+fn result_in(message: Message) -> Option<Value> {
+    match message {
+        Message::Response { id, outcome } => result_of(id, outcome),
+        _call => None,
+    }
+}
+
+/// Returns whether a server announces UTF-32 and whole texts.
+fn announces_utf32(alloc: Global, given: Value) -> bool {
+    match result_initialize(alloc, given) {
+        Ok(announced) => {
+            announced.open_close
+                && announced.kind == SyncKind::Full
+                && announced.encoding == Some(Encoding::Utf32)
+        }
+        Err(_) => false,
+    }
+}
+
+fn result_is_read(alloc: Global) -> Result<bool, Fail> {
+    let reply = read_back(
+        alloc,
+        Sent::InitializeResult(Encoding::Utf32, SyncKind::Full),
+    )?;
+    match result_in(reply) {
+        Some(result) => Ok(announces_utf32(alloc, result)),
+        None => Ok(false),
     }
 }
 
 #[test]
 fn a_written_result_is_read(rt: HostRuntime) -> Result<(), Fail> {
-    let reply = initialized(Encoding::Utf32, SyncKind::Full);
-    let result = result_read(rt.alloc(), &reply)?;
-    let announced = result_initialize(rt.alloc(), result)?;
-    assert!(rt; announced.open_close && announced.kind == SyncKind::Full);
-    assert!(rt; announced.encoding == Some(Encoding::Utf32));
+    assert!(rt; result_is_read(rt.alloc())?);
     Ok(())
 }
 
-fn error_is_read(alloc: Global, row: &Refusal) -> Result<bool, Fail> {
-    let (error, id, _length, _text) = *row;
-    let body = write(alloc, &error_reply(id.map(Id::Whole), error))?;
+/// Returns whether this is the failure of the request with this id.
+fn is_failure(message: &Message, id: Option<i64>) -> bool {
     let wanted = Message::Response {
         id: id.map(Id::Whole),
         outcome: Outcome::Failed,
     };
-    Ok(read(alloc, &body)? == wanted)
+    *message == wanted
+}
+
+fn error_is_read(alloc: Global, sent: Sent) -> Result<bool, Fail> {
+    let Sent::Error(_, id) = sent else {
+        return Ok(false);
+    };
+    let message = read_back(alloc, sent)?;
+    Ok(is_failure(&message, id))
+}
+
+/// Returns the number of the first error that is read as something else.
+fn wrong_error(alloc: Global) -> Result<Option<usize>, Fail> {
+    for (number, (sent, _, _)) in ERRORS.iter().enumerate() {
+        if !error_is_read(alloc, *sent)? {
+            return Ok(Some(number));
+        }
+    }
+    Ok(None)
 }
 
 #[test]
 fn a_written_error_is_read(rt: HostRuntime) -> Result<(), Fail> {
-    for row in &ERRORS {
-        assert!(rt; error_is_read(rt.alloc(), row)?, "{}", row.3);
-    }
+    assert_eq!(rt; wrong_error(rt.alloc())?, None);
     Ok(())
 }
