@@ -2,16 +2,16 @@
 //! and beside them `replace_range` on a text
 //! whose line starts are kept.
 
-use crate::text::{Plain, URI, keystrokes, lines_of, made_text};
-use crate::timing::{Row, Work, time};
-use anyhow::Result;
+use crate::text::{Plain, URI, keystrokes, lines_of, opened};
+use crate::timing::{Row, Work, done, time};
 use lsp_client::Client;
 use lsp_edit::Change;
 use lsp_frame::Limits;
-use lsp_message::Offers;
+use lsp_message::{Offers, OpenParams};
 use lsp_store::Store;
 use lsp_text::Encoding;
 use std::alloc::Global;
+use std::io;
 use std::rt::Runtime;
 
 static SIZES: [usize; 4] = [10_000, 100_000, 1_000_000, 10_000_000];
@@ -38,17 +38,10 @@ static CALLS: [(Call, &str); 5] = [
 ];
 
 /// Makes so many keystrokes in documents of each size.
-pub fn run<R: Runtime + AllocGlobal>(rt: &R, repeats: u32) -> Result<()> {
+pub fn run<R: Runtime + AllocGlobal>(rt: &R, repeats: u32) -> io::Result<()> {
     for size in &SIZES {
         let changes = keystrokes(rt.alloc(), repeats, 1, lines_of(*size))?;
-        let mut document = Document {
-            store: opened_store(rt.alloc(), *size)?,
-            client: opened_client(rt.alloc(), *size)?,
-            plain: Plain::new(rt.alloc(), *size)?,
-            changes: &changes,
-            turn: 0,
-            call: Call::Change,
-        };
+        let mut document = done(Document::new(rt.alloc(), *size, &changes))?;
         time_calls(rt, &mut document, *size, repeats)?;
     }
     Ok(())
@@ -59,7 +52,7 @@ fn time_calls<R: Runtime>(
     document: &mut Document<'_>,
     size: usize,
     repeats: u32,
-) -> Result<()> {
+) -> io::Result<()> {
     for (call, what) in &CALLS {
         let row = Row {
             what,
@@ -72,18 +65,24 @@ fn time_calls<R: Runtime>(
     Ok(())
 }
 
-fn limits() -> Result<Limits> {
-    Ok(Limits::new(67_108_864, 67_108_864, 1, 1)?)
+/// A store with the document.
+fn opened_store(alloc: Global, size: usize) -> Option<Store> {
+    let document = opened(alloc, size).ok()?;
+    let mut store = Store::new(alloc, Limits::default());
+    if !open_in_store(&mut store, document) {
+        return None;
+    }
+    Some(store)
 }
 
-/// A store with the document.
-fn opened_store(alloc: Global, size: usize) -> Result<Store> {
-    let mut store = Store::new(alloc, limits()?);
-    let text = made_text(alloc, size)?;
-    let uri = String::from_str(alloc, URI)?;
-    let language = String::from_str(alloc, "rust")?;
-    store.open(uri, language, 1, text)?;
-    Ok(store)
+fn open_in_store(store: &mut Store, document: OpenParams) -> bool {
+    let OpenParams {
+        uri,
+        language,
+        version,
+        text,
+    } = document;
+    store.open(uri, language, version, text).is_ok()
 }
 
 /// What a server answers that wants changed ranges, in UTF-16.
@@ -91,15 +90,32 @@ const ANSWER: &[u8] =
     br#"{"id":1,"jsonrpc":"2.0","result":{"capabilities":{"textDocumentSync":2}}}"#;
 
 /// A client in whose session the document is open.
-fn opened_client(alloc: Global, size: usize) -> Result<Client> {
-    let mut client = Client::new(alloc, limits()?, Offers::new(false, false));
-    let _initialize = client.start()?;
-    let _initialized = client.deliver(ANSWER)?;
-    let text = made_text(alloc, size)?;
-    let uri = String::from_str(alloc, URI)?;
-    let language = String::from_str(alloc, "rust")?;
-    let _open = client.open(uri, language, 1, text)?;
-    Ok(client)
+fn opened_client(alloc: Global, size: usize) -> Option<Client> {
+    let document = opened(alloc, size).ok()?;
+    let mut client = Client::new(alloc, Limits::default(), Offers::new(false, false));
+    if !start(&mut client) || !hear(&mut client) || !open_in_client(&mut client, document) {
+        return None;
+    }
+    Some(client)
+}
+
+fn start(client: &mut Client) -> bool {
+    client.start().is_ok()
+}
+
+/// Passes the server's answer to the client.
+fn hear(client: &mut Client) -> bool {
+    client.deliver(ANSWER).is_ok()
+}
+
+fn open_in_client(client: &mut Client, document: OpenParams) -> bool {
+    let OpenParams {
+        uri,
+        language,
+        version,
+        text,
+    } = document;
+    client.open(uri, language, version, text).is_ok()
 }
 
 /// A document at each end, and the keystrokes. An even number of them leaves its text as it was.
@@ -113,40 +129,61 @@ struct Document<'a> {
     call: Call,
 }
 
-impl Document<'_> {
-    fn message(&self, version: i32, change: &[Change]) -> Result<usize> {
-        let message = self
-            .store
-            .canonical_message(URI, version, Encoding::Utf16, change)?;
-        Ok(message.len())
-    }
-
-    /// How many documents are then open.
-    fn change(&mut self, version: i32, change: &[Change]) -> Result<usize> {
-        self.store.change(URI, version, Encoding::Utf16, change)?;
-        Ok(self.store.len())
+impl<'a> Document<'a> {
+    fn new(alloc: Global, size: usize, changes: &'a [Change]) -> Option<Self> {
+        Some(Document {
+            store: opened_store(alloc, size)?,
+            client: opened_client(alloc, size)?,
+            plain: Plain::new(alloc, size).ok()?,
+            changes,
+            turn: 0,
+            call: Call::Change,
+        })
     }
 }
 
 impl Work for Document<'_> {
-    fn once(&mut self) -> Result<usize> {
+    fn once(&mut self) -> Option<usize> {
         let turn = self.turn;
         self.turn = turn.wrapping_add(1);
         let version = i32::try_from(turn).unwrap_or(i32::MAX).saturating_add(2);
         let at = turn as usize % self.changes.len().max(1);
         if at >= self.changes.len() {
-            return Ok(0);
+            return Some(0);
         }
         let change = &self.changes[at..at + 1];
         match self.call {
-            Call::Change => self.change(version, change),
-            Call::Message => self.message(version, change),
+            Call::Change => changed(&mut self.store, version, change),
+            Call::Message => message_len(&self.store, version, change),
             Call::MessageAndChange => {
-                let written = self.message(version, change)?;
-                Ok(written.wrapping_add(self.change(version, change)?))
+                let written = message_len(&self.store, version, change)?;
+                Some(written.wrapping_add(changed(&mut self.store, version, change)?))
             }
-            Call::Edit => Ok(self.client.edit(URI, version, change)?.len()),
-            Call::Replace => Ok(self.plain.keystroke(turn)?),
+            Call::Edit => edited(&mut self.client, version, change),
+            Call::Replace => self.plain.keystroke(turn).ok(),
         }
+    }
+}
+
+fn message_len(store: &Store, version: i32, change: &[Change]) -> Option<usize> {
+    match store.canonical_message(URI, version, Encoding::Utf16, change) {
+        Ok(message) => Some(message.len()),
+        Err(_) => None,
+    }
+}
+
+/// How many documents are open after the change.
+fn changed(store: &mut Store, version: i32, change: &[Change]) -> Option<usize> {
+    match store.change(URI, version, Encoding::Utf16, change) {
+        Ok(()) => Some(store.len()),
+        Err(_) => None,
+    }
+}
+
+/// How many bytes the client sends.
+fn edited(client: &mut Client, version: i32, change: &[Change]) -> Option<usize> {
+    match client.edit(URI, version, change) {
+        Ok(frame) => Some(frame.len()),
+        Err(_) => None,
     }
 }

@@ -1,11 +1,11 @@
 //! Batches of changes of a text, beside `replace_range` on a text whose line starts are kept.
 
 use crate::text::{Plain, keystrokes, lines_of, made_text};
-use crate::timing::{Row, Work, time};
-use anyhow::{Result, bail};
+use crate::timing::{Row, Work, done, time};
 use lsp_edit::{Change, IndexedText, MAX_OLD_TEXT, MAX_TEXT, compose_over, fits};
 use lsp_text::Encoding;
 use std::alloc::Global;
+use std::io;
 use std::rt::Runtime;
 
 /// The bytes of a text, how many changes of it, and how often a round makes them.
@@ -35,9 +35,9 @@ static CALLS: [(Call, &str); 3] = [
 ];
 
 /// Times batches of letters all over texts.
-pub fn run<R: Runtime + AllocGlobal>(rt: &R) -> Result<()> {
+pub fn run<R: Runtime + AllocGlobal>(rt: &R) -> io::Result<()> {
     for (size, count, repeats) in &BATCHES {
-        let text = indexed(rt.alloc(), *size)?;
+        let text = done(indexed(rt.alloc(), *size))?;
         let changes = keystrokes(rt.alloc(), *count, 2, lines_of(*size))?;
         let mut batch = Batch {
             alloc: rt.alloc(),
@@ -53,7 +53,11 @@ pub fn run<R: Runtime + AllocGlobal>(rt: &R) -> Result<()> {
     Ok(())
 }
 
-fn time_calls<R: Runtime + AllocGlobal>(rt: &R, batch: &mut Batch<'_>, repeats: u32) -> Result<()> {
+fn time_calls<R: Runtime + AllocGlobal>(
+    rt: &R,
+    batch: &mut Batch<'_>,
+    repeats: u32,
+) -> io::Result<()> {
     for (call, words) in &CALLS {
         let what = format!(in rt.alloc(); "{words} {} changes, bytes", batch.count)?;
         let row = Row {
@@ -67,12 +71,13 @@ fn time_calls<R: Runtime + AllocGlobal>(rt: &R, batch: &mut Batch<'_>, repeats: 
     Ok(())
 }
 
-fn indexed(alloc: Global, size: usize) -> Result<IndexedText> {
-    let text = made_text(alloc, size)?;
+/// There is no text if it is too long, or memory runs out.
+fn indexed(alloc: Global, size: usize) -> Option<IndexedText> {
+    let text = made_text(alloc, size).ok()?;
     if text.len() > MAX_TEXT {
-        bail!("a text of {size} bytes");
+        return None;
     }
-    Ok(IndexedText::new(alloc, text)?)
+    IndexedText::new(alloc, text).ok()
 }
 
 /// A text, and letters that are put into it.
@@ -90,7 +95,7 @@ struct Batch<'a> {
 }
 
 impl Work for Batch<'_> {
-    fn once(&mut self) -> Result<usize> {
+    fn once(&mut self) -> Option<usize> {
         match self.call {
             Call::Canonical => canonical_len(self.text, self.changes),
             Call::Text => text_len(self.alloc, self.text, self.changes),
@@ -104,33 +109,33 @@ impl Work for Batch<'_> {
 }
 
 /// How many changes the canonical batch has.
-fn canonical_len(text: &IndexedText, changes: &[Change]) -> Result<usize> {
+fn canonical_len(text: &IndexedText, changes: &[Change]) -> Option<usize> {
     if text.text().len() > MAX_OLD_TEXT || !fits(changes) {
-        bail!("too long a batch");
+        return None;
     }
-    Ok(
-        text.canonical(Encoding::Utf16, changes, MAX_OLD_TEXT)?
-            .len(),
-    )
+    let Ok(batch) = text.canonical(Encoding::Utf16, changes, MAX_OLD_TEXT) else {
+        return None;
+    };
+    Some(batch.len())
 }
 
 /// How many bytes and lines the text has that the batch leaves.
-fn text_len(alloc: Global, text: &IndexedText, changes: &[Change]) -> Result<usize> {
+fn text_len(alloc: Global, text: &IndexedText, changes: &[Change]) -> Option<usize> {
     if text.text().len() > MAX_OLD_TEXT || !fits(changes) {
-        bail!("too long a batch");
+        return None;
     }
-    let pieces = compose_over(alloc, text.text(), text.lines(), Encoding::Utf16, changes)?;
-    let (after, lines) = pieces.into_text()?;
-    Ok(after.len().wrapping_add(lines.count()))
+    let pieces = compose_over(alloc, text.text(), text.lines(), Encoding::Utf16, changes).ok()?;
+    let (after, lines) = pieces.into_text().ok()?;
+    Some(after.len().wrapping_add(lines.count()))
 }
 
 /// Makes so many keystrokes, on even turns or on odd ones. The result is the length that the text
 /// then has.
-fn replace_all(plain: &mut Plain, count: u32, first: u32) -> Result<usize> {
+fn replace_all(plain: &mut Plain, count: u32, first: u32) -> Option<usize> {
     let mut len = 0;
     for index in 0..count {
         let turn = index.wrapping_mul(2).wrapping_add(first);
-        len = plain.keystroke(turn)?;
+        len = plain.keystroke(turn).ok()?;
     }
-    Ok(len)
+    Some(len)
 }

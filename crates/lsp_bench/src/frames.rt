@@ -2,12 +2,11 @@
 //! the program does at least: takes a log apart
 //! into its frames, and parses the body of each.
 
-use crate::timing::{Row, Work, time};
-use anyhow::{Context, Result};
+use crate::timing::{Row, Work, done, time};
 use lsp_frame::{Framer, Limits, frame};
 use serde_json::Value;
 use std::alloc::{AllocError, Global};
-use std::io::Read;
+use std::io::{self, Read};
 use std::rt::Runtime;
 
 const MEGABYTE: usize = 1_048_576;
@@ -25,33 +24,29 @@ static PIECES: [(usize, &str); 4] = [
 /// How many bytes are copied at once, and read at once from a log.
 const PIECE: usize = 4_096;
 
-const MAX_BODY: usize = 1_073_741_824;
-
 /// Times streams of so many megabytes.
-pub fn run<R: Runtime + AllocGlobal>(rt: &R, megabytes: u16) -> Result<()> {
+pub fn run<R: Runtime + AllocGlobal>(rt: &R, megabytes: u16) -> io::Result<()> {
     for body in &BODIES {
         let stream = made_stream(rt.alloc(), *body, megabytes)?;
-        time_stream(rt, *body, &stream)?;
+        time_copy(rt, "plain copy, bodies of", *body, &stream)?;
+        time_frames(rt, *body, &stream)?;
     }
     Ok(())
 }
 
-fn time_stream<R: Runtime + AllocGlobal>(rt: &R, size: usize, bytes: &[u8]) -> Result<()> {
-    let alloc = rt.alloc();
-    let row = Row {
-        what: "plain copy, bodies of",
-        size,
-        repeats: 1,
-    };
-    time(rt, row, &mut Copying { alloc, bytes })?;
+fn time_frames<R: Runtime + AllocGlobal>(rt: &R, size: usize, bytes: &[u8]) -> io::Result<()> {
     for (piece, what) in &PIECES {
-        let piece = *piece;
-        let mut framing = Framing {
-            alloc,
-            bytes,
-            piece,
+        let row = Row {
+            what,
+            size,
+            repeats: 1,
         };
-        time(rt, Row { what, ..row }, &mut framing)?;
+        let mut framing = Framing {
+            alloc: rt.alloc(),
+            bytes,
+            piece: *piece,
+        };
+        time(rt, row, &mut framing)?;
     }
     Ok(())
 }
@@ -69,25 +64,44 @@ fn made_stream(alloc: Global, body: usize, megabytes: u16) -> Result<Vec<u8>, Al
     Ok(stream)
 }
 
-/// A copy of bytes in pieces of 4,096, for comparison.
+/// Times a copy of bytes in pieces of 4,096, for comparison.
+pub fn time_copy<R: Runtime + AllocGlobal>(
+    rt: &R,
+    what: &str,
+    size: usize,
+    bytes: &[u8],
+) -> io::Result<()> {
+    let row = Row {
+        what,
+        size,
+        repeats: 1,
+    };
+    let alloc = rt.alloc();
+    time(rt, row, &mut Copying { alloc, bytes })
+}
+
 #[derive(Drop)]
-pub struct Copying<'a> {
-    pub alloc: Global,
-    pub bytes: &'a [u8],
+struct Copying<'a> {
+    alloc: Global,
+    bytes: &'a [u8],
 }
 
 impl Work for Copying<'_> {
     /// How many bytes were copied.
-    fn once(&mut self) -> Result<usize> {
-        let mut copy = Vec::with_capacity(self.alloc, MEGABYTE)?;
-        for piece in self.bytes.chunks(PIECE) {
-            if copy.len() > MEGABYTE {
-                copy.clear();
-            }
-            copy.extend_from_slice(piece)?;
-        }
-        Ok(self.bytes.len())
+    fn once(&mut self) -> Option<usize> {
+        copied(self.alloc, self.bytes).ok()
     }
+}
+
+fn copied(alloc: Global, bytes: &[u8]) -> Result<usize, AllocError> {
+    let mut copy = Vec::with_capacity(alloc, MEGABYTE)?;
+    for piece in bytes.chunks(PIECE) {
+        if copy.len() > MEGABYTE {
+            copy.clear();
+        }
+        copy.extend_from_slice(piece)?;
+    }
+    Ok(bytes.len())
 }
 
 /// A stream that is read in pieces.
@@ -100,12 +114,12 @@ struct Framing<'a> {
 
 impl Work for Framing<'_> {
     /// How many bytes the bodies had.
-    fn once(&mut self) -> Result<usize> {
+    fn once(&mut self) -> Option<usize> {
         let mut reader = Reader::new(self.alloc, false)?;
         for piece in self.bytes.chunks(self.piece.max(1)) {
             reader.take(piece)?;
         }
-        Ok(reader.bytes)
+        Some(reader.bytes)
     }
 }
 
@@ -124,9 +138,12 @@ pub struct Reader {
 }
 
 impl Reader {
-    fn new(alloc: Global, parses: bool) -> Result<Self> {
-        let limits = Limits::new(MAX_BODY, 0, 1, 1).context("setting the limits")?;
-        Ok(Reader {
+    /// Takes bodies of the greatest length.
+    fn new(alloc: Global, parses: bool) -> Option<Self> {
+        let Ok(limits) = Limits::new(Limits::GREATEST_BODY, 0, 1, 1) else {
+            return None;
+        };
+        Some(Reader {
             alloc,
             framer: Framer::new(alloc, limits),
             parses,
@@ -136,14 +153,16 @@ impl Reader {
         })
     }
 
-    /// Takes the frames that become whole with a piece.
-    fn take(&mut self, piece: &[u8]) -> Result<()> {
+    /// Takes the frames that become whole with a piece. There is no result if it fails.
+    fn take(&mut self, piece: &[u8]) -> Option<()> {
         let mut rest = piece;
         for _ in 0..u64::MAX {
             if rest.is_empty() {
                 break;
             }
-            let taken = self.framer.feed(rest)?;
+            let Ok(taken) = self.framer.feed(rest) else {
+                return None;
+            };
             rest = &rest[taken..];
             if let Some(body) = self.framer.body() {
                 self.frames = self.frames.wrapping_add(1);
@@ -154,25 +173,28 @@ impl Reader {
                 self.framer.next();
             }
         }
-        Ok(())
+        Some(())
     }
 }
 
-/// Parses a body, and drops at once what was read.
-pub fn is_object(alloc: Global, body: &[u8]) -> Result<bool> {
-    Ok(Value::from_slice(alloc, body)?.is_object())
+/// Parses a body, and drops at once what was read. There is no result if it is no JSON.
+pub fn is_object(alloc: Global, body: &[u8]) -> Option<bool> {
+    let Ok(value) = Value::from_slice(alloc, body) else {
+        return None;
+    };
+    Some(value.is_object())
 }
 
 /// Reads to the end, and parses each frame's body as soon as the frame is whole.
-pub fn parse_all<R: Read>(alloc: Global, input: &mut R) -> Result<Reader> {
-    let mut reader = Reader::new(alloc, true)?;
+pub fn parse_all<R: Read>(alloc: Global, input: &mut R) -> io::Result<Reader> {
+    let mut reader = done(Reader::new(alloc, true))?;
     let mut piece = [0u8; PIECE];
     for _ in 0..u64::MAX {
         let len = input.read(&mut piece)?;
         if len == 0 {
             break;
         }
-        reader.take(&piece[..len])?;
+        done(reader.take(&piece[..len]))?;
     }
     Ok(reader)
 }

@@ -1,12 +1,12 @@
 //! Lines of made texts: indexed beside a plain copy, and looked up.
 
-use crate::frames::Copying;
+use crate::frames::time_copy;
 use crate::text::made_text;
-use crate::timing::{Row, Work, time};
-use anyhow::{Context, Result, bail};
+use crate::timing::{Row, Work, done, time};
 use lsp_edit::{IndexedText, MAX_TEXT};
 use lsp_text::{Encoding, Lines, Position};
-use std::alloc::Global;
+use std::alloc::{AllocError, Global};
+use std::io;
 use std::rt::Runtime;
 
 const MEGABYTE: usize = 1_048_576;
@@ -14,8 +14,6 @@ const MEGABYTE: usize = 1_048_576;
 /// A line of 121 bytes.
 const LONGER_LINE: &str =
     "if let Some(place) = lines.resolve(text, encoding, position) && place < text.len() { places.push(place)?; count += 1; } \n";
-
-static ENCODINGS: [Encoding; 3] = [Encoding::Utf8, Encoding::Utf16, Encoding::Utf32];
 
 /// A text of equal parts, and the column that is looked up in its lines.
 struct Case {
@@ -57,36 +55,36 @@ static CASES: [Case; 4] = [
     },
 ];
 
+static ENCODINGS: [Encoding; 3] = [Encoding::Utf8, Encoding::Utf16, Encoding::Utf32];
+
+/// What is called, and whether the position of the place is looked up too.
+static CALLS: [(&str, bool); 2] = [("resolve", false), ("resolve and position", true)];
+
 /// Indexes a text of so many megabytes, and looks up a thousand positions for each of them in each
 /// case.
-pub fn run<R: Runtime + AllocGlobal>(rt: &R, megabytes: u16) -> Result<()> {
+pub fn run<R: Runtime + AllocGlobal>(rt: &R, megabytes: u16) -> io::Result<()> {
     index(rt, usize::from(megabytes) * MEGABYTE)?;
-    let repeats = u32::from(megabytes) * 1_000;
     for case in &CASES {
-        let text = case_text(rt.alloc(), case)?;
-        for encoding in &ENCODINGS {
-            look_up(rt, case, &text, *encoding, repeats)?;
-        }
+        let text = done(case_text(rt.alloc(), case))?;
+        look_up(rt, case, &text, u32::from(megabytes) * 1_000)?;
     }
     Ok(())
 }
 
-fn index<R: Runtime + AllocGlobal>(rt: &R, size: usize) -> Result<()> {
-    let alloc = rt.alloc();
-    let text = made_text(alloc, size)?;
+fn index<R: Runtime + AllocGlobal>(rt: &R, size: usize) -> io::Result<()> {
+    let text = made_text(rt.alloc(), size)?;
+    time_copy(rt, "plain copy of a text", size, text.as_bytes())?;
+    time_index(rt, size, &text)
+}
+
+fn time_index<R: Runtime + AllocGlobal>(rt: &R, size: usize, text: &str) -> io::Result<()> {
     let row = Row {
-        what: "plain copy of a text",
+        what: "Lines::new",
         size,
         repeats: 1,
     };
-    let bytes = text.as_bytes();
-    time(rt, row, &mut Copying { alloc, bytes })?;
-    let what = "Lines::new";
-    time(
-        rt,
-        Row { what, ..row },
-        &mut Indexing { alloc, text: &text },
-    )
+    let alloc = rt.alloc();
+    time(rt, row, &mut Indexing { alloc, text })
 }
 
 #[derive(Drop)]
@@ -97,51 +95,73 @@ struct Indexing<'a> {
 
 impl Work for Indexing<'_> {
     /// How many bytes were searched.
-    fn once(&mut self) -> Result<usize> {
+    fn once(&mut self) -> Option<usize> {
         if self.text.len() > MAX_TEXT {
-            bail!("a text of {} bytes", self.text.len());
+            return None;
         }
-        let lines = Lines::new(self.alloc, self.text)?;
-        Ok(self.text.len().max(lines.count()))
+        let Ok(lines) = Lines::new(self.alloc, self.text) else {
+            return None;
+        };
+        Some(self.text.len().max(lines.count()))
     }
 }
 
-fn case_text(alloc: Global, case: &Case) -> Result<IndexedText> {
+/// There is none if it is too long, or memory runs out.
+fn case_text(alloc: Global, case: &Case) -> Option<IndexedText> {
+    let text = repeated_part(alloc, case).ok()?;
+    if text.len() > MAX_TEXT {
+        return None;
+    }
+    IndexedText::new(alloc, text).ok()
+}
+
+fn repeated_part(alloc: Global, case: &Case) -> Result<String, AllocError> {
     let mut text = String::new(alloc);
     for _ in 0..case.parts {
         text.push_str(case.part)?;
     }
-    if text.len() > MAX_TEXT {
-        bail!("a text of {} bytes", text.len());
-    }
-    Ok(IndexedText::new(alloc, text)?)
+    Ok(text)
 }
 
 fn look_up<R: Runtime + AllocGlobal>(
     rt: &R,
     case: &Case,
     text: &IndexedText,
-    encoding: Encoding,
     repeats: u32,
-) -> Result<()> {
-    let mut looking = Looking {
-        case,
-        text,
-        encoding,
-        turn: 0,
-        returns: false,
-    };
-    for (returns, call) in [(false, "resolve"), (true, "resolve and position")] {
-        let what = format!(in rt.alloc(); "{call} in {}, {encoding}, column", case.name)?;
-        let row = Row {
-            what: &what,
-            size: case.column as usize,
-            repeats,
-        };
-        looking.returns = returns;
-        time(rt, row, &mut looking)?;
+) -> io::Result<()> {
+    for encoding in &ENCODINGS {
+        for (call, returns) in &CALLS {
+            let looking = Looking {
+                case,
+                text,
+                encoding: *encoding,
+                turn: 0,
+                returns: *returns,
+            };
+            time_looking(rt, call, looking, repeats)?;
+        }
     }
     Ok(())
+}
+
+fn time_looking<R: Runtime + AllocGlobal>(
+    rt: &R,
+    call: &str,
+    mut looking: Looking<'_>,
+    repeats: u32,
+) -> io::Result<()> {
+    let what = row_name(rt.alloc(), call, &looking)?;
+    let row = Row {
+        what: &what,
+        size: looking.case.column as usize,
+        repeats,
+    };
+    time(rt, row, &mut looking)
+}
+
+fn row_name(alloc: Global, call: &str, looking: &Looking<'_>) -> Result<String, AllocError> {
+    let (case, encoding) = (looking.case.name, looking.encoding.name());
+    format!(in alloc; "{call} in {case}, {encoding}, column")
 }
 
 /// Positions of a text that are looked up in turn.
@@ -168,15 +188,13 @@ impl Looking<'_> {
 
 impl Work for Looking<'_> {
     /// The place, or the character of its position.
-    fn once(&mut self) -> Result<usize> {
+    fn once(&mut self) -> Option<usize> {
         let position = self.next();
         let (text, lines) = (self.text.text(), self.text.lines());
-        let place = lines
-            .resolve(text, self.encoding, position)
-            .context("resolving a position")?;
+        let place = lines.resolve(text, self.encoding, position).ok()?;
         if !self.returns || !lines.is_place(text, place) {
-            return Ok(place);
+            return Some(place);
         }
-        Ok(lines.position(text, self.encoding, place).character as usize)
+        Some(lines.position(text, self.encoding, place).character as usize)
     }
 }

@@ -19,12 +19,11 @@ mod pairs;
 mod text;
 mod timing;
 
-use anyhow::{Context, Result};
 use frames::parse_all;
-use std::env;
 use std::rt::Runtime;
+use std::{env, io};
 
-fn main(rt: HostRuntime) -> Result<()> {
+fn main(rt: HostRuntime) -> io::Result<()> {
     let Some(word) = env::args(&rt)?.nth(1) else {
         return run(&rt, 1);
     };
@@ -33,14 +32,14 @@ fn main(rt: HostRuntime) -> Result<()> {
         "documents" => documents::run(&rt, 1_000),
         "pairs" => pairs::run(&rt, 200_000),
         "parse" => parse(&rt),
-        number => run(
-            &rt,
-            number.parse().context("reading the number of megabytes")?,
-        ),
+        number => match number.parse() {
+            Ok(megabytes) => run(&rt, megabytes),
+            Err(_) => Err(io::Error::other("the number of megabytes can't be read")),
+        },
     }
 }
 
-fn run<R: Runtime + AllocGlobal>(rt: &R, megabytes: u16) -> Result<()> {
+fn run<R: Runtime + AllocGlobal>(rt: &R, megabytes: u16) -> io::Result<()> {
     frames::run(rt, megabytes)?;
     lines::run(rt, megabytes)?;
     messages::run(rt, megabytes)?;
@@ -49,11 +48,10 @@ fn run<R: Runtime + AllocGlobal>(rt: &R, megabytes: u16) -> Result<()> {
 }
 
 /// Frames and parses what standard input has.
-fn parse(rt: &HostRuntime) -> Result<()> {
+fn parse(rt: &HostRuntime) -> io::Result<()> {
     let read = parse_all(rt.alloc(), &mut rt.stdin())?;
     println!(rt;
         "{} frames, {} bytes, {} objects",
         read.frames, read.bytes, read.objects
-    )?;
-    Ok(())
+    )
 }

@@ -1,15 +1,15 @@
 //! Messages, read and written many times.
 
 use crate::frames::is_object;
-use crate::text::{URI, keystrokes, made_text};
+use crate::text::{changed, keystrokes, opened};
 use crate::timing::{Row, Work, time};
-use anyhow::Result;
 use lsp_message::{
-    ChangeParams, ErrorCode, Id, Message, Offers, OpenParams, Outgoing, SyncKind, params_change,
-    params_open, read, write,
+    ErrorCode, Id, Message, Offers, Outgoing, SyncKind, params_change, params_open, read, write,
 };
 use lsp_text::Encoding;
+use serde_json::Value;
 use std::alloc::{AllocError, Global};
+use std::io;
 use std::rt::Runtime;
 
 const MEGABYTE: usize = 1_048_576;
@@ -37,27 +37,37 @@ static OF_OPEN: [(Call, &str); 3] = [
     (Call::Write, "write of an open, bytes"),
 ];
 
+/// The messages of a client and of a server that have no document, in the order of [`small`].
+static SMALL: [&str; 7] = [
+    "write of initialize, messages",
+    "write of initialized, messages",
+    "write of shutdown, messages",
+    "write of exit, messages",
+    "write of the result of initialize, messages",
+    "write of the result of shutdown, messages",
+    "write of an error, messages",
+];
+
 /// Times a text of so many megabytes once in a round, and small messages a thousand times for each
 /// megabyte.
-pub fn run<R: Runtime + AllocGlobal>(rt: &R, megabytes: u16) -> Result<()> {
+pub fn run<R: Runtime + AllocGlobal>(rt: &R, megabytes: u16) -> io::Result<()> {
     let repeats = u32::from(megabytes) * 1_000;
     time_change(rt, 1, repeats)?;
     time_change(rt, 1_000, repeats / 100)?;
     time_open(rt, usize::from(megabytes) * MEGABYTE)?;
     for (index, what) in SMALL.iter().enumerate() {
-        let message = small(index);
-        time_calls(rt, &message, &[(Call::Write, what)], 1, repeats)?;
+        time_calls(rt, &small(index), &[(Call::Write, what)], 1, repeats)?;
     }
     Ok(())
 }
 
-fn time_change<R: Runtime + AllocGlobal>(rt: &R, entries: u32, repeats: u32) -> Result<()> {
-    let message = changed(rt.alloc(), entries)?;
+fn time_change<R: Runtime + AllocGlobal>(rt: &R, entries: u32, repeats: u32) -> io::Result<()> {
+    let message = change(rt.alloc(), entries)?;
     time_calls(rt, &message, &OF_CHANGE, entries as usize, repeats)
 }
 
-fn time_open<R: Runtime + AllocGlobal>(rt: &R, size: usize) -> Result<()> {
-    let message = opened(rt.alloc(), size)?;
+fn time_open<R: Runtime + AllocGlobal>(rt: &R, size: usize) -> io::Result<()> {
+    let message = Outgoing::DidOpen(opened(rt.alloc(), size)?);
     time_calls(rt, &message, &OF_OPEN, size, 1)
 }
 
@@ -67,9 +77,8 @@ fn time_calls<R: Runtime + AllocGlobal>(
     calls: &[(Call, &str)],
     size: usize,
     repeats: u32,
-) -> Result<()> {
-    let alloc = rt.alloc();
-    let body = write(alloc, message)?;
+) -> io::Result<()> {
+    let body = written(rt.alloc(), message)?;
     for (call, what) in calls {
         let row = Row {
             what,
@@ -77,7 +86,7 @@ fn time_calls<R: Runtime + AllocGlobal>(
             repeats,
         };
         let mut work = Passing {
-            alloc,
+            alloc: rt.alloc(),
             message,
             body: &body,
             call: *call,
@@ -97,65 +106,44 @@ struct Passing<'a> {
 }
 
 impl Work for Passing<'_> {
-    fn once(&mut self) -> Result<usize> {
+    fn once(&mut self) -> Option<usize> {
         match self.call {
-            Call::Parse => Ok(usize::from(is_object(self.alloc, self.body)?)),
-            Call::ReadChange => change_read(self.alloc, self.body),
-            Call::ReadOpen => open_read(self.alloc, self.body),
-            Call::Write => Ok(write(self.alloc, self.message)?.len()),
+            Call::Parse => Some(usize::from(is_object(self.alloc, self.body)?)),
+            Call::ReadChange => changes_in(self.alloc, params_in(self.alloc, self.body)),
+            Call::ReadOpen => text_in(self.alloc, params_in(self.alloc, self.body)),
+            Call::Write => Some(written(self.alloc, self.message).ok()?.len()),
         }
     }
 }
 
-/// How many entries the change has.
-fn change_read(alloc: Global, body: &[u8]) -> Result<usize> {
-    match read(alloc, body)? {
-        Message::Notification { params, .. } => Ok(params_change(alloc, params)?.changes.len()),
-        _other => Ok(0),
+/// The params of a notification, if it has any.
+fn params_in(alloc: Global, body: &[u8]) -> Option<Value> {
+    match read(alloc, body) {
+        Ok(Message::Notification { params, .. }) => params,
+        _ => None,
     }
+}
+
+/// How many entries the change has.
+fn changes_in(alloc: Global, params: Option<Value>) -> Option<usize> {
+    Some(params_change(alloc, params).ok()?.changes.len())
 }
 
 /// How many bytes the text has that is opened.
-fn open_read(alloc: Global, body: &[u8]) -> Result<usize> {
-    match read(alloc, body)? {
-        Message::Notification { params, .. } => Ok(params_open(alloc, params)?.text.len()),
-        _other => Ok(0),
-    }
+fn text_in(alloc: Global, params: Option<Value>) -> Option<usize> {
+    Some(params_open(alloc, params).ok()?.text.len())
+}
+
+/// The body of a message.
+pub fn written(alloc: Global, message: &Outgoing) -> Result<Vec<u8>, AllocError> {
+    write(alloc, message)
 }
 
 /// A change of so many entries, each of which puts one character in.
-fn changed(alloc: Global, entries: u32) -> Result<Outgoing, AllocError> {
+fn change(alloc: Global, entries: u32) -> Result<Outgoing, AllocError> {
     let changes = keystrokes(alloc, entries, 2, 1_000)?;
-    let uri = String::from_str(alloc, URI)?;
-    Ok(Outgoing::DidChange(ChangeParams {
-        uri,
-        version: 1_234,
-        changes,
-    }))
+    Ok(Outgoing::DidChange(changed(alloc, 1_234, changes)?))
 }
-
-fn opened(alloc: Global, size: usize) -> Result<Outgoing, AllocError> {
-    let text = made_text(alloc, size)?;
-    let uri = String::from_str(alloc, URI)?;
-    let language = String::from_str(alloc, "rust")?;
-    Ok(Outgoing::DidOpen(OpenParams {
-        uri,
-        language,
-        version: 1,
-        text,
-    }))
-}
-
-/// The messages of a client and of a server that have no document, in the order of [`small`].
-static SMALL: [&str; 7] = [
-    "write of initialize, messages",
-    "write of initialized, messages",
-    "write of shutdown, messages",
-    "write of exit, messages",
-    "write of the result of initialize, messages",
-    "write of the result of shutdown, messages",
-    "write of an error, messages",
-];
 
 fn small(index: usize) -> Outgoing {
     match index {

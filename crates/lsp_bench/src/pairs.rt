@@ -1,15 +1,16 @@
 //! Keystrokes through both ends of a session, beside the server alone on the same messages.
 
-use crate::text::{URI, keystroke, lines_of, made_text};
-use crate::timing::{Row, Work, time};
-use anyhow::{Context, Result};
+use crate::messages::written;
+use crate::text::{changed, keystroke, lines_of, opened};
+use crate::timing::{Row, Work, done, time};
 use lsp_edit::Change;
 use lsp_frame::Limits;
-use lsp_message::{ChangeParams, Offers, OpenParams, Outgoing, write};
-use lsp_pair::{Did, Event, Happened, Pair, run_pair};
+use lsp_message::{ChangeParams, Offers, OpenParams, Outgoing};
+use lsp_pair::{Did, Event, Happened, Pair};
 use lsp_server::{Answer, Config, EncodingChoice, Server, Sync};
 use lsp_text::Encoding;
 use std::alloc::{AllocError, Global};
+use std::io;
 use std::rt::Runtime;
 
 /// The bytes of the text that is typed into: 1,000 lines.
@@ -30,21 +31,17 @@ static CALLS: [(Call, &str); 2] = [
 ];
 
 /// Makes half of so many keystrokes in a round, and then all of them, each delivered at once.
-pub fn run<R: Runtime + AllocGlobal>(rt: &R, keystrokes: u32) -> Result<()> {
-    for repeats in [keystrokes / 2, keystrokes] {
-        let mut ends = Ends {
-            alloc: rt.alloc(),
-            pair: opened_pair(rt.alloc())?,
-            server: opened_server(rt.alloc())?,
-            turn: 0,
-            call: Call::Pair,
-        };
-        time_calls(rt, &mut ends, repeats)?;
-    }
-    Ok(())
+pub fn run<R: Runtime + AllocGlobal>(rt: &R, keystrokes: u32) -> io::Result<()> {
+    time_ends(rt, keystrokes / 2)?;
+    time_ends(rt, keystrokes)
 }
 
-fn time_calls<R: Runtime>(rt: &R, ends: &mut Ends, repeats: u32) -> Result<()> {
+fn time_ends<R: Runtime + AllocGlobal>(rt: &R, repeats: u32) -> io::Result<()> {
+    let mut ends = done(Ends::new(rt.alloc()))?;
+    time_calls(rt, &mut ends, repeats)
+}
+
+fn time_calls<R: Runtime>(rt: &R, ends: &mut Ends, repeats: u32) -> io::Result<()> {
     for (call, what) in &CALLS {
         let row = Row {
             what,
@@ -58,68 +55,74 @@ fn time_calls<R: Runtime>(rt: &R, ends: &mut Ends, repeats: u32) -> Result<()> {
     Ok(())
 }
 
-fn config() -> Result<Config> {
-    Ok(Config {
-        limits: Limits::new(67_108_864, 67_108_864, 1, 1).context("setting the limits")?,
+fn config() -> Config {
+    Config {
+        limits: Limits::default(),
         choice: EncodingChoice::Fixed(Encoding::Utf16),
         sync: Sync::Incremental,
-    })
-}
-
-fn open_event(alloc: Global) -> Result<Event, AllocError> {
-    let text = made_text(alloc, SIZE)?;
-    let uri = String::from_str(alloc, URI)?;
-    let language = String::from_str(alloc, "rust")?;
-    Ok(Event::Open {
-        uri,
-        language,
-        version: 1,
-        text,
-    })
+    }
 }
 
 /// A pair in which both ends have the document.
-fn opened_pair(alloc: Global) -> Result<Pair> {
-    let config = config()?;
-    let events = [
-        Event::Start,
-        Event::ToServer,
-        Event::ToClient,
-        Event::ToServer,
-        open_event(alloc)?,
-        Event::ToServer,
-    ];
-    let mut pair = Pair::new(alloc, config.limits, Offers::new(false, false), config)?;
-    if run_pair(&mut pair, &events).out_of_memory {
-        return Err(AllocError.into());
+fn opened_pair(alloc: Global) -> Option<Pair> {
+    let document = opened(alloc, SIZE).ok()?;
+    let mut pair = new_pair(alloc)?;
+    if !start(&mut pair) || !open(&mut pair, document) {
+        return None;
     }
-    Ok(pair)
+    Some(pair)
 }
 
-fn open_message(alloc: Global) -> Result<Outgoing, AllocError> {
-    let text = made_text(alloc, SIZE)?;
-    let uri = String::from_str(alloc, URI)?;
-    let language = String::from_str(alloc, "rust")?;
-    Ok(Outgoing::DidOpen(OpenParams {
+fn new_pair(alloc: Global) -> Option<Pair> {
+    Pair::new(
+        alloc,
+        Limits::default(),
+        Offers::new(false, false),
+        config(),
+    )
+    .ok()
+}
+
+/// Makes a step. `false`: memory ran out.
+fn step(pair: &mut Pair, event: Event) -> bool {
+    pair.step(&event).is_ok()
+}
+
+fn start(pair: &mut Pair) -> bool {
+    step(pair, Event::Start)
+        && step(pair, Event::ToServer)
+        && step(pair, Event::ToClient)
+        && step(pair, Event::ToServer)
+}
+
+fn open(pair: &mut Pair, document: OpenParams) -> bool {
+    let OpenParams {
         uri,
         language,
-        version: 1,
+        version,
         text,
-    }))
+    } = document;
+    let event = Event::Open {
+        uri,
+        language,
+        version,
+        text,
+    };
+    step(pair, event) && step(pair, Event::ToServer)
 }
 
 /// A server that has the document.
-fn opened_server(alloc: Global) -> Result<Server> {
-    let messages = [
+fn opened_server(alloc: Global) -> Option<Server> {
+    let document = opened(alloc, SIZE).ok()?;
+    let mut server = Server::new(alloc, config());
+    handle(
+        alloc,
+        &mut server,
         Outgoing::Initialize(Offers::new(false, false)),
-        Outgoing::Initialized,
-        open_message(alloc)?,
-    ];
-    let mut server = Server::new(alloc, config()?);
-    for message in &messages {
-        let _answer = server.handle(&write(alloc, message)?)?;
-    }
-    Ok(server)
+    )?;
+    handle(alloc, &mut server, Outgoing::Initialized)?;
+    handle(alloc, &mut server, Outgoing::DidOpen(document))?;
+    Some(server)
 }
 
 /// Both ends as a pair, and a server alone.
@@ -132,61 +135,78 @@ struct Ends {
     call: Call,
 }
 
-impl Work for Ends {
-    /// 1 if the server's text was changed, else 0.
-    fn once(&mut self) -> Result<usize> {
-        let turn = self.turn;
-        self.turn = turn.wrapping_add(1);
-        let version = i32::try_from(turn).unwrap_or(i32::MAX).saturating_add(2);
-        let is_changed = match self.call {
-            Call::Pair => step(&mut self.pair, &edit(self.alloc, turn, version)?)?,
-            Call::Server => {
-                let message = change(self.alloc, turn, version)?;
-                handle(self.alloc, &mut self.server, &message)?
-            }
-        };
-        Ok(usize::from(is_changed))
+impl Ends {
+    fn new(alloc: Global) -> Option<Self> {
+        Some(Ends {
+            alloc,
+            pair: opened_pair(alloc)?,
+            server: opened_server(alloc)?,
+            turn: 0,
+            call: Call::Pair,
+        })
     }
 }
 
-/// The keystroke of a turn, as an edit of the client.
-fn edit(alloc: Global, turn: u32, version: i32) -> Result<Event, AllocError> {
-    let changes = batch(alloc, turn)?;
-    let uri = String::from_str(alloc, URI)?;
-    Ok(Event::Edit {
-        uri,
-        version,
-        changes,
-    })
-}
-
-/// The keystroke of a turn, as a message of the client.
-fn change(alloc: Global, turn: u32, version: i32) -> Result<Outgoing, AllocError> {
-    let changes = batch(alloc, turn)?;
-    let uri = String::from_str(alloc, URI)?;
-    Ok(Outgoing::DidChange(ChangeParams {
-        uri,
-        version,
-        changes,
-    }))
+impl Work for Ends {
+    /// 1 if the server's text was changed, else 0.
+    fn once(&mut self) -> Option<usize> {
+        let turn = self.turn;
+        self.turn = turn.wrapping_add(1);
+        let change = change(self.alloc, turn).ok()?;
+        let is_changed = match self.call {
+            Call::Pair => edit(&mut self.pair, change)?,
+            Call::Server => handle(self.alloc, &mut self.server, Outgoing::DidChange(change))?,
+        };
+        Some(usize::from(is_changed))
+    }
 }
 
 /// The keystroke of a turn, alone in a batch.
+fn change(alloc: Global, turn: u32) -> Result<ChangeParams, AllocError> {
+    let version = i32::try_from(turn).unwrap_or(i32::MAX).saturating_add(2);
+    changed(alloc, version, batch(alloc, turn)?)
+}
+
 fn batch(alloc: Global, turn: u32) -> Result<Vec<Change>, AllocError> {
-    let change = keystroke(alloc, turn, lines_of(SIZE))?;
-    let mut changes = Vec::new(alloc);
-    changes.push(change)?;
+    let mut changes = Vec::with_capacity(alloc, 1)?;
+    changes.push(keystroke(alloc, turn, lines_of(SIZE))?)?;
     Ok(changes)
 }
 
-/// An edit of the client, and its delivery.
-fn step(pair: &mut Pair, event: &Event) -> Result<bool, AllocError> {
-    let _sent = pair.step(event)?;
-    Ok(pair.step(&Event::ToServer)? == CHANGED)
+/// An edit of the client, and its delivery. The result says whether the server's text was changed.
+fn edit(pair: &mut Pair, change: ChangeParams) -> Option<bool> {
+    let ChangeParams {
+        uri,
+        version,
+        changes,
+    } = change;
+    let event = Event::Edit {
+        uri,
+        version,
+        changes,
+    };
+    if !step(pair, event) {
+        return None;
+    }
+    deliver(pair)
 }
 
-/// A change as a message, which the server handles.
-fn handle(alloc: Global, server: &mut Server, message: &Outgoing) -> Result<bool> {
-    let body = write(alloc, message)?;
-    Ok(matches!(server.handle(&body)?, Answer::Changed))
+fn deliver(pair: &mut Pair) -> Option<bool> {
+    match pair.step(&Event::ToServer) {
+        Ok(happened) => Some(happened == CHANGED),
+        Err(_) => None,
+    }
+}
+
+/// A message that the server handles. The result says whether its text was changed.
+fn handle(alloc: Global, server: &mut Server, message: Outgoing) -> Option<bool> {
+    let body = written(alloc, &message).ok()?;
+    is_changed(server, &body)
+}
+
+fn is_changed(server: &mut Server, body: &[u8]) -> Option<bool> {
+    match server.handle(body) {
+        Ok(answer) => Some(matches!(answer, Answer::Changed)),
+        Err(_) => None,
+    }
 }

@@ -2,9 +2,11 @@
 //! keeps the text's line starts.
 
 use lsp_edit::Change;
+use lsp_message::{ChangeParams, OpenParams};
 use lsp_text::{Position, Range};
 use std::alloc::{AllocError, Global};
 
+/// The document that has the text.
 pub const URI: &str = "file:///home/user/project/src/main.rs";
 
 /// A line of 40 bytes.
@@ -20,6 +22,31 @@ pub fn made_text(alloc: Global, size: usize) -> Result<String, AllocError> {
         text.push_str(LINE)?;
     }
     Ok(text)
+}
+
+/// The document with a text of so many bytes, as it is opened.
+pub fn opened(alloc: Global, size: usize) -> Result<OpenParams, AllocError> {
+    let text = made_text(alloc, size)?;
+    let uri = String::from_str(alloc, URI)?;
+    Ok(OpenParams {
+        uri,
+        language: String::from_str(alloc, "rust")?,
+        version: 1,
+        text,
+    })
+}
+
+/// A batch of changes of the document.
+pub fn changed(
+    alloc: Global,
+    version: i32,
+    changes: Vec<Change>,
+) -> Result<ChangeParams, AllocError> {
+    Ok(ChangeParams {
+        uri: String::from_str(alloc, URI)?,
+        version,
+        changes,
+    })
 }
 
 /// How many lines a text of so many bytes has.
@@ -39,11 +66,15 @@ fn line_at(turn: u32, lines: usize) -> usize {
 /// on the next.
 pub fn keystroke(alloc: Global, turn: u32, lines: usize) -> Result<Change, AllocError> {
     let line = u32::try_from(line_at(turn, lines)).unwrap_or(u32::MAX);
-    let (stop, text) = if turn % 2 == 0 {
-        (COLUMN, "x")
+    if turn % 2 == 0 {
+        change(alloc, line, COLUMN, "x")
     } else {
-        (COLUMN + 1, "")
-    };
+        change(alloc, line, COLUMN + 1, "")
+    }
+}
+
+/// A change of what a line has from where letters are put in to this column.
+fn change(alloc: Global, line: u32, stop: u32, text: &str) -> Result<Change, AllocError> {
     let range = Range {
         start: Position {
             line,
@@ -54,10 +85,9 @@ pub fn keystroke(alloc: Global, turn: u32, lines: usize) -> Result<Change, Alloc
             character: stop,
         },
     };
-    let text = String::from_str(alloc, text)?;
     Ok(Change {
         range: Some(range),
-        text,
+        text: String::from_str(alloc, text)?,
     })
 }
 

@@ -1,6 +1,6 @@
 //! Times work in rounds, and prints a row for it.
 
-use anyhow::Result;
+use std::io;
 use std::rt::Runtime;
 use std::time::{Duration, Instant};
 
@@ -10,8 +10,8 @@ const ROUNDS: u32 = 5;
 /// Work that is timed.
 pub trait Work {
     /// Does it once more. The results of a round are added up, and their sum is the same on every
-    /// machine.
-    fn once(&mut self) -> Result<usize>;
+    /// machine. There is none if a call of the work fails.
+    fn once(&mut self) -> Option<usize>;
 }
 
 /// What a row is of.
@@ -27,26 +27,34 @@ pub struct Row<'a> {
 /// Times work. The sum of a round goes to standard output. The time of doing the work once goes to
 /// standard error, with what is added to
 /// the sum in a microsecond: megabytes a second, if the work results in a number of bytes.
-pub fn time<R: Runtime, W: Work>(rt: &R, row: Row<'_>, work: &mut W) -> Result<()> {
+pub fn time<R: Runtime, W: Work>(rt: &R, row: Row<'_>, work: &mut W) -> io::Result<()> {
     let mut least = Duration::MAX;
     let mut sum: usize = 0;
     for _ in 0..ROUNDS {
         let start = Instant::now(rt)?;
-        sum = repeated(work, row.repeats)?;
+        sum = done(repeated(work, row.repeats))?;
         least = least.min(start.elapsed(rt)?);
     }
     report(rt, row, sum, least.as_nanos())
 }
 
-fn repeated<W: Work>(work: &mut W, repeats: u32) -> Result<usize> {
+/// What work resulted in, or an error if a call of it failed.
+pub fn done<T>(value: Option<T>) -> io::Result<T> {
+    match value {
+        Some(value) => Ok(value),
+        None => Err(io::Error::other("a call of the next row failed")),
+    }
+}
+
+fn repeated<W: Work>(work: &mut W, repeats: u32) -> Option<usize> {
     let mut sum: usize = 0;
     for _ in 0..repeats {
         sum = sum.wrapping_add(work.once()?);
     }
-    Ok(sum)
+    Some(sum)
 }
 
-fn report<R: Runtime>(rt: &R, row: Row<'_>, sum: usize, nanoseconds: u128) -> Result<()> {
+fn report<R: Runtime>(rt: &R, row: Row<'_>, sum: usize, nanoseconds: u128) -> io::Result<()> {
     let Row {
         what,
         size,
@@ -55,6 +63,5 @@ fn report<R: Runtime>(rt: &R, row: Row<'_>, sum: usize, nanoseconds: u128) -> Re
     let each = nanoseconds / u128::from(repeats.max(1));
     let rate = (sum as u128).saturating_mul(1_000) / nanoseconds.max(1);
     println!(rt; "{what}, {size}: {repeats} times, {sum}")?;
-    eprintln!(rt; "{what}, {size}: {each} ns, {rate} a microsecond")?;
-    Ok(())
+    eprintln!(rt; "{what}, {size}: {each} ns, {rate} a microsecond")
 }
