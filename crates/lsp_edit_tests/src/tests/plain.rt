@@ -53,7 +53,7 @@ fn two_batches_are_one_plainly(rt: HostRuntime) -> Result<(), Fail> {
 }
 
 /// Composes two batches, one after the other: returns the text, and the canonical batch of both.
-pub(super) fn left_by_both(
+fn left_by_both_plainly(
     alloc: Global,
     before: &str,
     first: &[Change],
@@ -76,7 +76,7 @@ fn is_one_meaning(alloc: Global, row: &Pair) -> Result<bool, AllocError> {
     let (before, first, second, text, canonical, _) = *row;
     let one = batch(alloc, first)?;
     let two = batch(alloc, second)?;
-    let outcome = left_by_both(alloc, before, &one, &two);
+    let outcome = left_by_both_plainly(alloc, before, &one, &two);
     is_left(alloc, outcome, text, canonical)
 }
 
