@@ -122,6 +122,44 @@ fn refused_plain_compose(rt: HostRuntime) -> Result<(), Fail> {
     Ok(())
 }
 
+/// Composes both changes by the plain program, each as a batch of its own, and returns whether
+/// `AFTER` and `wanted` are left by `then`.
+fn is_left_by_then(
+    alloc: Global,
+    first: &[Change],
+    second: &[Change],
+    wanted: &[Change],
+) -> Result<bool, EditFault> {
+    let (text, canonical) = plain::left_by_both_plainly(alloc, BEFORE, first, second)?;
+    Ok(text.as_str() == AFTER && canonical.as_slice() == wanted)
+}
+
+/// The same, and again where memory ran out.
+fn is_left_by_then_again(
+    alloc: Global,
+    wanted: &[Change],
+    refused: &mut usize,
+) -> Result<bool, EditFault> {
+    let first = batch_again(alloc, &EDITS[..1], refused)?;
+    let second = batch_again(alloc, &EDITS[1..], refused)?;
+    match is_left_by_then(alloc, &first, &second, wanted) {
+        Err(EditFault::NoMemory) => {
+            *refused = refused.saturating_add(1);
+            is_left_by_then(alloc, &first, &second, wanted)
+        }
+        other => other,
+    }
+}
+
+#[test]
+fn refused_plain_then(rt: HostRuntime) -> Result<(), Fail> {
+    let mut refused: usize = 0;
+    let wanted = batch_again(rt.alloc(), &CANONICAL, &mut refused)?;
+    assert!(rt; is_left_by_then_again(rt.alloc(), &wanted, &mut refused)?);
+    println!(rt; "refused {refused}")?;
+    Ok(())
+}
+
 /// Changes an indexed text from the first to the second, and again if it is out of memory.
 fn is_changed(
     kept: &mut IndexedText,

@@ -53,7 +53,7 @@ fn two_batches_are_one_plainly(rt: HostRuntime) -> Result<(), Fail> {
 }
 
 /// Composes two batches, one after the other: returns the text, and the canonical batch of both.
-fn left_by_both_plainly(
+pub(super) fn left_by_both_plainly(
     alloc: Global,
     before: &str,
     first: &[Change],
