@@ -16,7 +16,7 @@ use Rattle.lsp_log.specs.declared.record.Side.{Side}
 use Rattle.lsp_log.specs.declared.record.Side.TheVariants.{Client}
 use Rattle.lsp_log.specs.declared.splitter.Splitter.{Splitter}
 use Rattle.lsp_log.specs.Log.{LogRules, Record, IsRecord, IsReadAs, IsMalformed, line_of, mark_of, is_line_due, together, record_bytes}
-use Rattle.lsp_log.specs.Splitting.{IsSplitterFault, IsFed, IsReady, IsAfter, IsSplitFault, IsSide, IsOpen, mark_part, buffered_of, log_at, side_of, record_at}
+use Rattle.lsp_log.specs.Splitting.{IsFed, IsReady, IsAfter, IsSplitFault, IsSide, IsOpen, mark_part, buffered_of, log_at, side_of, record_at}
 use Rattle.lsp_log.proofs.LogLemmas.{together_push, input_len, are_push, due_now, not_due}
 
 -- A frame has at least two bytes, so nothing is none.
@@ -102,17 +102,6 @@ split_fault reading input piece records s side n (fault_of.BodyTooLong place) is
 split_fault reading input piece records s side n (fault_of.BadCharset place) is why sound at = malformed reading input piece records s side n (fault_of.BadCharset place) is why at
 split_fault reading input piece records s side n fault_of.Failed is why sound at = let failed : s.framer.failed ≡ true = why.0 in let two : true ≡ false = sym failed ∙ sound in cc
 split_fault reading input piece records s side n fault_of.NoMemory is why sound at = tt
-
-pub frame_kind : (fault : FrameFault) → IsSplitterFault (engine_fault fault)
-frame_kind (fault_of.BadHeader place) = tt
-frame_kind (fault_of.HeaderTooLong place) = tt
-frame_kind (fault_of.MissingLength place) = tt
-frame_kind (fault_of.RepeatedHeader place) = tt
-frame_kind (fault_of.BadLength place) = tt
-frame_kind (fault_of.BodyTooLong place) = tt
-frame_kind (fault_of.BadCharset place) = tt
-frame_kind fault_of.Failed = tt
-frame_kind fault_of.NoMemory = tt
 
 pub feed_fault : (reading : LogRules) (input piece : List ℕ) (records : List Record) (s : Splitter) (n : Framing) (fault : FrameFault) → (s.side ≡ None → ⊥)
     → IsFeedFault s.framer n piece fault → s.framer.failed ≡ false → IsAfter reading input piece records s → IsSplitFault reading.max_body input (log_at s records piece) (engine_fault fault)

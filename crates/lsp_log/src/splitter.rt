@@ -70,10 +70,7 @@ impl Splitter {
         if self.side.is_none() {
             return self.take_mark(piece);
         }
-        match self.framer.feed(piece) {
-            Ok(taken) => Ok(taken),
-            Err(fault) => Err(EngineFault::from(fault)),
-        }
+        Ok(self.framer.feed(piece)?)
     }
 
     /// Takes the mark of a record.

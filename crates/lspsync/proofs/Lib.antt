@@ -1,2 +1,4 @@
 pub mod OptionLemmas
+pub mod ProgramLemmas
+pub mod ReadLemmas
 pub mod RunLemmas

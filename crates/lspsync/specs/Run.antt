@@ -15,6 +15,7 @@ use Rattle.lspsync.specs.declared.command_line.Call.{Call}
 use Rattle.lspsync.specs.declared.command_line.Call.TheVariants as call
 use Rattle.lspsync.specs.declared.run.Ending.{Ending}
 use Rattle.lspsync.specs.declared.run.TheConstants.{MAX_TURNS}
+use Rattle.lspsync.specs.Call.{IsRead}
 use Rattle.lspsync.specs.FaultText.{fault_text}
 
 -- The status of a fault: 3 if a stream failed, 4 if out of memory, 5 if the input is no log.
@@ -36,7 +37,7 @@ engine_of (call.Replay settings) = replay_engine settings
 engine_of (call.Normalise settings) = normalise_engine settings
 engine_of (call.Convert settings) = convert_engine settings
 
--- The last flush, and what it answered. After one that succeeded all that was written is passed on.
+-- The last flush, and what it answered. After one that succeeded all that was written is flushed.
 -- Else the writer failed at it, or each flush that was allowed was made and interrupted.
 abbrev pub IsFlushed : WriterState → WriterState → Result (Unit {0}) EngineFault → Type 0
 IsFlushed before after (Ok _) = (after.flushed ≡ true) × (after.failed ≡ false)
@@ -90,14 +91,14 @@ pub record Streams : Type 0 where
   pub errors : Option (List ℕ)
 
 -- The engine of a call ran, and the program ends with its status or reports its fault. With a
--- status all output was passed on.
+-- status all output was flushed.
 pub record IsCalled (asked : Call) (s : Streams) (ending : Ending) : Type 0 where
   pub answer : Result ℕ EngineFault
   pub performed : IsPerformed asked s.before s.after answer
   pub passed_on : OnOk answer (s.after.writer.flushed ≡ true)
   pub ends : IsEnding answer s.errors_before s.errors ending
 
--- A text of help was written and passed on, with status 0.
+-- A text of help was written and flushed, with status 0.
 abbrev pub IsHelp : Option (List ℕ) → Option (List ℕ) → Bool → Result ℕ EngineFault → Type 0
 IsHelp before after flushed answer
     = IfOk answer
@@ -122,7 +123,8 @@ IsDone (Ok (Some asked)) s ending = IsCalled asked s ending
 IsDone (Ok None) s ending = ending.status ≡ 2
 IsDone (Err error) s ending = IsExplained (kind_of error) s ending
 
--- A run of the program: what its words were read as, and that this is done.
-pub record IsRun (s : Streams) (ending : Ending) : Type 0 where
+-- A run of the program with these words: what they are read as, and that this is done.
+pub record IsRun (words : List (List ℕ)) (s : Streams) (ending : Ending) : Type 0 where
   pub read : Result (Option Call) Error
+  pub words_are : IsRead words read
   pub done : IsDone read s ending

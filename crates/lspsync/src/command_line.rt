@@ -1,12 +1,18 @@
 //! The program's command line.
 
-ghost use Rattle.std.specs.Prelude.{◌≡◌, IfOk, IfSome};
-ghost use Rattle.lspsync.specs.inside.CommandLine.{AreLimits, AreSettings, HasNumber, IsCall, IsCallNamed};
-ghost use Rattle.lspsync.specs.inside.CommandLine.{IsConfig, encoding_given, sync_given};
+ghost use Rattle.std.specs.Prelude.{◌≡◌, ◌∷◌, [], codes, false, if◌then◌else◌, is_some, IfOk, IfSome, map};
+ghost use Rattle.clap.specs.Words.{app_of, rule_of, with_subcommand};
+ghost use Rattle.clap.specs.declared.builder.value_parser.ValueParser.TheVariants.{Names};
+ghost use Rattle.lspsync.specs.CommandLine.{IsProgram, encoding_rule, flag_rule, limit_rules};
+ghost use Rattle.lspsync.specs.CommandLine.{option_rule, squash_rule, sync_rule};
+ghost use Rattle.lspsync.specs.Help.{rule_of_limit, rules_of_limits};
+ghost use Rattle.lspsync.specs.inside.Options.{AddsRules, IsCommand, shape_by, top_app};
+ghost use Rattle.lspsync.specs.Call.{AreLimits, AreSettings, HasNumber, IsCall, IsCallNamed};
+ghost use Rattle.lspsync.specs.Call.{IsConfig, IsRead, encoding_given, sync_given};
 
 mod help;
 
-use crate::command_line::help::{Limit, Page};
+use crate::command_line::help::{Limit, LimitOptions, Page};
 use clap::builder::ValueParser;
 use clap::{Arg, ArgAction, ArgMatches, Command, Error};
 use lsp_frame::Limits;
@@ -32,7 +38,9 @@ pub enum Call {
 
 /// Reads the words of the command line. An error is a usage fault, a text of help, or out of
 /// memory. There is always a call, since `clap` has checked the subcommand and each value.
-pub fn parse<'a>(alloc: Global, words: &'a [&'a str]) -> Result<Option<Call>, Error> {
+pub fn parse<'a>(alloc: Global, words: &'a [&'a str]) -> Result<Option<Call>, Error>
+    ensures { IsRead (map (λ word. word.now) words.entry.now) result }
+{
     let limits = help::limits(alloc)?;
     let matches = program(alloc, &limits)?.try_get_matches_from(words)?;
     Ok(call_of(&matches))
@@ -123,46 +131,145 @@ fn number_of(options: &ArgMatches<'_>, id: &str) -> Option<usize>
     options.get_one::<usize>(id)
 }
 
+/// The names that options take, and the options that set limits.
+#[derive(Clone, Copy, Debug)]
+struct Values<'a> {
+    encodings: &'a [&'a str],
+    kinds: &'a [&'a str],
+    limits: &'a LimitOptions,
+}
+
 static ENCODINGS: [&str; 3] = ["utf-8", "utf-16", "utf-32"];
 
 static KINDS: [&str; 2] = ["full", "incremental"];
 
-fn program<'a>(alloc: Global, limits: &'a [Limit]) -> Result<Command<'a>, AllocError> {
-    let mut program = Command::new(alloc, "lspsync")
-        .about(help::about())
-        .after_help(help::notes())
-        .subcommand_required(true);
-    for page in help::pages() {
-        program = program.subcommand(subcommand(alloc, page, limits)?)?;
-    }
-    Ok(program)
+fn encodings() -> &'static [&'static str]
+    ensures { map (λ name. name.now) result.now
+        ≡ codes "utf-8" ∷ codes "utf-16" ∷ codes "utf-32" ∷ [] }
+{
+    ENCODINGS.as_slice()
 }
 
-fn subcommand<'a>(
+fn kinds() -> &'static [&'static str]
+    ensures { map (λ name. name.now) result.now ≡ codes "full" ∷ codes "incremental" ∷ [] }
+{
+    KINDS.as_slice()
+}
+
+fn program<'a>(alloc: Global, limits: &'a LimitOptions) -> Result<Command<'a>, AllocError>
+    ensures { rules_of_limits limits.entry.now ≡ limit_rules →
+        IfOk result (λ program. IsProgram (app_of program)) }
+{
+    let values = Values {
+        encodings: encodings(),
+        kinds: kinds(),
+        limits,
+    };
+    let program = with_command(alloc, top(alloc), help::serve(), values)?;
+    let program = with_command(alloc, program, help::check(), values)?;
+    let program = with_command(alloc, program, help::replay(), values)?;
+    let program = with_command(alloc, program, help::normalise(), values)?;
+    with_command(alloc, program, help::convert(), values)
+}
+
+/// The program without its commands.
+fn top<'a>(alloc: Global) -> Command<'a>
+    ensures { app_of result ≡ top_app }
+{
+    Command::new(alloc, "lspsync")
+        .about(help::about())
+        .after_help(help::notes())
+        .subcommand_required(true)
+}
+
+fn with_command<'a>(
     alloc: Global,
+    program: Command<'a>,
     page: Page,
-    limits: &'a [Limit],
-) -> Result<Command<'a>, AllocError> {
-    let encoding = choice(alloc, "encoding", ENCODINGS.as_slice(), "utf-16");
-    let mut command = Command::new(alloc, page.name)
+    values: Values<'a>,
+) -> Result<Command<'a>, AllocError>
+    ensures { IfOk result (λ new. app_of new
+        ≡ with_subcommand (app_of program.entry) (shape_by page values.entry)) }
+{
+    program.subcommand(command(alloc, page, values)?)
+}
+
+/// Makes a command with its options.
+fn command<'a>(alloc: Global, page: Page, values: Values<'a>) -> Result<Command<'a>, AllocError>
+    ensures { IfOk result (IsCommand page values.entry) }
+{
+    let command = Command::new(alloc, page.name)
         .about(page.about)
-        .after_help(page.example)
-        .arg(encoding.help(page.encoding))?;
-    if let Some(help) = page.sync {
-        let sync = choice(alloc, "sync", KINDS.as_slice(), "incremental");
-        command = command.arg(sync.help(help))?;
+        .after_help(page.example);
+    let command = with_encoding(alloc, command, page.encoding, values.encodings)?;
+    let command = with_sync(alloc, command, page.sync, values.kinds)?;
+    let command = with_squash(alloc, command, page.squash)?;
+    with_limits(alloc, command, values.limits)
+}
+
+fn with_encoding<'a>(
+    alloc: Global,
+    command: Command<'a>,
+    help: &'a str,
+    encodings: &'a [&'a str],
+) -> Result<Command<'a>, AllocError>
+    ensures { IfOk result (AddsRules command.entry (encoding_rule encodings.entry ∷ [])) }
+{
+    command.arg(choice(alloc, "encoding", encodings, "utf-16").help(help))
+}
+
+/// Adds `--sync`, if there is help for it.
+fn with_sync<'a>(
+    alloc: Global,
+    command: Command<'a>,
+    help: Option<&'a str>,
+    kinds: &'a [&'a str],
+) -> Result<Command<'a>, AllocError>
+    ensures { IfOk result (AddsRules command.entry
+        (if is_some help.entry then sync_rule kinds.entry ∷ [] else [])) }
+{
+    match help {
+        Some(help) => command.arg(choice(alloc, "sync", kinds, "incremental").help(help)),
+        None => Ok(command),
     }
-    if let Some(help) = page.squash {
-        command = command.arg(flag(alloc, "squash").help(help))?;
+}
+
+/// Adds `--squash`, if there is help for it.
+fn with_squash<'a>(
+    alloc: Global,
+    command: Command<'a>,
+    help: Option<&'a str>,
+) -> Result<Command<'a>, AllocError>
+    ensures { IfOk result (AddsRules command.entry
+        (if is_some help.entry then squash_rule ∷ [] else [])) }
+{
+    match help {
+        Some(help) => command.arg(flag(alloc, "squash").help(help)),
+        None => Ok(command),
     }
-    for limit in limits {
-        command = command.arg(number(alloc, limit))?;
-    }
-    Ok(command)
+}
+
+/// Adds the options that set limits.
+fn with_limits<'a>(
+    alloc: Global,
+    command: Command<'a>,
+    limits: &'a LimitOptions,
+) -> Result<Command<'a>, AllocError>
+    ensures { IfOk result (AddsRules command.entry (rules_of_limits limits.entry.now)) }
+{
+    command
+        .arg(number(alloc, &limits.body))?
+        .arg(number(alloc, &limits.text))?
+        .arg(number(alloc, &limits.docs))?
+        .arg(number(alloc, &limits.changes))
 }
 
 /// An option with one of these names.
-fn choice<'a>(alloc: Global, name: &'a str, names: &'a [&'a str], default: &'a str) -> Arg<'a> {
+fn choice<'a>(alloc: Global, name: &'a str, names: &'a [&'a str], default: &'a str) -> Arg<'a>
+    ensures rule { rule_of result
+        ≡ option_rule name.entry.now (Names names.entry) default.entry.now }
+    ensures global { result.global ≡ false }
+{
     Arg::new(alloc, name)
         .long(name)
         .value_name("NAME")
@@ -171,12 +278,18 @@ fn choice<'a>(alloc: Global, name: &'a str, names: &'a [&'a str], default: &'a s
 }
 
 /// An option without a value.
-fn flag<'a>(alloc: Global, name: &'a str) -> Arg<'a> {
+fn flag<'a>(alloc: Global, name: &'a str) -> Arg<'a>
+    ensures rule { rule_of result ≡ flag_rule name.entry.now }
+    ensures global { result.global ≡ false }
+{
     Arg::new(alloc, name).long(name).action(ArgAction::SetTrue)
 }
 
 /// An option with a number in a range.
-fn number<'a>(alloc: Global, limit: &'a Limit) -> Arg<'a> {
+fn number<'a>(alloc: Global, limit: &'a Limit) -> Arg<'a>
+    ensures rule { rule_of result ≡ rule_of_limit limit.entry.now }
+    ensures global { result.global ≡ false }
+{
     Arg::new(alloc, limit.name)
         .long(limit.name)
         .value_name("N")

@@ -1,6 +1,6 @@
 //! The program over any reader and writers.
 
-ghost use Rattle.std.specs.Prelude.{◌≡◌, ◌≢◌, ◌⊎◌, OnOk, true, codes, List, ℕ, Result, Err};
+ghost use Rattle.std.specs.Prelude.{◌≡◌, ◌≢◌, ◌⊎◌, OnOk, true, codes, List, ℕ, Result, Err, map};
 ghost use Rattle.std.specs.Io.KnownBytes.{Appends, Keeps};
 ghost use Rattle.clap.specs.Values.{kind_of};
 ghost use Rattle.clap.specs.declared.error.kind.ErrorKind.TheVariants.{OutOfMemory};
@@ -18,7 +18,7 @@ use lsp_stream::{Turns, flush_out, write_given};
 use std::alloc::Global;
 use std::io::{self, ErrorKind, Write};
 
-/// How many reads, writes and flushes one run may make.
+/// How many reads, writes and flushes an engine may make. The last flush may be tried as often.
 const MAX_TURNS: u64 = 1_099_511_627_776;
 
 /// The status of a call that is none, or can't be done.
@@ -48,7 +48,7 @@ pub fn run<R: Source, W: Sink, E: Write>(
     output: &mut W,
     errors: &mut E,
 ) -> Ending
-    ensures { IsRun (record {
+    ensures { IsRun (map (λ word. word.now) words.entry.now) (record {
       before = ports (R.seen input.old) (W.seen output.old);
       after = ports (R.seen input.new) (W.seen output.new);
       errors_before = E.contents errors.old;
@@ -95,7 +95,7 @@ pub fn perform<R: Source, W: Sink>(
     ensures performed { IsPerformed call
         (ports (R.seen input.old) (W.seen output.old))
         (ports (R.seen input.new) (W.seen output.new)) result }
-    // Where a status is answered all that was written is passed on.
+    // Where a status is answered all that was written is flushed.
     ensures passed_on { OnOk result ((W.seen output.new).flushed ≡ true) }
 {
     let ran = obey(alloc, call, input, output);

@@ -1,5 +1,10 @@
 //! The texts of help. They are in functions, so that proofs don't unfold them.
 
+ghost use Rattle.std.specs.Prelude.{◌≡◌, IfOk, codes, decimal, true, false};
+ghost use Rattle.std.specs.String.{string_bytes};
+ghost use Rattle.lspsync.specs.CommandLine.{limit_rules};
+ghost use Rattle.lspsync.specs.Help.{IsPage, rules_of_limits};
+
 use lsp_frame::Limits;
 use std::alloc::{AllocError, Global};
 
@@ -39,29 +44,50 @@ pub fn notes() -> &'static str {
     NOTES
 }
 
-/// The pages of the commands, in the order in which help lists them.
-pub fn pages() -> [Page; 5] {
-    [
-        Page {
-            name: "serve",
-            about: SERVE,
-            example: SERVE_EXAMPLE,
-            encoding: PREFERRED_ENCODING,
-            sync: Some(SYNC),
-            squash: None,
-        },
-        log_page("check", CHECK, CHECK_EXAMPLE),
-        log_page("replay", REPLAY, REPLAY_EXAMPLE),
-        Page {
-            squash: Some(SQUASH),
-            ..log_page("normalise", NORMALISE, NORMALISE_EXAMPLE)
-        },
-        log_page("convert", CONVERT, CONVERT_EXAMPLE),
-    ]
+pub fn serve() -> Page
+    ensures { IsPage result (codes "serve") true false }
+{
+    Page {
+        name: "serve",
+        about: SERVE,
+        example: SERVE_EXAMPLE,
+        encoding: PREFERRED_ENCODING,
+        sync: Some(SYNC),
+        squash: None,
+    }
+}
+
+pub fn check() -> Page
+    ensures { IsPage result (codes "check") false false }
+{
+    log_page("check", CHECK, CHECK_EXAMPLE)
+}
+
+pub fn replay() -> Page
+    ensures { IsPage result (codes "replay") false false }
+{
+    log_page("replay", REPLAY, REPLAY_EXAMPLE)
+}
+
+pub fn normalise() -> Page
+    ensures { IsPage result (codes "normalise") false true }
+{
+    Page {
+        squash: Some(SQUASH),
+        ..log_page("normalise", NORMALISE, NORMALISE_EXAMPLE)
+    }
+}
+
+pub fn convert() -> Page
+    ensures { IsPage result (codes "convert") false false }
+{
+    log_page("convert", CONVERT, CONVERT_EXAMPLE)
 }
 
 /// The page of a command that reads a log.
-fn log_page(name: &'static str, about: &'static str, example: &'static str) -> Page {
+fn log_page(name: &'static str, about: &'static str, example: &'static str) -> Page
+    ensures { IsPage result name.now false false }
+{
     Page {
         name,
         about,
@@ -73,41 +99,54 @@ fn log_page(name: &'static str, about: &'static str, example: &'static str) -> P
 }
 
 /// The options that all commands have.
-pub fn limits(alloc: Global) -> Result<[Limit; 4], AllocError> {
+#[derive(Debug, Drop)]
+pub struct LimitOptions {
+    pub body: Limit,
+    pub text: Limit,
+    pub docs: Limit,
+    pub changes: Limit,
+}
+
+/// Makes the options that all commands have.
+pub fn limits(alloc: Global) -> Result<LimitOptions, AllocError>
+    ensures { IfOk result (λ limits. rules_of_limits limits ≡ limit_rules) }
+{
     let default = Limits::default();
-    Ok([
-        Limit {
+    Ok(LimitOptions {
+        body: Limit {
             name: "max-body",
             least: Limits::LEAST_BODY,
             greatest: Limits::GREATEST_BODY,
             default: digits(alloc, default.max_body())?,
             help: MAX_BODY,
         },
-        Limit {
+        text: Limit {
             name: "max-text",
             least: 0,
             greatest: Limits::GREATEST_TEXT,
             default: digits(alloc, default.max_text())?,
             help: MAX_TEXT,
         },
-        Limit {
+        docs: Limit {
             name: "max-docs",
             least: 1,
             greatest: Limits::GREATEST_DOCS,
             default: digits(alloc, default.max_docs())?,
             help: MAX_DOCS,
         },
-        Limit {
+        changes: Limit {
             name: "max-changes",
             least: 1,
             greatest: Limits::GREATEST_CHANGES,
             default: digits(alloc, default.max_changes())?,
             help: MAX_CHANGES,
         },
-    ])
+    })
 }
 
-fn digits(alloc: Global, number: usize) -> Result<String, AllocError> {
+fn digits(alloc: Global, number: usize) -> Result<String, AllocError>
+    ensures { IfOk result (λ text. string_bytes text ≡ decimal number) }
+{
     format!(in alloc; "{number}")
 }
 

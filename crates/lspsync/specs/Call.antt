@@ -1,9 +1,14 @@
--- The call of the program, by what `clap` found in its words.
-use Rattle.std.specs.Prelude.{ℕ, ◌≡◌, Bool, true, false, List, Option, Some, None, codes, option_map, option_and_then, if◌then◌else◌}
+-- The call of the program, by what `clap` finds in its words.
+use Rattle.std.specs.Prelude.{ℕ, ◌≡◌, ◌⊎◌, [], Result, Ok, Err, Bool, true, false, List, Option, Some, None, codes, option_map, option_and_then, if◌then◌else◌}
 use Rattle.std.specs.Str.{bytes_eq}
 use Rattle.std.specs.Str.Parse.{digits_value, without_leading_plus}
 use Rattle.clap.specs.Matches.{found_of, first_value, one_text, subcommand_name_of}
-use Rattle.clap.specs.Simple.{subcommand_rows_of}
+use Rattle.clap.specs.Simple.{App, subcommand_of, subcommand_rows_of}
+use Rattle.clap.specs.Faults.{fault_of}
+use Rattle.clap.specs.Kinds.{IsAmong}
+use Rattle.clap.specs.Values.{kind_of}
+use Rattle.clap.specs.declared.error.Error.{Error}
+use Rattle.clap.specs.declared.error.kind.ErrorKind.TheVariants.{OutOfMemory}
 use Rattle.clap.specs.Walk.{rows_of}
 use Rattle.clap.specs.declared.parser.matches.ArgMatches.{ArgMatches}
 use Rattle.lsp_frame.specs.Limits.{Bounds}
@@ -14,6 +19,7 @@ use Rattle.lsp_server.specs.declared.config.EncodingChoice.TheVariants.{Negotiat
 use Rattle.lsp_server.specs.declared.config.Sync.{Sync}
 use Rattle.lsp_server.specs.declared.config.Sync.TheVariants.{Incremental, Full}
 use Rattle.lsp_replay.specs.declared.engines.Settings.{Settings}
+use Rattle.lspsync.specs.CommandLine.{IsProgram}
 use Rattle.lspsync.specs.declared.command_line.Call.{Call}
 use Rattle.lspsync.specs.declared.command_line.Call.TheVariants as call
 
@@ -79,3 +85,20 @@ pub record IsCall (found : ArgMatches) (asked : Call) : Type 0 where
   pub named : subcommand_name_of found ≡ Some name
   pub rows : option_map (λ p. p.1) (subcommand_rows_of found) ≡ Some (rows_of (found_of options))
   pub call : IsCallNamed name options asked
+
+-- The words are a call: the program takes them, and finds its subcommand and options in them.
+pub record AreCall (words : List (List ℕ)) (asked : Call) : Type 0 where
+  pub app : App
+  pub program : IsProgram app
+  pub taken : fault_of app words ≡ []
+  pub found : ArgMatches
+  pub rows : subcommand_rows_of found ≡ subcommand_of app words
+  pub call : IsCall found asked
+
+-- What the words are read as. An error has a kind that the program finds in them, or memory ran
+-- out.
+abbrev pub IsRead : List (List ℕ) → Result (Option Call) Error → Type 0
+IsRead words (Ok (Some asked)) = AreCall words asked
+IsRead words (Ok None) = (app : App) × IsProgram app × (fault_of app words ≡ [])
+IsRead words (Err error) = (kind_of error ≡ OutOfMemory)
+    ⊎ ((app : App) × IsProgram app × IsAmong (kind_of error) (fault_of app words))

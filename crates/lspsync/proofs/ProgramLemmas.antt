@@ -1,0 +1,76 @@
+-- The command line is put together.
+use Rattle.std.proofs.Common.{◌≡◌, ◌∙◌, ◌++◌, ◌||◌, ap, refl, sym, Bool, true, false, List, [], ◌∷◌, is_some, if◌then◌else◌}
+use Rattle.std.specs.Prelude.{Result, Ok, Err, IfOk}
+use Rattle.std.proofs.lemmas.List.{append-nil, append_assoc}
+use Rattle.clap.specs.Words.{App, Rule, Shape, Text, app_of, rule_of, shape_of, new_app, AddsArg, with_rule}
+use Rattle.clap.specs.Simple.{on_top}
+use Rattle.clap.specs.declared.builder.arg.Arg.{Arg}
+use Rattle.clap.specs.declared.builder.command.Command.{Command}
+use Rattle.clap.specs.declared.builder.command.Command.TheViews.{out-Command as fields_of}
+use Rattle.lspsync.specs.CommandLine.{encoding_rule, limit_rules, squash_rule, sync_rule}
+use Rattle.lspsync.specs.Help.{IsPage, rules_of_limits}
+use Rattle.lspsync.specs.inside.Options.{AddsRules, IsCommand, page_shape, shape_by}
+use Rattle.lspsync.specs.declared.command_line.help.Page.{Page}
+use Rattle.lspsync.specs.declared.command_line.Values.{Values}
+
+or_false : (b : Bool) → (b || false) ≡ b
+or_false true = refl
+or_false false = refl
+
+abbrev longer : List Rule → App → App
+longer rules = on_top (λ s. record s { rules = s.rules ++ rules })
+
+longer_none : (a : App) → a ≡ longer [] a
+longer_none a = rw (append-nil a.top.rules) refl
+
+longer_more : (xs ys : List Rule) (a : App) → longer ys (longer xs a) ≡ longer (xs ++ ys) a
+longer_more xs ys a = rw (append_assoc a.top.rules xs ys) refl
+
+pub adds_none : (c : Command) → AddsRules c [] c
+adds_none c = record { app = longer_none (app_of c); globals = refl }
+
+pub adds_one : (old new : Command) (a : Arg) (rule : Rule) → AddsArg old a new → a.global ≡ false → rule_of a ≡ rule
+    → AddsRules old (rule ∷ []) new
+adds_one old new a rule added local same = record {
+  app = added.shape local ∙ ap (with_rule (app_of old)) same;
+  globals = added.globals ∙ (ap (λ g. (fields_of old).has_globals || g) local ∙ or_false (fields_of old).has_globals);
+}
+
+pub adds_more : (old mid new : Command) (xs ys : List Rule) → AddsRules old xs mid → AddsRules mid ys new → AddsRules old (xs ++ ys) new
+adds_more old mid new xs ys one two = record {
+  app = two.app ∙ (ap (longer ys) one.app ∙ longer_more xs ys (app_of old));
+  globals = two.globals ∙ one.globals;
+}
+
+-- The same, of what a call returned.
+pub adds : {E : Type 0} (old : Command) (a : Arg) (rule : Rule) (r : Result Command E) → a.global ≡ false → rule_of a ≡ rule
+    → IfOk r (AddsArg old a) → IfOk r (AddsRules old (rule ∷ []))
+adds old a rule (Ok new) local same added = adds_one old new a rule added local same
+adds old a rule (Err e) local same added = tt
+
+pub adds_after : {E : Type 0} (old mid : Command) (xs ys : List Rule) (r : Result Command E) → AddsRules old xs mid
+    → IfOk r (AddsRules mid ys) → IfOk r (AddsRules old (xs ++ ys))
+adds_after old mid xs ys (Ok new) one two = adds_more old mid new xs ys one two
+adds_after old mid xs ys (Err e) one two = tt
+
+-- A command by its page: a new one, and then its options in turn.
+pub is_command : {E : Type 0} (page : Page) (values : Values) (new one two three : Command) (made : Result Command E)
+    → app_of new ≡ new_app page.name.now → (fields_of new).has_globals ≡ false
+    → AddsRules new (encoding_rule values.encodings ∷ []) one
+    → AddsRules one (if is_some page.sync then sync_rule values.kinds ∷ [] else []) two
+    → AddsRules two (if is_some page.squash then squash_rule ∷ [] else []) three
+    → IfOk made (AddsRules three (rules_of_limits values.limits.now)) → IfOk made (IsCommand page values)
+is_command page values new one two three (Err e) is local a b c d = tt
+is_command page values new one two three (Ok made) is local a b c d =
+    let all = adds_more new one made _ _ a (adds_more one two made _ _ b (adds_more two three made _ _ c d)) in
+    record { app = all.app ∙ ap (longer _) is; globals = all.globals ∙ local }
+
+-- The shape of a command, with what its page is known to have.
+pub shape_is : (page : Page) (values : Values) (name : Text) (sync squash : Bool) → IsPage page name sync squash
+    → rules_of_limits values.limits.now ≡ limit_rules
+    → shape_by page values ≡ page_shape name sync squash values.encodings values.kinds limit_rules
+shape_is page values name sync squash p same =
+    ap (λ n. page_shape n (is_some page.sync) (is_some page.squash) values.encodings values.kinds (rules_of_limits values.limits.now)) p.named
+    ∙ (ap (λ b. page_shape name b (is_some page.squash) values.encodings values.kinds (rules_of_limits values.limits.now)) p.sync
+    ∙ (ap (λ b. page_shape name sync b values.encodings values.kinds (rules_of_limits values.limits.now)) p.squash
+    ∙ ap (page_shape name sync squash values.encodings values.kinds) same))

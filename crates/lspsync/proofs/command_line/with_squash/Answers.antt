@@ -1,0 +1,11 @@
+use Rattle.std.proofs.Common.{◌≡◌, false, rules}
+use Rattle.clap.specs.Words.{rule_of}
+use Rattle.lspsync.specs.CommandLine.{squash_rule}
+use Rattle.lspsync.proofs.ProgramLemmas.{adds}
+use Rattle.lspsync.proofs.command_line.with_squash.Goals as goal
+
+pub returns-in-Some : goal.returns-in-Some
+returns-in-Some c =
+    let local : c.help.result.global ≡ false = search rules in
+    let rule : rule_of c.help.result ≡ squash_rule = search rules in
+    rw c.in-Some.is (adds _ c.help.result (squash_rule) c.arg.result local rule c.arg.ensures)

@@ -1,0 +1,71 @@
+-- The command line: the options of the program, as `clap` gets them.
+use Rattle.std.specs.Prelude.{ℕ, ◌≡◌, ◌++◌, ◌∷◌, [], Bool, true, false, List, Some, codes, decimal, map}
+use Rattle.std.specs.Borrow.{Bor}
+use Rattle.clap.specs.Words.{App, Rule, Shape, Text, new_rule}
+use Rattle.clap.specs.Simple.{new_shape}
+use Rattle.clap.specs.declared.builder.action.ArgAction.TheVariants.{SetTrue}
+use Rattle.clap.specs.declared.builder.value_parser.ValueParser.{ValueParser}
+use Rattle.clap.specs.declared.builder.value_parser.ValueParser.TheVariants.{Names, Unsigned}
+
+-- References to the names that an option takes.
+abbrev pub Choices : Type 0
+Choices = Bor (List (Bor Text))
+
+-- An option with one value, of a kind and with a default.
+abbrev pub option_rule : Text → ValueParser → Text → Rule
+option_rule name kind default = record (new_rule name) {
+  long = Some name;
+  value_names = 1;
+  parser = Some kind;
+  defaults = default ∷ [];
+}
+
+-- A flag.
+abbrev pub flag_rule : Text → Rule
+flag_rule name = record (new_rule name) { long = Some name; action = Some SetTrue }
+
+-- An option with a number from `least` to `greatest`.
+abbrev pub limit_rule : Text → ℕ → ℕ → ℕ → Rule
+limit_rule name least greatest default =
+    option_rule name (Unsigned least greatest) (decimal default)
+
+-- The options that each command has: the limits.
+abbrev pub limit_rules : List Rule
+limit_rules = limit_rule (codes "max-body") 4096 1073741824 16777216
+    ∷ limit_rule (codes "max-text") 0 1073741824 16777216
+    ∷ limit_rule (codes "max-docs") 1 65536 1024
+    ∷ limit_rule (codes "max-changes") 1 1048576 65536 ∷ []
+
+-- A command with its own options, and those of all.
+abbrev pub command_shape : Text → List Rule → Shape
+command_shape name own = record (new_shape name) { rules = own ++ limit_rules }
+
+abbrev pub encoding_rule : Choices → Rule
+encoding_rule encodings = option_rule (codes "encoding") (Names encodings) (codes "utf-16")
+
+abbrev pub sync_rule : Choices → Rule
+sync_rule kinds = option_rule (codes "sync") (Names kinds) (codes "incremental")
+
+abbrev pub squash_rule : Rule
+squash_rule = flag_rule (codes "squash")
+
+-- The program: its commands, with their options.
+abbrev pub program_app : Choices → Choices → App
+program_app encodings kinds = record {
+  top = record (new_shape (codes "lspsync")) { is_leaf = false; subcommand_required = true };
+  subs = command_shape (codes "serve") (encoding_rule encodings ∷ sync_rule kinds ∷ [])
+      ∷ command_shape (codes "check") (encoding_rule encodings ∷ [])
+      ∷ command_shape (codes "replay") (encoding_rule encodings ∷ [])
+      ∷ command_shape (codes "normalise") (encoding_rule encodings ∷ squash_rule ∷ [])
+      ∷ command_shape (codes "convert") (encoding_rule encodings ∷ []) ∷ [];
+}
+
+-- The command line is the program's, with the names of the encodings and of the kinds of
+-- synchronisation.
+pub record IsProgram (app : App) : Type 0 where
+  pub encodings : Choices
+  pub kinds : Choices
+  pub names : map (λ s. s.now) encodings.now
+      ≡ codes "utf-8" ∷ codes "utf-16" ∷ codes "utf-32" ∷ []
+  pub kind_names : map (λ s. s.now) kinds.now ≡ codes "full" ∷ codes "incremental" ∷ []
+  pub same : app ≡ program_app encodings kinds
