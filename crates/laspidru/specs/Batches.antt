@@ -101,8 +101,8 @@ IsLeft (Err fault) code stored out = IsReport fault code out
 -- The object is the canonical batch of this batch.
 abbrev pub IsBatchOf : Asked → Object → Type 0
 IsBatchOf asked (Batch changes) =
-    let made = map edit_of changes.items in
-    IsCanonicalBatch (units_in asked.encoding) MAX_OLD_TEXT asked.text asked.edits made
+    let canonical = map edit_of changes.items in
+    IsCanonicalBatch (units_in asked.encoding) MAX_OLD_TEXT asked.text asked.edits canonical
 IsBatchOf asked (Document other) = ⊥
 IsBatchOf asked (Server session) = ⊥
 IsBatchOf asked (Output bytes) = ⊥

@@ -146,13 +146,13 @@ step_at session body = step session.server (reading body)
 
 -- The server after a step, with its reply.
 abbrev pub after_step : Step → SessionData
-after_step made = record { server = made.state; reply = reply_out (as_sent made.answer) }
+after_step it = record { server = it.state; reply = reply_out (as_sent it.answer) }
 
 -- The handle has the server after the step, and C gets its answer.
-pub record IsHandled (made : Step) (code : ℕ) (stored : Option Object) (out : Answer) : Type 0 where
+pub record IsHandled (it : Step) (code : ℕ) (stored : Option Object) (out : Answer) : Type 0 where
   pub done : code ≡ OK
-  pub server : stored ≡ Some (Server (after_step made))
-  pub answer : out ≡ answer_out (as_sent made.answer)
+  pub server : stored ≡ Some (Server (after_step it))
+  pub answer : out ≡ answer_out (as_sent it.answer)
 
 -- A URI, if it is UTF-8.
 abbrev pub uri_asked : List ℕ → Result (List ℕ) ℕ

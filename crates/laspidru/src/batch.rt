@@ -45,11 +45,11 @@ fn object_canonical(
     let Ok(changes) = changes_of(alloc, edits, texts) else {
         return OUT_OF_MEMORY;
     };
-    let made = match document.canonical(encoding, &changes, MAX_OLD_TEXT) {
-        Ok(made) => made,
+    let changes = match document.canonical(encoding, &changes, MAX_OLD_TEXT) {
+        Ok(canonical) => canonical,
         Err(error) => return report(error, fault),
     };
-    let Ok(object) = Box::new(alloc, Object::Batch(made)) else {
+    let Ok(object) = Box::new(alloc, Object::Batch(changes)) else {
         return OUT_OF_MEMORY;
     };
     batch.put(object);

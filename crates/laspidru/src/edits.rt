@@ -104,7 +104,7 @@ fn batch_of(
         IsBatchOfAsked (edits_on encoding edits.now texts.now document.now) changes.items) }
     ensures error { IfErr result (λ code. (code ≡ OUT_OF_MEMORY)
         ⊎ AreFaulty (edits_on encoding edits.now texts.now document.now) code fault.new) }
-    ensures same { IfOk result (λ changes. fault.new ≡ fault.old) }
+    ensures no_fault { IfOk result (λ changes. fault.new ≡ fault.old) }
     ensures unchanged { IfErr result (λ code. IsUnlessFaulty code (fault.new ≡ fault.old)) }
 {
     let Ok(passed) = text_edits_of(alloc, edits, texts) else {

@@ -53,7 +53,7 @@ impl Handle {
     /// Returns whether it has an object, and the handle itself.
     fn parts(self) -> (bool, Self)
         ensures full { result.0 ≡ is_some self.value }
-        ensures same { result.1.value ≡ self.value }
+        ensures value { result.1.value ≡ self.value }
     {
         let Handle {
             pointer,

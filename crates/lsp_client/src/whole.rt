@@ -97,9 +97,9 @@ fn may_change(
         ≡ Some fault) }
     ensures memory { result ≢ Err NoMemory }
 {
-    let held = document.version();
-    if version <= held {
-        return Err(StoreFault::StaleVersion { held });
+    let current = document.version();
+    if version <= current {
+        return Err(StoreFault::StaleVersion { held: current });
     }
     if changes.len() > limits.max_changes() || !fits(changes) {
         return Err(StoreFault::TooManyChanges);

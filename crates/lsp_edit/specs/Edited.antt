@@ -47,7 +47,7 @@ both_counts first second = min (first + second) 18446744073709551615
 
 -- `next` is `edited` after a change, and counts it.
 pub record Applied (units : ℕ → ℕ) (edited : Edited) (change : Edit) (next : Edited) : Type 0 where
-  pub made : after_change units edited.before edited.items change ≡ Ok next.items
+  pub changed : after_change units edited.before edited.items change ≡ Ok next.items
   pub same : next.before ≡ edited.before
   pub counted : next.changes ≡ next_number edited.changes
 
@@ -72,7 +72,7 @@ pub record ArePieces (before lines : List ℕ) (parts : List Part) (len changes 
 
 -- A current text, if there is one, has these bytes.
 abbrev pub IsCurrent : List ℕ → Option (List ℕ) → Type 0
-IsCurrent bytes current = MatchOption current (Unit {0}) (λ made. made ≡ bytes)
+IsCurrent bytes current = MatchOption current (Unit {0}) (λ text. text ≡ bytes)
 
 -- The result of a batch on a text: its meaning, after so many changes.
 pub record Means (before : List ℕ) (meant : Result (List Item) (ℕ × Fault)) (changes : ℕ)

@@ -17,13 +17,13 @@ fault_at number Reversed = ReversedRange number
 
 -- The fault is out of memory, or why the change of this number has no result.
 abbrev pub IsFaultOfChange : ℕ → Result (List Item) Fault → EditFault → Type 0
-IsFaultOfChange number made fault = (fault ≡ NoMemory)
-    ⊎ ((why : Fault) × (made ≡ Err why) × (fault ≡ fault_at number why))
+IsFaultOfChange number changed fault = (fault ≡ NoMemory)
+    ⊎ ((why : Fault) × (changed ≡ Err why) × (fault ≡ fault_at number why))
 
 -- The fault is out of memory, or the first change of a batch that has no result, and why.
 abbrev pub IsFaultOfChanges : Result (List Item) (ℕ × Fault) → EditFault → Type 0
-IsFaultOfChanges made fault = (fault ≡ NoMemory)
-    ⊎ ((number : ℕ) × (why : Fault) × (made ≡ Err (number, why)) × (fault ≡ fault_at number why))
+IsFaultOfChanges changed fault = (fault ≡ NoMemory)
+    ⊎ ((number : ℕ) × (why : Fault) × (changed ≡ Err (number, why)) × (fault ≡ fault_at number why))
 
 -- The indexes that the two ends of a range denote, if both denote and are in order.
 abbrev pub in_order : Option ℕ → Option ℕ → Result (ℕ × ℕ) Fault

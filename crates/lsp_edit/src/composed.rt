@@ -27,9 +27,9 @@ fn apply_all<'a>(
     requires room { length (edited_bytes pieces.edited) + sum_by
         (λ change. string_len change.text) changes.now ≤ MAX_TEXT }
     ensures { MatchResult result
-        (λ made. Means pieces.entry.edited.before
+        (λ composed. Means pieces.entry.edited.before
         (after_changes (units_in encoding) pieces.entry.edited.before 0 pieces.entry.edited.items
-        (map edit_of changes.now)) (length changes.now) made.edited)
+        (map edit_of changes.now)) (length changes.now) composed.edited)
         (λ fault. IsFaultOfChanges (after_changes
         (units_in encoding) pieces.entry.edited.before 0 pieces.entry.edited.items
         (map edit_of changes.now)) fault) }

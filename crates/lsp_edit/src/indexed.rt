@@ -113,7 +113,7 @@ impl IndexedText {
 
     /// Copies the text and its lines. Costs the copies.
     pub(crate) fn copied(&self, alloc: Global) -> Result<Self, AllocError>
-        ensures same { IfOk result (λ copy. copy ≡ self.now) }
+        ensures copy { IfOk result (λ copy. copy ≡ self.now) }
         ensures utf8 { OnOk result (IsUtf8 self.now) }
     {
         let text = String::from_str(alloc, &self.text)?;
@@ -183,7 +183,7 @@ impl IndexedText {
         ensures changed { OnOk result
             (text_within max_len self.old
             (meaning (units_in encoding) (chars self.old) (alone range new.now)) ≡ Ok self.new) }
-        ensures same { OnErr result (self.new ≡ self.old) }
+        ensures unchanged { OnErr result (self.new ≡ self.old) }
         ensures error { IfErr result (λ fault. (fault ≡ NoMemory)
             ⊎ (text_within max_len self.old
             (meaning (units_in encoding) (chars self.old) (alone range new.now)) ≡ Err fault)) }
@@ -222,7 +222,7 @@ impl IndexedText {
             (text_within max_len self.old
             (meaning (units_in encoding) (chars self.old) (map edit_of changes.now))
             ≡ Ok self.new) }
-        ensures same { OnErr result (self.new ≡ self.old) }
+        ensures unchanged { OnErr result (self.new ≡ self.old) }
         ensures error { IfErr result (λ fault. (fault ≡ NoMemory)
             ⊎ (text_within max_len self.old
             (meaning (units_in encoding) (chars self.old) (map edit_of changes.now)) ≡ Err fault)) }
@@ -262,8 +262,8 @@ impl IndexedText {
         requires size { length self.now ≤ MAX_OLD_TEXT }
         requires fits { sum_by (λ change. string_len change.text) changes.now ≤ MAX_NEW_TEXT }
         ensures batch { IfOk result
-            (λ made. IsCanonicalBatch (units_in encoding) max_len self.now (map edit_of changes.now)
-            (map edit_of made.items)) }
+            (λ batch. IsCanonicalBatch (units_in encoding) max_len self.now (map edit_of changes.now)
+            (map edit_of batch.items)) }
         ensures error { IfErr result (λ fault. (fault ≡ NoMemory)
             ⊎ (text_within max_len self.now
             (meaning (units_in encoding) (chars self.now) (map edit_of changes.now)) ≡ Err fault)) }
@@ -289,8 +289,8 @@ impl IndexedText {
         encoding: Encoding,
         edits: &[TextEdit],
     ) -> Result<Vec<Change>, TextEditFault>
-        ensures batch { IfOk result (λ made.
-            IsBatchOfEdits (units_in encoding) self.now edits.now (map edit_of made.items)) }
+        ensures batch { IfOk result (λ batch.
+            IsBatchOfEdits (units_in encoding) self.now edits.now (map edit_of batch.items)) }
         ensures error { IfErr result (λ fault.
             IsEditsFault (units_in encoding) (chars self.now) edits.now fault) }
     {

@@ -181,7 +181,7 @@ impl<'a> Pieces<'a> {
     /// Returns the byte offsets of a range's two ends in the current text. A fault reports the
     /// number of the change: how many came before.
     fn places(&mut self, encoding: Encoding, range: Range) -> Result<(usize, usize), EditFault>
-        ensures same { self.new ≡ self.old }
+        ensures unchanged { self.new ≡ self.old }
         ensures memory { result ≡ Err NoMemory → self.old.edited.changes ≢ 0 }
         ensures places { IsPlaces result (places_at self.old.edited.changes
             (edited_text self.old.edited) (ends_of (units_in encoding)
@@ -224,7 +224,7 @@ impl<'a> Pieces<'a> {
         requires { length (edited_bytes self.old.edited) + length text.now ≤ MAX_TEXT }
         ensures applied { OnOk result (Applied (units_in encoding) self.old.edited
             (record { range = Some range; text = chars text.now }) self.new.edited) }
-        ensures same { OnErr result (self.new ≡ self.old) }
+        ensures unchanged { OnErr result (self.new ≡ self.old) }
         ensures error { IfErr result (λ fault. IsFaultOfChange self.old.edited.changes
             (after_change (units_in encoding) self.old.edited.before self.old.edited.items
             (record { range = Some range; text = chars text.now })) fault) }
@@ -254,7 +254,7 @@ impl<'a> Pieces<'a> {
         requires { length (edited_bytes self.old.edited) + string_len change.now.text ≤ MAX_TEXT }
         ensures applied { OnOk result (Applied (units_in encoding) self.old.edited
             (edit_of change.now) self.new.edited) }
-        ensures same { OnErr result (self.new ≡ self.old) }
+        ensures unchanged { OnErr result (self.new ≡ self.old) }
         ensures error { IfErr result (λ fault. IsFaultOfChange self.old.edited.changes
             (after_change (units_in encoding) self.old.edited.before self.old.edited.items
             (edit_of change.now)) fault) }
@@ -330,8 +330,8 @@ impl<'a> Pieces<'a> {
     /// the whole text, and after `then`. Otherwise both exist already, and what lies after the last
     /// change is moved.
     pub fn into_text(self) -> Result<(String, Lines), AllocError>
-        ensures { IfOk result (λ made. (string_bytes made.0 ≡ edited_bytes self.entry.edited)
-            × Indexes made.1 (string_bytes made.0)) }
+        ensures { IfOk result (λ indexed. (string_bytes indexed.0 ≡ edited_bytes self.entry.edited)
+            × Indexes indexed.1 (string_bytes indexed.0)) }
     {
         let Pieces {
             alloc,

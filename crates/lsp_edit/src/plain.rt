@@ -92,8 +92,8 @@ impl<'a> Plain<'a> {
         text: &[char],
     ) -> Result<Vec<Item>, EditFault>
         ensures { MatchResult result
-            (λ made. changed_in (units_in encoding) self.now.before self.now.items text.now
-            (Some range) ≡ Ok (items_in_order made.items))
+            (λ after. changed_in (units_in encoding) self.now.before self.now.items text.now
+            (Some range) ≡ Ok (items_in_order after.items))
             (λ fault. IsFaultOfChange self.now.changes
             (changed_in (units_in encoding) self.now.before self.now.items text.now (Some range))
             fault) }
@@ -111,7 +111,7 @@ impl<'a> Plain<'a> {
         requires { length (edited_bytes self.old) + string_len change.now.text ≤ MAX_TEXT }
         ensures applied { OnOk result
             (Applied (units_in encoding) self.old (edit_of change.now) self.new) }
-        ensures same { OnErr result (self.new ≡ self.old) }
+        ensures unchanged { OnErr result (self.new ≡ self.old) }
         ensures error { IfErr result (λ fault. IsFaultOfChange self.old.changes
             (after_change (units_in encoding) self.old.before self.old.items (edit_of change.now))
             fault) }
@@ -216,14 +216,14 @@ fn item_through(first: &[Item], item: Item) -> Item
 /// Turns the items of `second`, over the text of `first`, into items over what `first` is over.
 fn then_items(alloc: Global, first: &[Item], second: &[Item]) -> Result<Vec<Item>, AllocError>
     ensures { IfOk result
-        (λ made. items_in_order made.items
+        (λ items. items_in_order items.items
         ≡ spec_then_items (items_in_order first.now) (items_in_order second.now)) }
 {
-    let mut made = Vec::new(alloc);
+    let mut items = Vec::new(alloc);
     for item in second {
-        made.push(item_through(first, *item))?;
+        items.push(item_through(first, *item))?;
     }
-    Ok(made)
+    Ok(items)
 }
 
 /// Applies the changes of a batch to a text, one after another. Reports the first change that has
@@ -331,14 +331,14 @@ fn put_between(
 ) -> Result<Vec<Item>, AllocError>
     requires order { start ≤ stop }
     requires within { stop ≤ length items.now }
-    ensures { IfOk result (λ made. items_in_order made.items
+    ensures { IfOk result (λ after. items_in_order after.items
         ≡ take start (items_in_order items.now)
         ++ (map NewItem text.now ++ drop stop (items_in_order items.now))) }
 {
-    let mut made = Vec::from_slice(alloc, &items[..start])?;
-    push_new(&mut made, text)?;
-    made.extend_from_slice(&items[stop..])?;
-    Ok(made)
+    let mut after = Vec::from_slice(alloc, &items[..start])?;
+    push_new(&mut after, text)?;
+    after.extend_from_slice(&items[stop..])?;
+    Ok(after)
 }
 
 /// Returns the index of a byte offset: how many characters begin before it.

@@ -96,43 +96,43 @@ judged_hopeless max_body bytes more tail k n fault lines at each good e =
 
 -- After a decision no frame comes, whatever follows.
 pub decided_hopeless : (max_body : ℕ) (bytes : List ℕ) (k : ℕ) (fault : HeaderFault) → IsDecidedAt max_body bytes k fault → IsHopeless max_body bytes
-decided_hopeless max_body bytes k header.BadHeader at more spelling body tail s e =
+decided_hopeless max_body bytes k header.BadHeader at more raw body tail s e =
     bad_hopeless bytes more (body ++ tail) k s.lines at s.each (e ∙ ap (λ x. x ++ tail) s.is ∙ append_assoc (header_of s.lines) body tail)
-decided_hopeless max_body bytes k header.HeaderTooLong at more spelling body tail s e =
+decided_hopeless max_body bytes k header.HeaderTooLong at more raw body tail s e =
     too_long_hopeless bytes more (body ++ tail) k s.lines at s.each s.short (e ∙ ap (λ x. x ++ tail) s.is ∙ append_assoc (header_of s.lines) body tail)
-decided_hopeless max_body bytes k header.MissingLength at more spelling body tail s e =
+decided_hopeless max_body bytes k header.MissingLength at more raw body tail s e =
     judged_hopeless max_body bytes more (body ++ tail) k (length body) header.MissingLength s.lines at s.each s.good (e ∙ ap (λ x. x ++ tail) s.is ∙ append_assoc (header_of s.lines) body tail)
-decided_hopeless max_body bytes k header.RepeatedHeader at more spelling body tail s e =
+decided_hopeless max_body bytes k header.RepeatedHeader at more raw body tail s e =
     judged_hopeless max_body bytes more (body ++ tail) k (length body) header.RepeatedHeader s.lines at s.each s.good (e ∙ ap (λ x. x ++ tail) s.is ∙ append_assoc (header_of s.lines) body tail)
-decided_hopeless max_body bytes k header.BadLength at more spelling body tail s e =
+decided_hopeless max_body bytes k header.BadLength at more raw body tail s e =
     judged_hopeless max_body bytes more (body ++ tail) k (length body) header.BadLength s.lines at s.each s.good (e ∙ ap (λ x. x ++ tail) s.is ∙ append_assoc (header_of s.lines) body tail)
-decided_hopeless max_body bytes k header.BodyTooLong at more spelling body tail s e =
+decided_hopeless max_body bytes k header.BodyTooLong at more raw body tail s e =
     judged_hopeless max_body bytes more (body ++ tail) k (length body) header.BodyTooLong s.lines at s.each s.good (e ∙ ap (λ x. x ++ tail) s.is ∙ append_assoc (header_of s.lines) body tail)
-decided_hopeless max_body bytes k header.BadCharset at more spelling body tail s e =
+decided_hopeless max_body bytes k header.BadCharset at more raw body tail s e =
     judged_hopeless max_body bytes more (body ++ tail) k (length body) header.BadCharset s.lines at s.each s.good (e ∙ ap (λ x. x ++ tail) s.is ∙ append_assoc (header_of s.lines) body tail)
 
--- The body of a spelling is the rest behind a good header.
+-- The body of a raw is the rest behind a good header.
 pub record SameBody (max_body : ℕ) (body framed tail : List ℕ) (wanted : ℕ) : Type 0 where
   pub is : body ≡ framed ++ tail
   pub len : wanted ≡ length framed
 
-pub same_body : (max_body : ℕ) (lines : List Line) (buffered body spelling framed tail : List ℕ) (wanted : ℕ) → AreLines lines → buffered ≡ header_of lines ++ body → judge max_body lines ≡ Ok wanted → IsFrameOf max_body spelling framed → buffered ≡ spelling ++ tail → SameBody max_body body framed tail wanted
-same_body max_body lines buffered body spelling framed tail wanted each is good s e =
+pub same_body : (max_body : ℕ) (lines : List Line) (buffered body raw framed tail : List ℕ) (wanted : ℕ) → AreLines lines → buffered ≡ header_of lines ++ body → judge max_body lines ≡ Ok wanted → IsFrameOf max_body raw framed → buffered ≡ raw ++ tail → SameBody max_body body framed tail wanted
+same_body max_body lines buffered body raw framed tail wanted each is good s e =
     let both : header_of lines ++ body ≡ header_of s.lines ++ (framed ++ tail) = sym is ∙ e ∙ ap (λ x. x ++ tail) s.is ∙ append_assoc (header_of s.lines) framed tail in
     let same = same_header lines s.lines body (framed ++ tail) each s.each both in
     let error : judge max_body lines ≡ Ok (length framed) = ap (judge max_body) same.0 ∙ s.good in
     let l : wanted ≡ length framed = cc in
     record { is = same.1; len = l }
 
-pub no_frame_in_header : (max_body : ℕ) (buffered spelling body more : List ℕ) → BeginsHeader buffered → IsFrameOf max_body spelling body → buffered ≡ spelling ++ more → ⊥
-no_frame_in_header max_body buffered spelling body more begins s e =
+pub no_frame_in_header : (max_body : ℕ) (buffered raw body more : List ℕ) → BeginsHeader buffered → IsFrameOf max_body raw body → buffered ≡ raw ++ more → ⊥
+no_frame_in_header max_body buffered raw body more begins s e =
     begins_none s.lines (body ++ more) s.each (subst BeginsHeader (e ∙ ap (λ x. x ++ more) s.is ∙ append_assoc (header_of s.lines) body more) begins)
 
 -- No more than one frame is held.
 pub part_one : (max_body : ℕ) (buffered : List ℕ) → IsPart max_body buffered → HoldsOne max_body buffered
-part_one max_body buffered (inl part) spelling body more s e = absurd (no_frame_in_header max_body buffered spelling body more part.begins s e)
-part_one max_body buffered (inr part) spelling body more s e =
-    let same = same_body max_body part.lines buffered part.body spelling body more part.wanted part.each part.is part.good s e in
+part_one max_body buffered (inl part) raw body more s e = absurd (no_frame_in_header max_body buffered raw body more part.begins s e)
+part_one max_body buffered (inr part) raw body more s e =
+    let same = same_body max_body part.lines buffered part.body raw body more part.wanted part.each part.is part.good s e in
     nil_from_length more (omega (arith, ap length same.is, length-append body more, same.len, part.within))
 
 pub stage_part : (max_body : ℕ) (buffered : List ℕ) (s : Stage) → IsAtStage max_body buffered s → has_failed s ≡ false → IsPart max_body buffered

@@ -9,13 +9,13 @@ use Rattle.lsp_frame.proofs.StreamLemmas.{Way, same_frame, same_frames, way_of, 
 use Rattle.lsp_frame.proofs.WrittenLemmas.{written_is_frame}
 
 pub one_frame_law : OneFrameLaw
-one_frame_law max_body spelling more body other first second =
-    let same : SameFrame spelling (spelling ++ more) body other more [] =
-    same_frame max_body spelling (spelling ++ more) body other more [] first second (sym (append-nil (spelling ++ more))) in
+one_frame_law max_body raw more body other first second =
+    let same : SameFrame raw (raw ++ more) body other more [] =
+    same_frame max_body raw (raw ++ more) body other more [] first second (sym (append-nil (raw ++ more))) in
     (same.rest_is, same.body_is)
 
 pub bound_law : BoundLaw
-bound_law max_body spelling body is_frame_of =
+bound_law max_body raw body is_frame_of =
     let within = judge_within max_body is_frame_of.lines (length body) is_frame_of.good in
     let short = is_frame_of.short in
     omega (arith, ap length is_frame_of.is, length-append (header_of is_frame_of.lines) body)

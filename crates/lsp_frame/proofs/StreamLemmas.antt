@@ -36,10 +36,10 @@ same_length_front (c ∷ a) (d ∷ b) x y l e =
     let r : c ∷ a ≡ d ∷ b = cc in
     (r, s.1)
 
--- Two frames at the front of the same bytes are one: no spelling is a proper beginning of another.
-pub same_frame : (max_body : ℕ) (spelling other body other_body x y : List ℕ) → IsFrameOf max_body spelling body → IsFrameOf max_body other other_body → spelling ++ x ≡ other ++ y → SameFrame spelling other body other_body x y
-same_frame max_body spelling other body other_body x y s t e =
-    let left : spelling ++ x ≡ header_of s.lines ++ (body ++ x) = ap (λ z. z ++ x) s.is ∙ append_assoc (header_of s.lines) body x in
+-- Two frames at the front of the same bytes are one: no raw is a proper beginning of another.
+pub same_frame : (max_body : ℕ) (raw other body other_body x y : List ℕ) → IsFrameOf max_body raw body → IsFrameOf max_body other other_body → raw ++ x ≡ other ++ y → SameFrame raw other body other_body x y
+same_frame max_body raw other body other_body x y s t e =
+    let left : raw ++ x ≡ header_of s.lines ++ (body ++ x) = ap (λ z. z ++ x) s.is ∙ append_assoc (header_of s.lines) body x in
     let right : other ++ y ≡ header_of t.lines ++ (other_body ++ y) = ap (λ z. z ++ y) t.is ∙ append_assoc (header_of t.lines) other_body y in
     let h = same_header s.lines t.lines (body ++ x) (other_body ++ y) s.each t.each (sym left ∙ e ∙ right) in
     let error : judge max_body s.lines ≡ Ok (length other_body) = ap (judge max_body) h.0 ∙ t.good in
@@ -270,7 +270,7 @@ faulty_more max_body stream more bodies fault at =
         decided = decided_more max_body at.rest more at.decided.k at.decided.kind at.decided.decided;
         is = at.decided.is ∙ ap (λ n. header_fault_at at.decided.kind (place_after (place_after 0 n) at.decided.k)) same;
       };
-      hopeless = λ tail spelling body last s e. at.hopeless (more ++ tail) spelling body last s (sym (append_assoc at.rest more tail) ∙ e);
+      hopeless = λ tail raw body last s e. at.hopeless (more ++ tail) raw body last s (sym (append_assoc at.rest more tail) ∙ e);
     }
 
 pub faulty_read : (max_body : ℕ) (stream : List ℕ) (bodies : List (List ℕ)) (fault : FrameFault) → IsFaulty max_body stream bodies fault → IsRead max_body stream bodies (Some fault)
@@ -279,7 +279,7 @@ faulty_read max_body stream bodies fault at =
       rest = at.rest;
       frames = record {
         framed = at.framed;
-        longest = λ spelling body more s e. at.hopeless [] spelling body more s (append-nil at.rest ∙ e);
+        longest = λ raw body more s e. at.hopeless [] raw body more s (append-nil at.rest ∙ e);
       };
       end = at.decided;
     }
@@ -305,9 +305,9 @@ part_sound max_body buffered (inr part) k kind at =
     decided_hopeless max_body buffered k kind at (replicate (part.wanted - length part.body) 0) (buffered ++ replicate (part.wanted - length part.body) 0) (part.body ++ replicate (part.wanted - length part.body) 0) [] is_frame_of (sym (append-nil (buffered ++ replicate (part.wanted - length part.body) 0)))
 
 pub part_longest : (max_body : ℕ) (buffered : List ℕ) → IsPart max_body buffered → (IsFrame max_body buffered → ⊥) → HasNoFrame max_body buffered
-part_longest max_body buffered part none spelling body more s e =
-    let nothing : more ≡ [] = part_one max_body buffered part spelling body more s e in
-    let all : spelling ≡ buffered = sym (e ∙ ap (λ z. spelling ++ z) nothing ∙ append-nil spelling) in
+part_longest max_body buffered part none raw body more s e =
+    let nothing : more ≡ [] = part_one max_body buffered part raw body more s e in
+    let all : raw ≡ buffered = sym (e ∙ ap (λ z. raw ++ z) nothing ∙ append-nil raw) in
     none (record { body = body; is_frame_of = subst (λ (z : List ℕ). IsFrameOf max_body z body) all s })
 
 pub behind_read : (max_body : ℕ) (stream : List ℕ) (bodies : List (List ℕ)) (f : Framing) → HasTaken max_body stream bodies f → IsRead max_body stream bodies None

@@ -1,4 +1,4 @@
--- A header in the written spelling is one as it is read.
+-- A header in the written raw is one as it is read.
 use Rattle.std.proofs.Common.{◌≡◌, ℕ, ◌+◌, ◌<◌, ◌≤◌, Bool, true, false, ◌&&◌, List, [], ◌∷◌, ◌++◌, length, take, drop, get_or, refl, sym, ◌∙◌, ap, append_assoc, arith, inl, inr}
 use Rattle.std.specs.Prelude.{codes, nat_le, nat_lt, if◌then◌else◌, Ok, Some, None}
 use Rattle.std.specs.List.{list_all}

@@ -10,17 +10,17 @@ frame body = codes "Content-Length: " ++ decimal (length body) ++ codes "\r\n\r\
 
 -- The bytes are a frame of this body, as it may be read: a good header of at most 8,192 bytes, and
 -- then the body. The header states the body's length.
-pub record IsFrameOf (max_body : ℕ) (spelling body : List ℕ) : Type 0 where
+pub record IsFrameOf (max_body : ℕ) (raw body : List ℕ) : Type 0 where
   pub lines : List Line
   pub each : AreLines lines
-  pub is : spelling ≡ header_of lines ++ body
+  pub is : raw ≡ header_of lines ++ body
   pub short : length (header_of lines) ≤ 8192
   pub good : judge max_body lines ≡ Ok (length body)
 
 -- The bytes begin with no whole frame.
 abbrev pub HasNoFrame : ℕ → List ℕ → Type 0
-HasNoFrame max_body bytes = (spelling body more : List ℕ) → IsFrameOf max_body spelling body →
-    bytes ≢ spelling ++ more
+HasNoFrame max_body bytes = (raw body more : List ℕ) → IsFrameOf max_body raw body →
+    bytes ≢ raw ++ more
 
 -- The bytes begin with no whole frame, whatever may follow them.
 abbrev pub IsHopeless : ℕ → List ℕ → Type 0

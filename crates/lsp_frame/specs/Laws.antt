@@ -9,27 +9,27 @@ use Rattle.lsp_frame.specs.declared.fault.FrameFault.{FrameFault}
 -- No frame is a proper prefix of another, and a frame has one body.
 abbrev pub OneFrameLaw : Type 0
 OneFrameLaw =
-    (max_body : ℕ) (spelling more body other : List ℕ) →
-    IsFrameOf max_body spelling body → IsFrameOf max_body (spelling ++ more) other →
+    (max_body : ℕ) (raw more body other : List ℕ) →
+    IsFrameOf max_body raw body → IsFrameOf max_body (raw ++ more) other →
     (more ≡ []) × (body ≡ other)
 
 -- Two frames have the same bytes and the same body, and the same bytes follow them.
-pub record SameFrame (spelling other body other_body x y : List ℕ) : Type 0 where
-  pub same_bytes : spelling ≡ other
+pub record SameFrame (raw other body other_body x y : List ℕ) : Type 0 where
+  pub same_bytes : raw ≡ other
   pub body_is : body ≡ other_body
   pub rest_is : x ≡ y
 
 -- The same bytes begin with at most one frame.
 abbrev pub FrontLaw : Type 0
 FrontLaw =
-    (max_body : ℕ) (spelling other body other_body x y : List ℕ) →
-    IsFrameOf max_body spelling body → IsFrameOf max_body other other_body →
-    spelling ++ x ≡ other ++ y → SameFrame spelling other body other_body x y
+    (max_body : ℕ) (raw other body other_body x y : List ℕ) →
+    IsFrameOf max_body raw body → IsFrameOf max_body other other_body →
+    raw ++ x ≡ other ++ y → SameFrame raw other body other_body x y
 
 -- A frame has at most 8,192 bytes more than the limit.
 abbrev pub BoundLaw : Type 0
-BoundLaw = (max_body : ℕ) (spelling body : List ℕ) → IsFrameOf max_body spelling body →
-    length spelling ≤ 8192 + max_body
+BoundLaw = (max_body : ℕ) (raw body : List ℕ) → IsFrameOf max_body raw body →
+    length raw ≤ 8192 + max_body
 
 -- A whole frame at the beginning of these bytes, its body, and what follows it.
 pub record BeginsFrame (max_body : ℕ) (bytes : List ℕ) : Type 0 where

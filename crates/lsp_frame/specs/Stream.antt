@@ -46,8 +46,8 @@ IsPart max_body bytes = IsHeaderPart bytes ⊎ IsBodyPart max_body bytes
 
 -- The bytes don't begin with a frame that more bytes follow.
 abbrev pub HoldsOne : ℕ → List ℕ → Type 0
-HoldsOne max_body bytes = (spelling body more : List ℕ) → IsFrameOf max_body spelling body →
-    bytes ≡ spelling ++ more → more ≡ []
+HoldsOne max_body bytes = (raw body more : List ℕ) → IsFrameOf max_body raw body →
+    bytes ≡ raw ++ more → more ≡ []
 
 -- A fault was decided on the buffered bytes and those of the piece. No frame can come any more, and
 -- the framer has failed. All else is unchanged.
@@ -78,8 +78,8 @@ released f = record f { place = place_after f.place (length f.buffered); buffere
 abbrev pub AreFrames : ℕ → List ℕ → List (List ℕ) → List ℕ → Type 0
 AreFrames max_body stream [] rest = stream ≡ rest
 AreFrames max_body stream (body ∷ bodies) rest =
-    (spelling : List ℕ) × (rest_after : List ℕ) × IsFrameOf max_body spelling body
-    × (stream ≡ spelling ++ rest_after) × AreFrames max_body rest_after bodies rest
+    (raw : List ℕ) × (rest_after : List ℕ) × IsFrameOf max_body raw body
+    × (stream ≡ raw ++ rest_after) × AreFrames max_body rest_after bodies rest
 
 -- The frames of the stream have these bodies, and the rest begins with no frame.
 pub record HasFrames (max_body : ℕ) (stream : List ℕ) (bodies : List (List ℕ))

@@ -84,7 +84,7 @@ impl Framer {
         ensures bound { length self.new.buffered ≤ 8192 + self.new.limits.max_body }
 
         // Which fault it is, the byte on which it was decided, and that no frame can come any more.
-        ensures fault { IfErr result (IsFeedFault self.old self.new piece.now) }
+        ensures error { IfErr result (IsFeedFault self.old self.new piece.now) }
         ensures failed { IsErrOf result FrameFault.Failed ↔ (self.old.failed ≡ true) }
 
         // Two cases that take no memory: a whole frame is buffered, or the piece is empty.

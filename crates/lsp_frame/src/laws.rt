@@ -14,7 +14,7 @@ ghost use Rattle.lsp_frame.specs.Laws.{OneFrameLaw, FrontLaw, BoundLaw, Decision
 /// - A written frame is read as its body, and different bodies have different frames, if they are
 ///   shorter than 2^64 bytes.
 pub fn frame_laws()
-    ensures spelling { OneFrameLaw }
+    ensures one_frame { OneFrameLaw }
     ensures front { FrontLaw }
     ensures bound { BoundLaw }
     ensures decision { DecisionLaw }

@@ -70,7 +70,7 @@ fn take_pieces(
 
 /// Returns a fault of the stream itself; out of memory becomes an `AllocError`.
 fn fault_of_stream(fault: FrameFault) -> Result<FrameFault, AllocError>
-    ensures same { IfOk result (λ found. found ≡ fault) }
+    ensures found { IfOk result (λ found. found ≡ fault) }
     ensures of_stream { OnOk result (fault ≢ FrameFault.NoMemory) }
     ensures memory { OnErr result (fault ≡ FrameFault.NoMemory) }
 {

@@ -156,7 +156,7 @@ pub fn encode(alloc: Global, limits: &Limits, body: &[u8]) -> Result<Vec<u8>, En
     ensures within { OnOk result (length body.now ≤ limits.now.max_body) }
     ensures too_long { limits.now.max_body < length body.now →
         result ≡ Err (EncodeFault.BodyTooLong (length body.now)) }
-    ensures fault { IfErr result (IsEncodeFault limits.now.max_body (length body.now)) }
+    ensures error { IfErr result (IsEncodeFault limits.now.max_body (length body.now)) }
 {
     if body.len() > limits.max_body() {
         return Err(EncodeFault::BodyTooLong { len: body.len() });

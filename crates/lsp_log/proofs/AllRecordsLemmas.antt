@@ -102,7 +102,7 @@ module _ (decision : DecisionLaw) where
 
   abbrev record_of : (max_body place : ℕ) (version : Version) (due : Bool) (bytes : List ℕ) → NextRecord max_body version bytes → Record
   record_of max_body place version due bytes next =
-      record { head = record { side = next.side; version = version; place = place_after 0 place; line_due = due }; spelling = next.frame; body = next.body }
+      record { head = record { side = next.side; version = version; place = place_after 0 place; line_due = due }; raw = next.frame; body = next.body }
 
   shorter : (max_body : ℕ) (version : Version) (bytes : List ℕ) (next : NextRecord max_body version bytes) → suc (length next.more) ≤ length bytes
   shorter max_body version bytes next =

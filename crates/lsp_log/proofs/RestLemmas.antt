@@ -23,20 +23,20 @@ behind_mark Two Server Server a b e = ap (drop 1) e
 
 -- At the end of the input no whole record is held.
 no_record : (reading : LogRules) (input : List ℕ) (records : List Record) (s : Splitter) → IsReady s → IsAfter reading input [] records s → HasNoRecord reading.max_body (log_at s records [])
-no_record reading input records s ready at other spelling body more is_frame_of e =
+no_record reading input records s ready at other raw body more is_frame_of e =
     let none : IsFrame reading.max_body s.framer.buffered → ⊥ = λ frame. ready.none (subst (λ (m : ℕ). IsFrame m s.framer.buffered) (sym at.limit) frame) in
-    let plain : mark_part s.version s.side ++ s.framer.buffered ≡ mark_of s.version other ++ (spelling ++ more) = sym (append-nil (buffered_of s)) ∙ e in
+    let plain : mark_part s.version s.side ++ s.framer.buffered ≡ mark_of s.version other ++ (raw ++ more) = sym (append-nil (buffered_of s)) ∙ e in
     elim (some_or s.side) [
       | inl known ↦
-          let known_plain : mark_of s.version known.0 ++ s.framer.buffered ≡ mark_of s.version other ++ (spelling ++ more) =
+          let known_plain : mark_of s.version known.0 ++ s.framer.buffered ≡ mark_of s.version other ++ (raw ++ more) =
           ap (λ (o : Option Side). mark_part s.version o ++ s.framer.buffered) (sym known.1) ∙ plain in
-          let same : s.framer.buffered ≡ spelling ++ more = behind_mark s.version known.0 other s.framer.buffered (spelling ++ more) known_plain in
-          let nothing : more ≡ [] = at.one spelling body more is_frame_of same in
-          let all : spelling ≡ s.framer.buffered = sym (same ∙ ap (λ z. spelling ++ z) nothing ∙ append-nil spelling) in
+          let same : s.framer.buffered ≡ raw ++ more = behind_mark s.version known.0 other s.framer.buffered (raw ++ more) known_plain in
+          let nothing : more ≡ [] = at.one raw body more is_frame_of same in
+          let all : raw ≡ s.framer.buffered = sym (same ∙ ap (λ z. raw ++ z) nothing ∙ append-nil raw) in
           none (record { body = body; is_frame_of = subst (λ (z : List ℕ). IsFrameOf reading.max_body z body) all is_frame_of })
       | inr unknown ↦
           let empty : mark_part s.version s.side ++ s.framer.buffered ≡ [] = ap (λ (o : Option Side). mark_part s.version o ++ s.framer.buffered) unknown ∙ ready.fed.between unknown in
-          omega (arith, ap length plain, ap length empty, length-append (mark_of s.version other) (spelling ++ more), length-append spelling more, frame_len reading.max_body spelling body is_frame_of)
+          omega (arith, ap length plain, ap length empty, length-append (mark_of s.version other) (raw ++ more), length-append raw more, frame_len reading.max_body raw body is_frame_of)
     ]
 
 nothing_or_some : (xs : List ℕ) → (xs ≡ []) ⊎ (xs ≢ [])

@@ -20,11 +20,11 @@ use Rattle.lsp_log.specs.Splitting.{IsFed, IsReady, IsAfter, IsSplitFault, IsSid
 use Rattle.lsp_log.proofs.LogLemmas.{together_push, input_len, are_push, due_now, not_due}
 
 -- A frame has at least two bytes, so nothing is none.
-pub frame_len : (max_body : ℕ) (spelling body : List ℕ) → IsFrameOf max_body spelling body → 2 ≤ length spelling
-frame_len max_body spelling body s = omega (arith, ap length s.is, length-append (header_of s.lines) body, length-append (lines_bytes s.lines) (13 ∷ 10 ∷ []))
+pub frame_len : (max_body : ℕ) (raw body : List ℕ) → IsFrameOf max_body raw body → 2 ≤ length raw
+frame_len max_body raw body s = omega (arith, ap length s.is, length-append (header_of s.lines) body, length-append (lines_bytes s.lines) (13 ∷ 10 ∷ []))
 
 pub nothing_one : (max_body : ℕ) → HoldsOne max_body []
-nothing_one max_body spelling body more s e = absurd (omega (arith, frame_len max_body spelling body s, ap length e, length-append spelling more))
+nothing_one max_body raw body more s e = absurd (omega (arith, frame_len max_body raw body s, ap length e, length-append raw more))
 
 pub no_empty_frame : (max_body : ℕ) → IsFrame max_body [] → ⊥
 no_empty_frame max_body frame = omega (arith, frame_len max_body [] frame.body frame.is_frame_of)
@@ -88,7 +88,7 @@ malformed reading input piece records s side n fault is why at =
       part = s.framer.buffered ++ piece;
       is = ap (λ (o : Option Side). (mark_part s.version o ++ s.framer.buffered) ++ piece) is ∙ append_assoc (mark_of s.version side) s.framer.buffered piece;
       decided = subst (λ (p : ℕ). IsDecided reading.max_body p (s.framer.buffered ++ piece) fault) at.framed limited;
-      hopeless = λ more spelling body tail t. why.hopeless more spelling body tail (subst (λ (m : ℕ). IsFrameOf m spelling body) (sym at.limit) t);
+      hopeless = λ more raw body tail t. why.hopeless more raw body tail (subst (λ (m : ℕ). IsFrameOf m raw body) (sym at.limit) t);
     }
 
 split_fault : (reading : LogRules) (input piece : List ℕ) (records : List Record) (s : Splitter) (side : Side) (n : Framing) (fault : FrameFault) → s.side ≡ Some side

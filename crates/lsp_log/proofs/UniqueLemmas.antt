@@ -40,16 +40,16 @@ record IsSame (r q : Record) (rest other : List ℕ) : Type 0 where
 same_record : FrontLaw → (max_body : ℕ) (version : Version) (place : ℕ) (due : Bool) (r q : Record) (rest other : List ℕ) → IsRecord max_body version place due r → IsRecord max_body version place due q
     → record_bytes version r ++ rest ≡ record_bytes version q ++ other → IsSame r q rest other
 same_record front max_body version place due r q rest other is also e =
-    let apart : mark_of version r.head.side ++ (r.spelling ++ rest) ≡ mark_of version q.head.side ++ (q.spelling ++ other) =
-    sym (append_assoc (mark_of version r.head.side) r.spelling rest) ∙ e ∙ append_assoc (mark_of version q.head.side) q.spelling other in
-    let marks = same_mark version r.head.side q.head.side (r.spelling ++ rest) (q.spelling ++ other) is.side also.side apart in
-    let frames : SameFrame r.spelling q.spelling r.body q.body rest other = front max_body r.spelling q.spelling r.body q.body rest other is.is_frame_of also.is_frame_of marks.1 in
+    let apart : mark_of version r.head.side ++ (r.raw ++ rest) ≡ mark_of version q.head.side ++ (q.raw ++ other) =
+    sym (append_assoc (mark_of version r.head.side) r.raw rest) ∙ e ∙ append_assoc (mark_of version q.head.side) q.raw other in
+    let marks = same_mark version r.head.side q.head.side (r.raw ++ rest) (q.raw ++ other) is.side also.side apart in
+    let frames : SameFrame r.raw q.raw r.body q.body rest other = front max_body r.raw q.raw r.body q.body rest other is.is_frame_of also.is_frame_of marks.1 in
     let heads : r.head ≡ q.head = same_head max_body version place due r q marks.0 is also in
-    record { record_is = λ i. record { head = heads i; spelling = frames.same_bytes i; body = frames.body_is i }; rest_is = frames.rest_is }
+    record { record_is = λ i. record { head = heads i; raw = frames.same_bytes i; body = frames.body_is i }; rest_is = frames.rest_is }
 
 -- No record begins a rest.
 abbrev pub IsEnd : ℕ → Version → List ℕ → Type 0
-IsEnd max_body version rest = (side : Side) (spelling body more : List ℕ) → IsFrameOf max_body spelling body → rest ≢ mark_of version side ++ (spelling ++ more)
+IsEnd max_body version rest = (side : Side) (raw body more : List ℕ) → IsFrameOf max_body raw body → rest ≢ mark_of version side ++ (raw ++ more)
 
 -- The records of an input are the first of all its records.
 pub record AreFirst (version : Version) (rs all : List Record) (rest end : List ℕ) : Type 0 where
@@ -61,7 +61,7 @@ pub first_records : FrontLaw → (max_body : ℕ) (version : Version) (place : �
     → together version rs rest ≡ together version all end → IsEnd max_body version end → AreFirst version rs all rest end
 first_records front max_body version place due [] all rest end each also e ends = record { more = all; all_are = refl; rest_is = e }
 first_records front max_body version place due (r ∷ rs) [] rest end each also e ends =
-    absurd (ends r.head.side r.spelling r.body (together version rs rest) each.0.is_frame_of (sym e ∙ append_assoc (mark_of version r.head.side) r.spelling (together version rs rest)))
+    absurd (ends r.head.side r.raw r.body (together version rs rest) each.0.is_frame_of (sym e ∙ append_assoc (mark_of version r.head.side) r.raw (together version rs rest)))
 first_records front max_body version place due (r ∷ rs) (q ∷ all) rest end each also e ends =
     let same = same_record front max_body version place due r q (together version rs rest) (together version all end) each.0 also.0 e in
     let later : AreRecords max_body version (place + length (record_bytes version r)) false all =
@@ -73,7 +73,7 @@ first_records front max_body version place due (r ∷ rs) (q ∷ all) rest end e
 none_more : (max_body : ℕ) (version : Version) (place : ℕ) (due : Bool) (more : List Record) (rest end : List ℕ) → AreRecords max_body version place due more → rest ≡ together version more end → IsEnd max_body version rest → more ≡ []
 none_more max_body version place due [] rest end each is ends = refl
 none_more max_body version place due (r ∷ more) rest end each is ends =
-    absurd (ends r.head.side r.spelling r.body (together version more end) each.0.is_frame_of (is ∙ append_assoc (mark_of version r.head.side) r.spelling (together version more end)))
+    absurd (ends r.head.side r.raw r.body (together version more end) each.0.is_frame_of (is ∙ append_assoc (mark_of version r.head.side) r.raw (together version more end)))
 
 none_after : (max_body : ℕ) (version : Version) (place : ℕ) (due : Bool) (rs more : List Record) (rest end : List ℕ) → AreRecords max_body version place due (rs ++ more) → rest ≡ together version more end → IsEnd max_body version rest → more ≡ []
 none_after max_body version place due [] more rest end each is ends = none_more max_body version place due more rest end each is ends

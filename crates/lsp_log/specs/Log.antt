@@ -46,13 +46,13 @@ pub record Record : Type 0 where
   -- its side, its log's version, its byte offset, and whether the log's line belongs to its output
   pub head : Head
   -- the bytes of its frame
-  pub spelling : List ℕ
+  pub raw : List ℕ
   -- the body of its frame
   pub body : List ℕ
 
 -- The bytes of a record: its mark and its frame.
 abbrev pub record_bytes : Version → Record → List ℕ
-record_bytes version r = mark_of version r.head.side ++ r.spelling
+record_bytes version r = mark_of version r.head.side ++ r.raw
 
 -- The records, one after another, and then the rest.
 abbrev pub together : Version → List Record → List ℕ → List ℕ
@@ -69,7 +69,7 @@ is_line_due Two (r ∷ rs) = false
 -- A record of a log of this version, whose first byte is at an offset.
 pub record IsRecord (max_body : ℕ) (version : Version) (place : ℕ) (line_due : Bool)
     (r : Record) : Type 0 where
-  pub is_frame_of : IsFrameOf max_body r.spelling r.body
+  pub is_frame_of : IsFrameOf max_body r.raw r.body
   pub side : version ≡ One → r.head.side ≡ Client
   pub of_version : r.head.version ≡ version
   pub placed : r.head.place ≡ place_after 0 place
@@ -108,8 +108,8 @@ rest_at input log = length input - length log.rest
 
 -- No complete record begins the rest: all complete records of the input were found.
 abbrev pub HasNoRecord : ℕ → Log → Type 0
-HasNoRecord max_body log = (side : Side) (spelling body more : List ℕ) →
-    IsFrameOf max_body spelling body → log.rest ≢ mark_of log.version side ++ (spelling ++ more)
+HasNoRecord max_body log = (side : Side) (raw body more : List ℕ) →
+    IsFrameOf max_body raw body → log.rest ≢ mark_of log.version side ++ (raw ++ more)
 
 -- The input is cut: the rest is an incomplete record, so far without a fault.
 pub record IsCut (max_body : ℕ) (log : Log) : Type 0 where

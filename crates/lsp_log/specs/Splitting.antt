@@ -76,7 +76,7 @@ head_of s
 
 -- The record that is coming in, with this body.
 abbrev pub record_at : Splitter → List ℕ → Record
-record_at s body = record { head = head_of s; spelling = s.framer.buffered; body = body }
+record_at s body = record { head = head_of s; raw = s.framer.buffered; body = body }
 
 -- Why the rest of the input isn't taken.
 abbrev pub IsSplitFault : ℕ → List ℕ → Log → EngineFault → Type 0

@@ -62,7 +62,7 @@ impl Splitter {
             IsAfter reading input piece.now records self.old →
             IsAfter reading input (drop k piece.now) records self.new) }
         ensures kind { IfErr result IsSplitterFault }
-        ensures fault { IfErr result
+        ensures error { IfErr result
             (λ fault. (reading : LogRules) (input : List ℕ) (records : List Record) →
             IsAfter reading input piece.now records self.old →
             IsSplitFault reading.max_body input (log_at self.old records piece.now) fault) }
@@ -86,7 +86,7 @@ impl Splitter {
             IsAfter reading input piece.now records self.old →
             IsAfter reading input (drop k piece.now) records self.new) }
         ensures kind { IfErr result IsSplitterFault }
-        ensures fault { IfErr result
+        ensures error { IfErr result
             (λ fault. (reading : LogRules) (input : List ℕ) (records : List Record) →
             IsAfter reading input piece.now records self.old →
             IsSplitFault reading.max_body input (log_at self.old records piece.now) fault) }
@@ -126,12 +126,12 @@ impl Splitter {
             IsAfter reading input more
             (records ++ (record {
               head = head_of self.old;
-              spelling = self.old.framer.buffered;
+              raw = self.old.framer.buffered;
               body = body;
             } ∷ [])) self.new }
     {
-        if let Some(spelling) = self.framer.spelling() {
-            let len = spelling.len() as u64;
+        if let Some(raw) = self.framer.spelling() {
+            let len = raw.len() as u64;
             self.framer.next();
             let mark = mark_len(self.version);
             self.place = self.place.saturating_add(mark).saturating_add(len);

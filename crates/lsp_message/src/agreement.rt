@@ -86,7 +86,7 @@ pub struct Announced {
 /// allocator is there so that all five calls look alike. Linear in the number of names.
 pub fn params_initialize(_alloc: Global, params: Option<Value>) -> Result<Offers, ParamsFault>
     ensures ok { IfOk result (λ offers. offers_of (option_map view params) ≡ Some offers) }
-    ensures err { IfErr result
+    ensures error { IfErr result
         (λ e. (e ≡ InvalidParams) × (offers_of (option_map view params) ≡ None)) }
 {
     offers_of(params.as_ref()).ok_or(ParamsFault::InvalidParams)
@@ -98,7 +98,7 @@ pub fn params_initialize(_alloc: Global, params: Option<Value>) -> Result<Offers
 /// Takes no memory.
 pub fn result_initialize(_alloc: Global, value: Value) -> Result<Announced, ParamsFault>
     ensures ok { IfOk result (λ announced. announced_of (view value) ≡ Some announced) }
-    ensures err { IfErr result (λ e. (e ≡ InvalidParams) × (announced_of (view value) ≡ None)) }
+    ensures error { IfErr result (λ e. (e ≡ InvalidParams) × (announced_of (view value) ≡ None)) }
 {
     announced_of(&value).ok_or(ParamsFault::InvalidParams)
 }

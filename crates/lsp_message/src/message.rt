@@ -88,7 +88,7 @@ impl From<serde_json::Error> for ReadFault {
 /// was parsed.
 pub fn read(alloc: Global, body: &[u8]) -> Result<Message, ReadFault>
     ensures ok { IfOk result (λ m. reading body.now ≡ message (message_view m)) }
-    ensures err { IfErr result (IsReadFault body.now) }
+    ensures error { IfErr result (IsReadFault body.now) }
 {
     if begins_with_mark(body) {
         return Err(ReadFault::NotJson);

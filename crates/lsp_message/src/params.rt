@@ -82,7 +82,7 @@ impl<T: Drop> From<AllocFailed<T>> for ParamsFault {
 /// there so that all five calls look alike.
 pub fn params_open(_alloc: Global, params: Option<Value>) -> Result<OpenParams, ParamsFault>
     ensures ok { IfOk result (λ p. open_of (option_map view params) ≡ Some (open_view p)) }
-    ensures err { IfErr result
+    ensures error { IfErr result
         (λ e. (e ≡ InvalidParams) × (open_of (option_map view params) ≡ None)) }
 {
     open_in(params).ok_or(ParamsFault::InvalidParams)
@@ -107,7 +107,7 @@ pub fn params_change(alloc: Global, params: Option<Value>) -> Result<ChangeParam
 /// Refuses what `params_open` refuses. The URI is moved out of the params; it takes no memory.
 pub fn params_close(_alloc: Global, params: Option<Value>) -> Result<CloseParams, ParamsFault>
     ensures ok { IfOk result (λ p. close_of (option_map view params) ≡ Some (close_view p)) }
-    ensures err { IfErr result
+    ensures error { IfErr result
         (λ e. (e ≡ InvalidParams) × (close_of (option_map view params) ≡ None)) }
 {
     close_in(params).ok_or(ParamsFault::InvalidParams)

@@ -95,7 +95,7 @@ edits_of (change ∷ changes) = ap (λ edits. given.edit_of change ∷ edits) (e
 -- ---- what is written, where a message is told
 
 pub appended_none : (max_body : ℕ) (r : Record) (front : List ℕ) (canonical_log : Option (List ℕ)) (old new : List ℕ) → IsAppended max_body canonical_log None old new
-    → written max_body r front canonical_log ≡ writes (front ++ r.spelling)
+    → written max_body r front canonical_log ≡ writes (front ++ r.raw)
 appended_none max_body r front None old new error = refl
 appended_none max_body r front (Some body) old new error = absurd error
 

@@ -15,7 +15,7 @@ use Rattle.lsp_server.specs.declared.phase.Phase.TheVariants.{New, Running, Down
 use Rattle.lsp_server.specs.Answer.{AnswerData, Sent, reply, changed, dropped, ignored, already_ended, refused, exits, as_sent}
 use Rattle.lsp_server.specs.Choice.{chosen, kind_of}
 use Rattle.lsp_server.specs.Incoming.{IncomingData, not_json, not_a_message, response, initialize, shutdown, other_request, exit, did_open, did_change, did_close, other_notification}
-use Rattle.lsp_server.specs.Step.{State, step_in, step_on, begins, settled}
+use Rattle.lsp_server.specs.Step.{State, step_in, step_on, begins, with_encoding}
 use Rattle.lsp_log.specs.declared.record.Version.{Version}
 use Rattle.lsp_log.specs.declared.record.Version.TheVariants.{One, Two}
 use Rattle.lsp_stream.specs.Ports.{one_more}
@@ -58,7 +58,7 @@ if_true true x y e = refl
 if_true false x y e = absurd (let wrong : false ≡ true = e in cc)
 
 hears_result : (u : Session) (id : IdData) (encoding : Encoding) (kind : SyncKind) → IsProperId id
-    → hear_for u (Some id) (body_of (initialize_result id encoding kind)) ≡ judged recorded (record u { server = settled u.server encoding; expected = None })
+    → hear_for u (Some id) (body_of (initialize_result id encoding kind)) ≡ judged recorded (record u { server = with_encoding u.server encoding; expected = None })
 hears_result u id encoding kind proper =
     ap (λ r. heard u (result_for id r)) (reading-body_of (initialize_result id encoding kind) proper)
     ∙ ap (heard u) (if_true (same_id id id) (Some (initialize_value encoding kind)) None (same_id_is id))

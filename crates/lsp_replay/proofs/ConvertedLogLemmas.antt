@@ -58,10 +58,10 @@ some_records n = omega arith
 -- ---- the records of the log of version 2
 
 client_at : ℕ → Bool → Record → Record
-client_at at due r = record { head = record { side = Client; version = Two; place = place_after 0 at; line_due = due }; spelling = r.spelling; body = r.body }
+client_at at due r = record { head = record { side = Client; version = Two; place = place_after 0 at; line_due = due }; raw = r.raw; body = r.body }
 
 server_at : ℕ → OutgoingData → Record
-server_at at m = record { head = record { side = Server; version = Two; place = place_after 0 at; line_due = false }; spelling = frame (body_of m); body = body_of m }
+server_at at m = record { head = record { side = Server; version = Two; place = place_after 0 at; line_due = false }; raw = frame (body_of m); body = body_of m }
 
 five : (a b c d e : List ℕ) → (((a ++ b) ++ c) ++ d) ++ e ≡ a ++ ((b ++ c) ++ (d ++ e))
 five a b c d e = append_assoc ((a ++ b) ++ c) d e ∙ ap (λ z. z ++ (d ++ e)) (append_assoc a b c) ∙ append_assoc a (b ++ c) (d ++ e)
@@ -95,17 +95,17 @@ module _ (limits : Bounds) (ranges : AreInRange limits) where
         let q = client_at at due r in
         let m = more (at + length (record_bytes Two q)) (one_more n) in
         let error : run_output_in replaying s (r ∷ rs) ≡ written_first [] (run_output_in replaying (next_of s server answer) rs) = command_output replaying s r rs (judged (answered answer) (next_of s server answer)) [] one refl in
-        let wrote : run_output_in converting s (r ∷ rs) ≡ written_first (line_before s ++ codes ">" ++ r.spelling ++ reply_record (answered answer)) (run_output_in converting (next_of s server answer) rs) =
-        command_output converting s r rs (judged (answered answer) (next_of s server answer)) (line_before s ++ codes ">" ++ r.spelling ++ reply_record (answered answer)) one refl in
+        let wrote : run_output_in converting s (r ∷ rs) ≡ written_first (line_before s ++ codes ">" ++ r.raw ++ reply_record (answered answer)) (run_output_in converting (next_of s server answer) rs) =
+        command_output converting s r rs (judged (answered answer) (next_of s server answer)) (line_before s ++ codes ">" ++ r.raw ++ reply_record (answered answer)) one refl in
         record {
           qs = q ∷ m.qs;
           are = (first_is, m.are);
           out =
               ap (λ (c : RunOutput). c.out) wrote
-              ∙ ap (λ z. (line_before s ++ codes ">" ++ r.spelling ++ reply_record (answered answer)) ++ z) (m.out ∙ ap (λ z. z ++ together Two m.qs []) (front_none rs))
-              ∙ ap (λ z. (line_before s ++ codes ">" ++ r.spelling ++ z) ++ together Two m.qs []) no_reply
-              ∙ ap (λ z. (z ++ codes ">" ++ r.spelling ++ []) ++ together Two m.qs []) (line_is due s.records counts)
-              ∙ five (line_if due) (codes ">") r.spelling [] (together Two m.qs []);
+              ∙ ap (λ z. (line_before s ++ codes ">" ++ r.raw ++ reply_record (answered answer)) ++ z) (m.out ∙ ap (λ z. z ++ together Two m.qs []) (front_none rs))
+              ∙ ap (λ z. (line_before s ++ codes ">" ++ r.raw ++ z) ++ together Two m.qs []) no_reply
+              ∙ ap (λ z. (z ++ codes ">" ++ r.raw ++ []) ++ together Two m.qs []) (line_is due s.records counts)
+              ∙ five (line_if due) (codes ">") r.raw [] (together Two m.qs []);
           same =
               command_output replaying t q m.qs (judged (answered answer) (rest_after s n server answer e)) [] two refl
               ∙ ap (λ x. written_first [] (run_output_in replaying (rest_after s n server answer x) m.qs)) none
@@ -124,8 +124,8 @@ module _ (limits : Bounds) (ranges : AreInRange limits) where
         let p = server_at place o in
         let m = more (place + length (record_bytes Two p)) (one_more (one_more n)) in
         let error : run_output_in replaying s (r ∷ rs) ≡ written_first [] (run_output_in replaying (next_of s server answer) rs) = command_output replaying s r rs (judged (answered answer) (next_of s server answer)) [] one refl in
-        let wrote : run_output_in converting s (r ∷ rs) ≡ written_first (line_before s ++ codes ">" ++ r.spelling ++ (codes "<" ++ frame (body_of o))) (run_output_in converting (next_of s server answer) rs) =
-        command_output converting s r rs (judged (answered answer) (next_of s server answer)) (line_before s ++ codes ">" ++ r.spelling ++ (codes "<" ++ frame (body_of o))) one refl in
+        let wrote : run_output_in converting s (r ∷ rs) ≡ written_first (line_before s ++ codes ">" ++ r.raw ++ (codes "<" ++ frame (body_of o))) (run_output_in converting (next_of s server answer) rs) =
+        command_output converting s r rs (judged (answered answer) (next_of s server answer)) (line_before s ++ codes ">" ++ r.raw ++ (codes "<" ++ frame (body_of o))) one refl in
         let heard : judge (rest_after s n server answer e) p ≡ judged recorded (twin (next_of s server answer) (one_more (one_more n))) = ap counted follows in
         record {
           qs = q ∷ p ∷ m.qs;
@@ -144,9 +144,9 @@ module _ (limits : Bounds) (ranges : AreInRange limits) where
           );
           out =
               ap (λ (c : RunOutput). c.out) wrote
-              ∙ ap (λ z. (line_before s ++ codes ">" ++ r.spelling ++ (codes "<" ++ frame (body_of o))) ++ z) (m.out ∙ ap (λ z. z ++ together Two m.qs []) (front_none rs))
-              ∙ ap (λ z. (z ++ codes ">" ++ r.spelling ++ (codes "<" ++ frame (body_of o))) ++ together Two m.qs []) (line_is due s.records counts)
-              ∙ five (line_if due) (codes ">") r.spelling (codes "<" ++ frame (body_of o)) (together Two m.qs []);
+              ∙ ap (λ z. (line_before s ++ codes ">" ++ r.raw ++ (codes "<" ++ frame (body_of o))) ++ z) (m.out ∙ ap (λ z. z ++ together Two m.qs []) (front_none rs))
+              ∙ ap (λ z. (z ++ codes ">" ++ r.raw ++ (codes "<" ++ frame (body_of o))) ++ together Two m.qs []) (line_is due s.records counts)
+              ∙ five (line_if due) (codes ">") r.raw (codes "<" ++ frame (body_of o)) (together Two m.qs []);
           same =
               command_output replaying t q (p ∷ m.qs) (judged (answered answer) (rest_after s n server answer e)) [] two refl
               ∙ ap (written_first []) (command_output replaying (rest_after s n server answer e) p m.qs (judged recorded (twin (next_of s server answer) (one_more (one_more n)))) [] heard refl)
@@ -175,7 +175,7 @@ module _ (limits : Bounds) (ranges : AreInRange limits) where
   converted_log at before due s n (r ∷ rs) none counts each goes short =
       let m = incoming_of (reading r.body) in
       let step = step_on s.server m in
-      let g = writes (line_before s ++ codes ">" ++ r.spelling ++ reply_record (judge s r).verdict) in
+      let g = writes (line_before s ++ codes ">" ++ r.raw ++ reply_record (judge s r).verdict) in
       let on = went_on (unless_bad r (judge s r).verdict g).out (unless_bad r (judge s r).verdict g).end (run_output_in converting (judge s r).session rs) goes in
       let client = judged_client s r each.0.of_version (each.0.side refl) in
       let good : IsGood (judge_incoming s One m).verdict = subst IsGood (ap (λ (j : Judged). j.verdict) client) (good_gives r (judge s r).verdict g on.0) in
@@ -198,7 +198,7 @@ record IsTold (due : Bool) (s : Session) (rs : List Record) : Type 0 where
 told_log : (due : Bool) (s : Session) (rs : List Record) → Counts due s.records → (run_output_in converting s rs).stop ≡ None → IsTold due s rs
 told_log due s [] counts goes = record { to_end = refl; outcome = refl; last = λ b. line_is due s.records counts }
 told_log due s (r ∷ rs) counts goes =
-    let out = line_before s ++ codes ">" ++ r.spelling ++ reply_record (judge s r).verdict in
+    let out = line_before s ++ codes ">" ++ r.raw ++ reply_record (judge s r).verdict in
     let on = went_on (unless_bad r (judge s r).verdict (writes out)).out (unless_bad r (judge s r).verdict (writes out)).end (run_output_in converting (judge s r).session rs) goes in
     let passing : Passes (judge s r).verdict = passes (judge s r).verdict r (writes out) on.0 in
     let first : run_output_in converting s (r ∷ rs) ≡ written_first out (run_output_in converting (judge s r).session rs) = command_output converting s r rs (judge s r) out refl (passing r (writes out)) in

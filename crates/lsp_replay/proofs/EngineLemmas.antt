@@ -113,21 +113,21 @@ module _ (reading : LogRules) (run_output : List Record → RunOutput) (received
   split_faults unflushed more s now received_now received_new (BadLog place) w quiet nothing why = inr (went_so_far more s now received_now received_new _ w quiet nothing why)
 
   -- The record that is held was handled.
-  held_record : (s : Splitter) (head : Head) (spelling body : List ℕ) → head ≡ head_of s → spelling ≡ s.framer.buffered → record_at s body ≡ (record { head = head; spelling = spelling; body = body })
-  held_record s head spelling body e f = ap (λ (h : Head). record { head = h; spelling = s.framer.buffered; body = body }) (sym e) ∙ ap (λ z. record { head = head; spelling = z; body = body }) (sym f)
+  held_record : (s : Splitter) (head : Head) (raw body : List ℕ) → head ≡ head_of s → raw ≡ s.framer.buffered → record_at s body ≡ (record { head = head; raw = raw; body = body })
+  held_record s head raw body e f = ap (λ (h : Head). record { head = h; raw = s.framer.buffered; body = body }) (sym e) ∙ ap (λ z. record { head = head; raw = z; body = body }) (sym f)
 
   is_frame_here : (more : List ℕ) (s : Splitter) (now : List Record → RunOutput) (received_now : Option (List ℕ)) (body : List ℕ) → IsProgress reading run_output received input more s now received_now
       → IsFrameOf s.framer.limits.max_body s.framer.buffered body → IsFrameOf reading.max_body s.framer.buffered body
   is_frame_here more s now received_now body w is_frame_of = subst (λ (m : ℕ). IsFrameOf m s.framer.buffered body) w.is_after.limit is_frame_of
 
-  pub taken_fault : (unflushed : Bool) → BufferedLaw → (more : List ℕ) (s : Splitter) (now : List Record → RunOutput) (received_now received_new : Option (List ℕ)) (head : Head) (spelling body : List ℕ) (fault : EngineFault) → IsFed s
-      → head ≡ head_of s → spelling ≡ s.framer.buffered → IsFrameOf s.framer.limits.max_body s.framer.buffered body → IsQuiet now
-      → IsHandleFault now unflushed received_now received_new (record { head = head; spelling = spelling; body = body }) fault
+  pub taken_fault : (unflushed : Bool) → BufferedLaw → (more : List ℕ) (s : Splitter) (now : List Record → RunOutput) (received_now received_new : Option (List ℕ)) (head : Head) (raw body : List ℕ) (fault : EngineFault) → IsFed s
+      → head ≡ head_of s → raw ≡ s.framer.buffered → IsFrameOf s.framer.limits.max_body s.framer.buffered body → IsQuiet now
+      → IsHandleFault now unflushed received_now received_new (record { head = head; raw = raw; body = body }) fault
       → IsProgress reading run_output received input more s now received_now → IsPieceFault reading run_output unflushed input received received_new fault
-  taken_fault unflushed buffered_law more s now received_now received_new head spelling body fault fed e f is_frame_of quiet why w =
+  taken_fault unflushed buffered_law more s now received_now received_new head raw body fault fed e f is_frame_of quiet why w =
       let reads = buffered_law reading input more body w.records s fed is_frame_of w.is_after in
       record_fault unflushed (record { version = s.version; records = w.records ++ record_at s body ∷ []; rest = more }) more s now received_now received_new (record_at s body) fault w reads refl quiet
-      (subst (λ (r : Record). IsHandleFault now unflushed received_now received_new r fault) (sym (held_record s head spelling body e f)) why)
+      (subst (λ (r : Record). IsHandleFault now unflushed received_now received_new r fault) (sym (held_record s head raw body e f)) why)
 
   handled_went : (more : List ℕ) (s n : Splitter) (now new : List Record → RunOutput) (received_now received_new : Option (List ℕ)) (r : Record) (answer : Option Outcome) (w : IsProgress reading run_output received input more s now received_now)
       → IsAfter reading input more (w.records ++ r ∷ []) n → IsHandled now new received_now received_new r answer
@@ -136,15 +136,15 @@ module _ (reading : LogRules) (run_output : List Record → RunOutput) (received
   handled_went more s n now new received_now received_new r (Some outcome) w is_after handled =
       went_to_end (log_at n (w.records ++ r ∷ []) more) more s now received_now received_new r (Ok outcome) w is_after.reads refl handled
 
-  pub taken_went : (more : List ℕ) (s n : Splitter) (now new : List Record → RunOutput) (received_now received_new : Option (List ℕ)) (head : Head) (spelling body : List ℕ) (answer : Option Outcome)
-      → head ≡ head_of s → spelling ≡ s.framer.buffered → IsFrameOf s.framer.limits.max_body s.framer.buffered body
+  pub taken_went : (more : List ℕ) (s n : Splitter) (now new : List Record → RunOutput) (received_now received_new : Option (List ℕ)) (head : Head) (raw body : List ℕ) (answer : Option Outcome)
+      → head ≡ head_of s → raw ≡ s.framer.buffered → IsFrameOf s.framer.limits.max_body s.framer.buffered body
       → ((records : List Record) → IsFrameOf reading.max_body s.framer.buffered body → IsAfter reading input more records s → IsAfter reading input more (records ++ record_at s body ∷ []) n)
-      → IsHandled now new received_now received_new (record { head = head; spelling = spelling; body = body }) answer
+      → IsHandled now new received_now received_new (record { head = head; raw = raw; body = body }) answer
       → IsProgress reading run_output received input more s now received_now
       → MatchOption answer (IsProgress reading run_output received input more n new received_new) (λ outcome. Stopped reading run_output input received received_new (Ok outcome))
-  taken_went more s n now new received_now received_new head spelling body answer e f is_frame_of next handled w =
+  taken_went more s n now new received_now received_new head raw body answer e f is_frame_of next handled w =
       handled_went more s n now new received_now received_new (record_at s body) answer w (next w.records (is_frame_here more s now received_now body w is_frame_of) w.is_after)
-      (subst (λ (r : Record). IsHandled now new received_now received_new r answer) (sym (held_record s head spelling body e f)) handled)
+      (subst (λ (r : Record). IsHandled now new received_now received_new r answer) (sym (held_record s head raw body e f)) handled)
 
   -- The bytes of a piece were taken.
   pub went_fed : (piece bytes : List ℕ) (at k : ℕ) (s n : Splitter) (now : List Record → RunOutput) (received_now : Option (List ℕ)) → at ≤ length piece → bytes ≡ take (length piece - at) (drop at piece)
@@ -173,8 +173,8 @@ module _ (reading : LogRules) (run_output : List Record → RunOutput) (received
 -- ---- rests that no record begins
 
 pub empty_rest : (max_body : ℕ) (log : Log) → log.rest ≡ [] → HasNoRecord max_body log
-empty_rest max_body log nothing side spelling body more is_frame_of e =
-    absurd (omega (arith, ap length nothing, ap length e, length-append (mark_of log.version side) (spelling ++ more), length-append spelling more, frame_len max_body spelling body is_frame_of))
+empty_rest max_body log nothing side raw body more is_frame_of e =
+    absurd (omega (arith, ap length nothing, ap length e, length-append (mark_of log.version side) (raw ++ more), length-append raw more, frame_len max_body raw body is_frame_of))
 
 pub no_record : (max_body : ℕ) (log : Log) → IsUndecided max_body log → HasNoRecord max_body log
 no_record max_body log (inl nothing) = empty_rest max_body log nothing

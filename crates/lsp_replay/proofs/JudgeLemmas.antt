@@ -11,7 +11,7 @@ use Rattle.lsp_message.specs.Message.{IdData, reading}
 use Rattle.lsp_message.specs.Params.{ChangeData}
 use Rattle.lsp_server.specs.Answer.{AnswerData, Sent, reply, changed, dropped, ignored, already_ended, refused, exits, as_sent}
 use Rattle.lsp_server.specs.Incoming.{IncomingData, not_json, not_a_message, response, initialize, shutdown, other_request, exit, did_open, did_change, did_close, other_notification, incoming_of}
-use Rattle.lsp_server.specs.Step.{State, Step, step_on, settled}
+use Rattle.lsp_server.specs.Step.{State, Step, step_on, with_encoding}
 use Rattle.lsp_log.specs.declared.record.Version.{Version}
 use Rattle.lsp_log.specs.declared.record.Version.TheVariants.{One, Two}
 use Rattle.lsp_log.specs.declared.record.Side.{Side}
@@ -33,19 +33,19 @@ both P true x y p q = p
 both P false x y p q = q
 
 module _ (P : Judged → Type 0) (s : Session) where
-  of_settled_in : P (judged bad s) → ((encoding : Encoding) → P (judged recorded (record s { server = settled s.server encoding; expected = None }))) → (encoding : Option Encoding) → P (settle_in s encoding)
+  of_settled_in : P (judged bad s) → ((encoding : Encoding) → P (judged recorded (record s { server = with_encoding s.server encoding; expected = None }))) → (encoding : Option Encoding) → P (settle_in s encoding)
   of_settled_in refuses goes None = refuses
   of_settled_in refuses goes (Some encoding) = goes encoding
 
-  of_settled : P (judged bad s) → ((encoding : Encoding) → P (judged recorded (record s { server = settled s.server encoding; expected = None }))) → (announced : Option Announced) → P (settle_by s announced)
+  of_settled : P (judged bad s) → ((encoding : Encoding) → P (judged recorded (record s { server = with_encoding s.server encoding; expected = None }))) → (announced : Option Announced) → P (settle_by s announced)
   of_settled refuses goes None = refuses
   of_settled refuses goes (Some announced) = of_settled_in refuses goes announced.encoding
 
-  of_result : P (judged recorded s) → P (judged bad s) → ((encoding : Encoding) → P (judged recorded (record s { server = settled s.server encoding; expected = None }))) → (result : Option Data) → P (heard s result)
+  of_result : P (judged recorded s) → P (judged bad s) → ((encoding : Encoding) → P (judged recorded (record s { server = with_encoding s.server encoding; expected = None }))) → (result : Option Data) → P (heard s result)
   of_result stays refuses goes None = stays
   of_result stays refuses goes (Some result) = of_settled refuses goes (announced_of result)
 
-  of_heard : P (judged recorded s) → P (judged bad s) → ((encoding : Encoding) → P (judged recorded (record s { server = settled s.server encoding; expected = None }))) → (id : Option IdData) (body : List ℕ) → P (hear_for s id body)
+  of_heard : P (judged recorded s) → P (judged bad s) → ((encoding : Encoding) → P (judged recorded (record s { server = with_encoding s.server encoding; expected = None }))) → (id : Option IdData) (body : List ℕ) → P (hear_for s id body)
   of_heard stays refuses goes None body = stays
   of_heard stays refuses goes (Some id) body = of_result stays refuses goes (result_for id (reading body))
 

@@ -45,10 +45,10 @@ lines_apart (line ∷ lines) body others more each e =
         ap (λ z. ((z ++ end) ++ body) ++ others) (append_assoc name (58 ∷ value) rest) ∙ ap (λ z. (z ++ body) ++ others) (append_assoc name (58 ∷ (value ++ rest)) end)
         ∙ ap (λ z. z ++ others) (append_assoc name (58 ∷ ((value ++ rest) ++ end)) body) ∙ append_assoc name (58 ∷ (((value ++ rest) ++ end) ++ body)) others
 
-pub no_line : (max_body : ℕ) (spelling body others more : List ℕ) → IsFrameOf max_body spelling body → spelling ++ others ≢ version_line ++ more
-no_line max_body spelling body others more is_frame_of e = lines_apart is_frame_of.lines body others more is_frame_of.each (ap (λ z. z ++ others) (sym is_frame_of.is) ∙ e)
+pub no_line : (max_body : ℕ) (raw body others more : List ℕ) → IsFrameOf max_body raw body → raw ++ others ≢ version_line ++ more
+no_line max_body raw body others more is_frame_of e = lines_apart is_frame_of.lines body others more is_frame_of.each (ap (λ z. z ++ others) (sym is_frame_of.is) ∙ e)
 
 -- Records without marks are no log of version 2.
 pub is_version_one : (max_body place : ℕ) (due : Bool) (rs : List Record) → AreRecords max_body One place due rs → IsVersion true One (together One rs [])
 is_version_one max_body place due [] are = λ wanted more e. absurd (let lengths = ap length e in cc)
-is_version_one max_body place due (r ∷ rs) are = λ wanted more e. no_line max_body r.spelling r.body (together One rs []) more are.0.is_frame_of e
+is_version_one max_body place due (r ∷ rs) are = λ wanted more e. no_line max_body r.raw r.body (together One rs []) more are.0.is_frame_of e

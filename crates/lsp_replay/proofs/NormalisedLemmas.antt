@@ -53,24 +53,24 @@ placed at head = record head { place = place_after 0 at }
 
 -- the record that is written of a record, with its canonical body, if it has one
 abbrev pub canonical_record : ℕ → Record → Option (List ℕ) → Record
-canonical_record at r None = record { head = placed at r.head; spelling = r.spelling; body = r.body }
-canonical_record at r (Some body) = record { head = placed at r.head; spelling = frame body; body = body }
+canonical_record at r None = record { head = placed at r.head; raw = r.raw; body = r.body }
+canonical_record at r (Some body) = record { head = placed at r.head; raw = frame body; body = body }
 
 -- It is judged as the record, and the same is written of both.
 pub record IsWrittenAs (limits : Bounds) (at : ℕ) (s : Session) (r q : Record) : Type 0 where
-  pub is_frame_of : IsFrameOf limits.max_body q.spelling q.body
+  pub is_frame_of : IsFrameOf limits.max_body q.raw q.body
   pub place : q.head.place ≡ place_after 0 at
   pub side : q.head.side ≡ r.head.side
   pub same_version : q.head.version ≡ r.head.version
   pub due : q.head.line_due ≡ r.head.line_due
   pub same : judge s q ≡ judge s r
-  pub first : normalising.record_output s r (judge s r) ≡ writes (front_of r.head ++ q.spelling)
-  pub again : normalising.record_output s q (judge s r) ≡ writes (front_of r.head ++ q.spelling)
+  pub first : normalising.record_output s r (judge s r) ≡ writes (front_of r.head ++ q.raw)
+  pub again : normalising.record_output s q (judge s r) ≡ writes (front_of r.head ++ q.raw)
   pub error : replaying.record_output s r (judge s r) ≡ writes []
   pub told_again : replaying.record_output s q (judge s r) ≡ writes []
 
 module _ (limits : Bounds) (ranges : AreInRange limits) where
-  module _ (at : ℕ) (s : Session) (r : Record) (received : IsHeldState limits s.server) (is_frame_of : IsFrameOf limits.max_body r.spelling r.body)
+  module _ (at : ℕ) (s : Session) (r : Record) (received : IsHeldState limits s.server) (is_frame_of : IsFrameOf limits.max_body r.raw r.body)
       (passing : Passes (judge s r).verdict) where
     pub kept : canonical_of_record s r.body (judge s r).verdict ≡ None → IsWrittenAs limits at s r (canonical_record at r None)
     kept none = record {
@@ -154,8 +154,8 @@ module _ (limits : Bounds) (ranges : AreInRange limits) where
         ∙ ap (λ v. line_if due ++ mark_of v r.head.side) is.of_version
         ∙ ap (λ side. line_if due ++ mark_of version side) (sym one.side)
 
-    first : run_output_in normalising s (r ∷ rs) ≡ written_first (front_of r.head ++ q.spelling) (run_output_in normalising (judge s r).session rs)
-    first = command_output normalising s r rs (judge s r) (front_of r.head ++ q.spelling) refl one.first
+    first : run_output_in normalising s (r ∷ rs) ≡ written_first (front_of r.head ++ q.raw) (run_output_in normalising (judge s r).session rs)
+    first = command_output normalising s r rs (judge s r) (front_of r.head ++ q.raw) refl one.first
 
     told_first : run_output_in replaying s (r ∷ rs) ≡ written_first [] (run_output_in replaying (judge s r).session rs)
     told_first = command_output replaying s r rs (judge s r) [] refl one.error
@@ -173,12 +173,12 @@ module _ (limits : Bounds) (ranges : AreInRange limits) where
         more.are,
       );
       out =
-          ap (λ (c : RunOutput). c.out) first ∙ ap (λ z. (front_of r.head ++ q.spelling) ++ z) (more.out ∙ ap (λ z. z ++ together version qs []) (front_none rs))
-          ∙ ap (λ z. (z ++ q.spelling) ++ together version qs []) front_is ∙ four (line_if due) (mark_of version q.head.side) q.spelling (together version qs []);
+          ap (λ (c : RunOutput). c.out) first ∙ ap (λ z. (front_of r.head ++ q.raw) ++ z) (more.out ∙ ap (λ z. z ++ together version qs []) (front_none rs))
+          ∙ ap (λ z. (z ++ q.raw) ++ together version qs []) front_is ∙ four (line_if due) (mark_of version q.head.side) q.raw (together version qs []);
       last = λ line_due. ap (λ (c : RunOutput). c.last line_due) first ∙ more.last line_due;
       again =
-          command_output normalising s q qs (judge s r) (front_of r.head ++ q.spelling) one.same one.again
-          ∙ ap (written_first (front_of r.head ++ q.spelling)) more.again ∙ sym first;
+          command_output normalising s q qs (judge s r) (front_of r.head ++ q.raw) one.same one.again
+          ∙ ap (written_first (front_of r.head ++ q.raw)) more.again ∙ sym first;
       same = command_output replaying s q qs (judge s r) [] one.same one.told_again ∙ ap (written_first []) more.same ∙ sym told_first;
       to_end = ap (λ (c : RunOutput). c.stop) told_first ∙ more.to_end;
       outcome = ap (λ (c : RunOutput). c.outcome) first ∙ more.outcome ∙ sym (ap (λ (c : RunOutput). c.outcome) told_first);

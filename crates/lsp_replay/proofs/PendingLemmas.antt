@@ -185,7 +185,7 @@ module _ (limits : Bounds) (ranges : AreInRange limits) (at : ℕ) (version : Ve
 
     -- its one record
     abbrev one : Record
-    one = record { head = record { side = Client; version = version; place = place_after 0 at; line_due = due }; spelling = frame body; body = body }
+    one = record { head = record { side = Client; version = version; place = place_after 0 at; line_due = due }; raw = frame body; body = body }
 
     accepted : IsAccepted t one change
     accepted = record { side = refl; asks = ap (λ b. incoming_of (reading b)) body_is ∙ message.asks; running = p.running; waits = p.waits; may = message.may }

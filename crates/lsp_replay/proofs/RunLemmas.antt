@@ -55,8 +55,8 @@ line_has_none = refl
 regroup : (a b c d e : List ℕ) → (((a ++ b) ++ c) ++ d) ++ e ≡ a ++ (b ++ (c ++ (d ++ e)))
 regroup a b c d e = simp append_assoc
 
-no_frame_in_line : (max_body : ℕ) (bytes spelling body more : List ℕ) → IsLineFront bytes → IsFrameOf max_body spelling body → bytes ≡ spelling ++ more → ⊥
-no_frame_in_line max_body bytes spelling body more front is_frame_of e =
+no_frame_in_line : (max_body : ℕ) (bytes raw body more : List ℕ) → IsLineFront bytes → IsFrameOf max_body raw body → bytes ≡ raw ++ more → ⊥
+no_frame_in_line max_body bytes raw body more front is_frame_of e =
     let line : version_line ≡ bytes ++ drop (length bytes) version_line =
     sym (take-append-drop (length bytes) version_line) ∙ ap (λ z. z ++ drop (length bytes) version_line) (sym front.1) in
     let frame : bytes ≡ ((lines_bytes is_frame_of.lines ++ (13 ∷ 10 ∷ [])) ++ body) ++ more = e ∙ ap (λ z. z ++ more) is_frame_of.is in
@@ -242,7 +242,7 @@ module _ (reading : LogRules) (run_output : List Record → RunOutput) (left rec
         each = tt;
       };
       rest = record {
-        none = λ side spelling body more is_frame_of e. no_frame_in_line reading.max_body below.0 spelling body more below.1 is_frame_of e;
+        none = λ side raw body more is_frame_of e. no_frame_in_line reading.max_body below.0 raw body more below.1 is_frame_of e;
         undecided = unopened reading.versions reading.max_body below.0 below.1 below.2;
       };
       continues = quiet.unstopped;

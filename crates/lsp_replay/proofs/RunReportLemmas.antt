@@ -85,8 +85,8 @@ behind_marks Two Client Server a b e = ap (drop 1) e
 behind_marks Two Server Client a b e = ap (drop 1) e
 
 malformed_rest : (max_body : ℕ) (input : List ℕ) (fault : FrameFault) (log : Log) → IsMalformed max_body input fault log → HasNoRecord max_body log
-malformed_rest max_body input fault log is side spelling body more is_frame_of e =
-    is.hopeless [] spelling body more is_frame_of (append-nil is.part ∙ behind_marks log.version is.side side is.part (spelling ++ more) (sym is.is ∙ e))
+malformed_rest max_body input fault log is side raw body more is_frame_of e =
+    is.hopeless [] raw body more is_frame_of (append-nil is.part ∙ behind_marks log.version is.side side is.part (raw ++ more) (sym is.is ∙ e))
 
 bad_marks : (version : Version) (side : Side) (byte : ℕ) (a b : List ℕ) → version ≡ Two → byte ≢ 62 → byte ≢ 60 → byte ∷ a ≡ mark_of version side ++ b → ⊥
 bad_marks One side byte a b two client server e = absurd (cc)
@@ -94,7 +94,7 @@ bad_marks Two Client byte a b two client server e = client (first_byte byte 62 a
 bad_marks Two Server byte a b two client server e = server (first_byte byte 60 a b e)
 
 bad_rest : (max_body : ℕ) (input : List ℕ) (place : ℕ) (log : Log) → IsBadMark input place log → HasNoRecord max_body log
-bad_rest max_body input place log is side spelling body more is_frame_of e = bad_marks log.version side is.byte is.more (spelling ++ more) is.version is.not_client is.not_server (sym is.is ∙ e)
+bad_rest max_body input place log is side raw body more is_frame_of e = bad_marks log.version side is.byte is.more (raw ++ more) is.version is.not_client is.not_server (sym is.is ∙ e)
 
 -- ---- from some records to all
 

@@ -43,13 +43,13 @@ pub record IsSingle (max_body at : ℕ) (version : Version) (due : Bool) (s : Se
   pub leaves : server_after s.server again ≡ server_after s.server p
   pub own : canonical_change_body s.server again ≡ canonical_change_body s.server p
   pub within : length (canonical_change_body s.server again) ≤ s.server.config.limits.max_body
-  pub framed : q.spelling ≡ frame (canonical_change_body s.server p)
+  pub framed : q.raw ≡ frame (canonical_change_body s.server p)
   pub joins : (squash : SquashData) → squash.encoding ≡ encoding_of s.server → ((entry : DocumentItem) → entry_at s.server.table p.uri ≡ Some entry → text_of (chars squash.text) squash.items ≡ chars entry.text)
       → joined_by again squash ≡ joined_by p squash
 
 -- the record of an accepted change, as it is written singly at a place
 abbrev pub single_record : ℕ → Session → Record → ChangeData → Record
-single_record at s r p = record { head = record r.head { place = place_after 0 at }; spelling = frame (canonical_change_body s.server p); body = canonical_change_body s.server p }
+single_record at s r p = record { head = record r.head { place = place_after 0 at }; raw = frame (canonical_change_body s.server p); body = canonical_change_body s.server p }
 
 module _ (limits : Bounds) (ranges : AreInRange limits) (at : ℕ) (version : Version) (due : Bool) (s : Session) (r : Record) (p : ChangeData) (received : IsHeldState limits s.server)
     (a : IsAccepted s r p) (fits : length (canonical_change_body s.server p) ≤ s.server.config.limits.max_body) (of_version : r.head.version ≡ version) (same_due : r.head.line_due ≡ due) where

@@ -179,39 +179,39 @@ module _ (max_body at : ℕ) (version : Version) (due : Bool) (s : Session) (run
 
   -- A record that is written as it is ends the run.
   module _ (r q : Record) (rs : List Record) (front : List ℕ) (is : IsRecord max_body version (at + length (together version e.us [])) (due_after due e.us) q)
-      (goes : squash_step s run r (judge s r) ≡ record { out = end_bytes run ++ (front ++ q.spelling); end = None; run = None }) (not_bad : (judge s r).verdict ≢ bad)
+      (goes : squash_step s run r (judge s r) ≡ record { out = end_bytes run ++ (front ++ q.raw); end = None; run = None }) (not_bad : (judge s r).verdict ≢ bad)
       (front_is : front ≡ line_if (due_after due e.us) ++ mark_of version q.head.side)
-      (again_goes : squash_step e.last e.last_run q (judge e.last q) ≡ record { out = end_bytes e.last_run ++ (front ++ q.spelling); end = None; run = None }) (again_not_bad : (judge e.last q).verdict ≢ bad)
+      (again_goes : squash_step e.last e.last_run q (judge e.last q) ≡ record { out = end_bytes e.last_run ++ (front ++ q.raw); end = None; run = None }) (again_not_bad : (judge e.last q).verdict ≢ bad)
       (more : IsSquashedAs max_body (at + length (together version e.us []) + length (record_bytes version q)) version false (judge s r).session None rs (judge e.last q).session None) where
-    one : squashed_in s run (r ∷ rs) ≡ written_first (end_bytes run ++ (front ++ q.spelling)) (squashed_in (judge s r).session None rs)
-    one = step_on s run r rs (end_bytes run ++ (front ++ q.spelling)) None goes
+    one : squashed_in s run (r ∷ rs) ≡ written_first (end_bytes run ++ (front ++ q.raw)) (squashed_in (judge s r).session None rs)
+    one = step_on s run r rs (end_bytes run ++ (front ++ q.raw)) None goes
 
-    again_one : squashed_in t before (e.us ++ q ∷ more.qs) ≡ written_first (end_bytes before) (written_first (end_bytes e.last_run ++ (front ++ q.spelling)) (squashed_in (judge e.last q).session None more.qs))
-    again_one = e.run_output (q ∷ more.qs) ∙ ap (written_first (end_bytes before)) (step_on e.last e.last_run q more.qs (end_bytes e.last_run ++ (front ++ q.spelling)) None again_goes)
+    again_one : squashed_in t before (e.us ++ q ∷ more.qs) ≡ written_first (end_bytes before) (written_first (end_bytes e.last_run ++ (front ++ q.raw)) (squashed_in (judge e.last q).session None more.qs))
+    again_one = e.run_output (q ∷ more.qs) ∙ ap (written_first (end_bytes before)) (step_on e.last e.last_run q more.qs (end_bytes e.last_run ++ (front ++ q.raw)) None again_goes)
 
     replay_one : run_output_in replaying t (e.us ++ q ∷ more.qs) ≡ run_output_in replaying (judge e.last q).session more.qs
     replay_one = e.replay (q ∷ more.qs) ∙ report_on e.last q more.qs again_not_bad
 
     abbrev written : List ℕ
-    written = end_bytes run ++ (front ++ q.spelling)
+    written = end_bytes run ++ (front ++ q.raw)
 
     abbrev inner : RunOutput
     inner = squashed_in (judge s r).session None rs
 
     -- its bytes, behind those of the run
-    placed_bytes : (us : List Record) (line : List ℕ) → line ≡ line_if (due_after due us) → (first_line due us ++ together version us []) ++ ((line ++ mark_of version q.head.side) ++ q.spelling)
+    placed_bytes : (us : List Record) (line : List ℕ) → line ≡ line_if (due_after due us) → (first_line due us ++ together version us []) ++ ((line ++ mark_of version q.head.side) ++ q.raw)
         ≡ first_line due (us ++ q ∷ more.qs) ++ together version us (record_bytes version q)
-    placed_bytes [] line e = ap (λ l. (l ++ mark_of version q.head.side) ++ q.spelling) e ∙ append_assoc (line_if due) (mark_of version q.head.side) q.spelling
+    placed_bytes [] line e = ap (λ l. (l ++ mark_of version q.head.side) ++ q.raw) e ∙ append_assoc (line_if due) (mark_of version q.head.side) q.raw
     placed_bytes (u ∷ us) line e =
-        ap (λ l. (line_if due ++ together version (u ∷ us) []) ++ ((l ++ mark_of version q.head.side) ++ q.spelling)) e
+        ap (λ l. (line_if due ++ together version (u ∷ us) []) ++ ((l ++ mark_of version q.head.side) ++ q.raw)) e
         ∙ append_assoc (line_if due) (together version (u ∷ us) []) (record_bytes version q)
         ∙ ap (λ z. line_if due ++ z) (sym (together_split version (u ∷ us) (record_bytes version q)))
 
     one_bytes : total (squashed_in s run (r ∷ rs)) ≡ first_line due (e.us ++ q ∷ more.qs) ++ together version (e.us ++ q ∷ more.qs) []
     one_bytes =
         ap total one ∙ append_assoc written inner.out (inner.last false)
-        ∙ ap (λ z. (z ++ (front ++ q.spelling)) ++ total inner) e.bytes
-        ∙ ap (λ z. ((first_line due e.us ++ together version e.us []) ++ (z ++ q.spelling)) ++ total inner) front_is
+        ∙ ap (λ z. (z ++ (front ++ q.raw)) ++ total inner) e.bytes
+        ∙ ap (λ z. ((first_line due e.us ++ together version e.us []) ++ (z ++ q.raw)) ++ total inner) front_is
         ∙ ap (λ z. z ++ total inner) (placed_bytes e.us (line_if (due_after due e.us)) refl)
         ∙ ap (λ z. (first_line due (e.us ++ q ∷ more.qs) ++ together version e.us (record_bytes version q)) ++ z) (more.bytes ∙ ap (λ z. z ++ together version more.qs []) (no_line more.qs))
         ∙ append_assoc (first_line due (e.us ++ q ∷ more.qs)) (together version e.us (record_bytes version q)) (together version more.qs [])
@@ -224,11 +224,11 @@ module _ (max_body at : ℕ) (version : Version) (due : Bool) (s : Session) (run
     one_again : total (squashed_in t before (e.us ++ q ∷ more.qs)) ≡ end_bytes before ++ total (squashed_in s run (r ∷ rs))
     one_again =
         let again_inner = squashed_in (judge e.last q).session None more.qs in
-        let again_written = end_bytes e.last_run ++ (front ++ q.spelling) in
+        let again_written = end_bytes e.last_run ++ (front ++ q.raw) in
         ap total again_one ∙ append_assoc (end_bytes before) (again_written ++ again_inner.out) (again_inner.last false)
         ∙ ap (λ z. end_bytes before ++ z)
         (append_assoc again_written again_inner.out (again_inner.last false)
-        ∙ ap (λ z. again_written ++ z) more.again ∙ ap (λ z. (z ++ (front ++ q.spelling)) ++ total inner) e.same_bytes
+        ∙ ap (λ z. again_written ++ z) more.again ∙ ap (λ z. (z ++ (front ++ q.raw)) ++ total inner) e.same_bytes
         ∙ sym (append_assoc written inner.out (inner.last false)) ∙ sym (ap total one))
 
     pub others_next : IsSquashedAs max_body at version due s run (r ∷ rs) t before

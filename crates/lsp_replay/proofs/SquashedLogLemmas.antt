@@ -95,7 +95,7 @@ module _ (limits : Bounds) (ranges : AreInRange limits) where
       gives_other : squash_step s run r (judge s r) ≡ other_step r (front_of r.head) run
       gives_other = step_other s.server r (front_of r.head) run (change_in (incoming_of (reading r.body))) (judge s r).verdict kind.0 kind.1
 
-      gives_last : squash_step e.last e.last_run q (judge e.last q) ≡ record { out = end_bytes e.last_run ++ (front_of r.head ++ q.spelling); end = None; run = None }
+      gives_last : squash_step e.last e.last_run q (judge e.last q) ≡ record { out = end_bytes e.last_run ++ (front_of r.head ++ q.raw); end = None; run = None }
       gives_last = step_other e.last.server q (front_of q.head) e.last_run (change_in (incoming_of (reading q.body))) (judge e.last q).verdict not_bad_last none_last
 
       front_at : front_of r.head ≡ line_if (due_after due e.us) ++ mark_of version q.head.side

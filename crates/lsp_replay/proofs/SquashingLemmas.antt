@@ -90,7 +90,7 @@ module _ (s : Session) (front singles : List ℕ) (run : Option SquashData) (r :
   by_step out next is more =
       ap (λ (step : Step). continue_with step.out step.end (squashed_in (judge s r).session step.run more)) is ∙ ap (λ (u : Session). written_first out (squashed_in u next more)) (sym is_now)
 
-  pub gives_as_it_is : (out : List ℕ) → verdict ≢ bad → canonical_if s.server (change_in (incoming_of (reading r.body))) verdict ≡ None → out ≡ end_bytes here ++ (its_front ++ r.spelling)
+  pub gives_as_it_is : (out : List ℕ) → verdict ≢ bad → canonical_if s.server (change_in (incoming_of (reading r.body))) verdict ≡ None → out ≡ end_bytes here ++ (its_front ++ r.raw)
       → (more : List Record) → squashed_in s here (r ∷ more) ≡ after out None (squashed_in now None more)
   gives_as_it_is out not_bad none is more =
       by_step out None
@@ -122,12 +122,12 @@ module _ (s : Session) (front singles : List ℕ) (run : Option SquashData) (r :
     ends ended out same is = is ∙ ap (λ z. z ++ end_bytes (run_of front singles ended)) nothing ∙ ap (λ o. end_bytes (run_of front singles o)) (same ∙ taken)
 
     pub told_as_it_is : (ended : Option SquashData) → ended ≡ begun_with → verdict ≢ bad → canonical_if s.server (change_in (incoming_of (reading r.body))) verdict ≡ None
-        → (run_out front_out out : List ℕ) → run_out ≡ buffer ++ end_bytes (run_of front singles ended) → front_out ≡ run_out ++ its_front → out ≡ front_out ++ r.spelling
+        → (run_out front_out out : List ℕ) → run_out ≡ buffer ++ end_bytes (run_of front singles ended) → front_out ≡ run_out ++ its_front → out ≡ front_out ++ r.raw
         → (batches : Option SquashData) → batches ≡ None → (last_front last_singles : List ℕ)
         → (more : List Record) → squashed_in s here (r ∷ more) ≡ after out None (squashed_in now (run_of last_front last_singles batches) more)
     told_as_it_is ended same not_bad none run_out front_out out run_is front_is is batches closed last_front last_singles more =
         gives_as_it_is out not_bad none
-        (is ∙ ap (λ z. z ++ r.spelling) (front_is ∙ ap (λ z. z ++ its_front) (ends ended run_out same run_is)) ∙ append_assoc (end_bytes here) its_front r.spelling) more
+        (is ∙ ap (λ z. z ++ r.raw) (front_is ∙ ap (λ z. z ++ its_front) (ends ended run_out same run_is)) ∙ append_assoc (end_bytes here) its_front r.raw) more
         ∙ ap (λ (o : Option SquashData). after out None (squashed_in now (run_of last_front last_singles o) more)) (sym closed)
 
     pub told_more : (canonical : List ℕ) (batches : SquashData) (is : IsChange s.server (change_in (incoming_of (reading r.body))) verdict canonical) → IsLonger begun_with is.params batches

@@ -55,7 +55,7 @@ normal_not_ok s (r ∷ rs) =
 converted_not_ok : (s : Session) (rs : List Record) → IsNotOk (run_output_in converting s rs).stop
 converted_not_ok s [] = tt
 converted_not_ok s (r ∷ rs) =
-    let g = writes (line_before s ++ codes ">" ++ r.spelling ++ reply_record (judge s r).verdict) in
+    let g = writes (line_before s ++ codes ">" ++ r.raw ++ reply_record (judge s r).verdict) in
     not_ok_on (unless_bad r (judge s r).verdict g).out (unless_bad r (judge s r).verdict g).end (run_output_in converting (judge s r).session rs)
     (unless_not_ok r (judge s r).verdict g tt) (converted_not_ok (judge s r).session rs)
 

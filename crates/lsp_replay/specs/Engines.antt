@@ -220,7 +220,7 @@ canonical_of_record s body verdict
 -- A record is written with its own frame, or with the frame of its canonical body, unless that is
 -- too long.
 abbrev pub written : ℕ → Record → List ℕ → Option (List ℕ) → RecordOutput
-written max_body r front None = writes (front ++ r.spelling)
+written max_body r front None = writes (front ++ r.raw)
 written max_body r front (Some body) = if nat_lt max_body (length body) then
     ends [] (Err (BodyTooLong r.head.place)) else writes (front ++ frame body)
 
@@ -255,7 +255,7 @@ abbrev pub converting : View
 converting = record {
   record_output = λ s r j.
       unless_bad r j.verdict
-      (writes (line_before s ++ codes ">" ++ r.spelling ++ reply_record j.verdict));
+      (writes (line_before s ++ codes ">" ++ r.raw ++ reply_record j.verdict));
   end_output = λ s line_due. line_before s;
   outcome = outcome_of;
 }

@@ -16,7 +16,7 @@ use Rattle.lsp_server.specs.declared.phase.Phase.TheVariants.{New, Running, Ende
 use Rattle.lsp_server.specs.Incoming.{IncomingData, incoming_of, did_change, initialize}
 use Rattle.lsp_server.specs.Answer.{AnswerData, reply, refused, exits, Sent, as_sent}
 use Rattle.lsp_server.specs.declared.config.Config.{Config}
-use Rattle.lsp_server.specs.Step.{State, start, step_on, settled}
+use Rattle.lsp_server.specs.Step.{State, start, step_on, with_encoding}
 use Rattle.lsp_replay.specs.declared.outcome.Outcome.{Outcome}
 use Rattle.lsp_stream.specs.Ports.{one_more}
 use Rattle.lsp_log.specs.declared.record.Version.{Version}
@@ -151,7 +151,7 @@ result_for id r = None
 abbrev pub settle_in : Session → Option Encoding → Judged
 settle_in s None = judged bad s
 settle_in s (Some encoding)
-    = judged recorded (record s { server = settled s.server encoding; expected = None })
+    = judged recorded (record s { server = with_encoding s.server encoding; expected = None })
 
 -- So does a result that can't be read.
 abbrev pub settle_by : Session → Option Announced → Judged

@@ -102,7 +102,7 @@ change_step server r p front run =
 -- Any other record ends the open run, and is written as it is.
 abbrev pub other_step : Record → List ℕ → Option Run → Step
 other_step r front run
-    = record { out = end_bytes run ++ (front ++ r.spelling); end = None; run = None }
+    = record { out = end_bytes run ++ (front ++ r.raw); end = None; run = None }
 
 -- A record's output, by the change in it and the judgement of it.
 abbrev pub step_if : State → Record → List ℕ → Option Run → Option ChangeData → Verdict → Step

@@ -37,7 +37,7 @@ pub struct InputRules {
 /// Refuses a log of version 2 if only version 1 is accepted.
 fn accept(version: Version, only_one: bool) -> Result<(), EngineFault>
     ensures ok { OnOk result (only_one ≡ true → version ≡ Version.One) }
-    ensures err { IfErr result (λ fault. (fault ≡ EngineFault.BadLog 0) × (only_one ≡ true)
+    ensures error { IfErr result (λ fault. (fault ≡ EngineFault.BadLog 0) × (only_one ≡ true)
         × (version ≡ Version.Two)) }
 {
     match version {
@@ -63,27 +63,27 @@ fn handle_record<W: Sink, H: Handler>(
     writer: &mut W,
     buffer: &mut Vec<u8>,
     head: Head,
-    spelling: &[u8],
+    raw: &[u8],
     body: &[u8],
     turns: &mut Turns,
 ) -> Result<Option<Outcome>, EngineFault>
-    requires { (max_body : ℕ) × IsFrameOf max_body spelling.now body.now }
+    requires { (max_body : ℕ) × IsFrameOf max_body raw.now body.now }
     ensures handled { IfOk result
         (IsHandled (H.run_output handler.old) (H.run_output handler.new) (W.seen writer.old).written
         (W.seen writer.new).written
-        (record { head = head; spelling = spelling.now; body = body.now })) }
-    ensures fault { IfErr result
+        (record { head = head; raw = raw.now; body = body.now })) }
+    ensures error { IfErr result
         (IsHandleFault (H.run_output handler.old) (H.FLUSHES && not (W.seen writer.new).flushed)
         (W.seen writer.old).written (W.seen writer.new).written
-        (record { head = head; spelling = spelling.now; body = body.now })) }
+        (record { head = head; raw = raw.now; body = body.now })) }
     ensures calls { WritesWithin turns.old.left turns.new.left
         (W.seen writer.old) (W.seen writer.new) result }
     ensures passed_on { PassesOn H.FLUSHES (W.seen writer.old) (W.seen writer.new) result }
 {
     buffer.clear();
-    let given = handler.handle(head, spelling, body, buffer)?;
+    let given = handler.handle(head, raw, body, buffer)?;
     let output = match given.output {
-        Output::Frame => spelling,
+        Output::Frame => raw,
         Output::Bytes => buffer.as_slice(),
         Output::BytesFrom(start) => rest(buffer, start),
     };
@@ -112,7 +112,7 @@ fn take_record<W: Sink, H: Handler>(
         (W.seen writer.new).written)
         (λ outcome. Stopped reading run_output input received (W.seen writer.new).written
         (Ok outcome))) }
-    ensures fault { IfErr result
+    ensures error { IfErr result
         (λ fault. (reading : LogRules) (run_output : List Record → RunOutput)
         (received : Option (List ℕ)) (input more : List ℕ) →
         IsProgress reading run_output received input more splitter.old (H.run_output handler.old)
@@ -126,8 +126,8 @@ fn take_record<W: Sink, H: Handler>(
     reading_laws();
     let head = splitter.head();
     match splitter.frame() {
-        Some((spelling, body)) => {
-            let end = handle_record(handler, writer, buffer, head, spelling, body, turns)?;
+        Some((raw, body)) => {
+            let end = handle_record(handler, writer, buffer, head, raw, body, turns)?;
             splitter.next();
             Ok(end)
         }
@@ -157,7 +157,7 @@ fn take_piece<W: Sink, H: Handler>(
         (W.seen writer.new).written)
         (λ outcome. Stopped reading run_output input received (W.seen writer.new).written
         (Ok outcome))) }
-    ensures fault { IfErr result
+    ensures error { IfErr result
         (λ fault. (reading : LogRules) (run_output : List Record → RunOutput)
         (received : Option (List ℕ)) (input : List ℕ) →
         IsProgress reading run_output received input piece.now splitter.old
@@ -233,7 +233,7 @@ fn finish_run<W: Sink, H: Handler>(
         IsProgress reading run_output received input [] splitter.now (H.run_output handler.old)
         (W.seen writer.old).written →
         AtEnd reading run_output input received (W.seen writer.new).written outcome) }
-    ensures fault { IfErr result
+    ensures error { IfErr result
         (λ fault. (reading : LogRules) (run_output : List Record → RunOutput)
         (received : Option (List ℕ)) (input : List ℕ) →
         IsProgress reading run_output received input [] splitter.now (H.run_output handler.old)

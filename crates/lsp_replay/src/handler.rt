@@ -56,22 +56,22 @@ pub trait Handler {
     fn handle(
         &mut self,
         head: Head,
-        spelling: &[u8],
+        raw: &[u8],
         body: &[u8],
         buffer: &mut Vec<u8>,
     ) -> Result<Given, EngineFault>
-        requires is_frame_of { (max_body : ℕ) × IsFrameOf max_body spelling.now body.now }
+        requires is_frame_of { (max_body : ℕ) × IsFrameOf max_body raw.now body.now }
         requires empty { buffer.old.items ≡ [] }
         ensures ok { IfOk result (λ given. (more : List Record) →
             run_output self.old
-            (record { head = head; spelling = spelling.now; body = body.now } ∷ more) ≡
-            after (output_of given.output spelling.now buffer.new.items) given.end
+            (record { head = head; raw = raw.now; body = body.now } ∷ more) ≡
+            after (output_of given.output raw.now buffer.new.items) given.end
             (run_output self.new more)) }
-        ensures err { IfErr result
+        ensures error { IfErr result
             (λ fault. (fault ≡ EngineFault.NoMemory)
             ⊎ (IsRecordFault fault × ((more : List Record) →
             run_output self.old
-            (record { head = head; spelling = spelling.now; body = body.now } ∷ more)
+            (record { head = head; raw = raw.now; body = body.now } ∷ more)
             ≡ stopped [] (Err fault)))) };
 
     /// Writes a part of the output at the end of the input into `buffer`; with the last part it
@@ -90,7 +90,7 @@ pub trait Handler {
             × (parts self.new < parts self.old))
             (λ outcome. ((run_output self.old []).last line_due ≡ buffer.new.items)
             × (outcome ≡ (run_output self.old []).outcome))) }
-        ensures err { IfErr result (λ fault. fault ≡ EngineFault.NoMemory) };
+        ensures error { IfErr result (λ fault. fault ≡ EngineFault.NoMemory) };
 
     // Without records nothing is written, and nothing ends the run.
     ghost silent: { (h : Self) → (run_output h []).out ≡ [] };

@@ -94,8 +94,8 @@ abbrev pub close_command : CloseData → Command
 close_command p = closes p.uri
 
 -- A server with another encoding of changes. Before one is chosen nothing changes.
-abbrev pub settled : State → Encoding → State
-settled s encoding = record s { encoding = option_map (λ _. encoding) s.encoding }
+abbrev pub with_encoding : State → Encoding → State
+with_encoding s encoding = record s { encoding = option_map (λ _. encoding) s.encoding }
 
 -- ---- the table of steps: the first row that fits decides
 

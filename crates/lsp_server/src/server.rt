@@ -9,7 +9,7 @@ ghost use Rattle.lsp_store.specs.declared.fault.StoreFault.TheVariants.{NoMemory
 ghost use Rattle.lsp_store.specs.Table.{opens};
 ghost use Rattle.lsp_server.specs.declared.phase.Phase.TheVariants.{Running, Down, Ended};
 ghost use Rattle.lsp_server.specs.Answer.{IsQuiet, reply, sent, as_sent};
-ghost use Rattle.lsp_server.specs.Step.{start, settled, step, step_on, begins, obeys, change_command, close_command};
+ghost use Rattle.lsp_server.specs.Step.{start, with_encoding, step, step_on, begins, obeys, change_command, close_command};
 ghost use Rattle.lsp_reader.specs.Incoming.{incoming_of, initialize, shutdown, other_request, exit, did_open, did_change, did_close, other_notification};
 ghost use Rattle.lsp_reader.specs.Seen.{incoming_view};
 ghost use Rattle.lsp_server.specs.Seen.{answer_view};
@@ -145,7 +145,7 @@ impl Server {
         ensures answer { IfOk result
             (λ a. answer_view a ≡ as_sent (step self.old (reading body.now)).answer) }
         ensures state { OnOk result (self.new ≡ (step self.old (reading body.now)).state) }
-        ensures same { OnErr result (self.new ≡ self.old) }
+        ensures unchanged { OnErr result (self.new ≡ self.old) }
         ensures ended { IsErrOf result ServerFault.AlreadyEnded ↔ (self.old.phase ≡ Ended) }
     {
         if self.phase == Phase::Ended {
@@ -179,7 +179,7 @@ impl Server {
         ensures answer { IfOk result
             (λ a. answer_view a ≡ as_sent (step_on self.old (incoming_view incoming)).answer) }
         ensures state { OnOk result (self.new ≡ (step_on self.old (incoming_view incoming)).state) }
-        ensures same { OnErr result (self.new ≡ self.old) }
+        ensures unchanged { OnErr result (self.new ≡ self.old) }
         // Only a reply, and a document that is opened or changed, take memory.
         ensures quiet { IsQuiet (step_on self.old (incoming_view incoming)).answer → IsOk result }
         ensures ended { IsErrOf result ServerFault.AlreadyEnded ↔ (self.old.phase ≡ Ended) }
@@ -195,7 +195,7 @@ impl Server {
         ensures answer { IfOk result
             (λ a. answer_view a ≡ as_sent (step_on self.old (incoming_view incoming)).answer) }
         ensures state { OnOk result (self.new ≡ (step_on self.old (incoming_view incoming)).state) }
-        ensures same { OnErr result (self.new ≡ self.old) }
+        ensures unchanged { OnErr result (self.new ≡ self.old) }
         ensures quiet { OnErr result
             (IsQuiet (step_on self.old (incoming_view incoming)).answer → ⊥) }
     {
@@ -233,7 +233,7 @@ impl Server {
             ≡ as_sent (step_on self.old (initialize (id_view id) offers)).answer) }
         ensures state { OnOk result
             (self.new ≡ (step_on self.old (initialize (id_view id) offers)).state) }
-        ensures same { OnErr result (self.new ≡ self.old) }
+        ensures unchanged { OnErr result (self.new ≡ self.old) }
         ensures quiet { OnErr result
             (IsQuiet (step_on self.old (initialize (id_view id) offers)).answer → ⊥) }
     {
@@ -250,7 +250,7 @@ impl Server {
         ensures answer { IfOk result
             (λ a. answer_view a ≡ as_sent (begins self.old (id_view id) offers).answer) }
         ensures state { OnOk result (self.new ≡ (begins self.old (id_view id) offers).state) }
-        ensures same { OnErr result (self.new ≡ self.old) }
+        ensures unchanged { OnErr result (self.new ≡ self.old) }
     {
         let encoding = self.choice.chosen(offers);
         let accepted = Outgoing::InitializeResult {
@@ -269,7 +269,7 @@ impl Server {
         ensures answer { IfOk result
             (λ a. answer_view a ≡ as_sent (step_on self.old (shutdown (id_view id))).answer) }
         ensures state { OnOk result (self.new ≡ (step_on self.old (shutdown (id_view id))).state) }
-        ensures same { OnErr result (self.new ≡ self.old) }
+        ensures unchanged { OnErr result (self.new ≡ self.old) }
         ensures quiet { OnErr result
             (IsQuiet (step_on self.old (shutdown (id_view id))).answer → ⊥) }
     {
@@ -337,7 +337,7 @@ impl Server {
             ≡ as_sent (step_on self.old (did_open (option_map open_view params))).answer) }
         ensures state { OnOk result
             (self.new ≡ (step_on self.old (did_open (option_map open_view params))).state) }
-        ensures same { OnErr result (self.new ≡ self.old) }
+        ensures unchanged { OnErr result (self.new ≡ self.old) }
         ensures quiet { OnErr result
             (IsQuiet (step_on self.old (did_open (option_map open_view params))).answer → ⊥) }
     {
@@ -353,7 +353,7 @@ impl Server {
             ≡ as_sent (obeys self.old (opens (open_view params))).answer) }
         ensures state { OnOk result
             (self.new ≡ (obeys self.old (opens (open_view params))).state) }
-        ensures same { OnErr result (self.new ≡ self.old) }
+        ensures unchanged { OnErr result (self.new ≡ self.old) }
     {
         let OpenParams {
             uri,
@@ -371,7 +371,7 @@ impl Server {
             ≡ as_sent (step_on self.old (did_change (option_map change_view params))).answer) }
         ensures state { OnOk result
             (self.new ≡ (step_on self.old (did_change (option_map change_view params))).state) }
-        ensures same { OnErr result (self.new ≡ self.old) }
+        ensures unchanged { OnErr result (self.new ≡ self.old) }
         ensures quiet { OnErr result
             (IsQuiet (step_on self.old (did_change (option_map change_view params))).answer → ⊥) }
     {
@@ -387,7 +387,7 @@ impl Server {
             ≡ as_sent (obeys self.old (change_command self.old (change_view params))).answer) }
         ensures state { OnOk result
             (self.new ≡ (obeys self.old (change_command self.old (change_view params))).state) }
-        ensures same { OnErr result (self.new ≡ self.old) }
+        ensures unchanged { OnErr result (self.new ≡ self.old) }
     {
         let encoding = self.encoding.unwrap_or(Encoding::Utf16);
         let ChangeParams {
@@ -405,7 +405,7 @@ impl Server {
             ≡ as_sent (step_on self.old (did_close (option_map close_view params))).answer) }
         ensures state { OnOk result
             (self.new ≡ (step_on self.old (did_close (option_map close_view params))).state) }
-        ensures same { OnErr result (self.new ≡ self.old) }
+        ensures unchanged { OnErr result (self.new ≡ self.old) }
         ensures quiet { OnErr result
             (IsQuiet (step_on self.old (did_close (option_map close_view params))).answer → ⊥) }
     {
@@ -421,7 +421,7 @@ impl Server {
             ≡ as_sent (obeys self.old (close_command (close_view params))).answer) }
         ensures state { OnOk result
             (self.new ≡ (obeys self.old (close_command (close_view params))).state) }
-        ensures same { OnErr result (self.new ≡ self.old) }
+        ensures unchanged { OnErr result (self.new ≡ self.old) }
     {
         answer_of(self.store.close(&params.uri))
     }
@@ -444,7 +444,7 @@ impl Server {
     ///
     /// Before an accepted `initialize` it does nothing. Takes no memory.
     pub fn settle(&mut self, encoding: Encoding)
-        ensures { self.new ≡ settled self.old encoding }
+        ensures { self.new ≡ with_encoding self.old encoding }
     {
         if self.encoding.is_some() {
             self.encoding = Some(encoding);

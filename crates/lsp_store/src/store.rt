@@ -152,7 +152,7 @@ impl Store {
               version = version;
               text = string_bytes text;
             })) self.new) }
-        ensures same { OnErr result (self.new ≡ self.old) }
+        ensures unchanged { OnErr result (self.new ≡ self.old) }
         ensures error { IfErr result (IsRefused self.old
             (opens (record {
               uri = string_bytes uri;
@@ -194,7 +194,7 @@ impl Store {
         ensures taken { OnOk result
             (Takes self.old (changing uri.now version encoding (map edit_of changes.now))
             self.new) }
-        ensures same { OnErr result (self.new ≡ self.old) }
+        ensures unchanged { OnErr result (self.new ≡ self.old) }
         ensures error { IfErr result
             (IsRefused self.old (changing uri.now version encoding (map edit_of changes.now))) }
         // Memory is taken only once nothing but what the batch means can refuse it.
@@ -215,7 +215,7 @@ impl Store {
     /// for each document that was opened later.
     pub fn close(&mut self, uri: &str) -> Result<(), StoreFault>
         ensures taken { OnOk result (Takes self.old (closes uri.now) self.new) }
-        ensures same { OnErr result (self.new ≡ self.old) }
+        ensures unchanged { OnErr result (self.new ≡ self.old) }
         ensures error { IfErr result
             (λ fault. (fault ≡ NotOpen) × IsRefused self.old (closes uri.now) fault) }
     {

@@ -79,7 +79,7 @@ fn write_out<W: Sink>(writer: &mut W, bytes: &[u8], turns: &mut Turns) -> Result
         (Appends (W.seen writer.old).written (W.seen writer.new).written bytes.now) }
     ensures front { OnErr result
         (AppendsFront (W.seen writer.old).written (W.seen writer.new).written bytes.now) }
-    ensures fault { IfErr result
+    ensures error { IfErr result
         (λ fault. (fault ≡ EngineFault.Write) ⊎ (fault ≡ EngineFault.TooManyTurns)) }
     ensures short { IfErr result (λ fault. fault ≡ EngineFault.TooManyTurns →
         AppendsShort false (W.seen writer.old).written (W.seen writer.new).written bytes.now) }
@@ -116,7 +116,7 @@ pub fn flush_out<W: Sink>(writer: &mut W, turns: &mut Turns) -> Result<(), Engin
     ensures passed_on { OnOk result ((W.seen writer.new).flushed ≡ true) }
     ensures not_passed_on { OnErr result
         ((W.seen writer.new).flushed ≡ (W.seen writer.old).flushed) }
-    ensures fault { IfErr result
+    ensures error { IfErr result
         (λ fault. (fault ≡ EngineFault.Write) ⊎ (fault ≡ EngineFault.TooManyTurns)) }
     ensures calls { WritesWithin turns.old.left turns.new.left
         (W.seen writer.old) (W.seen writer.new) result }
@@ -150,7 +150,7 @@ pub fn write_given<W: Sink>(
         (Appends (W.seen writer.old).written (W.seen writer.new).written bytes.now) }
     ensures front { OnErr result
         (AppendsFront (W.seen writer.old).written (W.seen writer.new).written bytes.now) }
-    ensures fault { IfErr result
+    ensures error { IfErr result
         (λ fault. (fault ≡ EngineFault.Write) ⊎ (fault ≡ EngineFault.TooManyTurns)) }
     // Where the turns ran out, bytes were still to be written, or to be passed on.
     ensures short { IfErr result (λ fault. fault ≡ EngineFault.TooManyTurns →

@@ -94,7 +94,7 @@ impl GapText {
         encoding: Encoding,
         position: Position,
     ) -> Result<usize, InsideCharacter>
-        ensures same { self.new ≡ self.old }
+        ensures unchanged { self.new ≡ self.old }
         ensures utf8 { IsUtf8 self.old }
         ensures value { result_ok result
             ≡ option_map (place_of (chars self.old))

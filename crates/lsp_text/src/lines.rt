@@ -171,7 +171,7 @@ impl Lines {
         requires spliced { IsSpliced self.old text.now from to len }
         requires size { length text.now ≤ 2147483648 }
         ensures ok { OnOk result (Indexes self.new text.now) }
-        ensures err { OnErr result (self.new ≡ self.old) }
+        ensures unchanged { OnErr result (self.new ≡ self.old) }
     {
         splice_starts(&mut self.starts, text.as_bytes(), from, to, len)
     }

@@ -82,11 +82,11 @@ abbrev pub through_part : List Part → Part → List Part
 through_part first (OldPart from to) = between_parts first from to
 through_part first (NewPart bytes) = NewPart bytes ∷ []
 
--- The parts `made`, and then the parts of `second` as parts over what `first` is over.
+-- The parts `front`, and then the parts of `second` as parts over what `first` is over.
 abbrev pub put_through : List Part → List Part → List Part → List Part
-put_through first made [] = made
-put_through first made (part ∷ second)
-    = put_through first (put_parts made (through_part first part)) second
+put_through first front [] = front
+put_through first front (part ∷ second)
+    = put_through first (put_parts front (through_part first part)) second
 
 -- The parts of `second`, which are over the text of `first`, as parts over what `first` is over.
 abbrev pub through_parts : List Part → List Part → List Part
@@ -143,7 +143,7 @@ abbrev pub first_front : List Part → ℕ → List Part
 first_front [] place = []
 first_front (part ∷ parts) place = if place == 0 then [] else front_part part place ∷ []
 
--- The parts `made`, and then what the first part has after a byte offset.
+-- The parts `front`, and then what the first part has after a byte offset.
 abbrev pub put_first_back : List Part → List Part → ℕ → List Part
-put_first_back made [] place = made
-put_first_back made (part ∷ parts) place = put_part made (back_part part place)
+put_first_back front [] place = front
+put_first_back front (part ∷ parts) place = put_part front (back_part part place)

@@ -66,7 +66,7 @@ pub fn ends_in(
     change: usize,
 ) -> Result<(usize, usize), EditFault>
     ensures utf8 { IsUtf8 text.old }
-    ensures same { text.new ≡ text.old }
+    ensures unchanged { text.new ≡ text.old }
     ensures value { result
         ≡ places_at change (chars text.old) (ends_of (units_in encoding) (chars text.old) range) }
 {
@@ -191,7 +191,7 @@ impl Draft {
     ) -> Result<Self, AllocError>
         requires indexed { Indexes lines.now text.now }
         requires fits { sum_by (λ change. string_len change.text) changes.now ≤ MAX_NEW_TEXT }
-        ensures same { IfOk result (λ draft. (units : ℕ → ℕ) →
+        ensures meaning { IfOk result (λ draft. (units : ℕ → ℕ) →
             text_after_changes units 0 (chars draft) (map edit_of changes.now)
             ≡ text_after_changes units 0 (chars text.now) (map edit_of changes.now)) }
         ensures short { IfOk result (λ draft. length draft ≤ length text.now) }

@@ -14,7 +14,7 @@ const ROOM: usize = 4096;
 /// Returns the current text, if there is one already, or else copies the text of the spans into a
 /// text with a gap.
 pub fn current_or_new<'a>(
-    made: Option<GapText>,
+    current: Option<GapText>,
     alloc: Global,
     before: &'a str,
     spans: &[Span<'a>],
@@ -22,12 +22,12 @@ pub fn current_or_new<'a>(
 ) -> Result<GapText, AllocError>
     requires parts { AreParts before.now (parts_of spans.now) }
     requires room { length (bytes_of before.now (parts_of spans.now)) ≤ 2147483648 }
-    requires made { MatchOption made (Unit {0})
-        (λ current. current ≡ bytes_of before.now (parts_of spans.now)) }
+    requires current { MatchOption current (Unit {0})
+        (λ text. text ≡ bytes_of before.now (parts_of spans.now)) }
     ensures { IfOk result (λ current. current ≡ bytes_of before.now (parts_of spans.now)) }
 {
-    if let Some(current) = made {
-        return Ok(current);
+    if let Some(text) = current {
+        return Ok(text);
     }
     let (text, lines) = text_with_lines(alloc, before, spans, len)?;
     GapText::new(alloc, &text, lines, ROOM)
@@ -42,9 +42,9 @@ pub fn text_with_lines<'a>(
 ) -> Result<(String, Lines), AllocError>
     requires parts { AreParts before.now (parts_of spans.now) }
     requires room { length (bytes_of before.now (parts_of spans.now)) ≤ 2147483648 }
-    ensures { IfOk result (λ made.
-        (string_bytes made.0 ≡ bytes_of before.now (parts_of spans.now))
-        × Indexes made.1 (string_bytes made.0)) }
+    ensures { IfOk result (λ indexed.
+        (string_bytes indexed.0 ≡ bytes_of before.now (parts_of spans.now))
+        × Indexes indexed.1 (string_bytes indexed.0)) }
 {
     let text = text_of_spans(alloc, before, spans, len)?;
     let lines = Lines::new(alloc, &text)?;

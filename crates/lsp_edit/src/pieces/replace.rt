@@ -130,21 +130,21 @@ fn between<'a>(
 ) -> Result<Vec<Span<'a>>, AllocError>
     requires start { IsFirstCut (parts_of spans.now) start }
     requires stop { IsFirstCut (parts_of (drop last spans.now)) stop }
-    ensures { IfOk result (λ made. parts_of made.items
+    ensures { IfOk result (λ new. parts_of new.items
         ≡ put_first_back (first_front (parts_of spans.now) start ++ new_parts text.now)
         (parts_of (drop last spans.now)) stop) }
 {
-    let mut made = Vec::with_capacity(alloc, 3)?;
+    let mut new = Vec::with_capacity(alloc, 3)?;
     if start > 0 && !spans.is_empty() {
-        made.push(spans[0].front(start))?;
+        new.push(spans[0].front(start))?;
     }
     if !text.is_empty() {
-        made.push(Span::New(text))?;
+        new.push(Span::New(text))?;
     }
     if last < spans.len() {
-        put(&mut made, spans[last].back(stop))?;
+        put(&mut new, spans[last].back(stop))?;
     }
-    Ok(made)
+    Ok(new)
 }
 
 /// Replaces the bytes between two byte offsets by a new text, which adds at most two spans. Out of
@@ -169,13 +169,13 @@ pub fn replace<'a>(
     ensures ok { OnOk result
         (parts_of spans.new.items ≡ replaced_parts (parts_of spans.old.items) start stop text.now) }
     ensures marked { IfOk result (λ mark. IsMark spans.new.items mark.0 mark.1) }
-    ensures err { OnErr result (spans.new.items ≡ spans.old.items) }
+    ensures unchanged { OnErr result (spans.new.items ≡ spans.old.items) }
 {
     let (first, passed) = ended_by(spans, near, before, start);
     let rest = &spans[first..];
     let (last, more) = passed_by(rest, 0, 0, stop - passed);
     let alloc = *spans.allocator();
-    let made = between(
+    let new = between(
         alloc,
         rest,
         start - passed,
@@ -184,6 +184,6 @@ pub fn replace<'a>(
         text,
     )?;
     let past = first + rest.len().min(last + 1);
-    let _ = spans.splice(first..past, made)?;
+    let _ = spans.splice(first..past, new)?;
     Ok((first, passed))
 }

@@ -61,7 +61,7 @@ impl<'a> Row<'a> {
         ensures ok { OnOk result
             (parts_of self.new ≡ replaced_parts (parts_of self.old) start stop text.now) }
         ensures few { OnOk result (length self.new ≤ usize.MAX) }
-        ensures err { OnErr result (self.new ≡ self.old) }
+        ensures unchanged { OnErr result (self.new ≡ self.old) }
     {
         let (near, before) = replace(&mut self.spans, self.near, self.before, start, stop, text)?;
         self.near = near;

@@ -74,7 +74,7 @@ impl<'a> Spans<'a> {
             (parts_of (spans_in self.new)
             ≡ replaced_parts (parts_of (spans_in self.old)) start stop text.now) }
         ensures few { OnOk result (length (spans_in self.new) ≤ usize.MAX) }
-        ensures err { OnErr result (spans_in self.new ≡ spans_in self.old) }
+        ensures unchanged { OnErr result (spans_in self.new ≡ spans_in self.old) }
     {
         let one = match self {
             Spans::One(span) => *span,

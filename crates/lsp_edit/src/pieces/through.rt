@@ -42,7 +42,7 @@ fn push_between<'a>(
 ) -> Result<(usize, usize), AllocError>
     requires from { AreCut (parts_of spans.now) from }
     requires count { AreCut (back_parts (parts_of spans.now) from) count }
-    ensures made { OnOk result
+    ensures pushed { OnOk result
         (parts_of out.new.items
         ≡ put_parts (parts_of out.old.items)
         (front_parts (back_parts (parts_of spans.now) from) count)) }
@@ -73,7 +73,7 @@ pub fn spans_through<'a>(
     requires through { AreThrough (parts_of first.now) (parts_of second.now) }
     requires order { Ascend 0 (parts_of second.now) }
     ensures { IfOk result
-        (λ made. parts_of made.items ≡ through_parts (parts_of first.now) (parts_of second.now)) }
+        (λ spans. parts_of spans.items ≡ through_parts (parts_of first.now) (parts_of second.now)) }
 {
     let mut out = Vec::new(alloc);
     let mut begun = 0;

@@ -113,8 +113,8 @@ fn take_line(
         (λ n. buffered.new.items ≡ buffered.old.items ++ take n window.now) }
     ensures so_far { OnOk result (IsSoFar max_body buffered.new.items header.new) }
     ensures line_start { OnOk result (header.new.shape ≢ shape.Whole) }
-    ensures err { OnErr result (buffered.new.items ≡ buffered.old.items) }
-    ensures fault { IfErr result (IsLineStop buffered.old.items window.now) }
+    ensures unchanged { OnErr result (buffered.new.items ≡ buffered.old.items) }
+    ensures error { IfErr result (IsLineStop buffered.old.items window.now) }
     // Out of memory only where room was missing.
     ensures full { IfErr result (λ why. why ≡ Stop.NoMemory →
         vec_capacity buffered.old < vec_len buffered.old + length window.now) }
@@ -155,9 +155,9 @@ pub(crate) fn take_header(
     ensures continues { IfOk result (λ k. header.new.shape ≢ shape.End →
         (k ≡ length piece.now) × (is_over header.new.shape ≡ false)
         × (length buffered.new.items < 8192)) }
-    ensures err { OnErr result
+    ensures unchanged { OnErr result
         ((n : ℕ) × (buffered.new.items ≡ buffered.old.items ++ take n piece.now)) }
-    ensures fault { IfErr result (IsHeaderStop max_body (buffered.old.items ++ piece.now)) }
+    ensures error { IfErr result (IsHeaderStop max_body (buffered.old.items ++ piece.now)) }
     // Out of memory only where room was missing.
     ensures full { IfErr result (λ why. why ≡ Stop.NoMemory →
         vec_capacity buffered.old < vec_len buffered.old + length piece.now) }

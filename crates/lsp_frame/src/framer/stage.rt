@@ -55,9 +55,9 @@ pub(crate) fn take_piece(
     ensures stops { IfOk result (λ k. k < length piece.now → IsFrame max_body buffered.new.items) }
     ensures whole { IsFrame max_body buffered.old.items → IsOkAnd result (λ k. k ≡ 0) }
     ensures empty { length piece.now ≡ 0 → IsOkAnd result (λ k. k ≡ 0) }
-    ensures err { OnErr result (buffered.new.items ≡ buffered.old.items) }
+    ensures unchanged { OnErr result (buffered.new.items ≡ buffered.old.items) }
     ensures after { IfErr result (λ why. stage.new ≡ stage_after stage.old why) }
-    ensures fault { IfErr result (IsHeaderStop max_body (buffered.old.items ++ piece.now)) }
+    ensures error { IfErr result (IsHeaderStop max_body (buffered.old.items ++ piece.now)) }
     // Out of memory only where room was missing.
     ensures full { IfErr result (λ why. why ≡ stop.NoMemory →
         vec_capacity buffered.old < vec_len buffered.old + length piece.now) }
@@ -96,8 +96,8 @@ fn take_from_header(
         IsFrame max_body buffered.new.items) }
     ensures sound { IfOk result (λ got. has_failed got.1 ≡ false) }
     ensures empty { length piece.now ≡ 0 → IsOkAnd result (λ got. got.0 ≡ 0) }
-    ensures err { OnErr result (buffered.new.items ≡ buffered.old.items) }
-    ensures fault { IfErr result (IsHeaderStop max_body (buffered.old.items ++ piece.now)) }
+    ensures unchanged { OnErr result (buffered.new.items ≡ buffered.old.items) }
+    ensures error { IfErr result (IsHeaderStop max_body (buffered.old.items ++ piece.now)) }
     // Out of memory only where room was missing.
     ensures full { IfErr result (λ why. why ≡ stop.NoMemory →
         vec_capacity buffered.old < vec_len buffered.old + length piece.now) }
@@ -148,7 +148,7 @@ fn take_written(
     ensures sound { IfOk result (λ got. has_failed got.1 ≡ false) }
     ensures stops { IfOk result (λ got. got.0 < length piece.now →
         IsFrame max_body buffered.new.items) }
-    ensures err { IfErr result
+    ensures error { IfErr result
         (λ why. (buffered.new.items ≡ buffered.old.items) × (why ≡ stop.NoMemory)) }
     ensures full { OnErr result
         (vec_capacity buffered.old < vec_len buffered.old + length piece.now) }
@@ -178,8 +178,8 @@ fn begin_body(
     ensures sound { IfOk result (λ got. has_failed got.1 ≡ false) }
     ensures stops { IfOk result (λ got. got.0 < length rest.now →
         IsFrame max_body buffered.new.items) }
-    ensures err { OnErr result (buffered.new.items ≡ buffered.old.items) }
-    ensures fault { IfErr result (IsHeaderStop max_body (buffered.old.items ++ rest.now)) }
+    ensures unchanged { OnErr result (buffered.new.items ≡ buffered.old.items) }
+    ensures error { IfErr result (IsHeaderStop max_body (buffered.old.items ++ rest.now)) }
     // Out of memory only where room was missing.
     ensures full { IfErr result (λ why. why ≡ stop.NoMemory →
         vec_capacity buffered.old < vec_len buffered.old + length rest.now) }
@@ -213,7 +213,7 @@ fn take_body(
     ensures stops { IfOk result (λ k. k < length piece.now → IsFrame max_body buffered.new.items) }
     ensures quiet { length buffered.old.items ≡ end → result ≡ Ok 0 }
     ensures empty { length piece.now ≡ 0 → result ≡ Ok 0 }
-    ensures err { IfErr result
+    ensures error { IfErr result
         (λ why. (buffered.new.items ≡ buffered.old.items) × (why ≡ stop.NoMemory)) }
     ensures full { OnErr result
         (vec_capacity buffered.old < vec_len buffered.old + length piece.now) }

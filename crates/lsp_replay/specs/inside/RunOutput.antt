@@ -16,9 +16,9 @@ after bytes (Some outcome) c = stopped bytes (Ok outcome)
 -- A record's output: its frame, or the buffer that was filled for it, all of it or from an index
 -- on.
 abbrev pub output_of : Output → List ℕ → List ℕ → List ℕ
-output_of output.Frame spelling buffer = spelling
-output_of output.Bytes spelling buffer = buffer
-output_of (output.BytesFrom start) spelling buffer = drop start buffer
+output_of output.Frame raw buffer = raw
+output_of output.Bytes raw buffer = buffer
+output_of (output.BytesFrom start) raw buffer = drop start buffer
 
 -- The faults with which a record can end a run: a body too long, a bad log.
 abbrev pub IsRecordFault : EngineFault → Type 0

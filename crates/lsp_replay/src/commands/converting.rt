@@ -54,14 +54,14 @@ impl Handler for Convert {
     fn handle(
         &mut self,
         head: Head,
-        spelling: &[u8],
+        raw: &[u8],
         body: &[u8],
         buffer: &mut Vec<u8>,
     ) -> Result<Given, EngineFault> {
         self.push_first_line(buffer)?;
         let verdict = self.session.accept(head, body)?;
         buffer.extend_from_slice(b">")?;
-        buffer.extend_from_slice(spelling)?;
+        buffer.extend_from_slice(raw)?;
         push_reply(buffer, &verdict)?;
         Ok(Given::more(Output::Bytes))
     }

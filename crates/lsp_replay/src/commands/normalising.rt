@@ -51,14 +51,14 @@ impl Handler for Normalise {
     fn handle(
         &mut self,
         head: Head,
-        spelling: &[u8],
+        raw: &[u8],
         body: &[u8],
         buffer: &mut Vec<u8>,
     ) -> Result<Given, EngineFault> {
         buffer.resize(FRONT_ROOM, 0)?;
         let (verdict, appended) = self.session.judge_and_write(head, body, buffer)?;
         in_log(&verdict, head.place)?;
-        let output = push_record(buffer, head, spelling, appended)?;
+        let output = push_record(buffer, head, raw, appended)?;
         Ok(Given::more(output))
     }
 
@@ -81,7 +81,7 @@ const FRONT_ROOM: usize = 64;
 fn push_record(
     buffer: &mut Vec<u8>,
     head: Head,
-    spelling: &[u8],
+    raw: &[u8],
     appended: Option<Appended>,
 ) -> Result<Output, EngineFault>
     requires { FRONT_ROOM ≤ vec_len buffer.old }
@@ -89,18 +89,18 @@ fn push_record(
         (λ output. (max_body : ℕ) (canonical_log : Option (List ℕ)) (body room : List ℕ) →
         length room ≡ FRONT_ROOM →
         IsAppended max_body canonical_log appended room buffer.old.items →
-        written max_body (record { head = head; spelling = spelling.now; body = body })
-        (front_of head) canonical_log ≡ writes (output_of output spelling.now buffer.new.items)) }
-    ensures err { IfErr result
+        written max_body (record { head = head; raw = raw.now; body = body })
+        (front_of head) canonical_log ≡ writes (output_of output raw.now buffer.new.items)) }
+    ensures error { IfErr result
         (λ fault. (fault ≡ EngineFault.NoMemory) ⊎ ((fault ≡ EngineFault.BodyTooLong head.place)
         × ((max_body : ℕ) (canonical_log : Option (List ℕ)) (body room : List ℕ) →
         length room ≡ FRONT_ROOM →
         IsAppended max_body canonical_log appended room buffer.old.items →
-        written max_body (record { head = head; spelling = spelling.now; body = body })
+        written max_body (record { head = head; raw = raw.now; body = body })
         (front_of head) canonical_log ≡ ends [] (Err (EngineFault.BodyTooLong head.place))))) }
 {
     let Some(appended) = appended else {
-        return Ok(push_as_it_is(buffer, head, spelling)?);
+        return Ok(push_as_it_is(buffer, head, raw)?);
     };
     within_limit(appended, head.place)?;
     let start = put_front(buffer, head);
@@ -120,16 +120,16 @@ fn within_limit(appended: Appended, place: u64) -> Result<(), EngineFault>
 }
 
 /// Writes a record with its mark, as it is.
-fn push_as_it_is(buffer: &mut Vec<u8>, head: Head, spelling: &[u8]) -> Result<Output, AllocError>
-    ensures { IfOk result (λ output. output_of output spelling.now buffer.new.items
-        ≡ front_of head ++ spelling.now) }
+fn push_as_it_is(buffer: &mut Vec<u8>, head: Head, raw: &[u8]) -> Result<Output, AllocError>
+    ensures { IfOk result (λ output. output_of output raw.now buffer.new.items
+        ≡ front_of head ++ raw.now) }
 {
     buffer.clear();
     push_front(buffer, head)?;
     if buffer.is_empty() {
         return Ok(Output::Frame);
     }
-    buffer.extend_from_slice(spelling)?;
+    buffer.extend_from_slice(raw)?;
     Ok(Output::Bytes)
 }
 

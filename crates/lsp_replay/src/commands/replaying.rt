@@ -59,7 +59,7 @@ impl Handler for Replay {
     fn handle(
         &mut self,
         head: Head,
-        _spelling: &[u8],
+        _raw: &[u8],
         body: &[u8],
         _made: &mut Vec<u8>,
     ) -> Result<Given, EngineFault> {

@@ -89,7 +89,7 @@ impl Handler for Serve {
     fn handle(
         &mut self,
         head: Head,
-        _spelling: &[u8],
+        _raw: &[u8],
         body: &[u8],
         buffer: &mut Vec<u8>,
     ) -> Result<Given, EngineFault> {

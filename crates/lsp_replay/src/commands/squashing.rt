@@ -163,7 +163,7 @@ impl Handler for Squashing {
     fn handle(
         &mut self,
         head: Head,
-        spelling: &[u8],
+        raw: &[u8],
         body: &[u8],
         buffer: &mut Vec<u8>,
     ) -> Result<Given, EngineFault> {
@@ -174,7 +174,7 @@ impl Handler for Squashing {
             Writing::AsItIs(ended) => {
                 self.texts.push_end(buffer, &ended)?;
                 push_front(buffer, head)?;
-                buffer.extend_from_slice(spelling)?;
+                buffer.extend_from_slice(raw)?;
                 Ok(WRITTEN)
             }
             Writing::TooLong => Err(EngineFault::BodyTooLong { place: head.place }),

@@ -172,8 +172,8 @@ impl<'a> Document<'a> {
         encoding: Encoding,
         edits: &[TextEdit],
     ) -> Result<Vec<Change>, TextEditFault>
-        ensures batch { IfOk result (λ made.
-            IsBatchOfEdits (units_in encoding) self.now.text edits.now (map edit_of made.items)) }
+        ensures batch { IfOk result (λ batch.
+            IsBatchOfEdits (units_in encoding) self.now.text edits.now (map edit_of batch.items)) }
         ensures error { IfErr result (λ fault.
             IsEditsFault (units_in encoding) (chars self.now.text) edits.now fault) }
     {

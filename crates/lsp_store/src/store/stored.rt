@@ -100,7 +100,7 @@ impl Stored {
             entry_under uri self.new
             ≡ changed (units_in encoding) (entry_under uri self.old) version
             (map edit_of changes.now)) }
-        ensures same { OnErr result (self.new ≡ self.old) }
+        ensures unchanged { OnErr result (self.new ≡ self.old) }
         ensures error { IfErr result (λ fault. (uri : List ℕ) →
             IsRefusal (entry_refusal limits.now (units_in encoding) (entry_under uri self.old)
             version (map edit_of changes.now)) fault) }
@@ -126,9 +126,9 @@ impl Stored {
         ensures accepted { OnOk result ((uri : List ℕ) →
             entry_refusal limits.now (units_in encoding) (entry_under uri self.now) version
             (map edit_of changes.now) ≡ None) }
-        ensures batch { IfOk result (λ made.
+        ensures batch { IfOk result (λ batch.
             IsCanonicalBatch (units_in encoding) limits.now.max_text self.now.text
-            (map edit_of changes.now) (map edit_of made.items)) }
+            (map edit_of changes.now) (map edit_of batch.items)) }
         ensures short { (length self.now.text ≤ 1073741824) × (limits.now.max_text ≤ 1073741824) }
         ensures error { IfErr result (λ fault. (uri : List ℕ) →
             IsRefusal (entry_refusal limits.now (units_in encoding) (entry_under uri self.now)

@@ -40,7 +40,7 @@ pub fn widen<T: Copy>(
     ensures back { IfOk result (λ next. drop next buffer.new.items ≡ drop high buffer.old.items) }
     ensures wide { IfOk result (λ next. low + count ≤ next) }
     ensures within { IfOk result (λ next. next ≤ vec_len buffer.new) }
-    ensures error { OnErr result (buffer.new.items ≡ buffer.old.items) }
+    ensures unchanged { OnErr result (buffer.new.items ≡ buffer.old.items) }
 {
     if count <= high - low {
         return Ok(high);

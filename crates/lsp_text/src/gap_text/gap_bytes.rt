@@ -95,7 +95,7 @@ impl GapBytes {
     pub fn insert(&mut self, bytes: &[u8]) -> Result<(), AllocError>
         ensures front { OnOk result (self.new.front ≡ self.old.front ++ bytes.now) }
         ensures back { OnOk result (self.new.back ≡ self.old.back) }
-        ensures error { OnErr result (self.new ≡ self.old) }
+        ensures unchanged { OnErr result (self.new ≡ self.old) }
     {
         self.high = widen(&mut self.buffer, self.low, self.high, bytes.len(), 0)?;
         write(&mut self.buffer, self.low, bytes);
@@ -156,7 +156,7 @@ impl GapBytes {
     pub fn gather(&mut self, start: usize, stop: usize)
         requires order { start ≤ stop }
         requires within { stop ≤ length (without_gap self.old) }
-        ensures same { without_gap self.new ≡ without_gap self.old }
+        ensures unchanged { without_gap self.new ≡ without_gap self.old }
         ensures whole { length self.new.front < stop → length self.new.front ≤ start }
     {
         if self.is_cut(start, stop) {

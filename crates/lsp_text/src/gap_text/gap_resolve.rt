@@ -57,7 +57,7 @@ pub fn resolve_gapped<U: InLine>(
     position: Position,
 ) -> Result<usize, InsideCharacter>
     requires { IsGapText (without_gap bytes.old) starts.now.front starts.now.back }
-    ensures same { without_gap bytes.new ≡ without_gap bytes.old }
+    ensures unchanged { without_gap bytes.new ≡ without_gap bytes.old }
     ensures value { result_ok result
         ≡ option_map (place_of (chars (without_gap bytes.old)))
         (denoted U.units_of (chars (without_gap bytes.old)) position) }

@@ -67,7 +67,7 @@ fn turn_back(buffer: &mut Vec<u32>, low: usize, high: usize, index: usize, end: 
     requires within { high ≤ vec_len buffer.old }
     requires before { index ≤ low }
     requires starts { AreWithin end (take low buffer.old.items) }
-    ensures same { starts_of_both end (take index buffer.new.items) (drop result buffer.new.items)
+    ensures unchanged { starts_of_both end (take index buffer.new.items) (drop result buffer.new.items)
         ≡ starts_of_both end (take low buffer.old.items) (drop high buffer.old.items) }
     ensures order { index ≤ result }
     ensures within { result ≤ vec_len buffer.new }
@@ -84,7 +84,7 @@ fn turn_on(buffer: &mut Vec<u32>, low: usize, high: usize, index: usize, end: u3
     requires within { high + (index - low) ≤ vec_len buffer.old }
     requires after { low ≤ index }
     requires distances { AreWithin end (drop high buffer.old.items) }
-    ensures same { starts_of_both end (take index buffer.new.items) (drop result buffer.new.items)
+    ensures unchanged { starts_of_both end (take index buffer.new.items) (drop result buffer.new.items)
         ≡ starts_of_both end (take low buffer.old.items) (drop high buffer.old.items) }
     ensures order { index ≤ result }
     ensures within { result ≤ vec_len buffer.new }
@@ -173,7 +173,7 @@ impl GapStarts {
         requires front { AreWithin end self.old.front }
         requires back { AreWithin end self.old.back }
         requires size { end ≤ 2147483648 }
-        ensures same { starts_of_both end self.new.front self.new.back
+        ensures unchanged { starts_of_both end self.new.front self.new.back
             ≡ starts_of_both end self.old.front self.old.back }
         ensures front { length self.new.front ≡ line + 1 }
     {
@@ -193,7 +193,7 @@ impl GapStarts {
         requires front { AreWithin end self.old.front }
         requires back { AreWithin end self.old.back }
         requires size { end ≤ 2147483648 }
-        ensures same { starts_of_both end self.new.front self.new.back
+        ensures unchanged { starts_of_both end self.new.front self.new.back
             ≡ starts_of_both end self.old.front self.old.back }
         ensures some { 0 < length self.new.front }
         ensures last { IsLineOf (starts_of_both end self.old.front self.old.back) offset
@@ -207,7 +207,7 @@ impl GapStarts {
     fn insert(&mut self, starts: &[u32]) -> Result<(), AllocError>
         ensures front { OnOk result (self.new.front ≡ self.old.front ++ starts.now) }
         ensures back { OnOk result (self.new.back ≡ self.old.back) }
-        ensures error { OnErr result (self.new ≡ self.old) }
+        ensures unchanged { OnErr result (self.new ≡ self.old) }
     {
         self.high = widen(&mut self.buffer, self.low, self.high, starts.len(), 0)?;
         write(&mut self.buffer, self.low, starts);

@@ -45,7 +45,7 @@ fn replace(
     ensures ok { OnOk result
         (starts.new.items
         ≡ take keep starts.old.items ++ (fresh.items ++ drop past starts.old.items)) }
-    ensures err { OnErr result (starts.new.items ≡ starts.old.items) }
+    ensures unchanged { OnErr result (starts.new.items ≡ starts.old.items) }
 {
     if keep < past || !fresh.is_empty() {
         let _ = starts.splice(keep..past, fresh)?;
@@ -65,7 +65,7 @@ pub fn splice_starts(
     requires replaces { Replaces starts.old.items bytes.now from to len }
     requires size { length bytes.now ≤ 2147483648 }
     ensures ok { OnOk result (starts.new.items ≡ line_starts bytes.now) }
-    ensures err { OnErr result (starts.new.items ≡ starts.old.items) }
+    ensures unchanged { OnErr result (starts.new.items ≡ starts.old.items) }
 {
     let low = from.saturating_sub(1);
     let end = from + len;

@@ -19,7 +19,7 @@ pub trait Starts {
         requires { index < length (starts self.old) }
         ensures start { result ≡ slice_index (starts self.old) index }
         ensures counted { looks self.new ≡ min (looks self.old + 1) usize.MAX }
-        ensures same { starts self.new ≡ starts self.old };
+        ensures unchanged { starts self.new ≡ starts self.old };
 
     /// There is at least one start, the first is 0, and they ascend.
     ghost are_starts: { (s : Self) → AreStarts (starts s) };
@@ -31,7 +31,7 @@ pub fn line_of<S: Starts>(starts: &mut S, place: usize) -> usize
     ensures line { IsLineOf (S.starts starts.old) place result }
     ensures looks { (digits : ℕ) → length (S.starts starts.old) < 2 ^ digits
         → S.looks starts.new ≤ S.looks starts.old + digits }
-    ensures same { S.starts starts.new ≡ S.starts starts.old }
+    ensures unchanged { S.starts starts.new ≡ S.starts starts.old }
 {
     let mut low = 0;
     let mut high = starts.len();

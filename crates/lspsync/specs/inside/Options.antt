@@ -28,9 +28,9 @@ shape_by page values = page_shape page.name.now (is_some page.sync) (is_some pag
     values.encodings values.kinds (rules_of_limits values.limits.now)
 
 -- A command of the program, before it is added.
-pub record IsCommand (page : Page) (values : Values) (made : Command) : Type 0 where
-  pub app : app_of made ≡ record { top = shape_by page values; subs = [] }
-  pub globals : (fields_of made).has_globals ≡ false
+pub record IsCommand (page : Page) (values : Values) (command : Command) : Type 0 where
+  pub app : app_of command ≡ record { top = shape_by page values; subs = [] }
+  pub globals : (fields_of command).has_globals ≡ false
 
 -- The program without its commands.
 abbrev pub top_app : App

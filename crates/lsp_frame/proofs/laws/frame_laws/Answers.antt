@@ -7,7 +7,7 @@ use Rattle.lsp_frame.proofs.laws.frame_laws.Goals as goal
 
 pub returns : goal.returns
 returns c = record {
-  spelling = one_frame_law;
+  one_frame = one_frame_law;
   front = same_frame;
   bound = bound_law;
   decision = decision_law;

@@ -26,5 +26,5 @@ returns-clause-taken c = λ max_body stream at.
 
 pub returns-in-Err-clause-taken : goal.returns-in-Err-clause-taken
 returns-in-Err-clause-taken c = λ max_body stream at.
-    rw c.in_ok-fault_of_stream-in-Err.ensures.same
-    (fault_behind max_body stream c.args.piece.now c.loop-at.at _ c.loop-at.framer c.feed.new.self c.in-Err.fault (c.loop-at.invariant.taken max_body stream at) c.in-Err.ensures.fault c.in_ok-fault_of_stream-in-Err.ensures.of_stream)
+    rw c.in_ok-fault_of_stream-in-Err.ensures.found
+    (fault_behind max_body stream c.args.piece.now c.loop-at.at _ c.loop-at.framer c.feed.new.self c.in-Err.fault (c.loop-at.invariant.taken max_body stream at) c.in-Err.ensures.error c.in_ok-fault_of_stream-in-Err.ensures.of_stream)

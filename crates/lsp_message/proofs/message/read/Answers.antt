@@ -7,9 +7,9 @@ pub returns-clause-ok : goal.returns-clause-ok
 returns-clause-ok c =
     (read_by c.args.body.now c.from_slice.result c.message_from.result c.from_slice.ensures.ok c.from_slice.ensures.err c.from_slice.ensures.memory (λ e. false≢true (c.if-begins_with_mark.ensures.1 e)) c.message_from.ensures).0
 
-pub returns-clause-err : goal.returns-clause-err
-returns-clause-err c =
+pub returns-clause-error : goal.returns-clause-error
+returns-clause-error c =
     (read_by c.args.body.now c.from_slice.result c.message_from.result c.from_slice.ensures.ok c.from_slice.ensures.err c.from_slice.ensures.memory (λ e. false≢true (c.if-begins_with_mark.ensures.1 e)) c.message_from.ensures).1
 
-pub returns-then-begins_with_mark-clause-err : goal.returns-then-begins_with_mark-clause-err
-returns-then-begins_with_mark-clause-err c = marked_no_json c.args.body.now (c.if-begins_with_mark.ensures.0 refl)
+pub returns-then-begins_with_mark-clause-error : goal.returns-then-begins_with_mark-clause-error
+returns-then-begins_with_mark-clause-error c = marked_no_json c.args.body.now (c.if-begins_with_mark.ensures.0 refl)

@@ -4,16 +4,16 @@ use Rattle.lsp_stream.specs.Turns.{AppendsFront, AppendsShort}
 use Rattle.lsp_replay.proofs.EngineLemmas.{went_cut, went_at_end, went_whole_records, last_fault, ok_and, err_and_two, err_and}
 use Rattle.lsp_replay.proofs.engine.finish_run.Goals as goal
 
-pub returns-then-not-at_rest-clause-fault : goal.returns-then-not-at_rest-clause-fault
-returns-then-not-at_rest-clause-fault g c = λ reading run_output received input w. (
+pub returns-then-not-at_rest-clause-error : goal.returns-then-not-at_rest-clause-error
+returns-then-not-at_rest-clause-error g c = λ reading run_output received input w. (
   refl,
   went_cut reading run_output received input c.reading_laws.ensures.rest c.args.splitter.now (g.H.Handler.run_output c.args.handler.now) (g.W.Sink.seen c.args.writer.now).written c.requires
       (record { silent = g.met.H.Handler.silent c.args.handler.now; unstopped = g.met.H.Handler.unstopped c.args.handler.now })
       (λ nothing. let two : false ≡ true = sym c.if-not-at_rest.true ∙ c.at_rest.ensures.1 nothing in cc) w,
 )
 
-pub returns-clause-fault : goal.returns-clause-fault
-returns-clause-fault g c =
+pub returns-clause-error : goal.returns-clause-error
+returns-clause-error g c =
     err_and_two c.write_last.result _ _ _ _ c.write_last.ensures.front c.write_last.ensures.short c.write_last.ensures.kind (λ fault front short kind reading run_output received input w.
     last_fault reading run_output received input (g.H.Handler.FLUSHES && not (g.W.Sink.seen c.write_last.new.writer).flushed) c.args.place c.args.splitter.now (g.H.Handler.run_output c.args.handler.now) (g.W.Sink.seen c.args.writer.now).written (g.W.Sink.seen c.write_last.new.writer).written fault
     (record { silent = g.met.H.Handler.silent c.args.handler.now; unstopped = g.met.H.Handler.unstopped c.args.handler.now })

@@ -23,7 +23,7 @@ returns-in_err-accept-clause-run g c =
     let p = err_from_is_err_and c.from_residual-in_err-accept.result c.from_residual-in_err-accept.ensures.1 in
     record {
       ran = rw (p.1, p.2) (ran_refused (record { max_body = c.args.rules.limits.max_body; versions = c.args.rules.versions; only_one = c.args.rules.only_one }) (g.H.Handler.run_output c.args.handler.now) (g.R.Source.seen c.args.ends.now.reader.now).left (g.W.Sink.seen c.args.ends.now.writer.now).written
-          (g.R.Source.seen c.read_opening.new.reader).left _ _ _ c.in_ok-opening.opening.version c.in_err-accept.ensures.err (rw c.reader.ensures.value at c.in_ok-opening.ensures.read) (λ more none. c.in_ok-opening.ensures.known more (λ _. none)));
+          (g.R.Source.seen c.read_opening.new.reader).left _ _ _ c.in_ok-opening.opening.version c.in_err-accept.ensures.error (rw c.reader.ensures.value at c.in_ok-opening.ensures.read) (λ more none. c.in_ok-opening.ensures.known more (λ _. none)));
       called = search rules;
       none_passed_over = search rules;
       passed_on = search rules;
@@ -56,9 +56,9 @@ returns-in_err-end-clause-run g c =
     record {
       ran = rw (p.1, p.2) (ran_into_fault (record { max_body = c.args.rules.limits.max_body; versions = c.args.rules.versions; only_one = c.args.rules.only_one }) (g.H.Handler.run_output c.args.handler.now) (g.R.Source.seen c.args.ends.now.reader.now).left (g.W.Sink.seen c.args.ends.now.writer.now).written
           (g.R.Source.seen c.pieces.ends.reader.now).left c.pieces.ended (state_of (g.R.Source.seen c.args.ends.now.reader.now).ended (g.R.Source.seen c.pieces.ends.reader.now).ended (g.H.Handler.FLUSHES && not (g.W.Sink.seen c.take_piece.new.writer).flushed)) c.pieces.place _ c.pieces.splitter (g.H.Handler.run_output c.pieces.handler) (g.W.Sink.seen c.pieces.ends.writer.now).written (g.W.Sink.seen c.take_piece.new.writer).written _
-          (λ input w. (rw c.writer.ensures.value at c.in_err-end.ensures.fault) (record { max_body = c.args.rules.limits.max_body; versions = c.args.rules.versions; only_one = c.args.rules.only_one }) (g.H.Handler.run_output c.args.handler.now) (g.W.Sink.seen c.args.ends.now.writer.now).written input w) c.pieces.invariant.runs);
+          (λ input w. (rw c.writer.ensures.value at c.in_err-end.ensures.error) (record { max_body = c.args.rules.limits.max_body; versions = c.args.rules.versions; only_one = c.args.rules.only_one }) (g.H.Handler.run_output c.args.handler.now) (g.W.Sink.seen c.args.ends.now.writer.now).written input w) c.pieces.invariant.runs);
       called = let runs = c.pieces.invariant.runs in
-          let why = (rw c.writer.ensures.value at c.in_err-end.ensures.fault) (record { max_body = c.args.rules.limits.max_body; versions = c.args.rules.versions; only_one = c.args.rules.only_one }) (g.H.Handler.run_output c.args.handler.now) (g.W.Sink.seen c.args.ends.now.writer.now).written runs.input runs.progress in
+          let why = (rw c.writer.ensures.value at c.in_err-end.ensures.error) (record { max_body = c.args.rules.limits.max_body; versions = c.args.rules.versions; only_one = c.args.rules.only_one }) (g.H.Handler.run_output c.args.handler.now) (g.W.Sink.seen c.args.ends.now.writer.now).written runs.input runs.progress in
           rw (p.1, p.2) (called_fault _ _ _ _ _ c.take_piece.new.turns.left _ _ _ _ _ (both_writes _ _ _ _ _ _ _ _ c.pieces.invariant.spent (rw c.writer.ensures.value at c.in_err-end.ensures.calls.spent)) c.in_err-end.ensures.calls.none_left
           (λ is. absurd (piece_not_read _ (g.H.Handler.run_output c.args.handler.now) _ _ _ _ _ why is))
           (λ is. let failed = (rw c.writer.ensures.value at c.in_err-end.ensures.calls.failed) is in (failed.0, rose_more _ _ _ c.pieces.invariant.spent.writes failed.1)) (λ _ error. (c.pieces.invariant.at_end (c.pieces.invariant.ended.0 error), c.pieces.invariant.rose)));
@@ -82,7 +82,7 @@ returns-then-ended-clause-run g c =
     record {
       ran = ran_finished (record { max_body = c.args.rules.limits.max_body; versions = c.args.rules.versions; only_one = c.args.rules.only_one }) (g.H.Handler.run_output c.args.handler.now) (g.R.Source.seen c.args.ends.now.reader.now).left (g.W.Sink.seen c.args.ends.now.writer.now).written
           (g.R.Source.seen c.pieces.ends.reader.now).left c.pieces.ended (state_of (g.R.Source.seen c.args.ends.now.reader.now).ended (g.R.Source.seen c.pieces.ends.reader.now).ended (g.H.Handler.FLUSHES && not (g.W.Sink.seen c.finish_run.new.writer).flushed)) c.pieces.place c.take_piece.new.splitter (g.H.Handler.run_output c.take_piece.new.handler)
-          (g.W.Sink.seen c.take_piece.new.writer).written (g.W.Sink.seen c.finish_run.new.writer).written c.finish_run.result (c.pieces.invariant.ended.1 c.if-ended.true) (rw c.writer-then-ended.ensures.value at c.finish_run.ensures.at_end) (rw c.writer-then-ended.ensures.value at c.finish_run.ensures.fault)
+          (g.W.Sink.seen c.take_piece.new.writer).written (g.W.Sink.seen c.finish_run.new.writer).written c.finish_run.result (c.pieces.invariant.ended.1 c.if-ended.true) (rw c.writer-then-ended.ensures.value at c.finish_run.ensures.at_end) (rw c.writer-then-ended.ensures.value at c.finish_run.ensures.error)
           (runs_on (record { max_body = c.args.rules.limits.max_body; versions = c.args.rules.versions; only_one = c.args.rules.only_one }) (g.H.Handler.run_output c.args.handler.now) (g.R.Source.seen c.args.ends.now.reader.now).left (g.W.Sink.seen c.args.ends.now.writer.now).written (g.R.Source.seen c.pieces.ends.reader.now).left c.pieces.ended c.pieces.place _ c.pieces.splitter c.take_piece.new.splitter
           (g.H.Handler.run_output c.pieces.handler) (g.H.Handler.run_output c.take_piece.new.handler) (g.W.Sink.seen c.pieces.ends.writer.now).written (g.W.Sink.seen c.take_piece.new.writer).written c.in_ok-end.ensures.version
           (λ input w. rw c.in_default.is at ((rw c.writer.ensures.value at c.in_ok-end.ensures.progress) (record { max_body = c.args.rules.limits.max_body; versions = c.args.rules.versions; only_one = c.args.rules.only_one }) (g.H.Handler.run_output c.args.handler.now) (g.W.Sink.seen c.args.ends.now.writer.now).written input w)) c.pieces.invariant.runs);
@@ -145,7 +145,7 @@ returns-in_err-end-clause-whole g c =
     let p = err_from_is_err_and c.from_residual-in_err-end.result c.from_residual-in_err-end.ensures.1 in
     rw (p.1, p.2) (λ _ is. piece_whole (record { max_body = c.args.rules.limits.max_body; versions = c.args.rules.versions; only_one = c.args.rules.only_one }) (g.H.Handler.run_output c.args.handler.now) (g.R.Source.seen c.args.ends.now.reader.now).left (g.W.Sink.seen c.args.ends.now.writer.now).written
     (g.R.Source.seen c.pieces.ends.reader.now).left c.pieces.ended c.pieces.place _ c.pieces.splitter (g.H.Handler.run_output c.pieces.handler) (g.W.Sink.seen c.pieces.ends.writer.now).written (g.W.Sink.seen c.take_piece.new.writer).written _ _
-    (λ input w. (rw c.writer.ensures.value at c.in_err-end.ensures.fault) (record { max_body = c.args.rules.limits.max_body; versions = c.args.rules.versions; only_one = c.args.rules.only_one }) (g.H.Handler.run_output c.args.handler.now) (g.W.Sink.seen c.args.ends.now.writer.now).written input w) c.pieces.invariant.runs is)
+    (λ input w. (rw c.writer.ensures.value at c.in_err-end.ensures.error) (record { max_body = c.args.rules.limits.max_body; versions = c.args.rules.versions; only_one = c.args.rules.only_one }) (g.H.Handler.run_output c.args.handler.now) (g.W.Sink.seen c.args.ends.now.writer.now).written input w) c.pieces.invariant.runs is)
 
 pub returns-then-ended-clause-whole : goal.returns-then-ended-clause-whole
 returns-then-ended-clause-whole g c = λ one is.

@@ -6,12 +6,12 @@ use Rattle.lsp_log.specs.Splitting.{IsSplitterFault}
 use Rattle.lsp_replay.proofs.EngineLemmas.{went_fed, fed_fault}
 use Rattle.lsp_replay.proofs.engine.take_piece.Goals as goal
 
-pub returns-in_err-at-clause-fault : goal.returns-in_err-at-clause-fault
-returns-in_err-at-clause-fault g c =
+pub returns-in_err-at-clause-error : goal.returns-in_err-at-clause-error
+returns-in_err-at-clause-error g c =
     let p = err_from_is_err_and c.from_residual.result c.from_residual.ensures.1 in
     rw (p.1, p.2) (λ reading run_output received input w.
     fed_fault reading run_output received input _ c.args.piece.now _ c.bytes.at c.bytes.splitter (g.H.Handler.run_output c.bytes.handler) (g.W.Sink.seen c.bytes.writer).written (g.W.Sink.seen c.bytes.writer).written _
-    c.bytes.invariant.within refl (λ records at. c.in_err-at.ensures.fault reading input records at)
+    c.bytes.invariant.within refl (λ records at. c.in_err-at.ensures.error reading input records at)
     (record { silent = g.met.H.Handler.silent c.bytes.handler; unstopped = g.met.H.Handler.unstopped c.bytes.handler }) (Appends-nil (g.W.Sink.seen c.bytes.writer).written)
     (c.bytes.invariant.progress reading run_output received input w))
 
@@ -26,11 +26,11 @@ returns-in_err-at-clause-calls g c =
       spent = c.bytes.invariant.spent;
     })
 
-pub returns-in_err-outcome-clause-fault : goal.returns-in_err-outcome-clause-fault
-returns-in_err-outcome-clause-fault g c =
+pub returns-in_err-outcome-clause-error : goal.returns-in_err-outcome-clause-error
+returns-in_err-outcome-clause-error g c =
     let p = err_from_is_err_and c.from_residual-in_err-outcome.result c.from_residual-in_err-outcome.ensures.1 in
     rw (p.1, p.2) (λ reading run_output received input w.
-    c.in_err-outcome.ensures.fault reading run_output received input (drop (c.bytes.at + c.in_ok-at.field-0) c.args.piece.now)
+    c.in_err-outcome.ensures.error reading run_output received input (drop (c.bytes.at + c.in_ok-at.field-0) c.args.piece.now)
     (went_fed reading run_output received input c.args.piece.now _ c.bytes.at c.in_ok-at.field-0 c.bytes.splitter c.feed.new.self (g.H.Handler.run_output c.bytes.handler) (g.W.Sink.seen c.bytes.writer).written
     c.bytes.invariant.within refl (λ records at. c.in_ok-at.ensures.is_after reading input records at) (c.bytes.invariant.progress reading run_output received input w)))
 

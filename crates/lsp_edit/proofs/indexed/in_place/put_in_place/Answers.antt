@@ -9,8 +9,8 @@ replace_range-requires-clause-start_boundary c =
     rw (c.in_ok-replace_bytes.ensures.bytes, c.in_ok-reserve.ensures.bytes)
     (start_again (string_bytes c.args.text.now) (IsUtf8-string_bytes c.args.text.now) c.args.start c.args.stop c.args.new.now c.utf8.new c.requires.order c.requires.at_start c.requires.at_stop)
 
-pub returns-then-is_err-clause-same : goal.returns-then-is_err-clause-same
-returns-then-is_err-clause-same c =
+pub returns-then-is_err-clause-unchanged : goal.returns-then-is_err-clause-unchanged
+returns-then-is_err-clause-unchanged c =
     let old : List ℕ = string_bytes c.args.text.now in
     let now : string_bytes c.replace_bytes.new.text ≡ replace_range old c.args.start c.args.stop c.args.new.now = rw c.in_ok-reserve.ensures.bytes at c.in_ok-replace_bytes.ensures.bytes in
     let gone : c.deref-then-is_err.result.now ≡ slice_range old c.args.start c.args.stop =
@@ -35,4 +35,4 @@ returns-then-is_err-clause-same c =
 
 pub returns-then-is_err-clause-indexed : goal.returns-then-is_err-clause-indexed
 returns-then-is_err-clause-indexed c =
-    rw (returns-then-is_err-clause-same c, at_err _ c.splice.result (sym c.is_err.ensures.value ∙ c.if-is_err.true) c.splice.ensures.err) c.requires.indexed
+    rw (returns-then-is_err-clause-unchanged c, at_err _ c.splice.result (sym c.is_err.ensures.value ∙ c.if-is_err.true) c.splice.ensures.unchanged) c.requires.indexed

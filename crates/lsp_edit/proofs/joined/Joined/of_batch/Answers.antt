@@ -18,14 +18,14 @@ loop-run-init c =
     let rest : chunks_rest c.into_iter-run-iterator.result ≡ c.args.changes.now = search rules in
     let batch : List Edit = map edit_of c.args.changes.now in
     let is : c.begin-joined.result ≡ record { before = c.args.before.now; items = plain (chars c.args.before.now) }
-    = c.begin-joined.ensures ∙ ap (λ (b : List ℕ). record { before = b; items = plain (chars b) }) c.in_ok-copied.ensures.same in
+    = c.begin-joined.ensures ∙ ap (λ (b : List ℕ). record { before = b; items = plain (chars b) }) c.in_ok-copied.ensures.copy in
     let at : IsReached c.begin-joined.result c.in_ok-reached.reached
-    = subst (IsReached c.begin-joined.result) (sym c.in_ok-reached.ensures.same) (first_reached c.args.before.now c.begin-joined.result c.in_ok-reached.ensures.utf8 is) in (
+    = subst (IsReached c.begin-joined.result) (sym c.in_ok-reached.ensures.copy) (first_reached c.args.before.now c.begin-joined.result c.in_ok-reached.ensures.utf8 is) in (
       search rules,
       rw rest c.requires.fits,
       subst (λ (r : List Change). IsRun (units_in c.args.encoding) c.args.before.now batch c.begin-joined.result c.in_ok-reached.reached (map edit_of r)) (sym rest)
           (run_begins (units_in c.args.encoding) c.args.before.now batch c.begin-joined.result c.in_ok-reached.reached c.in_ok-reached.ensures.utf8 is at
-          (omega (arith, ap length c.in_ok-reached.ensures.same, c.requires.size))),
+          (omega (arith, ap length c.in_ok-reached.ensures.copy, c.requires.size))),
     )
 
 pub loop-run-preserved : goal.loop-run-preserved

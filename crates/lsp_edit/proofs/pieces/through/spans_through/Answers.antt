@@ -11,7 +11,7 @@ loop-span-preserved c =
     elim c.match-span.branch [
       | in-Old+in_ok-count-in-Old w ↦
           let rest : take (length c.args.first.now - c.loop-span.begun) (drop c.loop-span.begun c.args.first.now) ≡ drop c.loop-span.begun c.args.first.now = rest_all c.args.first.now c.loop-span.begun in
-          let made = rw rest at w.in_ok-count-in-Old.ensures.made in
+          let made = rw rest at w.in_ok-count-in-Old.ensures.pushed in
           let passed = rw rest at w.in_ok-count-in-Old.ensures.passed in
           let within = rw rest at w.in_ok-count-in-Old.ensures.within in
           rw (w.out-is, w.begun-is, w.passed-is) (

@@ -22,14 +22,14 @@ returns-clause-one c =
     subst (λ (n : ℕ). HoldsOne n c.take_piece.new.buffered.items) c.max_body-max_body.ensures.value
     (part_one c.max_body-max_body.result c.take_piece.new.buffered.items (stage_part c.max_body-max_body.result c.take_piece.new.buffered.items c.take_piece.new.stage c.in-Ok.ensures.stage c.in-Ok.ensures.sound))
 
-pub returns-in-Err-clause-fault : goal.returns-in-Err-clause-fault
-returns-in-Err-clause-fault c =
+pub returns-in-Err-clause-error : goal.returns-in-Err-clause-error
+returns-in-Err-clause-error c =
     (feed_stop c.args.self.now c.self.inside.place c.max_body-max_body.result c.self.inside.buffered.items c.take_piece.new.buffered.items c.args.piece.now c.self.inside.stage c.take_piece.new.stage c.self.inside.limits c.in-Err.stop c.in_stream.result
-    c.self.view_is (not_failed c.self.inside.stage c.in_default.not-Failed) c.max_body-max_body.ensures.value c.in-Err.ensures.fault c.in_stream.ensures c.in-Err.ensures.err c.in-Err.ensures.after).0
+    c.self.view_is (not_failed c.self.inside.stage c.in_default.not-Failed) c.max_body-max_body.ensures.value c.in-Err.ensures.error c.in_stream.ensures c.in-Err.ensures.unchanged c.in-Err.ensures.after).0
 
 pub returns-in-Err-clause-failed : goal.returns-in-Err-clause-failed
 returns-in-Err-clause-failed c =
     let stopped = feed_stop c.args.self.now c.self.inside.place c.max_body-max_body.result c.self.inside.buffered.items c.take_piece.new.buffered.items c.args.piece.now c.self.inside.stage c.take_piece.new.stage c.self.inside.limits c.in-Err.stop c.in_stream.result
-    c.self.view_is (not_failed c.self.inside.stage c.in_default.not-Failed) c.max_body-max_body.ensures.value c.in-Err.ensures.fault c.in_stream.ensures c.in-Err.ensures.err c.in-Err.ensures.after in
+    c.self.view_is (not_failed c.self.inside.stage c.in_default.not-Failed) c.max_body-max_body.ensures.value c.in-Err.ensures.error c.in_stream.ensures c.in-Err.ensures.unchanged c.in-Err.ensures.after in
     let sound : c.args.self.now.failed ≡ false = sym (ap (λ (f : Framing). f.failed) c.self.view_is) ∙ not_failed c.self.inside.stage c.in_default.not-Failed in
     (λ e. absurd (stopped.1 (let f : c.in_stream.result ≡ Failed = cc in f)), λ h. absurd (false≢true (sym sound ∙ h)))

@@ -4,19 +4,19 @@ use Rattle.lsp_frame.proofs.ProgressLemmas.{header_stop, held_more, take_short, 
 use Rattle.lsp_frame.proofs.framer.header.take_header.Goals as goal
 use Rattle.lsp_frame.proofs.framer.header.take_header.Goals.{else-len-eq-LONGEST_HEADER-via-then-len-eq-LONGEST_HEADER+else-not-is_end-2, else-len-eq-LONGEST_HEADER-via-else-len-eq-LONGEST_HEADER}
 
-pub returns-in-Err-clause-fault : goal.returns-in-Err-clause-fault
-returns-in-Err-clause-fault c =
+pub returns-in-Err-clause-error : goal.returns-in-Err-clause-error
+returns-in-Err-clause-error c =
     let room : length c.loop-at.buffered.items + (8192 - c.len.result) ≤ 8192 = omega (arith, c.len.ensures, c.loop-at.invariant.short) in
-    header_stop c.args.max_body c.args.buffered.now.items c.args.piece.now c.loop-at.buffered.items c.first-window.result.now c.loop-at.at (8192 - c.len.result) c.in-Err.stop c.loop-at.invariant.within c.loop-at.invariant.buffered c.first-window.ensures room c.in-Err.ensures.fault
+    header_stop c.args.max_body c.args.buffered.now.items c.args.piece.now c.loop-at.buffered.items c.first-window.result.now c.loop-at.at (8192 - c.len.result) c.in-Err.stop c.loop-at.invariant.within c.loop-at.invariant.buffered c.first-window.ensures room c.in-Err.ensures.error
 
-pub returns-then-not-is_end-2-clause-err : goal.returns-then-not-is_end-2-clause-err
-returns-then-not-is_end-2-clause-err c = (
+pub returns-then-not-is_end-2-clause-unchanged : goal.returns-then-not-is_end-2-clause-unchanged
+returns-then-not-is_end-2-clause-unchanged c = (
   c.loop-at.at + c.in-Ok.taken,
   c.in-Ok.ensures.buffered ∙ held_more c.args.buffered.now.items c.args.piece.now c.loop-at.buffered.items c.first-window.result.now c.loop-at.at (8192 - c.len.result) c.in-Ok.taken c.loop-at.invariant.buffered c.first-window.ensures c.in-Ok.ensures.taken.1,
 )
 
-pub returns-then-not-is_end-2-clause-fault : goal.returns-then-not-is_end-2-clause-fault
-returns-then-not-is_end-2-clause-fault c =
+pub returns-then-not-is_end-2-clause-error : goal.returns-then-not-is_end-2-clause-error
+returns-then-not-is_end-2-clause-error c =
     let more : c.take_line.new.buffered.items ≡ c.args.buffered.now.items ++ take (c.loop-at.at + c.in-Ok.taken) c.args.piece.now =
     c.in-Ok.ensures.buffered ∙ held_more c.args.buffered.now.items c.args.piece.now c.loop-at.buffered.items c.first-window.result.now c.loop-at.at (8192 - c.len.result) c.in-Ok.taken c.loop-at.invariant.buffered c.first-window.ensures c.in-Ok.ensures.taken.1 in
     let lens = window_len c.args.piece.now c.first-window.result.now c.loop-at.at (8192 - c.len.result) c.first-window.ensures in

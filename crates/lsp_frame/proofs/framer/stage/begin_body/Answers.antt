@@ -3,8 +3,8 @@ use Rattle.std.proofs.lemmas.List.{length-append, length-take}
 use Rattle.lsp_frame.proofs.FrameLemmas.{whole_fault, whole_body, whole_wanted, body_frame}
 use Rattle.lsp_frame.proofs.framer.stage.begin_body.Goals as goal
 
-pub returns-in-Err-clause-fault : goal.returns-in-Err-clause-fault
-returns-in-Err-clause-fault c =
+pub returns-in-Err-clause-error : goal.returns-in-Err-clause-error
+returns-in-Err-clause-error c =
     let len : c.len-start.result ≡ length c.args.buffered.now.items = omega (arith, c.len-start.ensures) in
     rw len (whole_fault c.args.max_body c.args.buffered.now.items c.args.rest.now c.args.notes c.in-Err.fault c.requires.whole c.in-Err.ensures)
 

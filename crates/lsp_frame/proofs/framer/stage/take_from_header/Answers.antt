@@ -7,7 +7,7 @@ pub returns-in-Ok-begin_body-clause-buffered : goal.returns-in-Ok-begin_body-cla
 returns-in-Ok-begin_body-clause-buffered c =
     taken_more c.args.buffered.now.items c.args.piece.now c.take_header.new.buffered.items c.begin_body.new.buffered.items c.in-Ok.taken c.in-Ok-begin_body.more c.in-Ok.ensures.buffered c.in-Ok-begin_body.ensures.buffered
 
-pub returns-in-Err-begin_body-clause-fault : goal.returns-in-Err-begin_body-clause-fault
-returns-in-Err-begin_body-clause-fault c =
+pub returns-in-Err-begin_body-clause-error : goal.returns-in-Err-begin_body-clause-error
+returns-in-Err-begin_body-clause-error c =
     subst (λ (x : List ℕ). IsHeaderStop c.args.max_body x c.in-Err-begin_body.stop)
-    (all_of c.args.buffered.now.items c.args.piece.now c.take_header.new.buffered.items c.in-Ok.taken c.in-Ok.ensures.buffered) c.in-Err-begin_body.ensures.fault
+    (all_of c.args.buffered.now.items c.args.piece.now c.take_header.new.buffered.items c.in-Ok.taken c.in-Ok.ensures.buffered) c.in-Err-begin_body.ensures.error

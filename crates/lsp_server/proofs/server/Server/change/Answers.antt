@@ -20,4 +20,4 @@ returns-clause-state c =
     let command : Command = changes (string_bytes c.args.params.uri) c.args.params.version (encoding_of s) (map edit_of c.args.params.changes.items) in
     rw (edits_of c.args.params.changes.items, ← c.self.view_is)
     (after s _ command c.change.new.self c.change.result c.answer_of.result
-    c.change.ensures.taken c.change.ensures.same c.change.ensures.error c.answer_of.ensures.refused (search rules))
+    c.change.ensures.taken c.change.ensures.unchanged c.change.ensures.error c.answer_of.ensures.refused (search rules))

@@ -15,12 +15,12 @@ pub returns-in_default-clause-error : goal.returns-in_default-clause-error
 returns-in_default-clause-error c =
     change_absent c.self.inside.limits c.self.inside.documents.entries c.args.self.now c.self.view_is c.args.uri.now c.args.version c.args.encoding (map edit_of c.args.changes.now) c.in_default.ensures.value
 
-pub returns-in_err-change-clause-same : goal.returns-in_err-change-clause-same
-returns-in_err-change-clause-same c =
+pub returns-in_err-change-clause-unchanged : goal.returns-in_err-change-clause-unchanged
+returns-in_err-change-clause-unchanged c =
     let p = err_from_is_err_and c.from_residual.result c.from_residual.ensures.1 in
     rw p.1
     (change_same c.self.inside.limits c.self.inside.documents.entries c.args.self.now c.self.view_is c.args.uri.now c.args.version c.args.encoding (map edit_of c.args.changes.now) c.in-Some.stored.now c.in-Some.ensures.value _
-    ((c.get_mut.follows.holds c.change.new.self).0 ∙ ap (λ (h : Stored). set_value (at_uri c.args.uri.now) c.self.inside.documents.entries h) c.in_err-change.ensures.same))
+    ((c.get_mut.follows.holds c.change.new.self).0 ∙ ap (λ (h : Stored). set_value (at_uri c.args.uri.now) c.self.inside.documents.entries h) c.in_err-change.ensures.unchanged))
 
 pub returns-in_err-change-clause-error : goal.returns-in_err-change-clause-error
 returns-in_err-change-clause-error c =

@@ -20,7 +20,7 @@ seek-requires-clause-back c = subst (λ (n : ℕ). AreWithin n c.self.inside.sta
 
 pub find_again-requires-clause-are : goal.find_again-requires-clause-are
 find_again-requires-clause-are c =
-    front_are c.len.result _ c.seek.new.self.front c.seek.new.self.back c.seek.ensures.same
+    front_are c.len.result _ c.seek.new.self.front c.seek.new.self.back c.seek.ensures.unchanged
     (subst (λ (n : ℕ). AreStarts (starts_of_both n c.self.inside.starts.front c.self.inside.starts.back)) (sym c.len.ensures) (gap_are (without_gap c.self.inside.bytes) c.self.inside.starts.front c.self.inside.starts.back c.self.invariant))
     c.seek.ensures.some
 
@@ -43,7 +43,7 @@ invariant_of-result-2 c =
     let bytes_is : without_gap c.replace.new.self ≡ replace_range (without_gap c.self.inside.bytes) c.args.start c.args.stop c.args.new.now
     = c.in_ok-replace.ensures.bytes ∙ ap (replace_range (without_gap c.self.inside.bytes) c.args.start c.args.stop) c.as_bytes-2.ensures.value in
     let same : starts_of_both (length (without_gap c.self.inside.bytes)) c.seek.new.self.front c.seek.new.self.back ≡ starts_of_both (length (without_gap c.self.inside.bytes)) c.self.inside.starts.front c.self.inside.starts.back
-    = subst (λ (n : ℕ). starts_of_both n c.seek.new.self.front c.seek.new.self.back ≡ starts_of_both n c.self.inside.starts.front c.self.inside.starts.back) c.len.ensures c.seek.ensures.same in
+    = subst (λ (n : ℕ). starts_of_both n c.seek.new.self.front c.seek.new.self.back ≡ starts_of_both n c.self.inside.starts.front c.self.inside.starts.back) c.len.ensures c.seek.ensures.unchanged in
     let last : IsLineOf (starts_of_both (length (without_gap c.self.inside.bytes)) c.self.inside.starts.front c.self.inside.starts.back) c.args.stop (length c.seek.new.self.front - 1)
     = subst (λ (n : ℕ). IsLineOf (starts_of_both n c.self.inside.starts.front c.self.inside.starts.back) c.args.stop (length c.seek.new.self.front - 1)) c.len.ensures
     c.seek.ensures.last in

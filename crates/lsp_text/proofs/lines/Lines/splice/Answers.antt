@@ -8,7 +8,7 @@ splice_starts-requires-clause-replaces c =
 
 pub invariant_of-self : goal.invariant_of-self
 invariant_of-self c =
-    starts_kept c.splice_starts.new.starts.items c.args.text.now c.as_bytes.result.now c.as_bytes.ensures.value c.splice_starts.result c.self.inside.starts.items c.self.invariant c.splice_starts.ensures.ok c.splice_starts.ensures.err
+    starts_kept c.splice_starts.new.starts.items c.args.text.now c.as_bytes.result.now c.as_bytes.ensures.value c.splice_starts.result c.self.inside.starts.items c.self.invariant c.splice_starts.ensures.ok c.splice_starts.ensures.unchanged
 
 pub returns-clause-ok : goal.returns-clause-ok
 returns-clause-ok c =

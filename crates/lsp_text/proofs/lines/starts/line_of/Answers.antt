@@ -6,7 +6,7 @@ pub loop-high-preserved-then-at-place : goal.loop-high-preserved-then-at-place
 loop-high-preserved-then-at-place g c =
     let kept = c.loop-high.invariant in
     record {
-      same = c.at.ensures.same ∙ kept.same;
+      same = c.at.ensures.unchanged ∙ kept.same;
       order = omega (arith, c.loop-high-test.true);
       within = kept.within;
       at_most = looked_low _ _ _ _ _ kept.same c.at.ensures.start c.if-at-place.true;
@@ -19,7 +19,7 @@ pub loop-high-preserved : goal.loop-high-preserved
 loop-high-preserved g c =
     let kept = c.loop-high.invariant in
     record {
-      same = c.at.ensures.same ∙ kept.same;
+      same = c.at.ensures.unchanged ∙ kept.same;
       order = omega (arith, c.loop-high-test.true);
       within = omega (arith, kept.within, kept.order);
       at_most = kept.at_most;

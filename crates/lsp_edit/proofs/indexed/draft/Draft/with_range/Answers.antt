@@ -24,26 +24,26 @@ pub replaced-requires-clause-at_start : goal.replaced-requires-clause-at_start
 replaced-requires-clause-at_start c =
     let r =
     (is_ranged (units_in c.args.encoding) c.args.number c.self.inside.text c.in_ok-start.ensures.utf8 c.args.range c.args.new.now c.utf8.new c.in_ok-start.start c.in_ok-start.stop c.in_ok-start.ensures.value) in
-    subst (λ (bs : List ℕ). IsCharBoundary bs c.in_ok-start.start) (sym c.in_ok-start.ensures.same) r.at_start
+    subst (λ (bs : List ℕ). IsCharBoundary bs c.in_ok-start.start) (sym c.in_ok-start.ensures.unchanged) r.at_start
 
 pub replaced-requires-clause-at_stop : goal.replaced-requires-clause-at_stop
 replaced-requires-clause-at_stop c =
     let r =
     (is_ranged (units_in c.args.encoding) c.args.number c.self.inside.text c.in_ok-start.ensures.utf8 c.args.range c.args.new.now c.utf8.new c.in_ok-start.start c.in_ok-start.stop c.in_ok-start.ensures.value) in
-    subst (λ (bs : List ℕ). IsCharBoundary bs c.in_ok-start.stop) (sym c.in_ok-start.ensures.same) r.at_stop
+    subst (λ (bs : List ℕ). IsCharBoundary bs c.in_ok-start.stop) (sym c.in_ok-start.ensures.unchanged) r.at_stop
 
 pub replaced-requires-clause-room : goal.replaced-requires-clause-room
 replaced-requires-clause-room c =
     let r =
     (is_ranged (units_in c.args.encoding) c.args.number c.self.inside.text c.in_ok-start.ensures.utf8 c.args.range c.args.new.now c.utf8.new c.in_ok-start.start c.in_ok-start.stop c.in_ok-start.ensures.value) in
-    omega (arith, ap (λ (bs : List ℕ). length (replace_range bs c.in_ok-start.start c.in_ok-start.stop c.args.new.now)) c.in_ok-start.ensures.same, r.longer, c.requires, ap length c.self.view_is)
+    omega (arith, ap (λ (bs : List ℕ). length (replace_range bs c.in_ok-start.start c.in_ok-start.stop c.args.new.now)) c.in_ok-start.ensures.unchanged, r.longer, c.requires, ap length c.self.view_is)
 
 pub returns-clause-ok : goal.returns-clause-ok
 returns-clause-ok c =
     let r =
     (is_ranged (units_in c.args.encoding) c.args.number c.self.inside.text c.in_ok-start.ensures.utf8 c.args.range c.args.new.now c.utf8.new c.in_ok-start.start c.in_ok-start.stop c.in_ok-start.ensures.value) in
     let bytes : c.in_ok-text.text ≡ replace_range c.self.inside.text c.in_ok-start.start c.in_ok-start.stop c.args.new.now
-    = c.in_ok-text.ensures ∙ ap (λ (bs : List ℕ). replace_range bs c.in_ok-start.start c.in_ok-start.stop c.args.new.now) c.in_ok-start.ensures.same in
+    = c.in_ok-text.ensures ∙ ap (λ (bs : List ℕ). replace_range bs c.in_ok-start.start c.in_ok-start.stop c.args.new.now) c.in_ok-start.ensures.unchanged in
     subst (λ (b : List ℕ). text_after_change (units_in c.args.encoding) (chars b) (record { range = Some c.args.range; text = chars c.args.new.now }) ≡ Ok (chars c.in_ok-text.text)) c.self.view_is
     (r.left ∙ ap (λ (t : List ℕ). Ok (chars t)) (sym bytes))
 
@@ -52,5 +52,5 @@ returns-clause-longer c =
     let r =
     (is_ranged (units_in c.args.encoding) c.args.number c.self.inside.text c.in_ok-start.ensures.utf8 c.args.range c.args.new.now c.utf8.new c.in_ok-start.start c.in_ok-start.stop c.in_ok-start.ensures.value) in
     let bytes : c.in_ok-text.text ≡ replace_range c.self.inside.text c.in_ok-start.start c.in_ok-start.stop c.args.new.now
-    = c.in_ok-text.ensures ∙ ap (λ (bs : List ℕ). replace_range bs c.in_ok-start.start c.in_ok-start.stop c.args.new.now) c.in_ok-start.ensures.same in
+    = c.in_ok-text.ensures ∙ ap (λ (bs : List ℕ). replace_range bs c.in_ok-start.start c.in_ok-start.stop c.args.new.now) c.in_ok-start.ensures.unchanged in
     omega (arith, r.longer, ap length bytes, ap length c.self.view_is)

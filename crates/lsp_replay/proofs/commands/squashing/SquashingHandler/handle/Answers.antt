@@ -10,7 +10,7 @@ returns-in-AsItIs-clause-ok c =
     (let not_bad : verdict_view c.in_ok-verdict.verdict ≢ bad = c.in_ok-in_log.ensures.in_log in
     let writing = rw c.in-AsItIs.is at (c.in_ok-verdict.ensures.writing not_bad) in
     told_as_it_is c.self.inside.session c.self.inside.texts.front.items c.self.inside.texts.singles.items c.self.inside.batches
-    (record { head = c.args.head; spelling = c.args.spelling.now; body = c.args.body.now })
+    (record { head = c.args.head; raw = c.args.raw.now; body = c.args.body.now })
     c.judge_and_join.new.self c.in_ok-verdict.ensures.session (verdict_view c.in_ok-verdict.verdict) c.in_ok-verdict.ensures.verdict
     c.take-run.result c.take-run.ensures.value c.args.buffer.now.items c.requires.empty
     c.in-AsItIs.ended writing.1 not_bad writing.0
@@ -24,7 +24,7 @@ returns-in-Continues-clause-ok c =
     (let not_bad : verdict_view c.in_ok-verdict.verdict ≢ bad = c.in_ok-in_log.ensures.in_log in
     let writing = rw c.in-Continues.is at (c.in_ok-verdict.ensures.writing not_bad) in
     told_more c.self.inside.session c.self.inside.texts.front.items c.self.inside.texts.singles.items c.self.inside.batches
-    (record { head = c.args.head; spelling = c.args.spelling.now; body = c.args.body.now })
+    (record { head = c.args.head; raw = c.args.raw.now; body = c.args.body.now })
     c.judge_and_join.new.self c.in_ok-verdict.ensures.session (verdict_view c.in_ok-verdict.verdict) c.in_ok-verdict.ensures.verdict
     c.take-run.result c.take-run.ensures.value c.args.buffer.now.items c.requires.empty
     c.in-Continues.frame.items c.in-Continues.batches writing.0 writing.1
@@ -37,7 +37,7 @@ returns-clause-ok c =
     (let not_bad : verdict_view c.in_ok-verdict.verdict ≢ bad = c.in_ok-in_log.ensures.in_log in
     let writing = rw c.in-Begins.is at (c.in_ok-verdict.ensures.writing not_bad) in
     told_next c.self.inside.session c.self.inside.texts.front.items c.self.inside.texts.singles.items c.self.inside.batches
-    (record { head = c.args.head; spelling = c.args.spelling.now; body = c.args.body.now })
+    (record { head = c.args.head; raw = c.args.raw.now; body = c.args.body.now })
     c.judge_and_join.new.self c.in_ok-verdict.ensures.session (verdict_view c.in_ok-verdict.verdict) c.in_ok-verdict.ensures.verdict
     c.take-run.result c.take-run.ensures.value c.args.buffer.now.items c.requires.empty
     c.in-Begins.frame.items c.in-Begins.ended c.in-Begins.batches writing.0 writing.1 writing.2 writing.3
