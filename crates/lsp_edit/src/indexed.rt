@@ -262,8 +262,8 @@ impl IndexedText {
         requires size { length self.now ≤ MAX_OLD_TEXT }
         requires fits { sum_by (λ change. string_len change.text) changes.now ≤ MAX_NEW_TEXT }
         ensures batch { IfOk result
-            (λ batch. IsCanonicalBatch (units_in encoding) max_len self.now (map edit_of changes.now)
-            (map edit_of batch.items)) }
+            (λ batch. IsCanonicalBatch (units_in encoding) max_len self.now
+            (map edit_of changes.now) (map edit_of batch.items)) }
         ensures error { IfErr result (λ fault. (fault ≡ NoMemory)
             ⊎ (text_within max_len self.now
             (meaning (units_in encoding) (chars self.now) (map edit_of changes.now)) ≡ Err fault)) }
