@@ -69,9 +69,9 @@ fn text_edit(alloc: Global, edit: Edit) -> Result<TextEdit, AllocError> {
 
 /// Makes the text edits of some rows, each of which has a range.
 pub fn text_edits(alloc: Global, edits: &[Edit]) -> Result<Vec<TextEdit>, AllocError> {
-    let mut made = Vec::new(alloc);
+    let mut text_edits = Vec::new(alloc);
     for edit in edits {
-        made.push(text_edit(alloc, *edit)?)?;
+        text_edits.push(text_edit(alloc, *edit)?)?;
     }
-    Ok(made)
+    Ok(text_edits)
 }

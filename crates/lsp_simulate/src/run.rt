@@ -77,8 +77,8 @@ pub fn simulate<R: BufRead + Drop, W: Write>(
     input: R,
     output: &mut W,
 ) -> Result<(), RunFault> {
-    let made = Pair::new(alloc, setting.limits, setting.offers, setting.config);
-    let mut pair = match made {
+    let pair = Pair::new(alloc, setting.limits, setting.offers, setting.config);
+    let mut pair = match pair {
         Ok(pair) => pair,
         Err(fault) => return Err(RunFault::Pair(fault)),
     };

@@ -67,8 +67,9 @@ fn turn_back(buffer: &mut Vec<u32>, low: usize, high: usize, index: usize, end: 
     requires within { high ≤ vec_len buffer.old }
     requires before { index ≤ low }
     requires starts { AreWithin end (take low buffer.old.items) }
-    ensures unchanged { starts_of_both end (take index buffer.new.items) (drop result buffer.new.items)
-        ≡ starts_of_both end (take low buffer.old.items) (drop high buffer.old.items) }
+    ensures unchanged { starts_of_both end (take index buffer.new.items)
+        (drop result buffer.new.items) ≡ starts_of_both end
+        (take low buffer.old.items) (drop high buffer.old.items) }
     ensures order { index ≤ result }
     ensures within { result ≤ vec_len buffer.new }
 {
@@ -84,8 +85,9 @@ fn turn_on(buffer: &mut Vec<u32>, low: usize, high: usize, index: usize, end: u3
     requires within { high + (index - low) ≤ vec_len buffer.old }
     requires after { low ≤ index }
     requires distances { AreWithin end (drop high buffer.old.items) }
-    ensures unchanged { starts_of_both end (take index buffer.new.items) (drop result buffer.new.items)
-        ≡ starts_of_both end (take low buffer.old.items) (drop high buffer.old.items) }
+    ensures unchanged { starts_of_both end (take index buffer.new.items)
+        (drop result buffer.new.items) ≡ starts_of_both end
+        (take low buffer.old.items) (drop high buffer.old.items) }
     ensures order { index ≤ result }
     ensures within { result ≤ vec_len buffer.new }
 {
