@@ -248,7 +248,7 @@ pub next_told : (units : ℕ → ℕ) (before lines : List ℕ) (parts : List Pa
     → (edited : Edited) → seen before parts changes ≡ edited → (made : List Part) → made ≡ next → (count : ℕ) → count ≡ next_number changes → Applied units edited change (seen before made count)
 next_told units before lines parts changes change next len is edited view made same count counted =
     subst (λ (e : Edited). Applied units e change (seen before made count)) view (record {
-      changed = is.changed ∙ ap (λ (ps : List Part). Ok (items_of (chars before) ps)) (sym same);
+      changed = is.made ∙ ap (λ (ps : List Part). Ok (items_of (chars before) ps)) (sym same);
       same = refl;
       counted = counted;
     })

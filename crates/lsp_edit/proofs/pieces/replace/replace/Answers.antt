@@ -26,7 +26,7 @@ returns-clause-ok c =
     let least = rw (c.deref-2.ensures.value, rest_all c.args.spans.now.items c.ended_by-first.result.0) at c.min.ensures in
     replaced_spans c.args.spans.now.items c.splice.new.self.items c.in_ok-new.new.items c.ended_by-first.result.0 c.passed_by-last.result.0 c.ended_by-first.result.1 c.passed_by-last.result.1 c.args.start c.args.stop _ c.args.text.now
     c.requires.order
-    (gave.4 ∙ ap (λ xs. take c.ended_by-first.result.0 c.args.spans.now.items ++ (xs ++ drop (c.ended_by-first.result.0 + c.min.result) c.args.spans.now.items)) (drained_is gave.0 gave.1 c.in_ok-new.new.items gave.2.0 (gave.2.1 ∙ c.in_ok-made.made.ok.0) gave.3))
+    (gave.4 ∙ ap (λ xs. take c.ended_by-first.result.0 c.args.spans.now.items ++ (xs ++ drop (c.ended_by-first.result.0 + c.min.result) c.args.spans.now.items)) (drained_is gave.0 gave.1 c.in_ok-new.new.items gave.2.0 (gave.2.1 ∙ c.in_ok-new.new.ok.0) gave.3))
     (ap (λ (n : ℕ). c.ended_by-first.result.0 + n) least)
     ended
     front
