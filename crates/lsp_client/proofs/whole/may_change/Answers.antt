@@ -6,14 +6,14 @@ use Rattle.lsp_client.proofs.whole.may_change.Goals.{then-changes-max_changes-vi
 
 pub returns-then-changes-max_changes-clause-error : goal.returns-then-changes-max_changes-clause-error
 returns-then-changes-max_changes-clause-error c units =
-    let held : to_z w32 (of_z w32 c.version-held.result) ≡ c.args.document.now.version = to_z-of_z w32 c.version-held.result (search rules) ∙ c.version-held.ensures in
+    let held : to_z w32 (of_z w32 c.version-current.result) ≡ c.args.document.now.version = to_z-of_z w32 c.version-current.result (search rules) ∙ c.version-current.ensures in
     elim c.then-changes-max_changes.branch [
-      | then-changes-max_changes-via-then-changes-max_changes w ↦ many_refused c.args.limits.now c.args.changes.now units c.args.document.now _ _ _ (to_z-of_z w32 c.args.version (search rules)) held c.if-version-held.false (omega (arith, w.if-changes-max_changes.true, c.max_changes.ensures.value))
-      | then-changes-max_changes-via-else-changes-max_changes+then-not-fits w ↦ long_refused c.args.limits.now c.args.changes.now units c.args.document.now _ _ _ (to_z-of_z w32 c.args.version (search rules)) held c.if-version-held.false _ w.fits.ensures w.if-not-fits.true
+      | then-changes-max_changes-via-then-changes-max_changes w ↦ many_refused c.args.limits.now c.args.changes.now units c.args.document.now _ _ _ (to_z-of_z w32 c.args.version (search rules)) held c.if-version-current.false (omega (arith, w.if-changes-max_changes.true, c.max_changes.ensures.value))
+      | then-changes-max_changes-via-else-changes-max_changes+then-not-fits w ↦ long_refused c.args.limits.now c.args.changes.now units c.args.document.now _ _ _ (to_z-of_z w32 c.args.version (search rules)) held c.if-version-current.false _ w.fits.ensures w.if-not-fits.true
     ]
 
 pub returns-clause-may : goal.returns-clause-may
 returns-clause-may c units =
-    let held : to_z w32 (of_z w32 c.version-held.result) ≡ c.args.document.now.version = to_z-of_z w32 c.version-held.result (search rules) ∙ c.version-held.ensures in
-    fit_accepted c.args.limits.now c.args.changes.now units c.args.document.now _ _ _ (to_z-of_z w32 c.args.version (search rules)) held c.if-version-held.false
+    let held : to_z w32 (of_z w32 c.version-current.result) ≡ c.args.document.now.version = to_z-of_z w32 c.version-current.result (search rules) ∙ c.version-current.ensures in
+    fit_accepted c.args.limits.now c.args.changes.now units c.args.document.now _ _ _ (to_z-of_z w32 c.args.version (search rules)) held c.if-version-current.false
     (omega (arith, c.if-changes-max_changes.false, c.max_changes.ensures.value)) (c.fits.ensures.0 c.if-not-fits.false)
