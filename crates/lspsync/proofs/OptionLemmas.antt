@@ -1,19 +1,41 @@
 -- What is read of an option.
-use Rattle.std.proofs.Common.{◌≡◌, ℕ, List, refl}
-use Rattle.std.specs.Prelude.{Option, Some, None, IfSome, Result, Ok}
-use Rattle.std.specs.Str.Parse.{digits_value, without_leading_plus}
-use Rattle.clap.specs.Matches.{ReadsOne}
+use Rattle.std.proofs.Common.{◌≡◌, ◌<◌, ◌^◌, ℕ, List, refl, false, true}
+use Rattle.std.specs.Prelude.{Option, Some, None, IfSome, IsSome, Result, Ok, Err}
+use Rattle.std.specs.Str.Parse.{IsNumeral, digits_value, without_leading_plus}
+use Rattle.clap.specs.Matches.{ReadsOne, found_of, one_text}
+use Rattle.clap.specs.declared.parser.matches.ArgMatches.{ArgMatches}
+use Rattle.lspsync.specs.Call.{HasNumber}
 
-pub one_read : {E : Type 0} (gives : List ℕ → Result ℕ E → Type 0) (text : List ℕ) (read : Option ℕ)
-    → ((n : ℕ) → gives text (Ok n) → n ≡ digits_value 10 (without_leading_plus text)) → ReadsOne gives text read
-    → IfSome read (λ n. n ≡ digits_value 10 (without_leading_plus text))
-one_read gives text (Some n) value at = value n at
-one_read gives text None value at = tt
+-- The text is a numeral of 64 bits.
+abbrev pub IsSmall : List ℕ → Type 0
+IsSmall text = IsNumeral 10 (without_leading_plus text) × (digits_value 10 (without_leading_plus text) < 2 ^ 64)
 
--- The number that was read is that of the option's text.
-pub number_given : (text : Option (List ℕ)) (read : Option ℕ) → (text ≡ None → read ≡ None)
-    → ((t : List ℕ) → text ≡ Some t → IfSome read (λ n. n ≡ digits_value 10 (without_leading_plus t)))
-    → IfSome read (λ n. (t : List ℕ) × (text ≡ Some t) × (n ≡ digits_value 10 (without_leading_plus t)))
-number_given text None none some = tt
-number_given None (Some n) none some = let bad : Some n ≡ None = none refl in cc
-number_given (Some t) (Some n) none some = (t, refl, some t refl)
+module _ {E : Type 0} (gives : List ℕ → Result ℕ E → Type 0) (options : ArgMatches) (id : List ℕ) where
+  read_number : (text : Option (List ℕ)) → one_text (found_of options) id ≡ text → (read : Option ℕ) → (text ≡ None → read ≡ None)
+      → ((t : List ℕ) → text ≡ Some t → ReadsOne gives t read)
+      → ((t : List ℕ) (n : ℕ) → gives t (Ok n) → IsSmall t × (n ≡ digits_value 10 (without_leading_plus t)))
+      → IfSome read (HasNumber options id)
+  read_number text is None none some reads = tt
+  read_number None is (Some n) none some reads = let bad : Some n ≡ None = none refl in cc
+  read_number (Some t) is (Some n) none some reads =
+      let given = reads t n (some t refl) in
+      record { text = t; found = is; numeral = given.0.0; value = given.1; small = given.0.1 }
+
+  pub number_given : (read : Option ℕ) → (one_text (found_of options) id ≡ None → read ≡ None)
+      → ((t : List ℕ) → one_text (found_of options) id ≡ Some t → ReadsOne gives t read)
+      → ((t : List ℕ) (n : ℕ) → gives t (Ok n) → IsSmall t × (n ≡ digits_value 10 (without_leading_plus t)))
+      → IfSome read (HasNumber options id)
+  number_given read none some reads = read_number (one_text (found_of options) id) refl read none some reads
+
+  -- A number that an option has is read.
+  pub number_read : (read : Option ℕ) → ((t : List ℕ) → one_text (found_of options) id ≡ Some t → ReadsOne gives t read)
+      → ((t : List ℕ) (e : E) → gives t (Err e) → IsSmall t → ⊥) → (n : ℕ) → HasNumber options id n → IsSome read
+  number_read (Some n) some fails m has = refl
+  number_read None some fails m has =
+      let failed = some has.text has.found in
+      absurd (fails has.text failed.0 failed.1 (has.numeral, has.small))
+
+-- What has none gives none.
+pub no_some : {A B : Type 0} (r : Option A) (s : Option B) → r ≡ None → IsSome r → IsSome s
+no_some (Some x) s is some = let bad : Some x ≡ None = is in cc
+no_some None s is some = let bad : false ≡ true = some in cc

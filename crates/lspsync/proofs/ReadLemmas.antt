@@ -1,11 +1,11 @@
 -- What the words are read as.
 use Rattle.std.proofs.Common.{◌≡◌, ◌∙◌, ◌⊎◌, ap, refl, true, inl, inr, List, ℕ, []}
-use Rattle.std.specs.Prelude.{Option, Some, None, Result, Ok, Err, IfSome}
+use Rattle.std.specs.Prelude.{Option, Result, Ok, Err}
 use Rattle.clap.specs.Words.{App, is_simple, subcommand_of, subcommand_rows_of, fault_of, is_simple_and_free, kind_of, HasKind}
 use Rattle.clap.specs.declared.error.Error.{Error}
 use Rattle.clap.specs.declared.parser.matches.ArgMatches.{ArgMatches}
 use Rattle.clap.proofs.OnLiterals.{clap_on_literals}
-use Rattle.lspsync.specs.Call.{IsCall, IsRead}
+use Rattle.lspsync.specs.Call.{IsFound, IsRead}
 use Rattle.lspsync.specs.CommandLine.{Choices, IsProgram, program_app}
 use Rattle.lspsync.specs.declared.command_line.Call.{Call}
 
@@ -24,8 +24,8 @@ pub is_free_program : (app : App) → IsProgram app → is_simple_and_free app �
 is_free_program app p = ap is_simple_and_free p.same ∙ free p.encodings p.kinds
 
 pub read_ok : (words : List (List ℕ)) (app : App) (found : ArgMatches) (call : Option Call) → IsProgram app → fault_of app words ≡ []
-    → subcommand_rows_of found ≡ subcommand_of app words → IfSome call (IsCall found) → IsRead words (Ok call)
-read_ok words app found (Some asked) p taken rows is = record {
+    → subcommand_rows_of found ≡ subcommand_of app words → IsFound found call → IsRead words (Ok call)
+read_ok words app found call p taken rows is = record {
   app = app;
   program = p;
   taken = taken;
@@ -33,7 +33,6 @@ read_ok words app found (Some asked) p taken rows is = record {
   rows = rows;
   call = is;
 }
-read_ok words app found None p taken rows is = (app, p, taken)
 
 pub read_err : (words : List (List ℕ)) (app : App) (error : Error) → IsProgram app → HasKind (fault_of app words) error → IsRead words (Err error)
 read_err words app error p (inl memory) = inl memory

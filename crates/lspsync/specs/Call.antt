@@ -1,7 +1,7 @@
 -- The call of the program, by what `clap` finds in its words.
-use Rattle.std.specs.Prelude.{ℕ, ◌≡◌, ◌⊎◌, [], Result, Ok, Err, Bool, true, false, List, Option, Some, None, codes, option_map, option_and_then, if◌then◌else◌}
+use Rattle.std.specs.Prelude.{ℕ, ◌≡◌, ◌<◌, ◌^◌, ◌⊎◌, [], Result, Ok, Err, Bool, true, false, List, Option, Some, None, codes, option_map, option_and_then, if◌then◌else◌}
 use Rattle.std.specs.Str.{bytes_eq}
-use Rattle.std.specs.Str.Parse.{digits_value, without_leading_plus}
+use Rattle.std.specs.Str.Parse.{IsNumeral, digits_value, without_leading_plus}
 use Rattle.clap.specs.Matches.{found_of, first_value, one_text, subcommand_name_of}
 use Rattle.clap.specs.Simple.{App, subcommand_of, subcommand_rows_of}
 use Rattle.clap.specs.Faults.{fault_of}
@@ -11,7 +11,7 @@ use Rattle.clap.specs.declared.error.Error.{Error}
 use Rattle.clap.specs.declared.error.kind.ErrorKind.TheVariants.{OutOfMemory}
 use Rattle.clap.specs.Walk.{rows_of}
 use Rattle.clap.specs.declared.parser.matches.ArgMatches.{ArgMatches}
-use Rattle.lsp_frame.specs.Limits.{Bounds}
+use Rattle.lsp_frame.specs.Limits.{Bounds, first_out_of_range}
 use Rattle.lsp_text.specs.Units.{encoding_named}
 use Rattle.lsp_text.specs.declared.encoding.Encoding.{Encoding}
 use Rattle.lsp_server.specs.declared.config.Config.{Config}
@@ -23,18 +23,21 @@ use Rattle.lspsync.specs.CommandLine.{IsProgram}
 use Rattle.lspsync.specs.declared.command_line.Call.{Call}
 use Rattle.lspsync.specs.declared.command_line.Call.TheVariants as call
 
--- An option has this number, in decimal digits.
-abbrev pub HasNumber : ArgMatches → List ℕ → ℕ → Type 0
-HasNumber options id n =
-    (text : List ℕ) × (one_text (found_of options) id ≡ Some text)
-    × (n ≡ digits_value 10 (without_leading_plus text))
+-- An option has this number: its text is a numeral in decimal digits, below 2 to the 64th.
+pub record HasNumber (options : ArgMatches) (id : List ℕ) (n : ℕ) : Type 0 where
+  pub text : List ℕ
+  pub found : one_text (found_of options) id ≡ Some text
+  pub numeral : IsNumeral 10 (without_leading_plus text)
+  pub value : n ≡ digits_value 10 (without_leading_plus text)
+  pub small : digits_value 10 (without_leading_plus text) < 2 ^ 64
 
--- The four limits are those of the options.
+-- The four limits are those of the options, each in its range.
 pub record AreLimits (options : ArgMatches) (limits : Bounds) : Type 0 where
   pub max_body : HasNumber options (codes "max-body") limits.max_body
   pub max_text : HasNumber options (codes "max-text") limits.max_text
   pub max_docs : HasNumber options (codes "max-docs") limits.max_docs
   pub max_changes : HasNumber options (codes "max-changes") limits.max_changes
+  pub in_range : first_out_of_range limits ≡ None
 
 -- The encoding that the options name.
 abbrev pub encoding_given : ArgMatches → Option Encoding
@@ -86,19 +89,30 @@ pub record IsCall (found : ArgMatches) (asked : Call) : Type 0 where
   pub rows : option_map (λ p. p.1) (subcommand_rows_of found) ≡ Some (rows_of (found_of options))
   pub call : IsCallNamed name options asked
 
--- The words are a call: the program takes them, and finds its subcommand and options in them.
-pub record AreCall (words : List (List ℕ)) (asked : Call) : Type 0 where
+-- No call was found in the words: no subcommand, or one whose name and options are no call.
+abbrev pub IsNoCall : ArgMatches → Type 0
+IsNoCall found = (subcommand_name_of found ≡ None)
+    ⊎ ((name : List ℕ) × (options : ArgMatches) × (subcommand_name_of found ≡ Some name)
+    × (option_map (λ p. p.1) (subcommand_rows_of found) ≡ Some (rows_of (found_of options)))
+    × ((asked : Call) → IsCallNamed name options asked → ⊥))
+
+-- What was found is the call, or is none.
+abbrev pub IsFound : ArgMatches → Option Call → Type 0
+IsFound found (Some asked) = IsCall found asked
+IsFound found None = IsNoCall found
+
+-- The program takes the words, and finds in them its subcommand with its options.
+pub record AreTaken (words : List (List ℕ)) (asked : Option Call) : Type 0 where
   pub app : App
   pub program : IsProgram app
   pub taken : fault_of app words ≡ []
   pub found : ArgMatches
   pub rows : subcommand_rows_of found ≡ subcommand_of app words
-  pub call : IsCall found asked
+  pub call : IsFound found asked
 
 -- What the words are read as. An error has a kind that the program finds in them, or memory ran
 -- out.
 abbrev pub IsRead : List (List ℕ) → Result (Option Call) Error → Type 0
-IsRead words (Ok (Some asked)) = AreCall words asked
-IsRead words (Ok None) = (app : App) × IsProgram app × (fault_of app words ≡ [])
+IsRead words (Ok asked) = AreTaken words asked
 IsRead words (Err error) = (kind_of error ≡ OutOfMemory)
     ⊎ ((app : App) × IsProgram app × IsAmong (kind_of error) (fault_of app words))

@@ -1,5 +1,5 @@
 -- What the program writes, and the status that it ends with.
-use Rattle.std.specs.Prelude.{ℕ, ◌≡◌, ◌⊎◌, ◌++◌, ◌∷◌, [], Bool, true, false, List, codes, Option, Some, None, Result, Ok, Err, IfOk, OnOk}
+use Rattle.std.specs.Prelude.{ℕ, ◌≡◌, ◌⊎◌, ◌++◌, ◌∷◌, [], true, false, List, codes, Option, Some, None, Result, Ok, Err, OnOk}
 use Rattle.std.specs.Io.KnownBytes.{Keeps, Appends}
 use Rattle.clap.specs.Values.{kind_of}
 use Rattle.clap.specs.declared.error.Error.{Error}
@@ -98,11 +98,14 @@ pub record IsCalled (asked : Call) (s : Streams) (ending : Ending) : Type 0 wher
   pub passed_on : OnOk answer (s.after.writer.flushed ≡ true)
   pub ends : IsEnding answer s.errors_before s.errors ending
 
--- A text of help was written and flushed, with status 0.
-abbrev pub IsHelp : Option (List ℕ) → Option (List ℕ) → Bool → Result ℕ EngineFault → Type 0
-IsHelp before after flushed answer
-    = IfOk answer
-    (λ status. (status ≡ 0) × (flushed ≡ true) × ((text : List ℕ) × Appends before after text))
+-- A text of help was written and flushed, with status 0. Else memory ran out and nothing was
+-- written, the writer failed, or each call that was allowed was made.
+abbrev pub IsHelp : WriterState → WriterState → Result ℕ EngineFault → Type 0
+IsHelp before after (Ok status) = (status ≡ 0) × (after.flushed ≡ true)
+    × ((text : List ℕ) × Appends before.written after.written text)
+IsHelp before after (Err fault) = ((fault ≡ NoMemory) × (after ≡ before))
+    ⊎ (((fault ≡ Write) × (after.failed ≡ true) × Rose before.calls after.calls)
+    ⊎ ((fault ≡ TooManyTurns) × Spends before.calls after.calls MAX_TURNS 0))
 
 -- What the program does with words that are no call. Out of memory is reported, a mistake has
 -- status 2, and help is written.
@@ -114,13 +117,15 @@ pub record IsExplained (k : ErrorKind) (s : Streams) (ending : Ending) : Type 0 
       → (s.after.writer.written ≡ s.before.writer.written) × (ending.status ≡ 2)
   pub help : (k ≡ kind.DisplayHelp) ⊎ (k ≡ kind.DisplayVersion)
       → (answer : Result ℕ EngineFault)
-      × IsHelp s.before.writer.written s.after.writer.written s.after.writer.flushed answer
+      × IsHelp s.before.writer s.after.writer answer
       × IsEnding answer s.errors_before s.errors ending
 
--- What the program does with words: the call that they are, or an explanation.
+-- What the program does with words: the call that they are, or an explanation. Where there is none
+-- of both, it ends with status 2 alone.
 abbrev pub IsDone : Result (Option Call) Error → Streams → Ending → Type 0
 IsDone (Ok (Some asked)) s ending = IsCalled asked s ending
-IsDone (Ok None) s ending = ending.status ≡ 2
+IsDone (Ok None) s ending = (ending.status ≡ 2) × (s.after ≡ s.before)
+    × (s.errors ≡ s.errors_before)
 IsDone (Err error) s ending = IsExplained (kind_of error) s ending
 
 -- A run of the program with these words: what they are read as, and that this is done.

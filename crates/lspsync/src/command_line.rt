@@ -1,14 +1,15 @@
 //! The program's command line.
 
-ghost use Rattle.std.specs.Prelude.{◌≡◌, ◌∷◌, [], codes, false, if◌then◌else◌, is_some, IfOk, IfSome, map};
+ghost use Rattle.std.specs.Prelude.{◌≡◌, ◌∷◌, [], codes, false, if◌then◌else◌, is_some, IfOk, IfSome, IsSome, ℕ, map};
 ghost use Rattle.clap.specs.Words.{app_of, rule_of, with_subcommand};
 ghost use Rattle.clap.specs.declared.builder.value_parser.ValueParser.TheVariants.{Names};
 ghost use Rattle.lspsync.specs.CommandLine.{IsProgram, encoding_rule, flag_rule, limit_rules};
 ghost use Rattle.lspsync.specs.CommandLine.{option_rule, squash_rule, sync_rule};
 ghost use Rattle.lspsync.specs.Help.{rule_of_limit, rules_of_limits};
 ghost use Rattle.lspsync.specs.inside.Options.{AddsRules, IsCommand, shape_by, top_app};
-ghost use Rattle.lspsync.specs.Call.{AreLimits, AreSettings, HasNumber, IsCall, IsCallNamed};
-ghost use Rattle.lspsync.specs.Call.{IsConfig, IsRead, encoding_given, sync_given};
+ghost use Rattle.lspsync.specs.Call.{AreLimits, AreSettings, HasNumber, IsCallNamed, IsConfig};
+ghost use Rattle.lspsync.specs.Call.{IsFound, IsRead, encoding_given, sync_given};
+ghost use Rattle.lsp_frame.specs.Limits.{Bounds};
 
 mod help;
 
@@ -37,7 +38,8 @@ pub enum Call {
 }
 
 /// Reads the words of the command line. An error is a usage fault, a text of help, or out of
-/// memory. There is always a call, since `clap` has checked the subcommand and each value.
+/// memory. There is no call only where a subcommand or an option with its value is missing, which
+/// `clap` has checked.
 pub fn parse<'a>(alloc: Global, words: &'a [&'a str]) -> Result<Option<Call>, Error>
     ensures { IsRead (map (λ word. word.now) words.entry.now) result }
 {
@@ -48,7 +50,7 @@ pub fn parse<'a>(alloc: Global, words: &'a [&'a str]) -> Result<Option<Call>, Er
 
 /// The call that `clap` found.
 fn call_of(matches: &ArgMatches<'_>) -> Option<Call>
-    ensures { IfSome result (IsCall matches.now) }
+    ensures { IsFound matches.now result }
 {
     let (name, options) = matches.subcommand()?;
     call_named(name, options)
@@ -56,7 +58,8 @@ fn call_of(matches: &ArgMatches<'_>) -> Option<Call>
 
 /// The call of a subcommand with these options.
 fn call_named(name: &str, options: &ArgMatches<'_>) -> Option<Call>
-    ensures { IfSome result (IsCallNamed name.now options.now) }
+    ensures some { IfSome result (IsCallNamed name.now options.now) }
+    ensures none { (call : Call) → IsCallNamed name.now options.now call → IsSome result }
 {
     match name {
         "serve" => Some(Call::Serve(config_of(options)?)),
@@ -72,7 +75,8 @@ fn call_named(name: &str, options: &ArgMatches<'_>) -> Option<Call>
 }
 
 fn config_of(options: &ArgMatches<'_>) -> Option<Config>
-    ensures { IfSome result (IsConfig options.now) }
+    ensures some { IfSome result (IsConfig options.now) }
+    ensures none { (config : Config) → IsConfig options.now config → IsSome result }
 {
     let limits = limits_of(options)?;
     let prefer = encoding_of(options)?;
@@ -94,7 +98,8 @@ fn sync_of(options: &ArgMatches<'_>) -> Option<Sync>
 }
 
 fn settings_of(options: &ArgMatches<'_>, squash: bool) -> Option<Settings>
-    ensures given { IfSome result (AreSettings options.now) }
+    ensures some { IfSome result (AreSettings options.now) }
+    ensures none { (settings : Settings) → AreSettings options.now settings → IsSome result }
     ensures squash { IfSome result (λ settings. settings.squash ≡ squash) }
 {
     let limits = limits_of(options)?;
@@ -113,7 +118,8 @@ fn encoding_of(options: &ArgMatches<'_>) -> Option<Encoding>
 }
 
 fn limits_of(options: &ArgMatches<'_>) -> Option<Limits>
-    ensures { IfSome result (AreLimits options.now) }
+    ensures some { IfSome result (AreLimits options.now) }
+    ensures none { (limits : Bounds) → AreLimits options.now limits → IsSome result }
 {
     let max_body = number_of(options, "max-body")?;
     let max_text = number_of(options, "max-text")?;
@@ -126,7 +132,8 @@ fn limits_of(options: &ArgMatches<'_>) -> Option<Limits>
 }
 
 fn number_of(options: &ArgMatches<'_>, id: &str) -> Option<usize>
-    ensures { IfSome result (HasNumber options.now id.now) }
+    ensures some { IfSome result (HasNumber options.now id.now) }
+    ensures none { (n : ℕ) → HasNumber options.now id.now n → IsSome result }
 {
     options.get_one::<usize>(id)
 }

@@ -153,8 +153,7 @@ fn explain<W: Sink, E: Write>(
         × (result.status ≡ 2) }
     ensures help { (kind_of error.now ≡ DisplayHelp) ⊎ (kind_of error.now ≡ DisplayVersion)
         → (answer : Result ℕ EngineFault)
-        × IsHelp (W.seen output.old).written (W.seen output.new).written (W.seen output.new).flushed
-        answer
+        × IsHelp (W.seen output.old) (W.seen output.new) answer
         × IsEnding answer (E.contents errors.old) (E.contents errors.new) result }
 {
     if error.kind() == clap_error::ErrorKind::OutOfMemory {
@@ -173,8 +172,7 @@ fn explain<W: Sink, E: Write>(
 
 /// Writes a text of help and flushes it. Returns the status.
 fn print_help<W: Sink>(alloc: Global, help: &clap::Error, output: &mut W) -> Result<u8, EngineFault>
-    ensures { IsHelp (W.seen output.old).written (W.seen output.new).written
-        (W.seen output.new).flushed result }
+    ensures { IsHelp (W.seen output.old) (W.seen output.new) result }
 {
     let text = format!(in alloc; "{help}")?;
     let mut turns = Turns::new(MAX_TURNS);

@@ -1,9 +1,13 @@
 use Rattle.std.specs.Str.Parse.{ParsesUnsigned, ExplainsUnsignedError, HasUnsignedDigitsIfOk}
-use Rattle.lspsync.proofs.OptionLemmas.{one_read, number_given}
+use Rattle.lspsync.proofs.OptionLemmas.{number_given, number_read}
 use Rattle.lspsync.proofs.command_line.number_of.Goals as goal
 
-pub returns : goal.returns
-returns c =
-    number_given _ c.get_one.result c.get_one.ensures.none (λ t is.
-    one_read (λ bs r. ParsesUnsigned 64 10 bs r × ExplainsUnsignedError 10 bs r × HasUnsignedDigitsIfOk bs r) t c.get_one.result
-    (λ n gives. gives.0.1) (c.get_one.ensures.value t is))
+pub returns-clause-some : goal.returns-clause-some
+returns-clause-some c =
+    number_given (λ bs r. ParsesUnsigned 64 10 bs r × ExplainsUnsignedError 10 bs r × HasUnsignedDigitsIfOk bs r) c.args.options.now c.args.id.now c.get_one.result
+    c.get_one.ensures.none c.get_one.ensures.value (λ t n gives. (gives.0.0, gives.0.1))
+
+pub returns-clause-none : goal.returns-clause-none
+returns-clause-none c =
+    number_read (λ bs r. ParsesUnsigned 64 10 bs r × ExplainsUnsignedError 10 bs r × HasUnsignedDigitsIfOk bs r) c.args.options.now c.args.id.now c.get_one.result
+    c.get_one.ensures.value (λ t e gives. gives.0)
