@@ -2,17 +2,26 @@
 import base64
 import hashlib
 import os
+import re
 import zipfile
 
 FOLDER = os.path.dirname(os.path.abspath(__file__))
-VERSION = "0.1.0"
+with open(os.path.join(FOLDER, "pyproject.toml"), encoding="utf-8") as _file:
+    VERSION = re.search(r'^version = "(.*)"$', _file.read(), re.MULTILINE).group(1)
 INFO = f"laspidru-{VERSION}.dist-info"
+METADATA = f"""Metadata-Version: 2.1
+Name: laspidru
+Version: {VERSION}
+Author: The Laspidru authors
+License: MIT OR Apache-2.0
+Requires-Python: >=3.8
+"""
 
 
 def _files():
     with open(os.path.join(FOLDER, "laspidru.py"), "rb") as file:
         yield "laspidru.py", file.read()
-    yield f"{INFO}/METADATA", f"Metadata-Version: 2.1\nName: laspidru\nVersion: {VERSION}\nRequires-Python: >=3.8\n".encode()
+    yield f"{INFO}/METADATA", METADATA.encode()
     yield f"{INFO}/WHEEL", b"Wheel-Version: 1.0\nGenerator: wheel_of_module\nRoot-Is-Purelib: true\nTag: py3-none-any\n"
 
 

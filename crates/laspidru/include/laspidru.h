@@ -1,3 +1,5 @@
+/* Copyright (c) 2026 The Laspidru authors. SPDX-License-Identifier: MIT OR Apache-2.0 */
+
 /* Laspidru: texts that are kept as LSP 3.17 says, by a library that is proved. docs/EMBEDDING.md has examples.
 
    Each function tests what it is passed and returns a code. Where the code isn't LASPIDRU_OK nothing has changed; only after
@@ -51,7 +53,7 @@ enum {
     LASPIDRU_BODY_TOO_LONG = 22, /* the canonical message of a change has a longer body than max_body */
     LASPIDRU_BAD_LOG = 23,       /* what is there belongs in no log, or for laspidru_log_convert in none of version 1 */
 
-    LASPIDRU_TOO_MANY_TURNS = 24, /* more than 2^64 - 1 reads and writes would be needed; nothing has changed */
+    LASPIDRU_TOO_MANY_TURNS = 24, /* too many reads and writes: 2^64 - 1 are allowed; nothing has changed */
     LASPIDRU_OVERLAP = 25         /* two text edits overlap */
 };
 
