@@ -1,6 +1,6 @@
 # Installs what was built and proved, and makes and verifies releases. `make` alone says what there is.
-VERSION = 0.1.0
-SONAME = liblaspidru.so.0
+VERSION := $(shell cat VERSION)
+SONAME = liblaspidru.so.$(firstword $(subst ., ,$(VERSION)))
 
 DESTDIR ?=
 PREFIX ?= /usr/local
