@@ -22,6 +22,7 @@ use Rattle.lsp_message.proofs.ReadBack.{reading-body_of, is_read_back, body_of-u
 use Rattle.lsp_store.specs.Table.{Refusal, Command, opens, changes, closes, body_too_long, change_refusal, after_change, changed, command_refusal, table_after, unless_refused}
 use Rattle.lsp_store.specs.Message.{AreTexts, written_edit, canonical_batch, whole_batch, whole_text, change_message, body_refusal, else_refused}
 use Rattle.lsp_store.specs.Laws.{AreWithin, AllWithin, IsWithin, IsReplacedBy}
+use Rattle.lsp_store.proofs.FirstLemmas.{first_none, later_none}
 use Rattle.lsp_store.proofs.MessageLemmas.{Accepts, accepted_parts, batch_at, proper}
 use Rattle.lsp_store.proofs.ScalarLemmas.{canonical_texts}
 use Rattle.lsp_store.proofs.LawLemmas.{MayChange, change_parts, within_at, within_changed, found_changed, greater_limits_law, canonical_batch_law, whole_text_law}
@@ -30,17 +31,9 @@ use Rattle.lsp_server.specs.declared.phase.Phase.TheVariants.{Running}
 use Rattle.lsp_server.specs.Answer as answer
 use Rattle.lsp_server.specs.Incoming as incoming
 use Rattle.lsp_server.specs.Step.{State, Step, edit_from_data, obeyed, obeys, step_on, step, step_in, encoding_of}
+use Rattle.lsp_server.proofs.EditLemmas.{edits_back}
 use Rattle.lsp_client.specs.Step.{sent_batch, sent_body, order_refusal}
 use Rattle.lsp_pair.specs.World.{commands, incoming_of, IsProperEdits}
-
--- ---- a batch is read back as it was written
-
-pub edits_back : (batch : List Edit) → AreTexts batch → map edit_from_data (map written_edit batch) ≡ batch
-edits_back [] texts = refl
-edits_back (change ∷ batch) texts =
-    let text : chars (encode_utf8_all change.text) ≡ change.text = chars-encodes change.text texts.0 in
-    let same : edit_from_data (written_edit change) ≡ change = λ i. record { range = change.range; text = text i } in
-    rw (same, edits_back batch texts.1) refl
 
 -- ---- commands as the types hold them
 
@@ -53,14 +46,6 @@ IsProperCommand encoding (closes uri) = IsUtf8 uri
 pub record IsSaid (limits : Bounds) (encoding : Encoding) (kind : SyncKind) (table : List DocumentItem) (command : Command) : Type 0 where
   pub proper : IsProperCommand encoding command
   pub may : order_refusal limits kind table command ≡ None
-
-pub first_none : (first later : Option Refusal) → else_refused first later ≡ None → first ≡ None
-first_none None later e = refl
-first_none (Some refusal) later e = e
-
-later_none : (first later : Option Refusal) → else_refused first later ≡ None → later ≡ None
-later_none None later e = e
-later_none (Some refusal) later e = absurd (let bad : Some refusal ≡ None = e in cc)
 
 pub may_command : (limits : Bounds) (kind : SyncKind) (table : List DocumentItem) (command : Command) → order_refusal limits kind table command ≡ None → command_refusal limits table command ≡ None
 may_command limits kind table command e = first_none (command_refusal limits table command) (body_refusal limits (sent_body kind table command)) e

@@ -17,6 +17,7 @@ use Rattle.lsp_message.specs.Params.{DocumentItem, ChangeData}
 use Rattle.lsp_message.proofs.ReadBack.{reading-body_of, is_read_back, body_of-unique}
 use Rattle.lsp_store.specs.Table.{not_open, entry_at, refusal_on, entry_refusal, change_refusal, after_change, unless_refused}
 use Rattle.lsp_store.specs.Message.{AreTexts, IsCanonicalOf, IsReadAgain, written_edit, change_body, canonical_batch, canonical_body, body_refusal}
+use Rattle.lsp_store.proofs.FirstLemmas.{first_none}
 use Rattle.lsp_store.proofs.MessageLemmas.{Accepts, accepted_parts, body_within, is_settled, is_read}
 use Rattle.lsp_store.proofs.ScalarLemmas.{canonical_texts}
 use Rattle.lsp_store.specs.Laws.{IsWithin}
@@ -25,7 +26,7 @@ use Rattle.lsp_server.specs.declared.phase.Phase.{Phase}
 use Rattle.lsp_server.specs.declared.phase.Phase.TheVariants.{New, Running, Down, Ended}
 use Rattle.lsp_server.specs.Incoming.{did_change, incoming_of}
 use Rattle.lsp_server.specs.Step.{State, step_in, step_on, obeyed, edit_from_data, encoding_of}
-use Rattle.lsp_pair.proofs.SaidLemmas.{edits_back, first_none}
+use Rattle.lsp_server.proofs.EditLemmas.{edits_back}
 use Rattle.lsp_replay.specs.Engines.{canonical_change_body}
 use Rattle.lsp_replay.proofs.CanonicalLogLemmas.{within}
 use Rattle.lsp_replay.proofs.AskedLemmas.{IsProperAsked}

@@ -1,2 +1,3 @@
 mod Commands
 pub mod LawLemmas
+pub mod EditLemmas

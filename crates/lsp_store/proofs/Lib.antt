@@ -2,6 +2,7 @@ pub mod TableLemmas
 pub mod RefusalLemmas
 pub mod StoreLemmas
 pub mod FrameLemmas
+pub mod FirstLemmas
 pub mod ScalarLemmas
 pub mod ProperLemmas
 pub mod MessageLemmas
