@@ -1,6 +1,7 @@
 -- The command line is put together.
 use Rattle.std.proofs.Common.{◌≡◌, ◌∙◌, ◌++◌, ◌||◌, ap, refl, sym, Bool, true, false, List, [], ◌∷◌, is_some, if◌then◌else◌}
 use Rattle.std.specs.Prelude.{Result, Ok, Err, IfOk}
+use Rattle.std.proofs.Math.Bool.{or-false}
 use Rattle.std.proofs.lemmas.List.{append-nil, append_assoc}
 use Rattle.clap.specs.Words.{App, Rule, Shape, Text, app_of, rule_of, shape_of, new_app, AddsArg, with_rule}
 use Rattle.clap.specs.Simple.{on_top}
@@ -12,10 +13,6 @@ use Rattle.lspsync.specs.Help.{IsPage, rules_of_limits}
 use Rattle.lspsync.specs.inside.Options.{AddsRules, IsCommand, page_shape, shape_by}
 use Rattle.lspsync.specs.declared.command_line.help.Page.{Page}
 use Rattle.lspsync.specs.declared.command_line.Values.{Values}
-
-or_false : (b : Bool) → (b || false) ≡ b
-or_false true = refl
-or_false false = refl
 
 abbrev longer : List Rule → App → App
 longer rules = on_top (λ s. record s { rules = s.rules ++ rules })
@@ -33,7 +30,7 @@ pub adds_one : (old new : Command) (a : Arg) (rule : Rule) → AddsArg old a new
     → AddsRules old (rule ∷ []) new
 adds_one old new a rule added local same = record {
   app = added.shape local ∙ ap (with_rule (app_of old)) same;
-  globals = added.globals ∙ (ap (λ g. (fields_of old).has_globals || g) local ∙ or_false (fields_of old).has_globals);
+  globals = added.globals ∙ (ap (λ g. (fields_of old).has_globals || g) local ∙ or-false (fields_of old).has_globals);
 }
 
 pub adds_more : (old mid new : Command) (xs ys : List Rule) → AddsRules old xs mid → AddsRules mid ys new → AddsRules old (xs ++ ys) new

@@ -1,6 +1,7 @@
 //! The program's command line.
 
-ghost use Rattle.std.specs.Prelude.{◌≡◌, ◌∷◌, [], codes, false, if◌then◌else◌, is_some, IfOk, IfSome, IsSome, ℕ, map};
+ghost use Rattle.std.specs.Prelude.{◌≡◌, ◌∷◌, [], codes, false, if◌then◌else◌, is_some};
+ghost use Rattle.std.specs.Prelude.{IfOk, IfSome, IsSome, ℕ, map};
 ghost use Rattle.clap.specs.Words.{app_of, rule_of, with_subcommand};
 ghost use Rattle.clap.specs.declared.builder.value_parser.ValueParser.TheVariants.{Names};
 ghost use Rattle.lspsync.specs.CommandLine.{IsProgram, encoding_rule, flag_rule, limit_rules};
@@ -38,8 +39,8 @@ pub enum Call {
 }
 
 /// Reads the words of the command line. An error is a usage fault, a text of help, or out of
-/// memory. There is no call only where a subcommand or an option with its value is missing, which
-/// `clap` has checked.
+/// memory. There is no call only where a subcommand or an option with its value is missing. Tests
+/// show that `clap` refuses such words before.
 pub fn parse<'a>(alloc: Global, words: &'a [&'a str]) -> Result<Option<Call>, Error>
     ensures { IsRead (map (λ word. word.now) words.entry.now) result }
 {
