@@ -6,10 +6,9 @@ use Rattle.lsp_stream.specs.declared.fault.EngineFault.{EngineFault}
 use Rattle.lsp_stream.specs.declared.fault.EngineFault.TheVariants.{TooManyTurns, Write}
 use Rattle.lsp_stream.specs.Ports.{Rose, WriterState}
 use Rattle.lsp_stream.specs.Turns.{Spends, WritesWithin}
-use Rattle.lspsync.specs.declared.run.TheConstants.{MAX_TURNS}
-use Rattle.lspsync.specs.Run.{IsFlushed, answer_of}
+use Rattle.lspsync.specs.Run.{IsFlushed, allowed_turns, answer_of}
 
-pub flushed_of : (before after : WriterState) (most left : ℕ) (answer : Result (Unit {0}) EngineFault) → most ≡ MAX_TURNS
+pub flushed_of : (before after : WriterState) (most left : ℕ) (answer : Result (Unit {0}) EngineFault) → most ≡ allowed_turns
     → OnOk answer ((after.failed ≡ false) × Rose before.calls after.calls) → OnOk answer (after.flushed ≡ true)
     → IfErr answer (λ fault. (fault ≡ Write) ⊎ (fault ≡ TooManyTurns))
     → WritesWithin most left before after answer → IsFlushed before after answer
@@ -18,7 +17,7 @@ flushed_of before after most left (Err _) all ok passed (inl is) calls = inl (is
 flushed_of before after most left (Err _) all ok passed (inr is) calls =
     inr (
       is,
-      subst (λ n. Spends before.calls after.calls MAX_TURNS n) (calls.none_left is)
+      subst (λ n. Spends before.calls after.calls allowed_turns n) (calls.none_left is)
           (subst (λ n. Spends before.calls after.calls n left) all calls.spent),
     )
 

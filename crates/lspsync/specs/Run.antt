@@ -14,7 +14,6 @@ use Rattle.lsp_replay.specs.Run.{Engine, IsEngineRun, check_engine, convert_engi
 use Rattle.lspsync.specs.declared.command_line.Call.{Call}
 use Rattle.lspsync.specs.declared.command_line.Call.TheVariants as call
 use Rattle.lspsync.specs.declared.run.Ending.{Ending}
-use Rattle.lspsync.specs.declared.run.TheConstants.{MAX_TURNS}
 use Rattle.lspsync.specs.Call.{IsRead}
 use Rattle.lspsync.specs.FaultText.{fault_text}
 
@@ -37,6 +36,10 @@ engine_of (call.Replay settings) = replay_engine settings
 engine_of (call.Normalise settings) = normalise_engine settings
 engine_of (call.Convert settings) = convert_engine settings
 
+-- How many reads, writes and flushes an engine may make. The last flush may be tried as often.
+abbrev pub allowed_turns : ℕ
+allowed_turns = 1099511627776
+
 -- The last flush, and what it answered. After one that succeeded all that was written is flushed.
 -- Else the writer failed at it, or each flush that was allowed was made and interrupted.
 abbrev pub IsFlushed : WriterState → WriterState → Result (Unit {0}) EngineFault → Type 0
@@ -44,7 +47,7 @@ IsFlushed before after (Ok _) = (after.flushed ≡ true) × (after.failed ≡ fa
     × Rose before.calls after.calls
 IsFlushed before after (Err fault) =
     ((fault ≡ Write) × (after.failed ≡ true) × Rose before.calls after.calls)
-    ⊎ ((fault ≡ TooManyTurns) × Spends before.calls after.calls MAX_TURNS 0)
+    ⊎ ((fault ≡ TooManyTurns) × Spends before.calls after.calls allowed_turns 0)
 
 -- A fault of the engine comes before one of the flush.
 abbrev pub answer_of : Result Outcome EngineFault → Result (Unit {0}) EngineFault →
@@ -61,7 +64,7 @@ pub record IsPerformed (asked : Call) (before after : Ports)
   pub flushed : Result (Unit {0}) EngineFault
   -- the writer between the engine and the flush
   pub writer : WriterState
-  pub ran : IsEngineRun (engine_of asked) MAX_TURNS before (ports after.reader writer) result
+  pub ran : IsEngineRun (engine_of asked) allowed_turns before (ports after.reader writer) result
   pub kept : Keeps writer.written after.writer.written
   pub flush : IsFlushed writer after.writer flushed
   pub answered : answer ≡ answer_of result flushed
@@ -105,16 +108,18 @@ IsHelp before after (Ok status) = (status ≡ 0) × (after.flushed ≡ true)
     × ((text : List ℕ) × Appends before.written after.written text)
 IsHelp before after (Err fault) = ((fault ≡ NoMemory) × (after ≡ before))
     ⊎ (((fault ≡ Write) × (after.failed ≡ true) × Rose before.calls after.calls)
-    ⊎ ((fault ≡ TooManyTurns) × Spends before.calls after.calls MAX_TURNS 0))
+    ⊎ ((fault ≡ TooManyTurns) × Spends before.calls after.calls allowed_turns 0))
 
 -- What the program does with words that are no call. Out of memory is reported, a mistake has
 -- status 2, and help is written.
 pub record IsExplained (k : ErrorKind) (s : Streams) (ending : Ending) : Type 0 where
-  pub memory : k ≡ kind.OutOfMemory → (s.after.writer.written ≡ s.before.writer.written)
+  -- nothing is read
+  pub reader : s.after.reader ≡ s.before.reader
+  pub memory : k ≡ kind.OutOfMemory → (s.after.writer ≡ s.before.writer)
       × IsReported NoMemory s.errors_before s.errors ending
   pub mistake : (k ≡ kind.OutOfMemory → ⊥) → (k ≡ kind.DisplayHelp → ⊥) →
       (k ≡ kind.DisplayVersion → ⊥)
-      → (s.after.writer.written ≡ s.before.writer.written) × (ending.status ≡ 2)
+      → (s.after.writer ≡ s.before.writer) × (ending.status ≡ 2)
   pub help : (k ≡ kind.DisplayHelp) ⊎ (k ≡ kind.DisplayVersion)
       → (answer : Result ℕ EngineFault)
       × IsHelp s.before.writer s.after.writer answer

@@ -8,7 +8,7 @@ ghost use Rattle.clap.specs.declared.error.kind.ErrorKind.TheVariants.{DisplayHe
 ghost use Rattle.lsp_stream.specs.Ports.{ports};
 ghost use Rattle.lsp_replay.specs.Run.{IsEngineRun};
 ghost use Rattle.lspsync.specs.Run.{IsEnding, IsFlushed, IsHelp, IsPerformed, IsReported};
-ghost use Rattle.lspsync.specs.Run.{IsRun, Streams, answer_of, engine_of, status_of};
+ghost use Rattle.lspsync.specs.Run.{IsRun, Streams, allowed_turns, answer_of, engine_of, status_of};
 
 use crate::command_line::{Call, parse};
 use crate::fault_text::FaultText;
@@ -124,7 +124,7 @@ fn obey<R: Source, W: Sink>(
     input: &mut R,
     output: &mut W,
 ) -> Result<Outcome, EngineFault>
-    ensures { IsEngineRun (engine_of call) MAX_TURNS
+    ensures { IsEngineRun (engine_of call) allowed_turns
         (ports (R.seen input.old) (W.seen output.old))
         (ports (R.seen input.new) (W.seen output.new)) result }
 {
@@ -145,12 +145,11 @@ fn explain<W: Sink, E: Write>(
     errors: &mut E,
 ) -> Ending
     ensures memory { kind_of error.now ≡ OutOfMemory →
-        ((W.seen output.new).written ≡ (W.seen output.old).written)
+        (W.seen output.new ≡ W.seen output.old)
         × IsReported EngineFault.NoMemory (E.contents errors.old) (E.contents errors.new) result }
     ensures mistake { kind_of error.now ≢ OutOfMemory → kind_of error.now ≢ DisplayHelp
         → kind_of error.now ≢ DisplayVersion →
-        ((W.seen output.new).written ≡ (W.seen output.old).written)
-        × (result.status ≡ 2) }
+        (W.seen output.new ≡ W.seen output.old) × (result.status ≡ 2) }
     ensures help { (kind_of error.now ≡ DisplayHelp) ⊎ (kind_of error.now ≡ DisplayVersion)
         → (answer : Result ℕ EngineFault)
         × IsHelp (W.seen output.old) (W.seen output.new) answer

@@ -151,11 +151,12 @@ fn digits(alloc: Global, number: usize) -> Result<String, AllocError>
 }
 
 static PROGRAM: &str =
-    "Keeps a copy of each open text as the editor's messages say (Language Server Protocol 3.17), and reads recorded sessions";
+    "Applies an editor's change messages to a copy of each open text (Language Server Protocol 3.17), and reads recorded sessions";
 
 static NOTES: &str =
     "Each command reads standard input and writes standard output. A log is what an editor sent to its language
-server, byte for byte. Where the editor starts `some-server`, let it start this, and it is recorded:
+server, byte for byte; one of version 2 has both directions. Where the editor starts `some-server`, let it
+start this, and it is recorded:
   tee session.log | some-server
 
 Exit status: 0 all is well, 1 something in the session was refused, 2 the command line is wrong,
@@ -170,8 +171,8 @@ static SERVE: &str =
     "Be a language server that keeps the editor's documents and offers no other feature";
 
 static SERVE_EXAMPLE: &str =
-    "It answers `initialize` and `shutdown`, takes the documents' messages, refuses every other request
-by `method not found`, and ends at `exit`. Put it where an editor wants a server's command. The
+    "It answers `initialize` and `shutdown`, takes the documents' messages, answers every other request
+with the error `method not found`, and ends at `exit`. Put it where an editor wants a server's command. The
 status is 0 where the editor asked for `shutdown` before `exit`, else 1.
 
 Example, which answers a recorded session; it ends before `exit`, so the status is 1:
@@ -202,9 +203,10 @@ static NORMALISE: &str =
     "Write a log with each accepted change as the one canonical message that means the same";
 
 static NORMALISE_EXAMPLE: &str =
-    "All other messages, and the refused ones, stay byte for byte. Two editors that kept the same
-characters and inserted the same texts give the same bytes, so such logs can be compared. The
-status is 1 where something was refused.
+    "All other messages, and the refused ones, stay byte for byte. Two changes of one text of one document
+(its URI), under one version and in one encoding, get the same bytes exactly if they keep the same
+characters and insert the same texts, so such logs can be compared. The status is 1 where something
+was refused.
 
 Example, a change of the whole text, which becomes one with a range:
   ./lspsync normalise < examples/whole-text.log
