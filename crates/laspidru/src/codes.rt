@@ -48,7 +48,7 @@ pub const BAD_FRAME: u32 = 21;
 pub const BODY_TOO_LONG: u32 = 22;
 /// What follows in the log can't be in one.
 pub const BAD_LOG: u32 = 23;
-/// The command needs more reads and writes than a `u64` counts.
+/// The command would need more reads and writes than a `u64` counts.
 pub const TOO_MANY_TURNS: u32 = 24;
 /// Two text edits overlap.
 pub const OVERLAP: u32 = 25;

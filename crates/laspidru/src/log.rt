@@ -68,7 +68,7 @@ fn run_log(
 /// fault.
 ///
 /// Codes, in this order: IN_USE, BAD_ENCODING, BAD_LIMIT; OUT_OF_MEMORY, or the fault: CUT,
-/// BAD_FRAME, BAD_LOG. TOO_MANY_TURNS needs more than 2^64 - 1 reads and writes. Costs
+/// BAD_FRAME, BAD_LOG. TOO_MANY_TURNS is for more than 2^64 - 1 reads and writes. Costs
 /// [`lsp_replay::check`], and keeps the output in memory.
 #[unsafe(no_mangle)]
 pub extern "C" fn laspidru_log_check(

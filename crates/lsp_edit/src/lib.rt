@@ -1,12 +1,12 @@
 //! Changes of a text: what the batch of a `didChange` means, and its one canonical batch (LSP 3.17,
 //! DidChangeTextDocumentParams).
 //!
-//! - `indexed`: `IndexedText`, a text with its lines, which a server changes batch by batch. It
-//!   uses `draft` (a text under the changes of a batch), `in_place` (one change alone) and `ends`
-//!   (byte offsets of a range).
+//! - `indexed`: `IndexedText`, a text with its lines, which a server changes batch by batch. Its
+//!   parts are `draft` (a text under the changes of a batch), `in_place` (one change alone) and
+//!   `kept_lines`. `ends` has the byte offsets of a range.
 //! - `pieces`: `Pieces`, what became of an old text, in spans of it and of the changes' texts. Its
-//!   parts are `spans`, `span`, `row`, `replace`, `through`, `kept_lines` and `current` (the text
-//!   that later changes meet).
+//!   parts are `spans`, `span`, `row`, `replace`, `through` and `current` (the text that later
+//!   changes meet).
 //! - `composed`: `compose`, which makes the pieces of a whole batch. `canonical` writes their
 //!   canonical batch.
 //! - `change`, `fault`: a change as the protocol writes it, the limit on the texts of a batch, and

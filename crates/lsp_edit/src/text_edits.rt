@@ -140,8 +140,8 @@ fn put_in_order(placed: &mut Vec<Placed>) -> Result<(), AllocError>
     Ok(())
 }
 
-/// Returns the spans that edits in order leave of an old text of `len` bytes. An error reports the
-/// first two that overlap.
+/// Returns the spans that edits in order leave of an old text of `len` bytes. An error reports two
+/// neighbours that overlap.
 fn spans_left<'a>(
     alloc: Global,
     len: usize,

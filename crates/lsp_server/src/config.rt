@@ -36,7 +36,7 @@ impl Default for Config {
 /// How the encoding of positions is chosen (LSP 3.17, PositionEncodingKind).
 #[derive(Clone, Copy, Debug, PartialEq, Eq, Hash)]
 pub enum EncodingChoice {
-    /// This one, whatever the client offers: for captures, whose encoding is known, and for
+    /// This one, whatever the client offers: for logs, whose encoding is known, and for
     /// sessions in UTF-16.
     Fixed(Encoding),
     /// The preferred one if the client offers it, else UTF-16, which every client accepts.

@@ -440,7 +440,7 @@ impl Server {
     }
 
     /// Sets the encoding of changes (LSP 3.17, PositionEncodingKind), whichever was chosen: for a
-    /// capture that names another server's choice.
+    /// log that names another server's choice.
     ///
     /// Before an accepted `initialize` it does nothing. Takes no memory.
     pub fn settle(&mut self, encoding: Encoding)
