@@ -6,7 +6,6 @@ mod documents;
 mod faults;
 mod limits;
 mod made_again;
-mod plans;
 mod positions;
 mod refused;
 mod squash;
