@@ -20,9 +20,6 @@ class Page:
         self.of, self.given, self.most = words_of(row["of"]), words_of(row.get("given", "")), int(row["lines"])
         self.held = None
 
-    def command(self):
-        return f".ci/definitions --of {self.of[0]}"
-
     def targets(self, repository):
         return [target_named(repository, it) for it in self.of]
 

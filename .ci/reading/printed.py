@@ -59,7 +59,8 @@ def print_rest(pages, closure, page):
     for file, held in sorted(by_file.items()):
         print(f"{file}, {sum(it.size for it in held)} lines: " + ", ".join(sorted(it.name for it in held)))
     files = len({it.module.name for it in closure.definitions})
-    print(f"\n{closure.size} lines in {len(closure.definitions)} definitions of {files} files; types {sum(it.size for it in closure.types)}; "
+    types = sum(it.size for it in closure.types)
+    print(f"\n{closure.size} lines in {len(closure.definitions)} definitions of {files} files; types {types}; "
           f"given {len(closure.given)}; kit {sum(it.size for it in kit)}")
 
 
@@ -90,7 +91,8 @@ def print_users(pages):
 def print_files(pages, reached, own):
     """Prints for each file of specs/ the lines that contracts of user's calls speak of, and those of all others."""
     users = set(pages.closure_of_calls(pages.user_calls()).definitions)
-    print("| crate | files, with the lines of definitions that contracts for users speak of | lines | other public contracts | laws | for proofs alone |")
+    print("| crate | files, with the lines of definitions that contracts for users speak of | lines | other public contracts "
+          "| laws | for proofs alone |")
     print("|---|---|---|---|---|---|")
     sums = [0, 0, 0, 0]
     crates = collections.defaultdict(list)
