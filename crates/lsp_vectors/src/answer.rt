@@ -1,0 +1,61 @@
+//! What the changes of a message and a list of text edits mean.
+
+ghost use Rattle.std.specs.Prelude.{◌≤◌, IfErr, IfOk, MatchResult, length, map, string_len, sum_by};
+ghost use Rattle.std.specs.Str.{chars};
+ghost use Rattle.lsp_text.specs.Units.{units_in};
+ghost use Rattle.lsp_edit.specs.Batch.{meaning};
+ghost use Rattle.lsp_edit.specs.Edited.{edit_of};
+ghost use Rattle.lsp_edit.specs.Faults.{IsFaultOfChanges};
+ghost use Rattle.lsp_edit.specs.TextEdits.{IsBatchOfEdits, IsEditsFault};
+ghost use Rattle.lsp_vectors.specs.Answer.{IsLeft};
+
+use lsp_edit::plain::compose;
+use lsp_edit::{
+    Change, EditFault, IndexedText, MAX_NEW_TEXT, MAX_OLD_TEXT, TextEdit, TextEditFault,
+};
+use lsp_text::Encoding;
+use std::alloc::Global;
+
+/// The text that a message leaves, and the canonical batch of what it did.
+#[derive(Drop)]
+pub struct Left {
+    pub text: String,
+    pub canonical: Vec<Change>,
+}
+
+/// Applies the changes of a message by the plain program of the definitions.
+pub fn left_by_changes(
+    alloc: Global,
+    text: &str,
+    encoding: Encoding,
+    changes: &[Change],
+) -> Result<Left, EditFault>
+    requires size { length text.now ≤ MAX_OLD_TEXT }
+    requires fits { sum_by (λ change. string_len change.text) changes.now ≤ MAX_NEW_TEXT }
+    ensures { MatchResult result
+        (IsLeft (units_in encoding) text.now (map edit_of changes.now))
+        (IsFaultOfChanges
+        (meaning (units_in encoding) (chars text.now) (map edit_of changes.now))) }
+{
+    let plain = compose(alloc, text, encoding, changes)?;
+    let text = plain.text()?;
+    let canonical = plain.canonical(encoding)?;
+    Ok(Left { text, canonical })
+}
+
+/// Returns the batch that means what text edits mean.
+pub fn batch_of_edits(
+    alloc: Global,
+    text: &str,
+    encoding: Encoding,
+    edits: &[TextEdit],
+) -> Result<Vec<Change>, TextEditFault>
+    requires { length text.now ≤ MAX_OLD_TEXT }
+    ensures batch { IfOk result (λ batch.
+        IsBatchOfEdits (units_in encoding) text.now edits.now (map edit_of batch.items)) }
+    ensures error { IfErr result (λ fault.
+        IsEditsFault (units_in encoding) (chars text.now) edits.now fault) }
+{
+    let text = IndexedText::new(alloc, String::from_str(alloc, text)?)?;
+    text.batch_of_edits(encoding, edits)
+}
