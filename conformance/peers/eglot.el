@@ -1,0 +1,15 @@
+;;; What eglot.py runs in Emacs: each line of its input is a text and lists of text edits, each line of its output the text after them.  -*- lexical-binding: t -*-
+(prefer-coding-system 'utf-8-unix)
+(set-terminal-coding-system 'utf-8-unix)
+(dolist (folder (file-expand-wildcards "/usr/share/emacs/site-lisp/elpa/*")) (add-to-list 'load-path folder))
+(require 'eglot)
+(setq inhibit-message t)
+(defun answer (line)
+  (let ((case (json-parse-string line :object-type 'plist :null-object nil)))
+    (with-temp-buffer
+      (insert (plist-get case :text))
+      (mapc #'eglot--apply-text-edits (plist-get case :steps))
+      (list :text (buffer-string)))))
+(let (line)
+  (while (setq line (ignore-errors (read-from-minibuffer "")))
+    (princ (concat (json-serialize (condition-case fault (answer line) (error (list :refused (format "%S" fault))))) "\n"))))

@@ -1,0 +1,74 @@
+"""gopls over the wire, in UTF-16. Its debug server has a page for each open file, with its text and the SHA-256 of that."""
+import hashlib
+import html
+import os
+import re
+import socket
+import subprocess
+import tempfile
+import urllib.request
+
+from peers.wire import Wire
+
+TITLE = "gopls " + subprocess.run(["dpkg-query", "-W", "-f", "${Version}", "gopls"], stdout=subprocess.PIPE, text=True, check=True).stdout.split(":")[-1].split("+")[0]
+FILES = ["vectors.jsonl"]
+
+
+def free_port():
+    with socket.socket() as door:
+        door.bind(("127.0.0.1", 0))
+        return door.getsockname()[1]
+
+
+class Gopls(Wire):
+    def __init__(self, room):
+        self.port, env = free_port(), {**os.environ, "GO111MODULE": "off", "GOPATH": room, "GOCACHE": room, "HOME": room}
+        super().__init__(["gopls", "serve", f"-debug=localhost:{self.port}"], subprocess.DEVNULL, env=env, cwd=room)
+        self.request("initialize", {"processId": None, "rootUri": f"file://{room}", "capabilities": {}})
+        self.notify("initialized", {})
+
+    def page(self, path):
+        with urllib.request.urlopen(f"http://localhost:{self.port}{path}", timeout=10) as page:
+            return page.read().decode()
+
+
+def shown(page):
+    """The text on a page, if its sum is that of the page. NULs are shown as U+FFFD."""
+    text = html.unescape(re.search(r"<pre>(.*)</pre>", page, re.S).group(1))
+    wanted = re.search(r"Identifier: <b>(\w+)</b>", page).group(1)
+    for one in (text, text.replace("\ufffd", "\0")):
+        if hashlib.sha256(one.encode()).hexdigest() == wanted:
+            return one
+    return None
+
+
+def answer(server, room, number, vector):
+    document = {"uri": f"file://{room}/{number}.go"}
+    server.notify("textDocument/didOpen", {"textDocument": {**document, "languageId": "go", "version": 1, "text": vector["text"]}})
+    server.notify("textDocument/didChange", {"textDocument": {**document, "version": 2}, "contentChanges": vector["changes"]})
+    server.request("textDocument/foldingRange", {"textDocument": document})
+    pages = [server.page(path) for path in re.findall(r'href="?(/file/[^" >]*)', server.page("/session/1"))]
+    server.notify("textDocument/didClose", {"textDocument": document})
+    for page in pages:
+        if f"/{number}.go<" in page:
+            version = re.search(r"Version: <b>(.*?)</b>", page).group(1)
+            return {"text": shown(page)} if version.startswith("2") else {"refused": "version " + version}
+    return {"text": None}
+
+
+def answers(vectors):
+    server = None
+    with tempfile.TemporaryDirectory(ignore_cleanup_errors=True) as room:
+        for number, vector in enumerate(vectors):
+            if vector["encoding"] != "utf-16":
+                yield None
+                continue
+            try:
+                server = server or Gopls(room)
+                yield answer(server, room, number, vector)
+            except (EOFError, BrokenPipeError) as why:
+                server.process.wait()
+                server = None
+                yield {"crash": str(why)}
+        if server:
+            server.end()
