@@ -321,8 +321,9 @@ function Client:deliver(body)
     return event
 end
 
--- The next body of what was received, or nil.
+-- The next body of what was received, or nil. One that waits, since it couldn't be handled yet, comes first.
 local function next_body(self)
+    if self.waiting then return self.waiting end
     local framer, taken = self.framer, ffi.new("laspidru_taken")
     local code = C.laspidru_framer_feed(framer, self.rest, #self.rest, taken)
     if code == 21 then refuse(code, { frame = taken.frame, place = tonumber(taken.place) }) end
@@ -341,11 +342,15 @@ function Client:receive(bytes)
     self.rest = self.rest .. text_of(bytes, "what is received")
     local is_done, problem = pcall(function()
         for body in next_body, self do
+            self.waiting = body
             events[#events + 1] = self:deliver(body)
+            self.waiting = nil
         end
     end)
     if not is_done then
-        if type(problem) == "table" then problem.events = events end
+        local code = type(problem) == "table" and problem.code
+        if code ~= "OUT_OF_MEMORY" then self.waiting = nil end
+        if code then problem.events = events end
         error(problem, 0)
     end
     return events

@@ -266,8 +266,9 @@ class Framer {
     this.#at = 0;
   }
 
-  /** The next body that is whole, or undefined. */
+  /** The next body that is whole, or undefined. One that waits, since it couldn't be handled yet, comes first. */
   next() {
+    if (this.waiting !== undefined) return this.waiting;
     const [count, body] = addon.feed(this.#framer, this.#rest, this.#at);
     if (count < 0) throw new FrameFault(-count, body);
     this.#at += count;
@@ -275,15 +276,22 @@ class Framer {
   }
 }
 
-/** What `handle` has of each body that ends in these bytes. */
+/** What `handle` has of each body that ends in these bytes. Where memory runs out after some they are returned, and a call with no
+ * bytes continues. */
 function receive(framer, bytes, handle) {
   const events = [];
   framer.add(bytes);
   try {
-    for (let body = framer.next(); body !== undefined; body = framer.next()) events.push(handle(body));
+    for (let body = framer.next(); body !== undefined; body = framer.next()) {
+      framer.waiting = body;
+      events.push(handle(body));
+      framer.waiting = undefined;
+    }
   } catch (error) {
+    if (error.code !== 'OUT_OF_MEMORY') framer.waiting = undefined;
     if (error instanceof FrameFault) error.events = events;
-    else if (events.length > 0 && ['ENDED', 'WRONG_PHASE'].includes(error.code)) return events; // (it listens no more)
+    // (an end that listens no more has no use for what follows)
+    else if (events.length > 0 && ['OUT_OF_MEMORY', 'ENDED', 'WRONG_PHASE'].includes(error.code)) return events;
     throw error;
   }
   return events;

@@ -7,9 +7,9 @@ import threading
 from ctypes import byref, c_bool, c_size_t
 from typing import Any, List, NamedTuple, Optional, Sequence
 
-from ._library import (BAD_FRAME, LIBRARY, NOT_OPEN, Answer, ClientSettings, Fault, FrameFault, Handle, LaspidruError, Opened,
-                       Settings, State, Taken, batch, copy_out, demand, demand_change, encoding_name, encoding_number, limits,
-                       number, some_bytes, utf8, version_number)
+from ._library import (BAD_FRAME, BAD_LIMIT, ENDED, LIBRARY, NOT_OPEN, WRONG_PHASE, Answer, ClientSettings, Fault, FrameFault, Handle,
+                       LaspidruError, Opened, Settings, State, Taken, batch, copy_out, demand, demand_change, encoding_name,
+                       encoding_number, limits, number, some_bytes, utf8, version_number)
 
 PHASES = ("new", "asked", "ready", "closing", "closed", "done", "failed")
 _SERVER_KINDS = ("replied", "changed", "dropped", "ignored", "refused", "exited")
@@ -23,7 +23,7 @@ class Framer:
         self.__handle, self.__lock = Handle(), threading.Lock()
         # What was received and isn't taken yet, and up to where it was taken.
         self.__data, self.__at = b"", 0
-        demand(LIBRARY.laspidru_framer_new(byref(self.__handle), number(max_body, 64, 12)))
+        demand(LIBRARY.laspidru_framer_new(byref(self.__handle), number(max_body, 64, BAD_LIMIT)))
 
     def __del__(self) -> None:
         if hasattr(self, "_Framer__lock"):
@@ -31,7 +31,7 @@ class Framer:
 
     def receive(self, data: bytes) -> List[bytes]:
         """The bodies of the messages that end in these bytes. A faulty frame raises FrameFault, whose `events` are the bodies before
-        it. After a MemoryError `receive(b"")` continues."""
+        it. Where memory runs out after some bodies they are returned, else MemoryError is raised; `receive(b"")` continues."""
         bodies: List[bytes] = []
         with self.__lock:
             self._add(data)
@@ -41,6 +41,10 @@ class Framer:
                     if body is None:
                         return bodies
                     bodies.append(body)
+            except MemoryError:
+                if bodies:
+                    return bodies
+                raise
             except FrameFault as fault:
                 fault.events = bodies
                 raise
@@ -103,21 +107,20 @@ class _End:
                     if body is None:
                         return events
                     self._waiting = body
-                    try:
-                        events.append(self._handle_body(body))
-                    except MemoryError:
-                        if events:
-                            return events
-                        raise
-                    except LaspidruError:
-                        # This end listens no more: what follows is for nobody.
-                        self._waiting = None
-                        if events:
-                            return events
-                        raise
+                    events.append(self._handle_body(body))
                     self._waiting = None
+            except MemoryError:
+                if events:
+                    return events
+                raise
             except FrameFault as fault:
                 fault.events = events
+                raise
+            except LaspidruError as error:
+                # An end that listens no more has no use for what follows.
+                self._waiting = None
+                if events and error.code in (ENDED, WRONG_PHASE):
+                    return events
                 raise
 
     def _opened(self, uri: str) -> Optional[Opened]:
@@ -174,7 +177,8 @@ class Server(_End):
 
     def receive(self, data: bytes) -> List[ServerEvent]:
         """What the server does with the messages that end in these bytes. A faulty frame raises FrameFault, whose `events` came before
-        it. After `exit` nothing more is handled. After a MemoryError `receive(b"")` continues."""
+        it. After `exit` nothing more is handled. Where memory runs out after some events they are returned, else MemoryError is
+        raised; `receive(b"")` continues."""
         return self._receive(data)
 
     def handle(self, body: bytes) -> ServerEvent:
@@ -265,7 +269,7 @@ class Client(_End):
 
     def receive(self, data: bytes) -> List[ClientEvent]:
         """What the client does with the messages that end in these bytes. A faulty frame raises FrameFault, whose `events` came before
-        it. After a MemoryError `receive(b"")` continues."""
+        it. Where memory runs out after some events they are returned, else MemoryError is raised; `receive(b"")` continues."""
         return self._receive(data)
 
     def deliver(self, body: bytes) -> ClientEvent:

@@ -56,16 +56,16 @@ none_written (Ok sending) bytes new code out sent = tt
 none_written (Err refusal) bytes new code out sent = absurd sent
 
 -- A body that a client takes.
-pub delivered : (r : Result Delivery Refusal) (data : DeliveredData (List ℕ)) (new : State) (code : ℕ) (stored : Option Object) (out : Answer)
-    → IsDelivered r data new → code ≡ OK → stored ≡ Some (Client (record { client = new; frame = frame_out data })) → out ≡ delivered_out data
+pub delivered : (r : Result Delivery Refusal) (given : DeliveredData (List ℕ)) (new : State) (code : ℕ) (stored : Option Object) (out : Answer)
+    → IsDelivered r given new → code ≡ OK → stored ≡ Some (Client (record { client = new; frame = frame_out given })) → out ≡ delivered_out given
     → IsDeliveredTo r code stored out
-delivered (Ok delivery) data new code stored out is done held answered =
+delivered (Ok delivery) given new code stored out is done held answered =
     inr (record {
       done = done;
       client = held ∙ (λ i. Some (Client (record { client = is.1 i; frame = frame_out (is.0 i) })));
       answer = answered ∙ ap delivered_out is.0;
     })
-delivered (Err refusal) data new code stored out is done held answered = absurd is
+delivered (Err refusal) given new code stored out is done held answered = absurd is
 
 -- A body that a client refuses.
 pub delivery_refused : (r : Result Delivery Refusal) (fault : ClientFault) (code : ℕ) (stored : Option Object) (out : Answer)
