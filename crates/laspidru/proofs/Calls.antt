@@ -26,12 +26,12 @@ accepted (Ok sending) bytes new code len stored sent done held counted =
 accepted (Err refusal) bytes new code len stored sent done held counted = absurd sent
 
 -- The code of a fault says why the step is refused.
-code_is : (refusal : Refusal) (fault : ClientFault) (code : ℕ) → IsFaultOf {Sending} (Err refusal) fault → code ≡ call_code fault → IsRefusedCall refusal code
+code_is : (refusal : Refusal) (fault : ClientFault) (code : ℕ) → IsFaultOf {A = Sending} (Err refusal) fault → code ≡ call_code fault → IsRefusedCall refusal code
 code_is (wrong_phase phase) fault code why is = is ∙ ap call_code why
 code_is (store refusal) fault code (inl none) is = inl (is ∙ ap call_code none)
 code_is (store refusal) fault code (inr why) is = inr (is ∙ ap call_code why)
 
-delivery_code_is : (refusal : Refusal) (fault : ClientFault) (code : ℕ) → IsFaultOf {Delivery} (Err refusal) fault → code ≡ call_code fault → IsRefusedCall refusal code
+delivery_code_is : (refusal : Refusal) (fault : ClientFault) (code : ℕ) → IsFaultOf {A = Delivery} (Err refusal) fault → code ≡ call_code fault → IsRefusedCall refusal code
 delivery_code_is (wrong_phase phase) fault code why is = is ∙ ap call_code why
 delivery_code_is (store refusal) fault code (inl none) is = inl (is ∙ ap call_code none)
 delivery_code_is (store refusal) fault code (inr why) is = inr (is ∙ ap call_code why)
