@@ -12,6 +12,10 @@ ghost use Rattle.lsp_replay.specs.Run.{IsEngineRun, WritesLog};
 ghost use Rattle.lsp_replay.specs.Run.{serve_engine, check_engine, replay_engine, normalise_engine, convert_engine};
 ghost use Rattle.lsp_replay.specs.inside.Run.{each_engine, squash_engine};
 
+mod parts;
+
+pub use crate::engines::parts::{Part, replay_part};
+
 use crate::commands::checking::Check;
 use crate::commands::converting::Convert;
 use crate::commands::normalising::Normalise;
