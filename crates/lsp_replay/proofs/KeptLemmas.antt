@@ -37,19 +37,19 @@ stays_open (x ∷ table) entry uri e = none_more (bytes_eq uri x.uri) x (entry_a
 
 stays_changed : (units : ℕ → ℕ) (table : List DocumentItem) (other : List ℕ) (version : ℤ) (batch : List Edit) (uri : List ℕ) → Stays table (after_change units table other version batch) uri
 stays_changed units [] other version batch uri e = refl
-stays_changed units (x ∷ table) other version batch uri e = by (bytes_eq other x.uri) e
+stays_changed units (x ∷ table) other version batch uri e = by (stays_changed units table other version batch uri) (bytes_eq other x.uri) e
   where
     here : (b : Bool) → (if b then Some (changed units x version batch) else entry_at table uri) ≡ None → (if b then Some x else entry_at table uri) ≡ None
     here true f = absurd (let wrong : Some (changed units x version batch) ≡ None = f in cc)
     here false f = f
 
-    by : (b : Bool) → entry_at (if b then changed units x version batch ∷ table else x ∷ after_change units table other version batch) uri ≡ None → entry_at (x ∷ table) uri ≡ None
-    by true f = here (bytes_eq uri x.uri) f
-    by false f = none_more (bytes_eq uri x.uri) x (entry_at table uri) (entry_at (after_change units table other version batch) uri) (stays_changed units table other version batch uri) f
+    by : Stays table (after_change units table other version batch) uri → (b : Bool) → entry_at (if b then changed units x version batch ∷ table else x ∷ after_change units table other version batch) uri ≡ None → entry_at (x ∷ table) uri ≡ None
+    by others true f = here (bytes_eq uri x.uri) f
+    by others false f = none_more (bytes_eq uri x.uri) x (entry_at table uri) (entry_at (after_change units table other version batch) uri) others f
 
 stays_closed : (table : List DocumentItem) (other uri : List ℕ) → bytes_eq other uri ≡ false → Stays table (after_close table other) uri
 stays_closed [] other uri differ e = refl
-stays_closed (x ∷ table) other uri differ e = by (bytes_eq other x.uri) refl e
+stays_closed (x ∷ table) other uri differ e = by (stays_closed table other uri differ) (bytes_eq other x.uri) refl e
   where
     of_other : (b : Bool) → bytes_eq uri x.uri ≡ b → bytes_eq other x.uri ≡ true → entry_at table uri ≡ None → (if b then Some x else entry_at table uri) ≡ None
     of_other true is same f =
@@ -57,9 +57,9 @@ stays_closed (x ∷ table) other uri differ e = by (bytes_eq other x.uri) refl e
         absurd (let wrong : true ≡ false = sym ((bytes_eq-Decides other uri).1 one) ∙ differ in cc)
     of_other false is same f = f
 
-    by : (b : Bool) → bytes_eq other x.uri ≡ b → entry_at (if b then table else x ∷ after_close table other) uri ≡ None → entry_at (x ∷ table) uri ≡ None
-    by true is f = of_other (bytes_eq uri x.uri) refl is f
-    by false is f = none_more (bytes_eq uri x.uri) x (entry_at table uri) (entry_at (after_close table other) uri) (stays_closed table other uri differ) f
+    by : Stays table (after_close table other) uri → (b : Bool) → bytes_eq other x.uri ≡ b → entry_at (if b then table else x ∷ after_close table other) uri ≡ None → entry_at (x ∷ table) uri ≡ None
+    by others true is f = of_other (bytes_eq uri x.uri) refl is f
+    by others false is f = none_more (bytes_eq uri x.uri) x (entry_at table uri) (entry_at (after_close table other) uri) others f
 
 obeyed_stays : (s : State) (refusal : Option Refusal) (next : List DocumentItem) (uri : List ℕ) → Stays s.table next uri → Stays s.table (obeyed s (unless_refused refusal next)).state.table uri
 obeyed_stays s None next uri stays e = stays e

@@ -41,7 +41,7 @@ settled view s (r ∷ rs) more answer e =
     settled_on (view.record_output s r (judge s r)).out (view.record_output s r (judge s r)).end (run_output_in view (judge s r).session rs) (run_output_in view (judge s r).session (rs ++ more)) answer e
     (settled view (judge s r).session rs more answer)
 
-pub Grows : RunOutput → RunOutput → Type 0
+unfoldable pub Grows : RunOutput → RunOutput → Type 0
 Grows c longer = (rest : List ℕ) × (longer.out ≡ c.out ++ rest)
 
 pub grows_on : (out : List ℕ) (end : Option (Result Outcome EngineFault)) (c longer : RunOutput) → Grows c longer → Grows (continue_with out end c) (continue_with out end longer)

@@ -20,7 +20,7 @@ impl Session {
         &mut self,
         head: Head,
         body: &[u8],
-        uri: Option<&str>,
+        uri: &Option<String>,
         kept: &mut Option<String>,
     ) -> Result<Verdict, EngineFault>
         ensures verdict { IfOk result
@@ -28,10 +28,10 @@ impl Session {
         ensures in_log { IfOk result (λ v. verdict_view v ≢ bad) }
         ensures session { OnOk result (self.new ≡ (judge_at self.old head body.now).session) }
         ensures kept { OnOk result
-            (last_text_in (option_map (λ uri. uri.now) uri.entry) (option_map string_bytes kept.new)
+            (last_text_in (option_map string_bytes uri.now) (option_map string_bytes kept.new)
             self.new.server.table
-            ≡ last_text_in (option_map (λ uri. uri.now) uri.entry)
-            (last_text_in (option_map (λ uri. uri.now) uri.entry) (option_map string_bytes kept.old)
+            ≡ last_text_in (option_map string_bytes uri.now)
+            (last_text_in (option_map string_bytes uri.now) (option_map string_bytes kept.old)
             self.old.server.table) self.new.server.table) }
         ensures error { IfErr result (λ fault. (fault ≡ EngineFault.NoMemory)
             ⊎ ((fault ≡ EngineFault.BadLog head.place)
@@ -48,17 +48,17 @@ impl Session {
         &mut self,
         head: Head,
         body: &[u8],
-        uri: Option<&str>,
+        uri: &Option<String>,
         kept: &mut Option<String>,
     ) -> Result<Verdict, AllocError>
         ensures verdict { IfOk result
             (λ v. verdict_view v ≡ (judge_at self.old head body.now).verdict) }
         ensures session { OnOk result (self.new ≡ (judge_at self.old head body.now).session) }
         ensures kept { OnOk result
-            (last_text_in (option_map (λ uri. uri.now) uri.entry) (option_map string_bytes kept.new)
+            (last_text_in (option_map string_bytes uri.now) (option_map string_bytes kept.new)
             self.new.server.table
-            ≡ last_text_in (option_map (λ uri. uri.now) uri.entry)
-            (last_text_in (option_map (λ uri. uri.now) uri.entry) (option_map string_bytes kept.old)
+            ≡ last_text_in (option_map string_bytes uri.now)
+            (last_text_in (option_map string_bytes uri.now) (option_map string_bytes kept.old)
             self.old.server.table) self.new.server.table) }
     {
         let read = self.read(head, body)?;
@@ -73,10 +73,10 @@ impl Session {
     fn closed_text(
         &self,
         read: &RecordBody<'_>,
-        uri: Option<&str>,
+        uri: &Option<String>,
     ) -> Result<Option<String>, AllocError>
         ensures { IfOk result (λ text. option_map string_bytes text
-            ≡ closed_by self.now.server.table (option_map (λ uri. uri.now) uri.entry)
+            ≡ closed_by self.now.server.table (option_map string_bytes uri.now)
             (body_view read.now)) }
     {
         let Some(uri) = uri else {
@@ -91,10 +91,10 @@ impl Session {
         let Some(params) = params else {
             return Ok(None);
         };
-        if params.uri.as_str() != uri {
+        if params.uri.as_str() != uri.as_str() {
             return Ok(None);
         }
-        match self.server.store().get(uri) {
+        match self.server.store().get(uri.as_str()) {
             Some(document) => Ok(Some(String::from_str(self.alloc, document.text())?)),
             None => Ok(None),
         }
