@@ -117,8 +117,11 @@ step_kept Running s uri (did_open None) = same_table s.table uri (did_open None)
 step_kept Running s uri (did_open (Some p)) = inr (refl, obeyed_stays s (open_refusal s.config.limits s.table p) _ uri (stays_open s.table p uri))
 step_kept Running s uri (did_change None) = same_table s.table uri (did_change None)
 step_kept Running s uri (did_change (Some p)) =
-    inr (refl, obeyed_stays s (change_refusal s.config.limits (units_in (encoding_of s)) s.table p.uri p.version (map edit_from_data p.changes)) _ uri
-    (stays_changed (units_in (encoding_of s)) s.table p.uri p.version (map edit_from_data p.changes) uri))
+    inr (
+      refl,
+      obeyed_stays s (change_refusal s.config.limits (units_in (encoding_of s)) s.table p.uri p.version (map edit_from_data p.changes)) _ uri
+          (stays_changed (units_in (encoding_of s)) s.table p.uri p.version (map edit_from_data p.changes) uri),
+    )
 step_kept Running s uri (did_close None) = same_table s.table uri (did_close None)
 step_kept Running s uri (did_close (Some p)) = close_kept s uri p (bytes_eq p.uri uri) refl
 step_kept Running s uri (other_notification method) = same_table s.table uri (other_notification method)

@@ -25,7 +25,7 @@ unless_not r recorded given not_bad = refl
 unless_not r bad given not_bad = absurd (not_bad refl)
 
 module _ (part : PartData) (old : Option (List ℕ)) (s : Session) (r : Record) (t : Session) (verdict : Verdict) (new : Option (List ℕ)) (is_judged : verdict ≡ (judge s r).verdict) (not_bad : verdict ≢ bad) (session : t ≡ (judge s r).session)
-         (kept : last_text_in part.uri new t.server.table ≡ last_text_in part.uri old t.server.table) where
+    (kept : last_text_in part.uri new t.server.table ≡ last_text_in part.uri old t.server.table) where
   abbrev last : Option (List ℕ)
   last = last_text_in part.uri new t.server.table
 

@@ -14,8 +14,8 @@ ghost use Rattle.lsp_replay.specs.inside.Bodies.{IsReceived, body_read, body_vie
 ghost use Rattle.lsp_replay.specs.inside.Verdicts.{verdict_view};
 
 mod counting;
-mod keeping;
 pub(crate) mod joining;
+mod keeping;
 mod results;
 pub(crate) mod writing;
 

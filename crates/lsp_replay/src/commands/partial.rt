@@ -142,11 +142,7 @@ impl Handler for ReplayPart {
 }
 
 /// Writes a line for each open document, in order of opening.
-fn push_documents(
-    alloc: Global,
-    buffer: &mut Vec<u8>,
-    documents: &Store,
-) -> Result<(), AllocError>
+fn push_documents(alloc: Global, buffer: &mut Vec<u8>, documents: &Store) -> Result<(), AllocError>
     ensures { OnOk result
         (buffer.new.items ≡ buffer.old.items ++ report_from 0 documents.now.table) }
 {

@@ -40,7 +40,14 @@ static WRONG: [&[&str]; 33] = [
     &["lspsync", "replay", "--at=18446744073709551616"],
     &["lspsync", "replay", "--at", "1", "--at", "1"],
     &["lspsync", "replay", "--uri"],
-    &["lspsync", "replay", "--uri", "file:///a", "--uri", "file:///a"],
+    &[
+        "lspsync",
+        "replay",
+        "--uri",
+        "file:///a",
+        "--uri",
+        "file:///a",
+    ],
 ];
 
 /// Is a call with these words refused, by a text on standard error?

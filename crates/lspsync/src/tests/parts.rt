@@ -41,7 +41,10 @@ fn a_part_of_a_log_is_replayed(rt: HostRuntime) -> Result<(), Fail> {
     let input = log(rt.alloc(), &SESSION)?;
     for (options, status, output, errors) in &ROWS {
         let answer = replayed(rt.alloc(), options, &input)?;
-        assert!(rt; answer.is(*status, output.as_bytes(), errors), "at {options:?}");
+        assert!(rt;
+            answer.is(*status, output.as_bytes(), errors),
+            "at {options:?}"
+        );
     }
     Ok(())
 }
