@@ -1,10 +1,12 @@
 //! The server's end of a session: one body in, one answer out.
 
-ghost use Rattle.std.specs.Prelude.{◌≡◌, ◌≢◌, ◌↔◌, IfOk, OnErr, IsSome, IsErrOf, IsUtf8};
+ghost use Rattle.std.specs.Prelude.{◌≡◌, ◌≢◌, ◌↔◌, IfOk, OnOk, OnErr, IsOk, IsSome, IsErrOf, IsUtf8};
 ghost use Rattle.lsp_message.specs.Message.{reading};
 ghost use Rattle.lsp_server.specs.declared.phase.Phase.TheVariants.{Running, Ended};
 ghost use Rattle.lsp_server.specs.Step.{start, with_encoding, step, step_on};
-ghost use Rattle.lsp_server.specs.Calls.{IsStepOf, IsRowOf};
+ghost use Rattle.lsp_server.specs.Answer.{IsQuiet, as_sent};
+ghost use Rattle.lsp_server.specs.Seen.{answer_view};
+ghost use Rattle.lsp_server.specs.Calls.{IsRowOf};
 ghost use Rattle.lsp_reader.specs.Incoming.{incoming_of};
 ghost use Rattle.lsp_reader.specs.Seen.{incoming_view};
 
@@ -138,7 +140,10 @@ impl Server {
     /// Costs one parse of the body, whose texts are moved into the store; then what the command
     /// costs there, or the reply's bytes.
     pub fn handle(&mut self, body: &[u8]) -> Result<Answer, ServerFault>
-        ensures step { IsStepOf (step self.old (reading body.now)) result self.old self.new }
+        ensures answer { IfOk result
+            (λ a. answer_view a ≡ as_sent (step self.old (reading body.now)).answer) }
+        ensures state { OnOk result (self.new ≡ (step self.old (reading body.now)).state) }
+        ensures unchanged { OnErr result (self.new ≡ self.old) }
         ensures ended { IsErrOf result ServerFault.AlreadyEnded ↔ (self.old.phase ≡ Ended) }
     {
         if self.phase == Phase::Ended {
@@ -169,9 +174,12 @@ impl Server {
     /// consumes what was read, so after [`ServerFault::NoMemory`] the body has to be read again.
     /// Nothing is parsed: costs a reply's bytes, or what the command costs in the store.
     pub fn handle_incoming(&mut self, incoming: Incoming) -> Result<Answer, ServerFault>
+        ensures answer { IfOk result
+            (λ a. answer_view a ≡ as_sent (step_on self.old (incoming_view incoming)).answer) }
+        ensures state { OnOk result (self.new ≡ (step_on self.old (incoming_view incoming)).state) }
+        ensures unchanged { OnErr result (self.new ≡ self.old) }
         // Only a reply, and a document that is opened or changed, take memory.
-        ensures row { IsRowOf (step_on self.old (incoming_view incoming)) result
-            self.old self.new }
+        ensures quiet { IsQuiet (step_on self.old (incoming_view incoming)).answer → IsOk result }
         ensures ended { IsErrOf result ServerFault.AlreadyEnded ↔ (self.old.phase ≡ Ended) }
     {
         if self.phase == Phase::Ended {
