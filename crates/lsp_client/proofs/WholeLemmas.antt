@@ -1,16 +1,22 @@
 -- The text that a batch leaves of an open document.
-use Rattle.std.proofs.Common.{◌≡◌, ℕ, ℤ, true, false, List, [], ◌∷◌, map, Some, None, refl, ap, ◌∙◌, ⊎_elim, bytes_eq, string_bytes, String}
+use Rattle.std.proofs.Common.{◌≡◌, ℕ, ℤ, true, false, List, [], ◌∷◌, map, Some, None, refl, sym, ap, ◌∙◌, ⊎_elim, bytes_eq, string_bytes, String}
 use Rattle.std.proofs.lemmas.Bool.{cases_Bool}
 use Rattle.std.proofs.lemmas.Str.{IsUtf8-string_bytes, encodes-chars}
 use Rattle.std.specs.declared.alloc.Global.{Global}
-use Rattle.lsp_frame.specs.Limits.{Bounds}
 use Rattle.lsp_edit.specs.declared.change.Change.{Change}
+use Rattle.lsp_text.specs.declared.encoding.Encoding.{Encoding}
+use Rattle.lsp_text.specs.Units.{units_in}
 use Rattle.lsp_edit.specs.Batch.{Edit}
+use Rattle.lsp_edit.specs.Once.{bytes_after}
 use Rattle.lsp_message.specs.Outgoing.{did_change, body_of}
 use Rattle.lsp_message.specs.Seen.{edit_view}
+use Rattle.lsp_store.specs.declared.store.plan.Plan.{Plan}
+use Rattle.lsp_store.specs.Opened.{StoreData}
+use Rattle.lsp_store.specs.Plan.{IsPlanOf}
+use Rattle.lsp_store.proofs.RefusalLemmas.{meaning_accepted}
 use Rattle.lsp_store.specs.Message.{change_body, whole_batch, whole_text}
 use Rattle.lsp_message.specs.Params.{DocumentItem}
-use Rattle.lsp_store.specs.Table.{entry_at, change_refusal, changed, entry_refusal, after_change}
+use Rattle.lsp_store.specs.Table.{entry_at, changed, after_change}
 use Rattle.lsp_client.specs.inside.Orders.{whole_change}
 use Rattle.lsp_client.proofs.OrderLemmas.{some_same}
 
@@ -31,17 +37,19 @@ entry_after units (first ∷ table) uri version batch entry found =
     rw elsewhere (rw elsewhere next))
     (cases_Bool (bytes_eq uri first.uri))
 
--- The document of a URI decides why a change of it is refused, and what text is left.
-pub refusal_there : (limits : Bounds) (units : ℕ → ℕ) (table : List DocumentItem) (uri : List ℕ) (version : ℤ) (batch : List Edit) (entry : DocumentItem) → entry_at table uri ≡ Some entry
-    → change_refusal limits units table uri version batch ≡ entry_refusal limits units entry version batch
-refusal_there limits units table uri version batch entry found = rw found refl
-
+-- The document of a URI decides what text is left.
 pub whole_left : (units : ℕ → ℕ) (table : List DocumentItem) (uri : List ℕ) (version : ℤ) (batch : List Edit) (entry : DocumentItem) (text : List ℕ) → entry_at table uri ≡ Some entry
     → (changed units entry version batch).text ≡ text
     → whole_batch units table uri version batch ≡ whole_change text ∷ []
 whole_left units table uri version batch entry text found left =
     let whole : entry_at (after_change units table uri version batch) uri ≡ Some (changed units entry version batch) = entry_after units table uri version batch entry found in
     ap whole_text whole ∙ ap (λ (t : List ℕ). whole_change t ∷ []) left
+
+-- The whole text that a plan leaves is that of its batch.
+pub planned_whole : (store : StoreData) (uri : List ℕ) (version : ℤ) (encoding : Encoding) (batch : List Edit) (plan : Plan) (q : IsPlanOf store uri version encoding batch plan) (text : List ℕ)
+    → text ≡ bytes_after q.on.entry.text plan.delta → whole_batch (units_in encoding) store.table uri version batch ≡ whole_change text ∷ []
+planned_whole store uri version encoding batch plan q text is =
+    whole_left (units_in encoding) store.table uri version batch q.on.entry text q.is_open ((meaning_accepted store.limits q.on.entry.text _ _ q.delta.is).1 ∙ sym is)
 
 -- ---- the message
 

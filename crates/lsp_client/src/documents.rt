@@ -15,7 +15,7 @@ use crate::client::Client;
 use crate::fault::ClientFault;
 use crate::framed::framed_within;
 use crate::phase::Phase;
-use crate::whole::{text_after, whole_frame};
+use crate::whole::whole_frame;
 use lsp_edit::Change;
 use lsp_message::{CloseParams, OpenParams, Outgoing, SyncKind};
 use lsp_store::StoreFault;
@@ -92,9 +92,9 @@ impl Client {
     /// [`Store::change`](lsp_store::Store::change), then with
     /// [`StoreFault::BodyTooLong`](lsp_store::StoreFault::BodyTooLong).
     ///
-    /// Costs what [`Store::canonical_message`](lsp_store::Store::canonical_message) and
-    /// `Store::change` cost. For whole texts it costs `Store::change` twice, one copy of the text,
-    /// and the message's bytes.
+    /// The batch is resolved once. Costs what `Store::change` and
+    /// [`Store::planned_message`](lsp_store::Store::planned_message) cost. For whole texts it costs
+    /// `Store::change`, one copy of the text, and the message's bytes.
     pub fn edit(
         &mut self,
         uri: &str,
@@ -155,10 +155,9 @@ impl Client {
             → IsAdmitted self.old (edit_order uri.now version changes.now) }
     {
         let encoding = self.agreement().encoding;
-        let frame = self
-            .store
-            .canonical_message(uri, version, encoding, changes)?;
-        self.store.change(uri, version, encoding, changes)?;
+        let plan = self.store.plan(uri, version, encoding, changes)?;
+        let frame = self.store.planned_message(&plan)?;
+        self.store.apply(plan)?;
         Ok(frame)
     }
 
@@ -180,9 +179,10 @@ impl Client {
             → IsAdmitted self.old (edit_order uri.now version changes.now) }
     {
         let encoding = self.agreement().encoding;
-        let text = text_after(self.alloc, &self.store, encoding, uri, version, changes)?;
+        let plan = self.store.plan(uri, version, encoding, changes)?;
+        let text = self.store.planned_text(&plan)?;
         let frame = whole_frame(self.alloc, &self.store.limits(), uri, version, text)?;
-        self.store.change(uri, version, encoding, changes)?;
+        self.store.apply(plan)?;
         Ok(frame)
     }
 

@@ -19,6 +19,9 @@ use Rattle.lsp_edit.specs.Items.{Item, New, plain, character_of, text_of}
 use Rattle.lsp_edit.specs.Batch.{Fault, InsideStart, InsideStop, Reversed, after_change, meaning}
 use Rattle.lsp_edit.specs.Faults.{fault_at, ends_of, places_at}
 use Rattle.lsp_edit.specs.Indexed.{alone, bytes_left, text_within, text_fault_of}
+use Rattle.lsp_edit.specs.Once.{put_items}
+use Rattle.lsp_edit.specs.Parts.{index_of}
+use Rattle.lsp_edit.proofs.IndexLemmas.{index_of-place}
 use Rattle.lsp_edit.proofs.AppliedLemmas.{AreEnds, ends_told, fault_told}
 use Rattle.lsp_edit.proofs.CutLemmas.{text_of-new}
 use Rattle.lsp_edit.proofs.EditedLemmas.{plain_text}
@@ -73,6 +76,21 @@ module _ (units : ℕ → ℕ) (before : List ℕ) (utf8 : IsUtf8 before) (range
 
     pub range_too_long : (max_len : ℕ) → max_len < length (replace_range before start stop new) → text_within max_len before (meaning units (chars before) (alone range new)) ≡ Err TooLong
     range_too_long max_len above = rw (meant, left, lt-ltb max_len (length (replace_range before start stop new)) above) refl
+
+    low_index : index_of (chars before) start ≡ ends.low
+    low_index = ap (index_of (chars before)) (sym low_place) ∙ index_of-place (chars before) ends.low (omega (arith, ends.order, high_within))
+
+    high_index : index_of (chars before) stop ≡ ends.high
+    high_index = ap (index_of (chars before)) (sym high_place) ∙ index_of-place (chars before) ends.high high_within
+
+    put_is : put_items before start stop new ≡ items
+    put_is = rw (low_index, high_index) refl
+
+    pub range_means : meaning units (chars before) (alone range new) ≡ Ok (put_items before start stop new)
+    range_means = meant ∙ ap (λ (i : List Item). Ok i) (sym put_is)
+
+    pub range_bytes_left : bytes_left before (put_items before start stop new) ≡ replace_range before start stop new
+    range_bytes_left = ap (bytes_left before) put_is ∙ left
 
     pub range_start : IsCharBoundary before start
     range_start = subst (IsCharBoundary before) low_place (place_boundary before ends.low utf8 (omega (arith, ends.order, high_within)))

@@ -29,6 +29,7 @@ pub mod ThenLemmas
 pub mod PlainLemmas
 pub mod IndexedLemmas
 pub mod InPlaceLemmas
+pub mod OnceLemmas
 pub mod TextBatchLemmas
 pub mod DeltaLemmas
 pub mod RunLemmas

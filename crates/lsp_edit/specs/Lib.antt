@@ -11,6 +11,7 @@ pub mod Edited
 pub mod Indexed
 pub mod TextEdits
 pub mod Joined
+pub mod Once
 pub mod Deltas
 pub mod Examples
 pub mod Plain

@@ -1,6 +1,6 @@
 //! `IndexedText`, a text with its lines, under batches of changes.
 
-ghost use Rattle.std.specs.Prelude.{◌≡◌, ◌<◌, ◌≤◌, ◌⊎◌, ℕ, List, IfErr, IfOk, IsOk, OnErr, OnOk, Err, Ok, length, map, string_bytes, string_len, sum_by};
+ghost use Rattle.std.specs.Prelude.{◌≡◌, ◌≢◌, ◌<◌, ◌≤◌, ◌⊎◌, ℕ, List, IfErr, IfOk, IfSome, IsOk, OnErr, OnOk, Err, Ok, None, length, map, string_bytes, string_len, sum_by};
 ghost use Rattle.std.specs.Str.{IsUtf8, chars};
 ghost use Rattle.lsp_text.specs.LineStarts.{Indexes};
 ghost use Rattle.lsp_text.specs.Units.{units_in};
@@ -8,6 +8,7 @@ ghost use Rattle.lsp_text.specs.declared.position.Range.{Range};
 ghost use Rattle.lsp_edit.specs.declared.indexed.TextFault.TheVariants.{TooLong, NoMemory};
 ghost use Rattle.lsp_edit.specs.Batch.{meaning};
 ghost use Rattle.lsp_edit.specs.Deltas.{delta_parts};
+ghost use Rattle.lsp_edit.specs.Once.{IsDeltaOf, IsOn, bytes_after};
 ghost use Rattle.lsp_edit.specs.inside.Deltas.{IsDelta};
 ghost use Rattle.lsp_edit.specs.Edited.{Means, edit_of, edited_bytes};
 ghost use Rattle.lsp_edit.specs.Indexed.{IsCanonicalBatch, alone, text_fault_of, text_within};
@@ -19,11 +20,12 @@ pub(crate) mod kept_lines;
 
 use crate::change::{Change, MAX_NEW_TEXT};
 use crate::composed::{MAX_OLD_TEXT, compose_over};
+use crate::delta::Delta;
 use crate::ends::ends;
 use crate::fault::EditFault;
 use crate::indexed::draft::Draft;
 use crate::indexed::in_place::put_in_place;
-use crate::joined::delta::Delta;
+use crate::joined::delta::Delta as Layer;
 use crate::joined::{Joined, RUN};
 use crate::pieces::canonical::canonical_of;
 use crate::pieces::{MAX_TEXT, Pieces};
@@ -157,6 +159,7 @@ impl IndexedText {
     ) -> Result<Draft, TextFault>
         requires size { length self.now ≤ MAX_OLD_TEXT }
         requires fits { sum_by (λ change. string_len change.text) changes.now ≤ MAX_NEW_TEXT }
+        ensures utf8 { OnOk result (IsUtf8 self.now) }
         ensures ok { IfOk result
             (λ left. text_within max_len self.now
             (meaning (units_in encoding) (chars self.now) (map edit_of changes.now)) ≡ Ok left) }
@@ -168,36 +171,6 @@ impl IndexedText {
         let draft = Draft::left_by(alloc, &self.text, &self.lines, encoding, changes)?;
         may_be_left(&draft, max_len)?;
         Ok(draft)
-    }
-
-    /// Replaces a range by a text, without a copy of the rest.
-    fn put(
-        &mut self,
-        encoding: Encoding,
-        range: Range,
-        new: &str,
-        max_len: usize,
-    ) -> Result<(), TextFault>
-        requires size { length self.old ≤ MAX_OLD_TEXT }
-        requires fits { length new.now ≤ MAX_NEW_TEXT }
-        ensures changed { OnOk result
-            (text_within max_len self.old
-            (meaning (units_in encoding) (chars self.old) (alone range new.now)) ≡ Ok self.new) }
-        ensures unchanged { OnErr result (self.new ≡ self.old) }
-        ensures error { IfErr result (λ fault. (fault ≡ NoMemory)
-            ⊎ (text_within max_len self.old
-            (meaning (units_in encoding) (chars self.old) (alone range new.now)) ≡ Err fault)) }
-        // Out of memory means that there is a result of at most `max_len` bytes.
-        ensures memory { result ≡ Err NoMemory
-            → IsOk (text_within max_len self.old
-            (meaning (units_in encoding) (chars self.old) (alone range new.now))) }
-    {
-        let (start, stop) = ends(&self.lines, &self.text, encoding, range, 0)?;
-        if self.text.len() - (stop - start) + new.len() > max_len {
-            return Err(TextFault::TooLong);
-        }
-        put_in_place(&mut self.text, &mut self.lines, start, stop, new)?;
-        Ok(())
     }
 
     /// Applies a batch to the text (LSP 3.17, DidChangeTextDocumentParams), if the result has at
@@ -231,19 +204,118 @@ impl IndexedText {
             → map edit_of changes.now ≡ alone range text → IsOk (text_within max_len self.old
             (meaning (units_in encoding) (chars self.old) (map edit_of changes.now))) }
     {
-        if let [
-            Change {
-                range: Some(range),
-                text,
-            },
-        ] = changes
-        {
-            self.put(encoding, *range, text, max_len)?;
-            return Ok(());
+        match self.delta(encoding, changes, max_len) {
+            Ok(delta) => {
+                self.apply(delta)?;
+                Ok(())
+            }
+            Err(fault) => Err(fault),
         }
+    }
+
+    /// Resolves a change of a range on the text, if the result has at most `max_len` bytes. Takes
+    /// no memory.
+    fn put_delta<'a>(
+        &self,
+        encoding: Encoding,
+        range: Range,
+        new: &'a str,
+        max_len: usize,
+    ) -> Result<Delta<'a>, TextFault>
+        requires size { length self.now ≤ MAX_OLD_TEXT }
+        requires fits { length new.now ≤ MAX_NEW_TEXT }
+        ensures ok { IfOk result
+            (IsDeltaOf (units_in encoding) max_len self.now (alone range new.now)) }
+        ensures error { IfErr result (λ fault. (fault ≡ NoMemory)
+            ⊎ (text_within max_len self.now
+            (meaning (units_in encoding) (chars self.now) (alone range new.now)) ≡ Err fault)) }
+        ensures memory { result ≢ Err NoMemory }
+    {
+        let (start, stop) = ends(&self.lines, &self.text, encoding, range, 0)?;
+        if self.text.len() - (stop - start) + new.len() > max_len {
+            return Err(TextFault::TooLong);
+        }
+        Ok(Delta::Put {
+            encoding,
+            start,
+            stop,
+            new,
+        })
+    }
+
+    /// Resolves a batch by the text that it leaves.
+    fn left_delta<'a>(
+        &self,
+        encoding: Encoding,
+        changes: &'a [Change],
+        max_len: usize,
+    ) -> Result<Delta<'a>, TextFault>
+        requires size { length self.now ≤ MAX_OLD_TEXT }
+        requires fits { sum_by (λ change. string_len change.text) changes.now ≤ MAX_NEW_TEXT }
+        ensures ok { IfOk result
+            (IsDeltaOf (units_in encoding) max_len self.now (map edit_of changes.now)) }
+        ensures error { IfErr result (λ fault. (fault ≡ NoMemory)
+            ⊎ (text_within max_len self.now
+            (meaning (units_in encoding) (chars self.now) (map edit_of changes.now)) ≡ Err fault)) }
+    {
         let (text, lines) = self.draft(encoding, changes, max_len)?.into_text()?;
-        *self = IndexedText { text, lines };
-        Ok(())
+        let left = IndexedText { text, lines };
+        Ok(Delta::Left {
+            encoding,
+            changes,
+            left,
+        })
+    }
+
+    /// Resolves a batch on the text (LSP 3.17, DidChangeTextDocumentParams), if the result has at
+    /// most `max_len` bytes. The delta borrows the changes, and nothing of the text.
+    ///
+    /// It has the errors of [`IndexedText::change`], and changes nothing. One change with a range
+    /// costs its two positions, and takes no memory. Any other batch costs what it costs to apply.
+    pub fn delta<'a>(
+        &self,
+        encoding: Encoding,
+        changes: &'a [Change],
+        max_len: usize,
+    ) -> Result<Delta<'a>, TextFault>
+        requires size { length self.now ≤ MAX_OLD_TEXT }
+        requires fits { sum_by (λ change. string_len change.text) changes.now ≤ MAX_NEW_TEXT }
+        ensures ok { IfOk result
+            (IsDeltaOf (units_in encoding) max_len self.now (map edit_of changes.now)) }
+        ensures error { IfErr result (λ fault. (fault ≡ NoMemory)
+            ⊎ (text_within max_len self.now
+            (meaning (units_in encoding) (chars self.now) (map edit_of changes.now)) ≡ Err fault)) }
+        ensures memory { result ≡ Err NoMemory → (range : Range) (text : List ℕ)
+            → map edit_of changes.now ≡ alone range text → ⊥ }
+    {
+        match put_of(changes) {
+            Some((range, new)) => self.put_delta(encoding, range, new, max_len),
+            None => self.left_delta(encoding, changes, max_len),
+        }
+    }
+
+    /// Applies a delta that was made of this text. Fails only if it is out of memory, and then
+    /// changes nothing.
+    ///
+    /// A range costs one move of the text after it, and one pass over the later line starts; any
+    /// other batch constant time.
+    pub fn apply(&mut self, delta: Delta<'_>) -> Result<(), AllocError>
+        requires on { IsOn self.old delta }
+        ensures changed { OnOk result (self.new ≡ bytes_after self.old delta.entry) }
+        ensures unchanged { OnErr result (self.new ≡ self.old) }
+    {
+        match delta {
+            Delta::Put {
+                start,
+                stop,
+                new,
+                ..
+            } => put_in_place(&mut self.text, &mut self.lines, start, stop, new),
+            Delta::Left { left, .. } => {
+                *self = left;
+                Ok(())
+            }
+        }
     }
 
     /// Returns the canonical batch of what a batch means on the text. It has one change for each
@@ -299,14 +371,14 @@ impl IndexedText {
         Ok(canonical_of(alloc, &self.text, &self.lines, &spans, encoding)?)
     }
 
-    /// Returns the result of a batch as a delta. It has the errors of [`IndexedText::change`], and
-    /// changes nothing. Costs what each change costs to apply.
-    pub(crate) fn delta(
+    /// Returns the result of a batch in spans that own their texts. It has the errors of
+    /// [`IndexedText::change`], and changes nothing. Costs what each change costs to apply.
+    pub(crate) fn layer(
         &self,
         encoding: Encoding,
         changes: &[Change],
         max_len: usize,
-    ) -> Result<Delta, TextFault>
+    ) -> Result<Layer, TextFault>
         requires size { length self.now ≤ MAX_OLD_TEXT }
         requires fits { sum_by (λ change. string_len change.text) changes.now ≤ MAX_NEW_TEXT }
         ensures ok { IfOk result (λ delta. IsDelta
@@ -320,7 +392,26 @@ impl IndexedText {
     {
         let alloc = *self.text.allocator();
         let pieces = self.composed(encoding, changes, max_len)?;
-        Ok(Delta::of_spans(alloc, 0, pieces.spans())?)
+        Ok(Layer::of_spans(alloc, 0, pieces.spans())?)
+    }
+}
+
+/// Returns the range and the text of a batch of one change with a range.
+fn put_of<'a>(changes: &'a [Change]) -> Option<(Range, &'a str)>
+    ensures some { IfSome result (λ put. map edit_of changes.now ≡ alone put.0 put.1.now) }
+    ensures short { IfSome result
+        (λ put. length put.1.now ≤ sum_by (λ change. string_len change.text) changes.now) }
+    ensures none { result ≡ None → (range : Range) (text : List ℕ)
+        → map edit_of changes.now ≡ alone range text → ⊥ }
+{
+    match changes {
+        [
+            Change {
+                range: Some(range),
+                text,
+            },
+        ] => Some((*range, text)),
+        _ => None,
     }
 }
 

@@ -172,7 +172,7 @@ impl Joined {
             ≡ Err fault)) }
     {
         self.join()?;
-        let delta = reached.delta(encoding, changes, max_len)?;
+        let delta = reached.layer(encoding, changes, max_len)?;
         self.deltas.reserve(1)?;
         self.deltas.push_reserved(delta);
         Ok(())
@@ -204,7 +204,7 @@ impl Joined {
             ≡ Err fault)) }
     {
         self.join()?;
-        let next = reached.delta(encoding, changes, max_len)?;
+        let next = reached.layer(encoding, changes, max_len)?;
         self.deltas.reserve(1)?;
         reached.change(encoding, changes, max_len)?;
         self.deltas.push_reserved(next);

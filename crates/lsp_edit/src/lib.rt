@@ -9,6 +9,8 @@
 //!   that later changes meet).
 //! - `composed`: `compose`, which makes the pieces of a whole batch. `canonical` writes their
 //!   canonical batch.
+//! - `delta`: `Delta`, a batch that was resolved once on a text. Applying it, its canonical batch
+//!   and its length are read from it.
 //! - `change`, `fault`: a change as the protocol writes it, the limit on the texts of a batch, and
 //!   why a change has no result.
 //! - `joined`: `Joined`, many batches, one after another, as one. `delta` is a part of it.
@@ -21,6 +23,7 @@
 
 mod change;
 mod composed;
+mod delta;
 mod ends;
 mod fault;
 mod indexed;
@@ -32,6 +35,7 @@ mod text_edits;
 
 pub use change::{Change, MAX_NEW_TEXT, fits};
 pub use composed::{MAX_OLD_TEXT, compose, compose_over};
+pub use delta::Delta;
 pub use fault::{EditFault, Side};
 pub use indexed::{IndexedText, TextFault};
 pub use joined::Joined;

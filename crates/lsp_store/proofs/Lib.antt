@@ -1,6 +1,7 @@
 pub mod TableLemmas
 pub mod RefusalLemmas
 pub mod StoreLemmas
+pub mod PlanLemmas
 pub mod FrameLemmas
 pub mod ScalarLemmas
 pub mod ProperLemmas

@@ -6,3 +6,4 @@ pub mod Laws
 pub mod Squash
 pub mod LineContent
 pub mod UnitsBefore
+pub mod Plan

@@ -8,6 +8,7 @@
 //! - `canonical`: the canonical message of an accepted batch of changes.
 //! - `squash`: many batches on one document as one message.
 //! - `batches`: the same for a caller who keeps the document.
+//! - `plan`: a batch that was resolved once on an open document.
 //! - `stored`: the language, version and text of a document, and how a batch changes them.
 //! - `reached`: the document that several batches lead to.
 //! - `fault`: why a call is refused.
@@ -26,3 +27,4 @@ pub use squash::batches::Batches;
 pub use store::Store;
 pub use store::document::Document;
 pub use store::documents::Documents;
+pub use store::plan::Plan;

@@ -1,27 +1,31 @@
 //! The open documents, in order of opening.
 
-ghost use Rattle.std.specs.Prelude.{◌≡◌, ◌≢◌, ◌<◌, ◌≤◌, ◌↔◌, ℕ, IsTrue, ℤ, List, [], Some, None, Err, option_map, IfErr, OnErr, OnOk, map, length, slice_get, string_bytes};
+ghost use Rattle.std.specs.Prelude.{◌≡◌, ◌≢◌, ◌<◌, ◌≤◌, ◌↔◌, ℕ, IsTrue, ℤ, List, [], Some, None, Err, option_map, IfErr, IfOk, OnErr, OnOk, map, length, slice_get, string_bytes};
+ghost use Rattle.lsp_edit.specs.Batch.{Edit};
 ghost use Rattle.lsp_edit.specs.Edited.{edit_of};
 ghost use Rattle.lsp_store.specs.declared.fault.StoreFault.TheVariants.{NotOpen, NoMemory};
 ghost use Rattle.lsp_message.specs.Params.{DocumentItem};
 ghost use Rattle.lsp_store.specs.Table.{entry_at, open_refusal, opens, changes as changing, closes};
 ghost use Rattle.lsp_store.specs.Opened.{IsRefused, MayTakeMemory, Takes};
 ghost use Rattle.lsp_store.specs.Faults.{fault_of};
+ghost use Rattle.lsp_store.specs.Plan.{IsPlanOf, IsPlanOn, after_plan};
 
 pub(crate) mod canonical;
 pub(crate) mod document;
 pub(crate) mod documents;
+pub(crate) mod plan;
 pub(crate) mod stored;
 
 use crate::fault::StoreFault;
 use crate::store::document::Document;
 use crate::store::documents::Documents;
+use crate::store::plan::Plan;
 use crate::store::stored::Stored;
 use indexmap::IndexMap;
 use lsp_edit::Change;
 use lsp_frame::Limits;
 use lsp_text::Encoding;
-use std::alloc::Global;
+use std::alloc::{AllocError, Global};
 use std::marker::Model;
 
 /// The open documents in order of opening, within limits (LSP 3.17, Text Document Synchronization).
@@ -201,12 +205,67 @@ impl Store {
         ensures memory { result ≡ Err NoMemory
             → MayTakeMemory self.old uri.now version (map edit_of changes.now) }
     {
-        let limits = self.limits;
-        let Some(stored) = self.documents.get_mut(uri) else {
+        match self.plan(uri, version, encoding, changes) {
+            Ok(plan) => {
+                self.apply(plan)?;
+                Ok(())
+            }
+            Err(fault) => Err(fault),
+        }
+    }
+
+    /// Resolves a batch on an open document, and makes all refusals of [`Store::change`], in their
+    /// order. The plan borrows the changes, and nothing of the store.
+    ///
+    /// Costs a hash look-up, and what the batch costs to resolve ([`lsp_edit::IndexedText::delta`]):
+    /// for one change of a range its two positions, and no memory.
+    pub fn plan<'a>(
+        &self,
+        uri: &str,
+        version: i32,
+        encoding: Encoding,
+        changes: &'a [Change],
+    ) -> Result<Plan<'a>, StoreFault>
+        ensures planned { IfOk result
+            (IsPlanOf self.now uri.now version encoding (map edit_of changes.now)) }
+        ensures on { IfOk result (IsPlanOn self.now) }
+        ensures error { IfErr result
+            (IsRefused self.now (changing uri.now version encoding (map edit_of changes.now))) }
+        ensures memory { result ≡ Err NoMemory
+            → MayTakeMemory self.now uri.now version (map edit_of changes.now) }
+    {
+        let Some((index, _, stored)) = self.documents.get_full(uri) else {
             return Err(StoreFault::NotOpen);
         };
-        stored.change(&limits, version, encoding, changes)?;
-        Ok(())
+        match stored.plan(&self.limits, version, encoding, changes) {
+            Ok(delta) => Ok(Plan {
+                index,
+                version,
+                delta,
+            }),
+            Err(fault) => Err(fault),
+        }
+    }
+
+    /// Applies a plan that was made of this store as it is. Fails only if it is out of memory, and
+    /// then changes nothing. Costs what the delta costs ([`lsp_edit::IndexedText::apply`]).
+    pub fn apply(&mut self, plan: Plan<'_>) -> Result<(), AllocError>
+        requires on { IsPlanOn self.old plan }
+        ensures applied { OnOk result (self.new ≡ after_plan self.old plan.entry) }
+        ensures taken { OnOk result ((uri : List ℕ) (version : ℤ) (encoding : Encoding)
+            (batch : List Edit) → IsPlanOf self.old uri version encoding batch plan.entry
+            → Takes self.old (changing uri version encoding batch) self.new) }
+        ensures unchanged { OnErr result (self.new ≡ self.old) }
+    {
+        let Plan {
+            index,
+            version,
+            delta,
+        } = plan;
+        let Some(stored) = self.documents.get_index_mut(index) else {
+            unreachable!()
+        };
+        stored.apply(version, delta)
     }
 
     /// Closes an open document; the others keep their order (LSP 3.17, DidCloseTextDocument).

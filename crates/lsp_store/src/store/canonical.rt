@@ -1,6 +1,6 @@
 //! The canonical message of an accepted batch of changes.
 
-ghost use Rattle.std.specs.Prelude.{◌≡◌, ◌<◌, ◌≤◌, ◌↔◌, ◌+◌, ◌-◌, ◌++◌, if◌then◌else◌, nat_lt, List, None, Some, Err, IfErr, IfOk, OnErr, OnOk, length, map, take};
+ghost use Rattle.std.specs.Prelude.{◌≡◌, ◌<◌, ◌≤◌, ◌↔◌, ◌+◌, ◌-◌, ◌++◌, if◌then◌else◌, nat_lt, List, None, Some, Err, IfErr, IfOk, OnErr, OnOk, length, map, string_bytes, take, ℕ, ℤ};
 ghost use Rattle.lsp_frame.specs.Frame.{frame};
 ghost use Rattle.lsp_text.specs.Units.{units_in};
 ghost use Rattle.lsp_edit.specs.Batch.{Edit};
@@ -10,17 +10,20 @@ ghost use Rattle.lsp_message.specs.Sent.{IsProper, IsReadAsSent, IsReadBack};
 ghost use Rattle.lsp_store.specs.declared.fault.StoreFault.TheVariants.{BodyTooLong, NoMemory, TooManyChanges};
 ghost use Rattle.lsp_store.specs.Faults.{IsRefusal};
 ghost use Rattle.lsp_store.specs.Opened.{MayTakeMemory};
+ghost use Rattle.lsp_edit.specs.Once.{bytes_after};
+ghost use Rattle.lsp_store.specs.Plan.{IsMessageFault, IsMessageOfPlan, IsPlanOf, IsPlanOn};
 ghost use Rattle.lsp_store.specs.Table.{change_refusal, too_many_changes};
 ghost use Rattle.lsp_store.specs.Message.{AreTexts, DoAlike, IsCanonicalOn, IsReadAgain, IsCanonicalOf};
 ghost use Rattle.lsp_store.specs.Message.{body_refusal, canonical_batch, canonical_body, canonical_frame, change_body, message_refusal};
 
 use crate::fault::StoreFault;
 use crate::store::Store;
+use crate::store::plan::Plan;
 use lsp_edit::Change;
 use lsp_frame::{Limits, encode};
 use lsp_message::push_change;
 use lsp_text::Encoding;
-use std::alloc::Global;
+use std::alloc::{AllocError, Global};
 
 /// Refuses a batch with more changes than the limit allows. Takes no memory.
 fn may_be_written(limits: &Limits, changes: &[Change]) -> Result<(), StoreFault>
@@ -229,5 +232,52 @@ impl Store {
         let batch = stored.canonical(&self.limits, version, encoding, changes)?;
         push_body(bytes, &self.limits, uri, version, batch)?;
         Ok(())
+    }
+
+    /// Returns the URI, the version and the canonical batch of the message of a plan.
+    fn planned_batch(&self, plan: &Plan<'_>) -> Result<(&str, i32, Vec<Change>), AllocError>
+        requires on { IsPlanOn self.now plan.now }
+        ensures { IfOk result (λ planned. (uri : List ℕ) (version : ℤ) (encoding : Encoding)
+            (batch : List Edit) → IsPlanOf self.now uri version encoding batch plan.now
+            → change_body planned.0.now planned.1 (map edit_of planned.2.items)
+            ≡ canonical_body (units_in encoding) self.now.table uri version batch) }
+    {
+        let Some((uri, stored)) = self.documents.get_index(plan.index) else {
+            unreachable!()
+        };
+        let version = plan.version;
+        let alloc = *self.documents.allocator();
+        let batch = plan.delta.canonical(alloc, &stored.text)?;
+        Ok((uri, version, batch))
+    }
+
+    /// Returns the frame of the canonical message of a plan, before it is applied: that of
+    /// [`Store::canonical_message`].
+    ///
+    /// Refuses with [`StoreFault::BodyTooLong`] where the body has more than `max_body` bytes; and
+    /// with [`StoreFault::NoMemory`]. For one change of a range it costs two exact positions, and
+    /// the message's bytes. Any other batch is composed.
+    pub fn planned_message(&self, plan: &Plan<'_>) -> Result<Vec<u8>, StoreFault>
+        requires on { IsPlanOn self.now plan.now }
+        ensures framed { IfOk result (λ bytes. IsMessageOfPlan self.now plan.now bytes.items) }
+        ensures error { IfErr result (IsMessageFault self.now plan.now) }
+    {
+        let alloc = *self.documents.allocator();
+        let (uri, version, batch) = self.planned_batch(plan)?;
+        framed_change(alloc, &self.limits, uri, version, batch)
+    }
+
+    /// Returns the text that a plan leaves, before it is applied. Fails only if it is out of
+    /// memory. Costs one copy of that text.
+    pub fn planned_text(&self, plan: &Plan<'_>) -> Result<String, AllocError>
+        requires on { IsPlanOn self.now plan.now }
+        ensures { IfOk result (λ text. (on : IsPlanOn self.now plan.now)
+            → string_bytes text ≡ bytes_after on.entry.text plan.now.delta) }
+    {
+        let Some((_, stored)) = self.documents.get_index(plan.index) else {
+            unreachable!()
+        };
+        let alloc = *self.documents.allocator();
+        plan.delta.text(alloc, &stored.text)
     }
 }

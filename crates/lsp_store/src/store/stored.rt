@@ -3,7 +3,7 @@
 ghost use Rattle.std.specs.Prelude.{◌≤◌, length, sum_by};
 
 use crate::fault::StoreFault;
-use lsp_edit::{Change, IndexedText, fits};
+use lsp_edit::{Change, Delta, IndexedText, fits};
 use lsp_frame::Limits;
 use lsp_text::Encoding;
 use std::alloc::{AllocError, Global};
@@ -24,6 +24,8 @@ impl Stored {
     ghost use Rattle.lsp_edit.specs.Batch.{meaning};
     ghost use Rattle.lsp_edit.specs.Edited.{edit_of};
     ghost use Rattle.lsp_edit.specs.Indexed.{IsCanonicalBatch};
+    ghost use Rattle.lsp_edit.specs.Once.{IsDeltaOf, IsOn, bytes_after};
+    ghost use Rattle.lsp_store.specs.Plan.{planned};
     ghost use Rattle.lsp_store.specs.declared.fault.StoreFault.TheVariants.{NoMemory};
     ghost use Rattle.lsp_store.specs.Table.{IsLeftToMeaning, changed, entry_refusal, meaning_refusal};
     ghost use Rattle.lsp_store.specs.Faults.{fault_of, IsRefusal};
@@ -84,38 +86,55 @@ impl Stored {
         Ok(())
     }
 
-    /// Applies a batch of changes to the document, and sets its version. A refused batch changes
-    /// nothing.
-    pub fn change(
-        &mut self,
+    /// Resolves a batch on the document's text. Refuses as [`crate::Store::change`] does,
+    /// from a stale version on.
+    pub fn plan<'a>(
+        &self,
         limits: &Limits,
         version: i32,
         encoding: Encoding,
-        changes: &[Change],
-    ) -> Result<(), StoreFault>
+        changes: &'a [Change],
+    ) -> Result<Delta<'a>, StoreFault>
         ensures accepted { OnOk result ((uri : List ℕ) →
-            entry_refusal limits.now (units_in encoding) (entry_under uri self.old) version
+            entry_refusal limits.now (units_in encoding) (entry_under uri self.now) version
             (map edit_of changes.now) ≡ None) }
-        ensures changed { OnOk result ((uri : List ℕ) →
-            entry_under uri self.new
-            ≡ changed (units_in encoding) (entry_under uri self.old) version
+        ensures delta { IfOk result (IsDeltaOf (units_in encoding) limits.now.max_text self.now.text
             (map edit_of changes.now)) }
-        ensures unchanged { OnErr result (self.new ≡ self.old) }
+        ensures short { limits.now.max_text ≤ 1073741824 }
         ensures error { IfErr result (λ fault. (uri : List ℕ) →
-            IsRefusal (entry_refusal limits.now (units_in encoding) (entry_under uri self.old)
+            IsRefusal (entry_refusal limits.now (units_in encoding) (entry_under uri self.now)
             version (map edit_of changes.now)) fault) }
         // Memory is taken only once nothing but the meaning can refuse the batch.
         ensures memory { result ≡ Err NoMemory → (uri : List ℕ)
-            → IsLeftToMeaning limits.now (entry_under uri self.old) version
+            → IsLeftToMeaning limits.now (entry_under uri self.now) version
             (map edit_of changes.now) }
+        ensures left { OnOk result ((uri : List ℕ)
+            → IsLeftToMeaning limits.now (entry_under uri self.now) version
+            (map edit_of changes.now)) }
     {
+        let max_len = limits.max_text();
         self.may_change(limits, version, changes)?;
-        self.text.change(encoding, changes, limits.max_text())?;
+        match self.text.delta(encoding, changes, max_len) {
+            Ok(delta) => Ok(delta),
+            Err(fault) => Err(StoreFault::from(fault)),
+        }
+    }
+
+    /// Applies a delta that was made of the document's text, and sets its version. Out of memory
+    /// changes nothing.
+    pub fn apply(&mut self, version: i32, delta: Delta<'_>) -> Result<(), AllocError>
+        requires on { IsOn self.old.text delta }
+        requires short { length (bytes_after self.old.text delta) ≤ 1073741824 }
+        ensures applied { OnOk result ((uri : List ℕ) →
+            entry_under uri self.new ≡ planned (entry_under uri self.old) version delta.entry) }
+        ensures unchanged { OnErr result (self.new ≡ self.old) }
+    {
+        self.text.apply(delta)?;
         self.version = version;
         Ok(())
     }
 
-    /// Returns the canonical batch of a batch on the document's text. Refuses as `change` does.
+    /// Returns the canonical batch of a batch on the document's text. Refuses as `plan` does.
     pub fn canonical(
         &self,
         limits: &Limits,

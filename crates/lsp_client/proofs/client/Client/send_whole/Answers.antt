@@ -7,9 +7,19 @@ use Rattle.lsp_store.specs.Table as documents
 use Rattle.lsp_store.specs.Table.{Command, command_refusal}
 use Rattle.lsp_client.specs.Step.{State, agreement}
 use Rattle.lsp_client.specs.inside.Orders.{whole_change}
+use Rattle.lsp_client.proofs.OrderLemmas.{refused_first}
+use Rattle.lsp_client.proofs.WholeLemmas.{planned_whole}
 use Rattle.lsp_client.proofs.SentLemmas.{order_sent, long_refused, body_within, whole_sent}
 use Rattle.lsp_store.specs.declared.fault.StoreFault.TheVariants as store_faults
 use Rattle.lsp_client.proofs.client.Client.send_whole.Goals as goal
+
+pub returns-in_err-plan-clause-error : goal.returns-in_err-plan-clause-error
+returns-in_err-plan-clause-error c =
+    let version : to_z w32 (of_z w32 c.args.version) ≡ c.args.version = to_z-of_z w32 c.args.version (search rules) in
+    let limits = ap (λ (x : State). x.limits) c.self.view_is in
+    let table = ap (λ (x : State). x.table) c.self.view_is in
+    let p = err_from_is_err_and c.from_residual.result c.from_residual.ensures.1 in
+    rw (p.1, p.2) (refused_first _ _ _ (rw (version, c.agreement-encoding.ensures, limits, table) at c.in_err-plan.ensures.error))
 
 pub returns-in_err-frame-clause-error : goal.returns-in_err-frame-clause-error
 returns-in_err-frame-clause-error c =
@@ -18,9 +28,11 @@ returns-in_err-frame-clause-error c =
     let limits = ap (λ (x : State). x.limits) c.self.view_is in
     let table = ap (λ (x : State). x.table) c.self.view_is in
     let command : Command = documents.changes c.args.uri.now c.args.version (agreement s).encoding (map edit_of c.args.changes.now) in
-    let may : command_refusal s.limits s.table command ≡ None = rw (version, c.agreement-encoding.ensures, limits, table) at c.in_ok-text.ensures.accepted in
+    let planned = rw version at c.in_ok-plan.ensures.planned in
+    let may : command_refusal s.limits s.table command ≡ None = rw (c.agreement-encoding.ensures, limits, table) at planned.accepted in
+    let left = planned_whole _ _ _ _ _ _ planned _ (c.in_ok-text.ensures planned.on) in
     let body = whole_sent c.self.inside.store.table s c.agreement-encoding.result c.args.uri.now c.args.version (map edit_of c.args.changes.now) (whole_change (string_bytes c.in_ok-text.text)) table c.agreement-encoding.ensures c.requires
-    (rw version at c.in_ok-text.ensures.ok) in
+    left in
     let p = err_from_is_err_and c.from_residual-in_err-frame.result c.from_residual-in_err-frame.ensures.1 in
     rw (p.1, p.2) (long_refused c.limits.result s (agreement s).kind command _ c.in_err-frame.field-0.0 (c.limits.ensures ∙ limits) may body (rw version at c.in_err-frame.ensures.error))
 
@@ -31,35 +43,48 @@ returns-clause-ok c =
     let limits = ap (λ (x : State). x.limits) c.self.view_is in
     let table = ap (λ (x : State). x.table) c.self.view_is in
     let command : Command = documents.changes c.args.uri.now c.args.version (agreement s).encoding (map edit_of c.args.changes.now) in
+    let planned = rw version at c.in_ok-plan.ensures.planned in
+    let left = planned_whole _ _ _ _ _ _ planned _ (c.in_ok-text.ensures planned.on) in
+    let taken = c.in_ok-apply.ensures.taken c.args.uri.now c.args.version c.agreement-encoding.result.encoding (map edit_of c.args.changes.now) planned in
     let body = whole_sent c.self.inside.store.table s c.agreement-encoding.result c.args.uri.now c.args.version (map edit_of c.args.changes.now) (whole_change (string_bytes c.in_ok-text.text)) table c.agreement-encoding.ensures c.requires
-    (rw version at c.in_ok-text.ensures.ok) in
-    order_sent c.self.inside.offers c.self.inside.phase c.self.inside.agreed c.self.inside.store c.change.new.self s (agreement s).kind command _
-    c.self.view_is (rw (version, c.agreement-encoding.ensures) at c.in_ok-change.ensures.taken)
+    left in
+    order_sent c.self.inside.offers c.self.inside.phase c.self.inside.agreed c.self.inside.store c.apply.new.self s (agreement s).kind command _
+    c.self.view_is (rw c.agreement-encoding.ensures at taken)
     (body_within c.limits.result s.limits _ _ (c.limits.ensures ∙ limits) body (rw version at c.in_ok-frame.ensures.within))
     ((rw version at c.in_ok-frame.ensures.ok) ∙ ap frame body)
 
-pub returns-in_err-text-clause-memory : goal.returns-in_err-text-clause-memory
-returns-in_err-text-clause-memory c = λ e.
+pub returns-in_err-plan-clause-memory : goal.returns-in_err-plan-clause-memory
+returns-in_err-plan-clause-memory c = λ e.
     let version : to_z w32 (of_z w32 c.args.version) ≡ c.args.version = to_z-of_z w32 c.args.version (search rules) in
     let limits = ap (λ (x : State). x.limits) c.self.view_is in
     let table = ap (λ (x : State). x.table) c.self.view_is in
     let p = err_from_is_err_and c.from_residual.result c.from_residual.ensures.1 in
     let converted = p.1 in
     let same = p.2 in
-    let was = c.in_err-text.was in
-    let no_memory : c.text_after.result ≡ Err store_faults.NoMemory = cc in
-    rw (version, limits, table) at (c.text_after.ensures.memory no_memory)
+    let was = c.in_err-plan.was in
+    let no_memory : c.plan.result ≡ Err store_faults.NoMemory = cc in
+    rw (version, limits, table) at (c.plan.ensures.memory no_memory)
+
+pub returns-in_err-text-clause-memory : goal.returns-in_err-text-clause-memory
+returns-in_err-text-clause-memory c = λ e.
+    let version : to_z w32 (of_z w32 c.args.version) ≡ c.args.version = to_z-of_z w32 c.args.version (search rules) in
+    let limits = ap (λ (x : State). x.limits) c.self.view_is in
+    let table = ap (λ (x : State). x.table) c.self.view_is in
+    let left = c.in_ok-plan.ensures.planned.left in
+    rw (version, limits, table) at left
 
 pub returns-in_err-frame-clause-memory : goal.returns-in_err-frame-clause-memory
 returns-in_err-frame-clause-memory c = λ e.
     let version : to_z w32 (of_z w32 c.args.version) ≡ c.args.version = to_z-of_z w32 c.args.version (search rules) in
     let limits = ap (λ (x : State). x.limits) c.self.view_is in
     let table = ap (λ (x : State). x.table) c.self.view_is in
-    rw (version, limits, table) at c.in_ok-text.ensures.left
+    let left = c.in_ok-plan.ensures.planned.left in
+    rw (version, limits, table) at left
 
-pub returns-in_err-change-clause-memory : goal.returns-in_err-change-clause-memory
-returns-in_err-change-clause-memory c = λ e.
+pub returns-in_err-apply-clause-memory : goal.returns-in_err-apply-clause-memory
+returns-in_err-apply-clause-memory c = λ e.
     let version : to_z w32 (of_z w32 c.args.version) ≡ c.args.version = to_z-of_z w32 c.args.version (search rules) in
     let limits = ap (λ (x : State). x.limits) c.self.view_is in
     let table = ap (λ (x : State). x.table) c.self.view_is in
-    rw (version, limits, table) at c.in_ok-text.ensures.left
+    let left = c.in_ok-plan.ensures.planned.left in
+    rw (version, limits, table) at left

@@ -1,5 +1,6 @@
-use Rattle.std.proofs.Common.{inr, map}
+use Rattle.std.proofs.Common.{inr, map, subst, IsUtf8}
 use Rattle.std.proofs.lemmas.Result.{err_from_is_err_and}
+use Rattle.std.proofs.lemmas.Str.{IsUtf8-string_bytes}
 use Rattle.lsp_text.specs.Units.{units_in}
 use Rattle.lsp_edit.specs.Edited.{edit_of}
 use Rattle.lsp_edit.proofs.TextBatchLemmas.{left_fault, left_too_long, left_within}
@@ -19,3 +20,6 @@ returns-in_err-may_be_left-clause-error c =
 pub returns-clause-ok : goal.returns-clause-ok
 returns-clause-ok c =
     left_within (units_in c.args.encoding) c.args.self.now (map edit_of c.args.changes.now) c.in_ok-draft.draft c.in_ok-may_be_left.ensures.utf8 (rw (c.deref.ensures, c.self.view_is) at c.in_ok-draft.ensures.ok) c.args.max_len c.in_ok-may_be_left.ensures.ok
+
+pub returns-clause-utf8 : goal.returns-clause-utf8
+returns-clause-utf8 c = subst IsUtf8 c.self.view_is (IsUtf8-string_bytes c.self.inside.text)

@@ -1,0 +1,95 @@
+-- What was resolved once, read again.
+use Rattle.std.proofs.Common.{ℕ, ◌≡◌, ◌+◌, ◌-◌, ◌≤◌, true, false, List, length, refl, sym, ap, ◌∙◌, subst, arith, ⊎_elim, nat_lt, Some, Result, Ok, Err}
+use Rattle.std.proofs.lemmas.Bool.{cases_Bool}
+use Rattle.std.specs.List.{replace_range}
+use Rattle.std.specs.Str.{IsCharBoundary, chars}
+use Rattle.lsp_text.specs.LineStarts.{Indexes}
+use Rattle.lsp_edit.specs.declared.indexed.TextFault.TheVariants.{TooLong}
+use Rattle.lsp_edit.specs.Items.{Item, plain, text_of}
+use Rattle.lsp_edit.specs.Batch.{Fault, after_change, continue_with, meaning}
+use Rattle.lsp_edit.specs.Canonical.{gaps}
+use Rattle.lsp_edit.specs.Edited.{ArePieces}
+use Rattle.lsp_edit.specs.Indexed.{alone, bytes_left, text_within}
+use Rattle.lsp_edit.specs.Laws.{AllHaveExactEnds}
+use Rattle.lsp_edit.specs.Once.{IsPut, put_items}
+use Rattle.lsp_edit.specs.Parts.{AreParts, items_of}
+use Rattle.lsp_edit.specs.inside.Parts.{AreCut, AreOrdered, replaced_parts, whole_parts}
+use Rattle.lsp_edit.proofs.AppliedLemmas as applied
+use Rattle.lsp_edit.proofs.AppliedLemmas.{AreEnds, IsNext, ends_told}
+use Rattle.lsp_edit.proofs.EditedLemmas.{begun, plain_text, whole_is}
+use Rattle.lsp_edit.proofs.GapLemmas.{ends_exact}
+use Rattle.lsp_edit.proofs.InPlaceLemmas.{replaced_len, range_means, range_order, range_start, range_stop}
+use Rattle.lsp_edit.proofs.PutLemmas.{replaced_few}
+
+-- A text that is within a limit is what a batch leaves.
+pub record IsWithin (before : List ℕ) (meant : Result (List Item) (ℕ × Fault)) (left : List ℕ) : Type 0 where
+  pub items : List Item
+  pub means : meant ≡ Ok items
+  pub is : left ≡ bytes_left before items
+
+pub within_told : (max_len : ℕ) (before : List ℕ) (meant : Result (List Item) (ℕ × Fault)) (left : List ℕ) → text_within max_len before meant ≡ Ok left → IsWithin before meant left
+within_told max_len before (Err fault) left e = absurd (cc)
+within_told max_len before (Ok items) left e =
+    ⊎_elim
+    (λ (above : nat_lt max_len (length (bytes_left before items)) ≡ true). let bad : Err TooLong ≡ Ok left = rw above at e in absurd (cc))
+    (λ (below : nat_lt max_len (length (bytes_left before items)) ≡ false). let same : Ok (bytes_left before items) ≡ Ok left = rw below at e in record { items = items; means = refl; is = cc })
+    (cases_Bool (nat_lt max_len (length (bytes_left before items))))
+
+module _ (units : ℕ → ℕ) (before : List ℕ) (start stop : ℕ) (new : List ℕ) (p : IsPut units before start stop new) where
+  pub put_order : start ≤ stop
+  put_order = range_order units before p.utf8 p.range new p.new_utf8 start stop p.places
+
+  pub put_start : IsCharBoundary before start
+  put_start = range_start units before p.utf8 p.range new p.new_utf8 start stop p.places
+
+  pub put_stop : IsCharBoundary before stop
+  put_stop = range_stop units before p.utf8 p.range new p.new_utf8 start stop p.places
+
+  pub put_len : length (replace_range before start stop new) ≡ start + length new + (length before - stop)
+  put_len = replaced_len before p.utf8 start stop new p.new_utf8 put_order put_start put_stop
+
+  module _ (lines : List ℕ) (indexed : Indexes lines before) where
+    are : ArePieces before lines (whole_parts before) (length before) 0
+    are = begun before lines (whole_parts before) p.utf8 indexed (whole_is before p.utf8)
+
+    text_now : text_of (chars before) (items_of (chars before) (whole_parts before)) ≡ chars before
+    text_now = ap (text_of (chars before)) (whole_is before p.utf8).items ∙ plain_text (chars before)
+
+    ends : AreEnds units (text_of (chars before) (items_of (chars before) (whole_parts before))) p.range start stop
+    ends = subst (λ (t : List ℕ). AreEnds units t p.range start stop) (sym text_now) (ends_told units (chars before) p.range 0 start stop p.places)
+
+    room : length before + length new ≤ 2147483648
+    room = omega (arith, p.size, p.short)
+
+    pub put_start_cut : AreCut (whole_parts before) start
+    put_start_cut = applied.start_cut units before lines (whole_parts before) (length before) 0 are new p.new_utf8 room p.range start stop ends
+
+    pub put_stop_cut : AreCut (whole_parts before) stop
+    put_stop_cut = applied.stop_cut units before lines (whole_parts before) (length before) 0 are new p.new_utf8 room p.range start stop ends
+
+    pub put_ordered : AreOrdered (whole_parts before)
+    put_ordered = applied.parts_ordered units before lines (whole_parts before) (length before) 0 are new p.new_utf8 room
+
+    next : IsNext units before lines (whole_parts before) 0 (record { range = Some p.range; text = chars new }) (replaced_parts (whole_parts before) start stop new) (length before - (stop - start) + length new)
+    next =
+        applied.range_next units before lines (whole_parts before) (length before) 0 are new p.new_utf8 room p.range start stop ends
+        (omega (arith, replaced_few (whole_parts before) start stop new put_order, (whole_is before p.utf8).few))
+
+    pub put_are : AreParts before (replaced_parts (whole_parts before) start stop new)
+    put_are = next.are.are
+
+    pub put_exact : AllHaveExactEnds (chars before) (gaps (chars before) (items_of (chars before) (replaced_parts (whole_parts before) start stop new)))
+    put_exact = ends_exact _ _ next.are.keeps
+
+    pub put_items_are : items_of (chars before) (replaced_parts (whole_parts before) start stop new) ≡ put_items before start stop new
+    put_items_are =
+        let made : after_change units (chars before) (plain (chars before)) (record { range = Some p.range; text = chars new }) ≡ Ok (items_of (chars before) (replaced_parts (whole_parts before) start stop new))
+        =
+        subst
+        (λ (i : List Item). after_change units (chars before) i (record { range = Some p.range; text = chars new }) ≡ Ok (items_of (chars before) (replaced_parts (whole_parts before) start stop new)))
+        (whole_is before p.utf8).items
+        next.made in
+        let all : meaning units (chars before) (alone p.range new) ≡ Ok (items_of (chars before) (replaced_parts (whole_parts before) start stop new)) = ap (continue_with (λ items. Ok items) 0) made in
+        let means : meaning units (chars before) (alone p.range new) ≡ Ok (put_items before start stop new) = range_means units before p.utf8 p.range new p.new_utf8 start stop p.places in
+        let same : Ok (items_of (chars before) (replaced_parts (whole_parts before) start stop new)) ≡ Ok (put_items before start stop new) = sym all ∙ means in
+        cc

@@ -1,0 +1,12 @@
+use Rattle.std.proofs.Common.{ap, arith, length}
+use Rattle.lsp_edit.proofs.OnceLemmas.{put_len, put_order, put_stop}
+use Rattle.lsp_edit.proofs.delta.Delta.put_len.Goals as goal
+
+pub overflow_sub-result : goal.overflow_sub-result
+overflow_sub-result c = put_order _ _ _ _ _ c.requires.put
+
+pub overflow_sub-result-2 : goal.overflow_sub-result-2
+overflow_sub-result-2 c = omega (arith, (put_stop _ _ _ _ _ c.requires.put).0, ap length c.text.ensures)
+
+pub returns : goal.returns
+returns c = omega (arith, put_len _ _ _ _ _ c.requires.put, put_order _ _ _ _ _ c.requires.put, (put_stop _ _ _ _ _ c.requires.put).0, ap length c.text.ensures)

@@ -1,0 +1,73 @@
+-- A batch of changes that was resolved once on a text, and what is read from it.
+use Rattle.std.specs.Prelude.{ℕ, ◌≡◌, ◌≤◌, List, ◌++◌, length, map, take, drop, string_len, sum_by, Result, Ok}
+use Rattle.std.specs.List.{replace_range}
+use Rattle.std.specs.Str.{IsUtf8, chars}
+use Rattle.lsp_text.specs.declared.encoding.Encoding.{Encoding}
+use Rattle.lsp_text.specs.declared.position.Range.{Range}
+use Rattle.lsp_text.specs.Units.{units_in}
+use Rattle.lsp_edit.specs.declared.change.Change.{Change}
+use Rattle.lsp_edit.specs.declared.delta.Delta.{Delta}
+use Rattle.lsp_edit.specs.declared.delta.Delta.TheVariants.{Put, Left}
+use Rattle.lsp_edit.specs.Items.{Item, New, plain}
+use Rattle.lsp_edit.specs.Batch.{Edit, Fault, meaning}
+use Rattle.lsp_edit.specs.Edited.{edit_of}
+use Rattle.lsp_edit.specs.Faults.{ends_of, places_at}
+use Rattle.lsp_edit.specs.Indexed.{bytes_left, text_within}
+use Rattle.lsp_edit.specs.Parts.{index_of}
+
+-- The items after the bytes from `start` to `stop` are replaced by those of `new`.
+abbrev pub put_items : List ℕ → ℕ → ℕ → List ℕ → List Item
+put_items before start stop new =
+    take (index_of (chars before) start) (plain (chars before))
+    ++ (map New (chars new) ++ drop (index_of (chars before) stop) (plain (chars before)))
+
+-- What a delta means on the text with the bytes `before`.
+abbrev pub meant_by : List ℕ → Delta → Result (List Item) (ℕ × Fault)
+meant_by before (Put encoding start stop new) = Ok (put_items before start stop new.now)
+meant_by before (Left encoding changes left)
+    = meaning (units_in encoding) (chars before) (map edit_of changes.now)
+
+-- The bytes that a delta leaves of that text.
+abbrev pub bytes_after : List ℕ → Delta → List ℕ
+bytes_after before (Put encoding start stop new) = replace_range before start stop new.now
+bytes_after before (Left encoding changes left) = left
+
+-- The encoding whose units the positions of a delta's batch count in.
+abbrev pub encoding_of : Delta → Encoding
+encoding_of (Put encoding start stop new) = encoding
+encoding_of (Left encoding changes left) = encoding
+
+-- The two byte offsets are those of a range's ends in that text.
+pub record IsPut (units : ℕ → ℕ) (before : List ℕ) (start stop : ℕ) (new : List ℕ) : Type 0 where
+  pub utf8 : IsUtf8 before
+  pub size : length before ≤ 1073741824
+  pub new_utf8 : IsUtf8 new
+  pub short : length new ≤ 1073741824
+  pub range : Range
+  pub places : Ok (start, stop) ≡ places_at 0 (chars before) (ends_of units (chars before) range)
+
+-- A batch leaves these bytes of that text.
+pub record IsLeft (units : ℕ → ℕ) (before : List ℕ) (changes : List Change) (left : List ℕ) :
+    Type 0 where
+  pub utf8 : IsUtf8 before
+  pub size : length before ≤ 1073741824
+  pub fits : sum_by (λ change. string_len change.text) changes ≤ 1073741824
+  pub items : List Item
+  pub means : meaning units (chars before) (map edit_of changes) ≡ Ok items
+  pub is : left ≡ bytes_left before items
+
+-- A delta may be applied to that text.
+abbrev pub IsOn : List ℕ → Delta → Type 0
+IsOn before (Put encoding start stop new)
+    = IsPut (units_in encoding) before start stop new.now
+IsOn before (Left encoding changes left)
+    = IsLeft (units_in encoding) before changes.now left
+
+-- A delta of `batch` on that text; at most `max_len` bytes are left.
+pub record IsDeltaOf (units : ℕ → ℕ) (max_len : ℕ) (before : List ℕ) (batch : List Edit)
+    (delta : Delta) : Type 0 where
+  pub on : IsOn before delta
+  pub units_are : units_in (encoding_of delta) ≡ units
+  pub means : meaning units (chars before) batch ≡ meant_by before delta
+  pub is : text_within max_len before (meaning units (chars before) batch)
+      ≡ Ok (bytes_after before delta)

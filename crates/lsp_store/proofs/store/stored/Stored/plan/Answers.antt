@@ -1,0 +1,33 @@
+use Rattle.std.proofs.Common.{◌≡◌, ◌∙◌, inr, rules, w32, to_z, of_z}
+use Rattle.std.proofs.lemmas.Int.{to_z-of_z}
+use Rattle.std.proofs.lemmas.Result.{err_from_is_err_and}
+use Rattle.lsp_text.specs.Units.{units_in}
+use Rattle.lsp_store.proofs.RefusalLemmas.{meaning_accepted, text_told}
+use Rattle.lsp_store.proofs.store.stored.Stored.plan.Goals as goal
+
+pub returns-in_err-may_change-clause-error : goal.returns-in_err-may_change-clause-error
+returns-in_err-may_change-clause-error c =
+    let version : to_z w32 (of_z w32 c.args.version) ≡ c.args.version = to_z-of_z w32 c.args.version (search rules) in
+    let p = err_from_is_err_and c.from_residual.result c.from_residual.ensures.1 in
+    rw (p.1, p.2) (λ uri. inr (rw version at (c.in_err-may_change.ensures.error (units_in c.args.encoding) uri)))
+
+pub returns-in-Ok-clause-accepted : goal.returns-in-Ok-clause-accepted
+returns-in-Ok-clause-accepted c = λ uri.
+    let version : to_z w32 (of_z w32 c.args.version) ≡ c.args.version = to_z-of_z w32 c.args.version (search rules) in
+    (rw version at (c.in_ok-may_change.ensures.may (units_in c.args.encoding) uri)) ∙ (meaning_accepted c.args.limits.now c.args.self.now.text _ _ (rw c.max_text-max_len.ensures.value at c.in-Ok.ensures.ok.is)).0
+
+pub returns-in-Ok-clause-left : goal.returns-in-Ok-clause-left
+returns-in-Ok-clause-left c = λ uri units.
+    let version : to_z w32 (of_z w32 c.args.version) ≡ c.args.version = to_z-of_z w32 c.args.version (search rules) in
+    rw version at (c.in_ok-may_change.ensures.may units uri)
+
+pub returns-in-Err-clause-error : goal.returns-in-Err-clause-error
+returns-in-Err-clause-error c = λ uri.
+    let version : to_z w32 (of_z w32 c.args.version) ≡ c.args.version = to_z-of_z w32 c.args.version (search rules) in
+    let may = rw version at (c.in_ok-may_change.ensures.may (units_in c.args.encoding) uri) in
+    rw (c.from.ensures, may) (text_told c.args.limits.now c.args.self.now.text _ _ (rw c.max_text-max_len.ensures.value at c.in-Err.ensures.error))
+
+pub returns-in-Err-clause-memory : goal.returns-in-Err-clause-memory
+returns-in-Err-clause-memory c = λ e uri units.
+    let version : to_z w32 (of_z w32 c.args.version) ≡ c.args.version = to_z-of_z w32 c.args.version (search rules) in
+    rw version at (c.in_ok-may_change.ensures.may units uri)

@@ -1,0 +1,67 @@
+-- A batch that was resolved once on an open document, and its application.
+use Rattle.std.specs.Prelude.{ℕ, ℤ, ◌≡◌, ◌≤◌, zero, suc, List, [], ◌∷◌, length, Some, None, slice_get}
+use Rattle.lsp_text.specs.Units.{units_in}
+use Rattle.lsp_text.specs.declared.encoding.Encoding.{Encoding}
+use Rattle.lsp_edit.specs.declared.delta.Delta.{Delta}
+use Rattle.lsp_edit.specs.Batch.{Edit}
+use Rattle.lsp_edit.specs.Once.{IsDeltaOf, IsOn, bytes_after}
+use Rattle.lsp_message.specs.Params.{DocumentItem}
+use Rattle.lsp_store.specs.declared.store.plan.Plan.{Plan}
+use Rattle.lsp_store.specs.declared.fault.StoreFault.{StoreFault}
+use Rattle.lsp_store.specs.Faults.{IsRefusal}
+use Rattle.lsp_store.specs.Message.{canonical_frame, message_refusal}
+use Rattle.lsp_store.specs.Opened.{MayTakeMemory, StoreData}
+use Rattle.lsp_store.specs.Table.{after_change, change_refusal, entry_at}
+
+-- A document after a delta, under a version.
+abbrev pub planned : DocumentItem → ℤ → Delta → DocumentItem
+planned entry version delta
+    = record entry { version = version; text = bytes_after entry.text delta }
+
+-- The table with the document at an index after a delta.
+abbrev pub planned_table : List DocumentItem → ℕ → ℤ → Delta → List DocumentItem
+planned_table [] index version delta = []
+planned_table (entry ∷ table) zero version delta = planned entry version delta ∷ table
+planned_table (entry ∷ table) (suc index) version delta
+    = entry ∷ planned_table table index version delta
+
+-- The store after a plan.
+abbrev pub after_plan : StoreData → Plan → StoreData
+after_plan store plan
+    = record store { table = planned_table store.table plan.index plan.version plan.delta }
+
+-- A plan may be applied to a store: it was made of the text that is there.
+pub record IsPlanOn (store : StoreData) (plan : Plan) : Type 0 where
+  pub entry : DocumentItem
+  pub at : slice_get store.table plan.index ≡ Some entry
+  pub on : IsOn entry.text plan.delta
+  pub short : length (bytes_after entry.text plan.delta) ≤ 1073741824
+
+-- A plan of a batch on the open document of a URI, which accepts it.
+pub record IsPlanOf (store : StoreData) (uri : List ℕ) (version : ℤ) (encoding : Encoding)
+    (batch : List Edit) (plan : Plan) : Type 0 where
+  pub on : IsPlanOn store plan
+  pub is_open : entry_at store.table uri ≡ Some on.entry
+  pub accepted : change_refusal store.limits (units_in encoding) store.table uri version batch
+      ≡ None
+  pub delta : IsDeltaOf (units_in encoding) store.limits.max_text on.entry.text batch plan.delta
+  pub version_is : plan.version ≡ version
+  pub after : after_change (units_in encoding) store.table uri version batch
+      ≡ planned_table store.table plan.index plan.version plan.delta
+  pub left : MayTakeMemory store uri version batch
+
+-- The frame of the canonical message of each batch that a plan is of; it is accepted.
+abbrev pub IsMessageOfPlan : StoreData → Plan → List ℕ → Type 0
+IsMessageOfPlan store plan bytes =
+    (uri : List ℕ) (version : ℤ) (encoding : Encoding) (batch : List Edit)
+    → IsPlanOf store uri version encoding batch plan
+    → (bytes ≡ canonical_frame (units_in encoding) store.table uri version batch)
+    × (message_refusal store.limits (units_in encoding) store.table uri version batch ≡ None)
+
+-- Why the canonical message of each batch that a plan is of is refused, or out of memory.
+abbrev pub IsMessageFault : StoreData → Plan → StoreFault → Type 0
+IsMessageFault store plan fault =
+    (uri : List ℕ) (version : ℤ) (encoding : Encoding) (batch : List Edit)
+    → IsPlanOf store uri version encoding batch plan
+    → IsRefusal (message_refusal store.limits (units_in encoding) store.table uri version batch)
+    fault
