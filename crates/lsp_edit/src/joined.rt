@@ -204,9 +204,10 @@ impl Joined {
             ≡ Err fault)) }
     {
         self.join()?;
-        let next = reached.layer(encoding, changes, max_len)?;
+        let delta = reached.delta(encoding, changes, max_len)?;
+        let next = delta.layer(*self.deltas.allocator(), reached)?;
         self.deltas.reserve(1)?;
-        reached.change(encoding, changes, max_len)?;
+        reached.apply(delta)?;
         self.deltas.push_reserved(next);
         Ok(())
     }
