@@ -15,3 +15,4 @@ pub mod ReachLemmas
 pub mod CalledLemmas
 pub mod EventLemmas
 pub mod DocumentLemmas
+pub mod HistoryLemmas

@@ -1,33 +1,41 @@
--- The documents of both ends.
-use Rattle.std.specs.Prelude.{◌≡◌, List, [], ◌++◌, take}
-use Rattle.lsp_store.specs.Table.{table_of}
-use Rattle.lsp_pair.specs.World.{Setting, ClientMessage, commands_in, EventData, world_of, client_of}
-use Rattle.lsp_pair.specs.Pair.{PairData}
+-- The documents of both ends: the server has those that the client had at an earlier time.
+use Rattle.std.specs.Prelude.{ℕ, ◌≡◌, ◌+◌, List, [], ◌∷◌, ◌++◌, length, slice_get, Some}
+use Rattle.lsp_message.specs.Params.{DocumentItem}
+use Rattle.lsp_pair.specs.declared.event.Happened.{Happened}
+use Rattle.lsp_pair.specs.declared.event.Happened.TheVariants.{Sent, Server, Client}
+use Rattle.lsp_pair.specs.declared.event.Heard.TheVariants.{Send}
+use Rattle.lsp_pair.specs.World.{EventData}
+use Rattle.lsp_pair.specs.Pair.{PairData, IsStep}
+use Rattle.lsp_pair.specs.Seen.{happened_view}
 
--- The messages that the client sent.
-abbrev pub sent_messages : Setting → List EventData → List ClientMessage
-sent_messages setting events = (world_of setting events).out
+-- What happened so far: the client's documents after each message that it sent, and how many of
+-- these messages the server has handled.
+pub record History : Type 0 where
+  pub sent : List (List DocumentItem)
+  pub handled : ℕ
 
--- The messages of the client that were delivered.
-abbrev pub delivered_messages : Setting → List EventData → List ClientMessage
-delivered_messages setting events =
-    take (world_of setting events).out_delivered (sent_messages setting events)
+-- Nothing was sent.
+abbrev pub no_history : History
+no_history = record { sent = []; handled = 0 }
 
--- The server's documents are what the client's were when it had sent the delivered messages, and no
--- other. That was after some first part of the events.
-pub record IsWhatTheClientHad (setting : Setting) (events : List EventData) (pair : PairData)
-    : Type 0 where
-  pub before : List EventData
-  pub later : List EventData
-  pub parts : before ++ later ≡ events
-  pub sent : sent_messages setting before ≡ delivered_messages setting events
-  pub same : pair.server.table ≡ (client_of setting (world_of setting before)).table
+-- The history after a step, with the client's documents after it. The client sends a message in an
+-- accepted call, and where it answers one of the server.
+abbrev pub after : History → Happened → List DocumentItem → History
+after h Sent documents = record h { sent = h.sent ++ documents ∷ [] }
+after h (Client Send) documents = record h { sent = h.sent ++ documents ∷ [] }
+after h (Server did) documents = record h { handled = h.handled + 1 }
+after h happened documents = h
 
--- The client's documents are the table of the document commands that it sent, and the server's the
--- table of those that were delivered. Where no message waits for the server, both are equal.
-pub record HaveDocuments (setting : Setting) (events : List EventData) (pair : PairData)
-    : Type 0 where
-  pub client : pair.client.table ≡ table_of (commands_in (sent_messages setting events))
-  pub server : pair.server.table ≡ table_of (commands_in (delivered_messages setting events))
-  pub equal : pair.to_server ≡ [] → pair.server.table ≡ pair.client.table
-  pub earlier : IsWhatTheClientHad setting events pair
+-- The server has the documents that the client had after the last handled message, and the client
+-- those after the last sent one; before the first message these are none. The others wait.
+pub record HaveDocuments (h : History) (pair : PairData) : Type 0 where
+  pub server : slice_get ([] ∷ h.sent) h.handled ≡ Some pair.server.table
+  pub client : slice_get ([] ∷ h.sent) (length h.sent) ≡ Some pair.client.table
+  pub waiting : h.handled + length pair.to_server ≡ length h.sent
+
+-- The history after a run of steps from a pair with a history.
+abbrev pub IsLater : History → PairData → List EventData → History → PairData → Type 0
+IsLater h old [] later new = (later ≡ h) × (new ≡ old)
+IsLater h old (event ∷ events) later new =
+    (happened : Happened) × (mid : PairData) × IsStep old event (happened_view happened) mid
+    × IsLater (after h happened mid.client.table) mid events later new

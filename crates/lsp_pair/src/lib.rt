@@ -3,8 +3,9 @@
 //!
 //! A [`Pair`] is a client, a server, and a queue of frames to each. It takes one [`Event`] at a
 //! time: a call of the client, or the delivery of the first frame of a queue. Its contract is the
-//! promise of this project. After every list of calls and deliveries the server has the texts and
-//! versions that the client had when it sent the last delivered message.
+//! promise of this project (clause `history` of [`Pair::step`] and [`run_pair`]). After every list
+//! of calls and deliveries the server has the texts and versions that the client had when it sent
+//! the last delivered message.
 //!
 //! ```text
 //! let mut pair = Pair::new(alloc, limits, offers, config)?;

@@ -9,7 +9,9 @@ ghost use Rattle.lsp_pair.specs.World.{Setting, EventData, IsProperEvent};
 ghost use Rattle.lsp_pair.specs.inside.Ends.{IsCall, HoldsOnCall};
 ghost use Rattle.lsp_pair.specs.Pair.{new_pair, IsSound, IsAt, IsStep, is_utf16, are_within};
 ghost use Rattle.lsp_pair.specs.At.{IsStepAt};
-ghost use Rattle.lsp_pair.specs.Documents.{HaveDocuments};
+ghost use Rattle.lsp_pair.specs.Commanded.{HaveCommanded};
+ghost use Rattle.lsp_pair.specs.inside.History.{IsHistory};
+ghost use Rattle.lsp_pair.specs.Documents.{History, no_history, after, HaveDocuments};
 ghost use Rattle.lsp_pair.specs.Seen.{event_view, happened_view};
 
 use crate::delivery::{hear_first, serve_first};
@@ -72,6 +74,8 @@ impl Pair {
         // The pair is at the world of no events.
         ensures at { IfOk result (λ pair.
             IsAt (record { limits = limits; offers = offers; config = config }) pair []) }
+        // Its history begins: the client has sent nothing.
+        ensures history { IfOk result (λ pair. IsHistory no_history pair) }
         ensures sound { OnOk result
             (IsSound (record { limits = limits; offers = offers; config = config })) }
         ensures encoding { (result ≡ Err PairFault.NotUtf16) ↔ (is_utf16 config.choice ≡ false) }
@@ -132,10 +136,15 @@ impl Pair {
         ensures at { IfOk result (λ happened. (setting : Setting) (events : List EventData)
             → IsSound setting → IsAt setting self.old events
             → IsStepAt setting events (event_view event.now) (happened_view happened) self.new) }
-        // Each end has the documents of its commands.
-        ensures documents { OnOk result ((setting : Setting) (events : List EventData)
+        // Each end has the table of the document commands that it sent, or that were delivered.
+        ensures commanded { OnOk result ((setting : Setting) (events : List EventData)
             → IsSound setting → IsAt setting self.old events
-            → HaveDocuments setting (events ++ event_view event.now ∷ []) self.new) }
+            → HaveCommanded setting (events ++ event_view event.now ∷ []) self.new) }
+        // The server has the documents that the client had when it sent the last message that the
+        // server has handled. `IsHistory` need not be opened: each pair has a history.
+        ensures history { IfOk result (λ happened. (h : History) → IsHistory h self.old
+            → IsHistory (after h happened self.new.client.table) self.new
+            × HaveDocuments (after h happened self.new.client.table) self.new) }
     {
         match event {
             Event::ToServer => serve_first(

@@ -3,7 +3,9 @@
 ghost use Rattle.std.specs.Prelude.{◌↔◌, ◌≤◌, ◌<◌, ◌++◌, List, IsTrue, length, map, take};
 ghost use Rattle.lsp_pair.specs.World.{Setting, EventData};
 ghost use Rattle.lsp_pair.specs.Pair.{IsSound, IsAt, IsRun};
-ghost use Rattle.lsp_pair.specs.Documents.{HaveDocuments};
+ghost use Rattle.lsp_pair.specs.Commanded.{HaveCommanded};
+ghost use Rattle.lsp_pair.specs.inside.History.{IsHistory};
+ghost use Rattle.lsp_pair.specs.Documents.{History, HaveDocuments, IsLater};
 ghost use Rattle.lsp_pair.specs.Seen.{event_view};
 
 use crate::event::Event;
@@ -32,10 +34,15 @@ pub fn run_pair(pair: &mut Pair, events: &[Event]) -> Ran
     ensures at { (setting : Setting) (before : List EventData) → IsSound setting
         → IsAt setting pair.old before
         → IsAt setting pair.new (before ++ take result.stepped (map event_view events.now)) }
-    // Each end has the documents of its commands.
-    ensures documents { (setting : Setting) (before : List EventData) → IsSound setting
-        → IsAt setting pair.old before → HaveDocuments setting
+    // Each end has the table of the document commands that it sent, or that were delivered.
+    ensures commanded { (setting : Setting) (before : List EventData) → IsSound setting
+        → IsAt setting pair.old before → HaveCommanded setting
         (before ++ take result.stepped (map event_view events.now)) pair.new }
+    // The server has the documents that the client had when it sent the last message that the
+    // server has handled.
+    ensures history { (h : History) → IsHistory h pair.old → (later : History)
+        × IsLater h pair.old (take result.stepped (map event_view events.now)) later pair.new
+        × IsHistory later pair.new × HaveDocuments later pair.new }
 {
     let mut stepped = 0;
     for event in events {

@@ -2,6 +2,8 @@ use Rattle.std.proofs.Common.{◌≡◌, ◌+◌, ◌++◌, ◌∷◌, [], map, 
 use Rattle.std.proofs.lemmas.List.{append_assoc}
 use Rattle.lsp_pair.specs.Pair.{IsAt, IsRun}
 use Rattle.lsp_pair.specs.Seen.{event_view}
+use Rattle.lsp_pair.specs.Documents.{after, IsLater}
+use Rattle.lsp_pair.proofs.HistoryLemmas.{later-last, later_documents}
 use Rattle.lsp_pair.proofs.DocumentLemmas.{documents_after}
 use Rattle.lsp_pair.proofs.RunLemmas.{run-last, take_mapped}
 use Rattle.lsp_pair.proofs.run.run_pair.Goals as goal
@@ -20,14 +22,31 @@ loop-event-preserved c =
       at = λ setting before sound at.
           subst (λ es. IsAt setting c.step.new.self es) (append_assoc before (take i events) (event_view c.event-item.result ∷ []) ∙ ap (λ es. before ++ es) (sym more))
           (c.in-Ok.ensures.at setting (before ++ take i events) sound (c.loop-event.invariant.at setting before sound at)).at;
+      history = λ h is.
+          let was = c.loop-event.invariant.history h is in (
+            after was.0 c.in-Ok.field-0 c.step.new.self.client.table,
+            subst (λ es. IsLater h c.args.pair.now es (after was.0 c.in-Ok.field-0 c.step.new.self.client.table) c.step.new.self) (sym more)
+                (later-last h was.0 c.args.pair.now _ c.step.new.self (take i events) (event_view c.event-item.result) c.in-Ok.field-0 was.1 c.in-Ok.ensures.step),
+            (c.in-Ok.ensures.history was.0 was.2).0,
+          );
     }
 
-pub returns-in_default-clause-documents : goal.returns-in_default-clause-documents
-returns-in_default-clause-documents c setting before sound at =
+pub returns-in_default-clause-commanded : goal.returns-in_default-clause-commanded
+returns-in_default-clause-commanded c setting before sound at =
     documents_after setting _ c.step.new.self before (map event_view c.args.events.now) c.loop-event.event-index c.loop-event.stepped sound c.loop-event.invariant.counted
     c.in_default.ensures.unchanged (c.loop-event.invariant.at setting before sound at)
 
-pub returns-clause-documents : goal.returns-clause-documents
-returns-clause-documents c setting before sound at =
+pub returns-clause-commanded : goal.returns-clause-commanded
+returns-clause-commanded c setting before sound at =
     documents_after setting _ _ before (map event_view c.args.events.now) c.loop-event.event-index c.loop-event.stepped sound c.loop-event.invariant.counted
     refl (c.loop-event.invariant.at setting before sound at)
+
+pub returns-in_default-clause-history : goal.returns-in_default-clause-history
+returns-in_default-clause-history c h is =
+    later_documents h _ _ c.step.new.self (map event_view c.args.events.now) c.loop-event.event-index c.loop-event.stepped c.loop-event.invariant.counted
+    c.in_default.ensures.unchanged (c.loop-event.invariant.history h is)
+
+pub returns-clause-history : goal.returns-clause-history
+returns-clause-history c h is =
+    later_documents h _ _ _ (map event_view c.args.events.now) c.loop-event.event-index c.loop-event.stepped c.loop-event.invariant.counted
+    refl (c.loop-event.invariant.history h is)

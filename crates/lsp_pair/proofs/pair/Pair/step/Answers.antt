@@ -5,6 +5,7 @@ use Rattle.lsp_pair.specs.Seen.{event_view, happened_view, frames}
 use Rattle.lsp_pair.proofs.pair.Pair.step.Goals as goal
 use Rattle.lsp_pair.proofs.ReachLemmas.{reached_serves, reached_hears, reach_or_same, at_if, step_from, same_at_server, same_at_client, same_from}
 use Rattle.lsp_pair.proofs.DocumentLemmas.{documents_if}
+use Rattle.lsp_pair.proofs.HistoryLemmas.{history_if}
 use Rattle.lsp_pair.proofs.CalledLemmas.{is_call, call_is, call_same}
 use Rattle.std.proofs.Common.{refl, ◌∙◌}
 
@@ -33,10 +34,16 @@ returns-in-ToServer-clause-at c =
     rw (c.in-ToServer.is, ← c.self.view_is)
     (at_if happened_view (both_ends c.self.inside.client c.self.inside.server (frames c.self.inside.to_server.items) (frames c.self.inside.to_client.items)) _ to_server c.serve_first.result tt (c.serve_first.ensures.step c.self.inside.client))
 
-pub returns-in-ToServer-clause-documents : goal.returns-in-ToServer-clause-documents
-returns-in-ToServer-clause-documents c =
+pub returns-in-ToServer-clause-commanded : goal.returns-in-ToServer-clause-commanded
+returns-in-ToServer-clause-commanded c =
     rw (c.in-ToServer.is, ← c.self.view_is)
     (documents_if happened_view _ _ to_server c.serve_first.result
+    (at_if happened_view (both_ends c.self.inside.client c.self.inside.server (frames c.self.inside.to_server.items) (frames c.self.inside.to_client.items)) _ to_server c.serve_first.result tt (c.serve_first.ensures.step c.self.inside.client)))
+
+pub returns-in-ToServer-clause-history : goal.returns-in-ToServer-clause-history
+returns-in-ToServer-clause-history c =
+    rw (← c.self.view_is)
+    (history_if _ _ to_server c.serve_first.result
     (at_if happened_view (both_ends c.self.inside.client c.self.inside.server (frames c.self.inside.to_server.items) (frames c.self.inside.to_client.items)) _ to_server c.serve_first.result tt (c.serve_first.ensures.step c.self.inside.client)))
 
 pub returns-in-ToClient-clause-step : goal.returns-in-ToClient-clause-step
@@ -48,10 +55,16 @@ returns-in-ToClient-clause-at c =
     rw (c.in-ToClient.is, ← c.self.view_is)
     (at_if happened_view (both_ends c.self.inside.client c.self.inside.server (frames c.self.inside.to_server.items) (frames c.self.inside.to_client.items)) _ to_client c.hear_first.result tt (c.hear_first.ensures.step c.self.inside.server))
 
-pub returns-in-ToClient-clause-documents : goal.returns-in-ToClient-clause-documents
-returns-in-ToClient-clause-documents c =
+pub returns-in-ToClient-clause-commanded : goal.returns-in-ToClient-clause-commanded
+returns-in-ToClient-clause-commanded c =
     rw (c.in-ToClient.is, ← c.self.view_is)
     (documents_if happened_view _ _ to_client c.hear_first.result
+    (at_if happened_view (both_ends c.self.inside.client c.self.inside.server (frames c.self.inside.to_server.items) (frames c.self.inside.to_client.items)) _ to_client c.hear_first.result tt (c.hear_first.ensures.step c.self.inside.server)))
+
+pub returns-in-ToClient-clause-history : goal.returns-in-ToClient-clause-history
+returns-in-ToClient-clause-history c =
+    rw (← c.self.view_is)
+    (history_if _ _ to_client c.hear_first.result
     (at_if happened_view (both_ends c.self.inside.client c.self.inside.server (frames c.self.inside.to_server.items) (frames c.self.inside.to_client.items)) _ to_client c.hear_first.result tt (c.hear_first.ensures.step c.self.inside.server)))
 
 pub invariant_of-self-in_default : goal.invariant_of-self-in_default
@@ -74,5 +87,6 @@ returns-in_ok-reserve-in_default c =
       step = step_from happened_view _ _ _ _ _ c.push_call.result was refl steps;
       unchanged = same_from _ _ _ c.push_call.result was same;
       at = at;
-      documents = documents_if happened_view _ _ _ c.push_call.result at;
+      commanded = documents_if happened_view _ _ _ c.push_call.result at;
+      history = history_if _ _ _ c.push_call.result at;
     }
