@@ -1,0 +1,141 @@
+"""The pages of .ci/pages: a sentence, the clauses that say it, what is told elsewhere, and how long the page may be."""
+import configparser
+import re
+
+from .closures import Closure, Target, Unknown, definition_named, target_named
+from .tokens import Token
+
+OTHERS = ("tokens", "users", "inside")
+
+
+def words_of(text):
+    return [it.strip() for it in re.split(r"[,\n]", text) if it.strip()]
+
+
+class Page:
+    """A row of .ci/pages."""
+
+    def __init__(self, title, row):
+        self.title, self.sentence = title, row.get("sentence")
+        self.of, self.given, self.most = words_of(row["of"]), words_of(row.get("given", "")), int(row["lines"])
+        self.held = None
+
+    def command(self):
+        return f".ci/definitions --of {self.of[0]}"
+
+    def targets(self, repository):
+        return [target_named(repository, it) for it in self.of]
+
+    def closure(self, repository):
+        return Closure(repository, self.targets(repository), self.given)
+
+
+class Pages:
+    def __init__(self, repository, path):
+        file = configparser.ConfigParser(delimiters=("=",), comment_prefixes=("#",), interpolation=None)
+        file.optionxform = str
+        with open(path, encoding="utf-8") as source:
+            file.read_file(source)
+        self.repository = repository
+        self.pages = [Page(it, file[it]) for it in file.sections() if it not in OTHERS]
+        self.tokens = {name: Token(repository, name, subject) for name, subject in file["tokens"].items()}
+        self.users = {user: words_of(calls) for user, calls in file["users"].items()}
+        self.known = dict(file["inside"]) if "inside" in file else {}
+
+    def page_of(self, target):
+        """Returns the page that a target is of, named as the row does or longer."""
+        for page in self.pages:
+            for it in page.of:
+                path, _, label = it.partition(".")
+                asked, _, asked_label = target.partition(".")
+                if label == asked_label and (asked == path or asked.endswith(f"::{path}") or path.endswith(f"::{asked}")):
+                    return page
+        return next((it for it in self.pages if it.title == target), None)
+
+    def teller_of(self, name, but=None):
+        """Returns the shortest other page that tells a definition."""
+        one = definition_named(self.repository, name)
+        tellers = [it for it in self.pages if it is not but and one in self.closure_of(it).definitions]
+        return min(tellers, key=lambda it: (name not in it.of, it.most), default=None)
+
+    def closure_of(self, page):
+        if page.held is None:
+            page.held = page.closure(self.repository)
+        return page.held
+
+    # ---- users
+
+    def calls_of(self, entry):
+        """Returns the calls that a word of a row of users stands for: one, those of a type, or those of a library for C."""
+        crate, *rest = entry.split("::")
+        found = []
+        for it in self.repository.functions:
+            if it.file.crate != crate or not it.ensures():
+                continue
+            if not rest:
+                chosen = it.is_exported
+            elif rest[0][:1].isupper():
+                chosen = it.is_public and it.owner == rest[0] and (len(rest) == 1 or it.name == rest[1])
+            else:
+                chosen = it.is_public and it.owner is None and it.name == rest[0]
+            found += [it] if chosen else []
+        if not found:
+            raise Unknown(f"[users]: there is no call {entry}")
+        return found
+
+    def user_calls(self):
+        """Returns each call of a user, and who uses it."""
+        return {call: user for user, entries in self.users.items() for entry in entries for call in self.calls_of(entry)}
+
+    def closure_of_calls(self, calls):
+        return Closure(self.repository, [Target(it, it.ensures()) for it in calls], self.tokens)
+
+    # ---- checks
+
+    def faults(self, readme):
+        """Yields where the sources and README.md don't keep what the pages say."""
+        for token in self.tokens.values():
+            yield from token.faults
+        for page in self.pages:
+            yield from self.faults_of(page)
+        yield from self.faults_of_users()
+        points, said = points_of(readme), {it.sentence: it for it in self.pages if it.sentence}
+        for sentence in points:
+            if sentence not in said:
+                yield f"README.md says under \"What is proved\" \"{sentence}\", and no page has it as its sentence"
+        for sentence, page in said.items():
+            if sentence not in points:
+                yield f".ci/pages: no point under \"What is proved\" of README.md begins with \"{sentence}\""
+            elif f"(`{page.of[0]}`: {page.most} lines)" not in points[sentence]:
+                yield f"README.md doesn't say \"(`{page.of[0]}`: {page.most} lines)\" at \"{sentence}\""
+
+    def faults_of(self, page):
+        closure = self.closure_of(page)
+        if closure.size > page.most:
+            yield f"the page \"{page.title}\" has {closure.size} lines, and its row says at most {page.most}"
+        for name in page.given:
+            if name not in closure.given:
+                yield f"the page \"{page.title}\" doesn't need `{name}`, which its row gives"
+            elif name not in self.tokens and not self.teller_of(name, page):
+                yield f"the page \"{page.title}\" gives `{name}`, which is on no page and is no token"
+
+    def faults_of_users(self):
+        inside = {}
+        for call in self.user_calls():
+            for clause in call.ensures():
+                closure = Closure(self.repository, [Target(call, [clause])], self.tokens)
+                if reached := sorted({it.name for it in closure.definitions if it.is_inside}):
+                    inside[".".join(filter(None, (call.path(), clause.label)))] = ", ".join(reached)
+        for clause, names in inside.items():
+            if clause not in self.known:
+                yield f"the clause {clause} reaches specs/inside/: {names}"
+        for clause in self.known:
+            if clause not in inside:
+                yield f".ci/pages: the clause {clause} is listed under [inside], and reaches nothing there"
+
+
+def points_of(readme):
+    """Returns the points under "What is proved", each by its bold beginning."""
+    part = readme.partition("\n## What is proved\n")[2].partition("\n## ")[0]
+    points = [" ".join(it.split()) for it in re.split(r"(?m)^- ", part)[1:]]
+    return {bold[1].rstrip(",.:"): it for it in points if (bold := re.match(r"\*\*(.*?)\*\*", it))}

@@ -1,0 +1,115 @@
+"""What `.ci/definitions` prints: a page, and the tables of docs/DEFINITIONS.md."""
+import collections
+import os
+
+from .antt import Definition
+
+
+def short(module):
+    """Returns how a module is named in a table."""
+    return module.partition(".specs.")[2]
+
+
+def heading(text):
+    print(f"\n==== {text}\n")
+
+
+def block(lines):
+    """Prints lines without the indentation that all of them have."""
+    least = min((len(it) - len(it.lstrip()) for it in lines if it.strip()), default=0)
+    print("\n".join(it[least:] for it in lines))
+
+
+def print_page(pages, closure, page):
+    repository = closure.repository
+    if page:
+        print(page.title + (f" (README.md, \"{page.sentence}\")" if page.sentence else ""))
+    for target in closure.targets:
+        if not isinstance(target.one, Definition):
+            heading(f"{target.one.short()}, {repository.place(target.one.file.path, target.one.line)}")
+            for clause in target.required + target.clauses:
+                block(clause.comment + clause.lines)
+    for one, last in zip(ordered := closure.in_order(), [None, *ordered]):
+        place = repository.place(one.module.path, one.line)
+        heading(place) if not last or last.module is not one.module else print(f"\n# {place}")
+        print("\n".join(one.comment + one.text))
+    for one in closure.types:
+        heading(f"{one.kind} {one.name}, {repository.place(one.file.path, one.line)}")
+        if one.view:
+            print(f"# what clauses see of it, line {one.view_line}")
+            block(one.view)
+        else:
+            block(one.text())
+    print_rest(pages, closure, page)
+
+
+def print_rest(pages, closure, page):
+    """Prints what isn't on the page, and how long the page is."""
+    if closure.given:
+        heading("given")
+    for name in sorted(closure.given):
+        token, teller = pages.tokens.get(name), pages.teller_of(name, page)
+        print(f"`{name}`: " + (token.told() if token else f".ci/definitions --of {teller.of[0]}" if teller else "on no page"))
+    kit = closure.kit_definitions
+    if kit:
+        heading("of Rattle's crates")
+    by_file = collections.defaultdict(list)
+    for one in kit:
+        by_file[f"{one.crate}/specs/{short(one.module.name).replace('.', '/')}.antt"].append(one)
+    for file, held in sorted(by_file.items()):
+        print(f"{file}, {sum(it.size for it in held)} lines: " + ", ".join(sorted(it.name for it in held)))
+    files = len({it.module.name for it in closure.definitions})
+    print(f"\n{closure.size} lines in {len(closure.definitions)} definitions of {files} files; types {sum(it.size for it in closure.types)}; "
+          f"given {len(closure.given)}; kit {sum(it.size for it in kit)}")
+
+
+# ---- tables
+
+def pages_table(pages):
+    """Returns the table of docs/DEFINITIONS.md."""
+    rows = ["| page | printed by `.ci/definitions --of` | lines | types | of Rattle's crates |", "|---|---|---|---|---|"]
+    for page in pages.pages:
+        closure = pages.closure_of(page)
+        types, kit = sum(it.size for it in closure.types), sum(it.size for it in closure.kit_definitions)
+        rows.append(f"| {page.title} | `{page.of[0]}` | {closure.size} | {types} | {kit} |")
+    return "\n".join(rows) + "\n"
+
+
+def print_users(pages):
+    print("| user | calls | definitions | lines | by crate |\n|---|---|---|---|---|")
+    rows = [(user, [call for entry in entries for call in pages.calls_of(entry)]) for user, entries in pages.users.items()]
+    for user, calls in [*rows, ("**all**", list(pages.user_calls()))]:
+        definitions = pages.closure_of_calls(calls).definitions
+        crates = collections.Counter()
+        for it in definitions:
+            crates[it.crate.removeprefix("lsp_")] += it.size
+        by_crate = ", ".join(f"{name} {lines}" for name, lines in crates.most_common())
+        print(f"| {user} | {len(calls)} | {len(definitions)} | {sum(crates.values())} | {by_crate} |")
+
+
+def print_files(pages, reached, own):
+    """Prints for each file of specs/ the lines that contracts of user's calls speak of, and those of all others."""
+    users = set(pages.closure_of_calls(pages.user_calls()).definitions)
+    print("| crate | files, with the lines of definitions that contracts for users speak of | lines | other public contracts | laws | for proofs alone |")
+    print("|---|---|---|---|---|---|")
+    sums = [0, 0, 0, 0]
+    crates = collections.defaultdict(list)
+    for one in own:
+        crates[one.crate].append(one)
+    for crate, held in sorted(crates.items()):
+        files = collections.Counter()
+        row = [0, 0, 0, 0]
+        for one in held:
+            kind = 2 if one.is_law else 0 if one in users else 1 if one in reached else 3
+            row[kind] += one.size
+            files[short(one.module.name)] += one.size * (kind == 0)
+        named = ", ".join(f"`{name}` {lines}" for name, lines in sorted(files.items()) if lines)
+        sums = [a + b for a, b in zip(sums, row)]
+        print(f"| `{crate}` | {named} | {' | '.join(str(it) for it in row)} |")
+    print("| **all** | | " + " | ".join(f"**{it}**" for it in sums) + " |")
+
+
+def print_private(reached, own):
+    """Prints the definitions that no public contract speaks of, and that are not in specs/inside/."""
+    for path in sorted(it.path() for it in own if it not in reached and not it.is_inside):
+        print(path)
