@@ -1,0 +1,12 @@
+pub mod SeamLemmas
+pub mod SumLemmas
+pub mod BlockLemmas
+pub mod PartLemmas
+pub mod InPlaceLemmas
+pub mod DrainLemmas
+pub mod CutLemmas
+pub mod BufferLemmas
+pub mod FoundLemmas
+pub mod ChangeLemmas
+pub mod PutLemmas
+pub mod AgainLemmas

@@ -1,0 +1,267 @@
+-- A text in three parts: what stands before a block, the block, and what stands behind it. Positions, boundaries and changes of the text by those of the block.
+use Rattle.std.proofs.Common.{ℕ, zero, suc, ◌≡◌, ◌+◌, ◌-◌, ◌<◌, ◌≤◌, ◌⊎◌, true, false, List, [], ◌∷◌, ◌++◌, length, take, drop, get_or, slice_index, Option, Some, None, option_map, ⊎_elim, inl, inr, refl, sym, ap, ◌∙◌, arith, subst}
+use Rattle.std.specs.Prelude.{encode_utf8_all}
+use Rattle.std.specs.List.{replace_range}
+use Rattle.std.specs.Str.{chars, IsUtf8, IsCharBoundary}
+use Rattle.std.proofs.Math.Seq.{drop-append-add, take-append-add, drop-append_seam}
+use Rattle.std.proofs.lemmas.Bool.{cases_lt}
+use Rattle.std.proofs.lemmas.List.{length-append, length-drop, length-take-le, get_or-append_right, get_or_append_left, take-append-le, drop-append-le, append_assoc, append-nil, take_at}
+use Rattle.std.proofs.lemmas.Str.{chars-append, chars-nil, encodes-chars}
+use Rattle.lsp_text.specs.declared.position.Position.{Position}
+use Rattle.lsp_text.specs.Text.{place_of}
+use Rattle.lsp_text.specs.TextLines.{line_ends, line_at, splits_crlf}
+use Rattle.lsp_text.specs.LineStarts.{IsPlace}
+use Rattle.lsp_text.specs.Positions.{exact_position, denoted}
+use Rattle.lsp_text.proofs.PlaceLemmas.{place_add, place_order, place_end, place_within, place_rises}
+use Rattle.lsp_text.proofs.PositionLemmas.{denoted_whole}
+use Rattle.lsp_text.proofs.NearLemmas.{exact_near}
+use Rattle.lsp_buffer.specs.Blocks.{EndsLine}
+use Rattle.lsp_buffer.proofs.SeamLemmas.{denoted_left, denoted_right, exact_right, seam_splits, beyond_splits, seam_count}
+use Rattle.lsp_buffer.proofs.BlockLemmas.{Closes, feed_chars, ends_tail, ends_join}
+
+-- Characters: the first part is empty or ends with a line feed.
+module _ (a r : List ℕ) (closes : Closes a) where
+  position_same : (p : Position) (n : ℕ) → n ≤ p.line → ◌≡◌ {A = Position} p (record { line = n + (p.line - n); character = p.character })
+  position_same p n h = let e : p.line ≡ n + (p.line - n) = omega arith in λ i. record { line = e i; character = p.character }
+
+  pub denoted_behind : (units : ℕ → ℕ) (p : Position) → line_ends a ≤ p.line → denoted units (a ++ r) p ≡ option_map (λ k. length a + k) (denoted units r (record { line = p.line - line_ends a; character = p.character }))
+  denoted_behind units p h =
+      ⊎_elim
+      (λ (e : a ≡ []). at_none e)
+      (λ (e : EndsLine a). ap (denoted units (a ++ r)) (position_same p (line_ends a) h) ∙ denoted_right a r e units (p.line - line_ends a) p.character)
+      closes
+    where
+      same : (o : Option ℕ) → o ≡ option_map (λ k. 0 + k) o
+      same None = refl
+      same (Some k) = ap Some (omega arith)
+
+      at_none : a ≡ [] → denoted units (a ++ r) p ≡ option_map (λ k. length a + k) (denoted units r (record { line = p.line - line_ends a; character = p.character }))
+      at_none e =
+          let q : ◌≡◌ {A = Position} (record { line = p.line - 0; character = p.character }) p = let l : p.line - 0 ≡ p.line = omega arith in λ i. record { line = l i; character = p.character } in
+          subst (λ (x : List ℕ). denoted units (x ++ r) p ≡ option_map (λ k. length x + k) (denoted units r (record { line = p.line - line_ends x; character = p.character }))) (sym e)
+          (same (denoted units r p) ∙ ap (λ (p : Position). option_map (λ k. 0 + k) (denoted units r p)) (sym q))
+
+  pub exact_behind : (units : ℕ → ℕ) (k : ℕ) → k ≤ length r → ◌≡◌ {A = Position} (exact_position units (a ++ r) (length a + k)) (record { line = line_ends a + (exact_position units r k).line; character = (exact_position units r k).character })
+  exact_behind units k h =
+      ⊎_elim
+      (λ (e : a ≡ []).
+      let n : 0 + k ≡ k = omega arith in
+      let l : line_at r k ≡ 0 + line_at r k = omega arith in
+      let moved : ◌≡◌ {A = Position} (exact_position units r k) (record { line = 0 + (exact_position units r k).line; character = (exact_position units r k).character }) =
+      λ i. record { line = l i; character = (exact_position units r k).character } in
+      subst (λ (x : List ℕ). ◌≡◌ {A = Position} (exact_position units (x ++ r) (length x + k)) (record { line = line_ends x + (exact_position units r k).line; character = (exact_position units r k).character })) (sym e)
+      (ap (exact_position units r) n ∙ moved))
+      (λ (e : EndsLine a). exact_right a r e units k h)
+      closes
+
+  pub splits_behind : (k : ℕ) → splits_crlf (a ++ r) (length a + k) ≡ splits_crlf r k
+  splits_behind k =
+      ⊎_elim
+      (λ (e : a ≡ []). rw e (let n : 0 + k ≡ k = omega arith in rw n refl))
+      (λ (e : EndsLine a). beyond_splits a r e k)
+      closes
+
+  place_behind : (k : ℕ) → place_of (a ++ r) (length a + k) ≡ length (encode_utf8_all a) + place_of r k
+  place_behind k =
+      place_add (a ++ r) (length a) k ∙
+      (ap (λ cs. length (encode_utf8_all cs) + place_of (drop (length a) (a ++ r)) k) (take_at a r (length a) refl) ∙
+      ap (λ cs. length (encode_utf8_all a) + place_of cs k) (drop-append_seam a r))
+
+-- Nothing stands behind, or the part before it ends with a line feed.
+abbrev pub Behind : List ℕ → List ℕ → Type 0
+Behind b c = (c ≡ []) ⊎ EndsLine b
+
+module _ (b c : List ℕ) where
+  pub denoted_before : (units : ℕ → ℕ) (p : Position) → (c ≡ []) ⊎ (EndsLine b × (p.line < line_ends b)) → denoted units (b ++ c) p ≡ denoted units b p
+  denoted_before units p behind =
+      ⊎_elim
+      (λ (e : c ≡ []). subst (λ (x : List ℕ). denoted units (b ++ x) p ≡ denoted units b p) (sym e) (ap (λ t. denoted units t p) (append-nil b)))
+      (λ (e : EndsLine b × (p.line < line_ends b)). denoted_left b c e.0 units p e.1)
+      behind
+
+  place_before : (k : ℕ) → k ≤ length b → place_of (b ++ c) k ≡ place_of b k
+  place_before k h = ap (λ cs. length (encode_utf8_all cs)) (take-append-le k b c h)
+
+  splits_before : (k : ℕ) → k ≤ length b → Behind b c → splits_crlf (b ++ c) k ≡ splits_crlf b k
+  splits_before k h behind =
+      ⊎_elim
+      (λ (e : c ≡ []). rw e (rw (append-nil b) refl))
+      (λ (e : EndsLine b). seam_splits b c e k h)
+      behind
+
+-- Bytes in three parts.
+pub record AreThree (bytes front block rest : List ℕ) : Type 0 where
+  pub whole : bytes ≡ front ++ (block ++ rest)
+  pub front_utf8 : IsUtf8 front
+  pub block_utf8 : IsUtf8 block
+  pub closes : Closes front
+  pub behind : Behind block rest
+
+module _ (bytes front block rest : List ℕ) (are : AreThree bytes front block rest) where
+  a : List ℕ
+  a = chars front
+
+  b : List ℕ
+  b = chars block
+
+  c : List ℕ
+  c = chars rest
+
+  chars_are : chars bytes ≡ chars front ++ (chars block ++ chars rest)
+  chars_are = ap chars are.whole ∙ (chars-append front (block ++ rest) are.front_utf8 ∙ ap (λ cs. chars front ++ cs) (chars-append block rest are.block_utf8))
+
+  closes_chars : Closes (chars front)
+  closes_chars =
+      ⊎_elim
+      (λ (e : front ≡ []). inl (ap chars e ∙ chars-nil))
+      (λ (e : EndsLine front). inr (feed_chars front are.front_utf8 e))
+      are.closes
+
+  behind_chars : Behind (chars block) (chars rest)
+  behind_chars =
+      ⊎_elim
+      (λ (e : rest ≡ []). inl (ap chars e ∙ chars-nil))
+      (λ (e : EndsLine block). inr (feed_chars block are.block_utf8 e))
+      are.behind
+
+  front_len : length (encode_utf8_all (chars front)) ≡ length front
+  front_len = ap length (encodes-chars front are.front_utf8)
+
+  block_len : length (encode_utf8_all (chars block)) ≡ length block
+  block_len = ap length (encodes-chars block are.block_utf8)
+
+  -- What a position denotes in all is what it denotes in the block.
+  pub resolved_three : (units : ℕ → ℕ) (p : Position) → line_ends (chars front) ≤ p.line → (rest ≡ []) ⊎ (p.line - line_ends (chars front) < line_ends (chars block)) →
+      option_map (place_of (chars bytes)) (denoted units (chars bytes) p) ≡ option_map (λ n. length front + n) (option_map (place_of (chars block)) (denoted units (chars block) (record { line = p.line - line_ends (chars front); character = p.character })))
+  resolved_three units p low high =
+      ap (λ cs. option_map (place_of cs) (denoted units cs p)) chars_are ∙
+      (ap (option_map (place_of (chars front ++ (chars block ++ chars rest)))) (denoted_behind (chars front) (chars block ++ chars rest) closes_chars units p low ∙ ap (option_map (λ k. length (chars front) + k)) (denoted_before (chars block) (chars rest) units q inside)) ∙
+      placed (denoted units (chars block) q) refl)
+    where
+      q : Position
+      q = record { line = p.line - line_ends (chars front); character = p.character }
+
+      inside : (chars rest ≡ []) ⊎ (EndsLine (chars block) × (p.line - line_ends (chars front) < line_ends (chars block)))
+      inside =
+          ⊎_elim
+          (λ (e : rest ≡ []). inl (ap chars e ∙ chars-nil))
+          (λ (h : p.line - line_ends (chars front) < line_ends (chars block)).
+          ⊎_elim
+          (λ (e : chars rest ≡ []). inl e)
+          (λ (e : EndsLine (chars block)). inr (e, h))
+          behind_chars)
+          high
+
+      placed : (o : Option ℕ) → denoted units (chars block) q ≡ o →
+          option_map (place_of (chars front ++ (chars block ++ chars rest))) (option_map (λ k. length (chars front) + k) o) ≡ option_map (λ n. length front + n) (option_map (place_of (chars block)) o)
+      placed None e = refl
+      placed (Some k) e =
+          let within : k ≤ length (chars block) = (denoted_whole units (chars block) q k e).within in
+          ap Some
+          (place_behind (chars front) (chars block ++ chars rest) closes_chars k ∙
+          (ap (λ n. n + place_of (chars block ++ chars rest) k) front_len ∙ ap (λ n. length front + n) (place_before (chars block) (chars rest) k within)))
+
+  -- The lines of all.
+  pub ends_three : rest ≡ [] → line_ends (chars bytes) ≡ line_ends (chars front) + line_ends (chars block)
+  ends_three none =
+      let tail : chars block ++ chars rest ≡ chars block = ap (λ cs. chars block ++ cs) (ap chars none ∙ chars-nil) ∙ append-nil (chars block) in
+      rw (chars_are, tail)
+      (⊎_elim
+      (λ (e : chars front ≡ []). rw e (omega arith))
+      (λ (e : EndsLine (chars front)). seam_count (chars front) (chars block) e)
+      closes_chars)
+
+  -- An index of all whose byte offset is in the block.
+  pub record IsInner (place index : ℕ) : Type 0 where
+    pub inner : ℕ
+    pub index_is : index ≡ length (chars front) + inner
+    pub within : inner ≤ length (chars block)
+    pub place_is : place_of (chars block) inner ≡ place - length front
+    pub splits : splits_crlf (chars bytes) index ≡ splits_crlf (chars block) inner
+
+  pub inner_index : (place index : ℕ) → length front ≤ place → (rest ≡ []) ⊎ (place - length front < length block) → index ≤ length (chars bytes) → place_of (chars bytes) index ≡ place → IsInner place index
+  inner_index place index low high within at =
+      record {
+        inner = index - length (chars front);
+        index_is = back;
+        within = inside;
+        place_is = sym (place_before (chars block) (chars rest) j inside) ∙ omega (arith, placed);
+        splits = ap (splits_crlf (chars bytes)) back ∙ (ap (λ cs. splits_crlf cs (length (chars front) + j)) chars_are ∙ (splits_behind (chars front) (chars block ++ chars rest) closes_chars j ∙ splits_before (chars block) (chars rest) j inside behind_chars));
+      }
+    where
+      j : ℕ
+      j = index - length (chars front)
+
+      size : length (chars bytes) ≡ length (chars front) + length (chars block ++ chars rest)
+      size = ap length chars_are ∙ length-append (chars front) (chars block ++ chars rest)
+
+      start_at : place_of (chars bytes) (length (chars front)) ≡ length front
+      start_at =
+          ap (λ cs. place_of cs (length (chars front))) chars_are ∙
+          (ap (λ cs. length (encode_utf8_all cs)) (take_at (chars front) (chars block ++ chars rest) (length (chars front)) refl) ∙ front_len)
+
+      order : length (chars front) ≤ index
+      order = place_order (chars bytes) (length (chars front)) index (omega (arith, size)) (omega (arith, start_at, at, low))
+
+      back : index ≡ length (chars front) + j
+      back = omega (arith, order)
+
+      placed : place ≡ length front + place_of (chars block ++ chars rest) j
+      placed =
+          sym at ∙ (ap (place_of (chars bytes)) back ∙ (ap (λ cs. place_of cs (length (chars front) + j)) chars_are ∙
+          (place_behind (chars front) (chars block ++ chars rest) closes_chars j ∙ ap (λ n. n + place_of (chars block ++ chars rest) j) front_len)))
+
+      block_end : place_of (chars block ++ chars rest) (length (chars block)) ≡ length block
+      block_end = place_before (chars block) (chars rest) (length (chars block)) (omega arith) ∙ (place_end (chars block) ∙ block_len)
+
+      tail : length (chars block ++ chars rest) ≡ length (chars block) + length (chars rest)
+      tail = length-append (chars block) (chars rest)
+
+      inside : j ≤ length (chars block)
+      inside =
+          ⊎_elim
+          (λ (e : rest ≡ []). omega (arith, size, tail, within, order, ap length (ap chars e ∙ chars-nil)))
+          (λ (h : place - length front < length block).
+          place_order (chars block ++ chars rest) j (length (chars block)) (omega (arith, size, within, order)) (omega (arith, placed, block_end, low, h)))
+          high
+
+  pub exact_three : (units : ℕ → ℕ) (place index : ℕ) (is : IsInner place index) → splits_crlf (chars bytes) index ≡ false →
+      ◌≡◌ {A = Position} (exact_position units (chars bytes) index) (record { line = line_ends (chars front) + (exact_position units (chars block) is.inner).line; character = (exact_position units (chars block) is.inner).character })
+  exact_three units place index is whole =
+      let tail : length (chars block ++ chars rest) ≡ length (chars block) + length (chars rest) = length-append (chars block) (chars rest) in
+      let same : exact_position units (chars block ++ chars rest) is.inner ≡ exact_position units (chars block) is.inner =
+      exact_near units (chars block ++ chars rest) (chars block) is.inner (take-append-le is.inner (chars block) (chars rest) is.within) (omega (arith, tail, is.within)) is.within
+      (splits_before (chars block) (chars rest) is.inner is.within behind_chars ∙ (sym is.splits ∙ whole)) (sym is.splits ∙ whole) in
+      ap (exact_position units (chars bytes)) is.index_is ∙
+      (ap (λ cs. exact_position units cs (length (chars front) + is.inner)) chars_are ∙
+      (exact_behind (chars front) (chars block ++ chars rest) closes_chars units is.inner (omega (arith, tail, is.within)) ∙
+      ap moved same))
+    where
+      moved : Position → Position
+      moved p = record { line = line_ends (chars front) + p.line; character = p.character }
+
+  -- Boundaries.
+  byte_in : (i : ℕ) → i < length block → slice_index bytes (length front + i) ≡ slice_index block i
+  byte_in i h =
+      ap (λ bs. slice_index bs (length front + i)) are.whole ∙
+      (get_or-append_right front (block ++ rest) (length front) (length front + i) 0 refl (omega arith) ∙
+      (ap (λ k. get_or (block ++ rest) k 0) (omega arith) ∙ get_or_append_left block rest 0 i h))
+
+  pub boundary_in : (place : ℕ) → length front ≤ place → (rest ≡ []) ⊎ (place - length front < length block) → IsCharBoundary bytes place → IsCharBoundary block (place - length front)
+  boundary_in place low high at =
+      let size : length bytes ≡ length front + length (block ++ rest) = ap length are.whole ∙ length-append front (block ++ rest) in
+      let tail : length (block ++ rest) ≡ length block + length rest = length-append block rest in
+      let within : place - length front ≤ length block =
+      ⊎_elim (λ (e : rest ≡ []). omega (arith, at.0, size, tail, ap length e)) (λ (h : place - length front < length block). omega (arith, h)) high in (
+        within,
+        λ inside big.
+            let here : slice_index bytes place ≡ slice_index block (place - length front) = ap (slice_index bytes) (let e : place ≡ length front + (place - length front) = omega arith in e) ∙ byte_in (place - length front) inside in
+            omega (arith, here, at.1 (omega (arith, size, tail, inside)) (omega (arith, here, big))),
+      )
+
+  -- What stands from a place on, and before it.
+  pub drop_three : (n : ℕ) → n ≤ length block → drop (length front + n) bytes ≡ drop n block ++ rest
+  drop_three n h = ap (drop (length front + n)) are.whole ∙ (drop-append-add front (block ++ rest) n ∙ drop-append-le n block rest h)
+
+  pub take_three : (n : ℕ) → n ≤ length block → take (length front + n) bytes ≡ front ++ take n block
+  take_three n h = ap (take (length front + n)) are.whole ∙ (take-append-add front (block ++ rest) n ∙ ap (λ bs. front ++ bs) (take-append-le n block rest h))

@@ -1,0 +1,48 @@
+-- A text in blocks, each of which ends with a line feed, but the last.
+use Rattle.std.specs.Prelude.{ℕ, suc, ◌≡◌, ◌+◌, ◌-◌, ◌<◌, ◌≤◌, true, List, [], ◌∷◌, length, map, slice_index}
+use Rattle.std.specs.List.{concat}
+use Rattle.std.specs.Str.{is_utf8, chars}
+use Rattle.lsp_text.specs.TextLines.{line_ends, line_feed}
+
+-- The last byte is a line feed.
+pub record EndsLine (bytes : List ℕ) : Type 0 where
+  pub some : 0 < length bytes
+  pub feed : slice_index bytes (length bytes - 1) ≡ line_feed
+
+-- Each of these blocks is a text, and ends with a line feed.
+abbrev pub AreFull : List (List ℕ) → Type 0
+AreFull [] = Unit {0}
+AreFull (block ∷ blocks) = (is_utf8 block ≡ true) × EndsLine block × AreFull blocks
+
+-- There is at least one block, each is a text, and each but the last ends with a line feed.
+abbrev pub AreBlocks : List (List ℕ) → Type 0
+AreBlocks [] = ⊥
+AreBlocks (block ∷ []) = is_utf8 block ≡ true
+AreBlocks (block ∷ next ∷ blocks) = (is_utf8 block ≡ true) × EndsLine block × AreBlocks (next ∷ blocks)
+
+-- The byte with this index is a line feed.
+pub record IsFeed (bytes : List ℕ) (at : ℕ) : Type 0 where
+  pub within : at < length bytes
+  pub feed : slice_index bytes at ≡ line_feed
+
+-- A text can be cut here: a line feed is right before the offset, and it isn't the end.
+pub record IsCut (bytes : List ℕ) (cut : ℕ) : Type 0 where
+  pub some : 0 < cut
+  pub within : cut < length bytes
+  pub feed : slice_index bytes (cut - 1) ≡ line_feed
+
+-- How many line ends a block has.
+abbrev pub ends_of : List ℕ → ℕ
+ends_of block = line_ends (chars block)
+
+-- The sums before each of these numbers, from a first one on.
+abbrev pub sums_from : ℕ → List ℕ → List ℕ
+sums_from first [] = []
+sums_from first (number ∷ numbers) = first ∷ sums_from (first + number) numbers
+
+-- Blocks, with the first byte and the first line of each.
+pub record IsBuffer (blocks : List (List ℕ)) (starts lines : List ℕ) : Type 0 where
+  pub are : AreBlocks blocks
+  pub starts_are : starts ≡ sums_from 0 (map length blocks)
+  pub lines_are : lines ≡ sums_from 0 (map ends_of blocks)
+  pub size : length (concat blocks) ≤ 2147483648

@@ -1,0 +1,233 @@
+//! A change of a text in blocks: in its block, or with the blocks cut again.
+ghost use Rattle.std.specs.Prelude.{◌≡◌, ◌+◌, ◌-◌, ◌≤◌, ◌<◌, ◌++◌, OnOk, OnErr, length, take, drop, vec_len, slice_index, string_bytes, IfOk, map, sum};
+ghost use Rattle.std.specs.List.{concat, replace_range};
+ghost use Rattle.std.specs.Str.{IsCharBoundary};
+ghost use Rattle.lsp_text.specs.Starts.{IsLineOf};
+ghost use Rattle.lsp_buffer.specs.Blocks.{AreBlocks, IsBuffer, ends_of, sums_from};
+
+use crate::block::Block;
+use crate::cut::{CUT, blocks_of};
+use crate::sums::{move_from, push_lines, push_starts};
+use std::alloc::{AllocError, Global};
+
+/// Whether a block may take a new text in.
+pub fn fits(blocks: &[Block], index: usize, new: &str) -> bool
+    requires { index < length blocks.now }
+{
+    let block = &blocks[index];
+    block.len().saturating_add(new.len()) <= 2 * CUT
+}
+
+/// What a block is like after a change: its lengths before and after, and its line ends before and
+/// after.
+#[derive(Drop)]
+struct Changed {
+    old_len: usize,
+    len: usize,
+    old_ends: usize,
+    ends: usize,
+}
+
+/// Changes one block. Out of memory changes nothing.
+fn put_in_block(
+    block: &mut Block,
+    start: usize,
+    end: usize,
+    new: &str,
+) -> Result<Changed, AllocError>
+    requires order { start ≤ end }
+    requires at_start { IsCharBoundary block.old start }
+    requires at_end { IsCharBoundary block.old end }
+    requires room { length (replace_range block.old start end new.now) ≤ 2147483648 }
+    ensures changed { OnOk result (block.new ≡ replace_range block.old start end new.now) }
+    ensures unchanged { OnErr result (block.new ≡ block.old) }
+    ensures old_len { IfOk result (λ sizes. sizes.old_len ≡ length block.old) }
+    ensures len { IfOk result (λ sizes. sizes.len ≡ length block.new) }
+    ensures old_ends { IfOk result (λ sizes. sizes.old_ends ≡ ends_of block.old) }
+    ensures ends { IfOk result (λ sizes. sizes.ends ≡ ends_of block.new) }
+{
+    let old_len = block.len();
+    let old_ends = block.ends();
+    block.replace_range(start, end, new)?;
+    Ok(Changed {
+        old_len,
+        len: block.len(),
+        old_ends,
+        ends: block.ends(),
+    })
+}
+
+/// Replaces bytes inside one block. Out of memory changes nothing.
+pub fn replace_inside(
+    blocks: &mut Vec<Block>,
+    starts: &mut Vec<u32>,
+    lines: &mut Vec<u32>,
+    index: usize,
+    start: usize,
+    end: usize,
+    new: &str,
+) -> Result<(), AllocError>
+    requires are { IsBuffer blocks.old.items starts.old.items lines.old.items }
+    requires first { IsLineOf starts.old.items start index }
+    requires last { IsLineOf starts.old.items end index }
+    requires order { start ≤ end }
+    requires at_start { IsCharBoundary (concat blocks.old.items) start }
+    requires at_end { IsCharBoundary (concat blocks.old.items) end }
+    requires room { length (replace_range (concat blocks.old.items) start end new.now) ≤ 2147483648 }
+    ensures are { IsBuffer blocks.new.items starts.new.items lines.new.items }
+    ensures changed { OnOk result
+        (concat blocks.new.items ≡ replace_range (concat blocks.old.items) start end new.now) }
+    ensures unchanged { OnErr result (concat blocks.new.items ≡ concat blocks.old.items) }
+{
+    let from = starts[index] as usize;
+    let sizes = put_in_block(&mut blocks[index], start - from, end - from, new)?;
+    move_from(starts, index + 1, sizes.old_len as u32, sizes.len as u32);
+    if sizes.ends != sizes.old_ends {
+        move_from(lines, index + 1, sizes.old_ends as u32, sizes.ends as u32);
+    }
+    Ok(())
+}
+
+/// Joins the front of one block, a new text and the back of another.
+fn joined(
+    alloc: Global,
+    front: &Block,
+    to: usize,
+    new: &str,
+    back: &Block,
+    from: usize,
+) -> Result<String, AllocError>
+    requires to { IsCharBoundary front.now to }
+    requires from { IsCharBoundary back.now from }
+    ensures { IfOk result (λ text. string_bytes text
+        ≡ take to front.now ++ (new.now ++ drop from back.now)) }
+{
+    let mut text = String::new(alloc);
+    text.push_str(&front.text()[..to])?;
+    text.push_str(new)?;
+    text.push_str(&back.text()[from..])?;
+    Ok(text)
+}
+
+/// Replaces the blocks from index `from` to index `to`. Out of memory changes nothing.
+fn replace_blocks(
+    blocks: &mut Vec<Block>,
+    from: usize,
+    to: usize,
+    fresh: Vec<Block>,
+) -> Result<(), AllocError>
+    requires order { from ≤ to }
+    requires within { to ≤ vec_len blocks.old }
+    ensures ok { OnOk result
+        (blocks.new.items ≡ take from blocks.old.items ++ (fresh.items ++ drop to blocks.old.items)) }
+    ensures unchanged { OnErr result (blocks.new.items ≡ blocks.old.items) }
+{
+    let _ = blocks.splice(from..to, fresh)?;
+    Ok(())
+}
+
+/// Makes the first bytes of all blocks, if those from index `first` to index `past` become others.
+fn starts_of(
+    alloc: Global,
+    starts: &[u32],
+    blocks: &[Block],
+    first: usize,
+    past: usize,
+    fresh: &[Block],
+) -> Result<Vec<u32>, AllocError>
+    requires first { first < length starts.now }
+    requires past { past ≤ length blocks.now }
+    requires room { slice_index starts.now first + sum (map length fresh.now)
+        + sum (map length (drop past blocks.now)) ≤ 2147483648 }
+    ensures { IfOk result (λ made. made.items ≡ take first starts.now
+        ++ (sums_from (slice_index starts.now first) (map length fresh.now)
+        ++ sums_from (slice_index starts.now first + sum (map length fresh.now))
+        (map length (drop past blocks.now)))) }
+{
+    let (front, _) = starts.split_at(first);
+    let (_, rest) = blocks.split_at(past);
+    let mut made = Vec::new(alloc);
+    made.extend_from_slice(front)?;
+    let next = push_starts(&mut made, fresh, starts[first])?;
+    let _ = push_starts(&mut made, rest, next)?;
+    Ok(made)
+}
+
+/// Makes the first lines of all blocks, if those from index `first` to index `past` become others.
+fn lines_of(
+    alloc: Global,
+    lines: &[u32],
+    blocks: &[Block],
+    first: usize,
+    past: usize,
+    fresh: &[Block],
+) -> Result<Vec<u32>, AllocError>
+    requires first { first < length lines.now }
+    requires past { past ≤ length blocks.now }
+    requires room { slice_index lines.now first + sum (map ends_of fresh.now)
+        + sum (map ends_of (drop past blocks.now)) ≤ 2147483648 }
+    ensures { IfOk result (λ made. made.items ≡ take first lines.now
+        ++ (sums_from (slice_index lines.now first) (map ends_of fresh.now)
+        ++ sums_from (slice_index lines.now first + sum (map ends_of fresh.now))
+        (map ends_of (drop past blocks.now)))) }
+{
+    let (front, _) = lines.split_at(first);
+    let (_, rest) = blocks.split_at(past);
+    let mut made = Vec::new(alloc);
+    made.extend_from_slice(front)?;
+    let next = push_lines(&mut made, fresh, lines[first])?;
+    let _ = push_lines(&mut made, rest, next)?;
+    Ok(made)
+}
+
+/// Replaces bytes in one block or more, and cuts what they become again. Out of memory changes
+/// nothing.
+pub fn replace_across(
+    blocks: &mut Vec<Block>,
+    starts: &mut Vec<u32>,
+    lines: &mut Vec<u32>,
+    first: usize,
+    last: usize,
+    start: usize,
+    end: usize,
+    new: &str,
+) -> Result<(), AllocError>
+    requires are { IsBuffer blocks.old.items starts.old.items lines.old.items }
+    requires first { IsLineOf starts.old.items start first }
+    requires last { IsLineOf starts.old.items end last }
+    requires order { start ≤ end }
+    requires at_start { IsCharBoundary (concat blocks.old.items) start }
+    requires at_end { IsCharBoundary (concat blocks.old.items) end }
+    requires room { length (replace_range (concat blocks.old.items) start end new.now) ≤ 2147483648 }
+    ensures are { IsBuffer blocks.new.items starts.new.items lines.new.items }
+    ensures changed { OnOk result
+        (concat blocks.new.items ≡ replace_range (concat blocks.old.items) start end new.now) }
+    ensures unchanged { OnErr result (concat blocks.new.items ≡ concat blocks.old.items) }
+{
+    let alloc = *blocks.allocator();
+    let to = start - starts[first] as usize;
+    let from = end - starts[last] as usize;
+    let text = joined(alloc, &blocks[first], to, new, &blocks[last], from)?;
+    let fresh = blocks_of(alloc, &text)?;
+    let past = last + 1;
+    let next_starts = starts_of(
+        alloc,
+        starts.as_slice(),
+        blocks.as_slice(),
+        first,
+        past,
+        fresh.as_slice(),
+    )?;
+    let next_lines = lines_of(
+        alloc,
+        lines.as_slice(),
+        blocks.as_slice(),
+        first,
+        past,
+        fresh.as_slice(),
+    )?;
+    replace_blocks(blocks, first, past, fresh)?;
+    *starts = next_starts;
+    *lines = next_lines;
+    Ok(())
+}
