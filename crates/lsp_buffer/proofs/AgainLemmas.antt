@@ -7,7 +7,8 @@ use Rattle.std.proofs.lemmas.List.{length-append, length-drop, get_or_default, a
 use Rattle.std.proofs.lemmas.List.Folds.{concat-append}
 use Rattle.std.proofs.lemmas.List.Sums.{sum_by-append}
 use Rattle.lsp_text.specs.Starts.{IsLineOf}
-use Rattle.lsp_buffer.specs.Blocks.{EndsLine, AreFull, AreBlocks, IsBuffer, ends_of, sums_from}
+use Rattle.lsp_buffer.specs.Blocks.{EndsLine, AreBlocks, IsBuffer, ends_of, sums_from}
+use Rattle.lsp_buffer.specs.inside.Cuts.{AreFull}
 use Rattle.lsp_buffer.proofs.BlockLemmas.{IsSplit, split, full_length, joined_blocks, blocks_some}
 use Rattle.lsp_buffer.proofs.BufferLemmas.{starts_count, lines_count, next_start, starts_sum, lines_sum}
 use Rattle.lsp_buffer.proofs.FoundLemmas.{IsPlaceFound, found_place, blocks_ends, chunk_boundary}

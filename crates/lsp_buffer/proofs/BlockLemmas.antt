@@ -12,7 +12,8 @@ use Rattle.std.proofs.lemmas.List.Sums.{sum_by-cons}
 use Rattle.std.proofs.lemmas.Str.{IsUtf8-from_is_utf8, is_utf8-from_IsUtf8, IsUtf8-append, encodes-chars, encode_ascii, length-encode, len_utf8_bounds, chars-append, chars-nil}
 use Rattle.lsp_text.specs.TextLines.{line_ends}
 use Rattle.lsp_text.proofs.StartLemmas.{AllHigh, encode_high}
-use Rattle.lsp_buffer.specs.Blocks.{EndsLine, AreFull, AreBlocks, ends_of}
+use Rattle.lsp_buffer.specs.Blocks.{EndsLine, AreBlocks, ends_of}
+use Rattle.lsp_buffer.specs.inside.Cuts.{AreFull}
 use Rattle.lsp_buffer.proofs.SeamLemmas.{seam_count}
 
 -- ---- a line feed at the end

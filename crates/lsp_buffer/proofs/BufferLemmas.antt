@@ -7,7 +7,8 @@ use Rattle.std.proofs.lemmas.List.{length-map, length-append, length-drop, get_o
 use Rattle.std.proofs.lemmas.Str.{IsUtf8-from_is_utf8}
 use Rattle.lsp_text.specs.Starts.{AreStarts, IsLineOf}
 use Rattle.lsp_text.specs.TextLines.{line_ends}
-use Rattle.lsp_buffer.specs.Blocks.{EndsLine, AreFull, AreBlocks, IsBuffer, ends_of, sums_from}
+use Rattle.lsp_buffer.specs.Blocks.{EndsLine, AreBlocks, IsBuffer, ends_of, sums_from}
+use Rattle.lsp_buffer.specs.inside.Cuts.{AreFull}
 use Rattle.lsp_buffer.proofs.SumLemmas.{length-sums, sums_starts, sums_at, row_more}
 use Rattle.lsp_buffer.proofs.BlockLemmas.{IsSplit, split, split_text, full_utf8, full_closes, full_ends, full_length, blocks_some, blocks_utf8}
 use Rattle.lsp_buffer.proofs.PartLemmas.{AreThree, Behind}

@@ -9,7 +9,8 @@ use Rattle.std.proofs.lemmas.List.Sums.{sum_by-append, sum_by-cons}
 use Rattle.std.proofs.lemmas.Str.{IsUtf8-from_is_utf8, is_utf8-from_IsUtf8, IsUtf8-append, IsUtf8-take, IsUtf8-drop}
 use Rattle.lsp_text.specs.Starts.{AreStarts, IsLineOf}
 use Rattle.lsp_text.specs.TextLines.{line_ends}
-use Rattle.lsp_buffer.specs.Blocks.{EndsLine, AreFull, AreBlocks, IsBuffer, ends_of, sums_from}
+use Rattle.lsp_buffer.specs.Blocks.{EndsLine, AreBlocks, IsBuffer, ends_of, sums_from}
+use Rattle.lsp_buffer.specs.inside.Cuts.{AreFull}
 use Rattle.lsp_buffer.proofs.SumLemmas.{length-sums, sums_append, sums_put}
 use Rattle.lsp_buffer.proofs.BlockLemmas.{IsSplit, split, full_length, full_utf8, ends_tail, ends_join, joined_blocks}
 use Rattle.lsp_buffer.proofs.PartLemmas.{AreThree, take_three, drop_three, boundary_in}

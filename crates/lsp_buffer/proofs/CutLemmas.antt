@@ -5,7 +5,8 @@ use Rattle.std.specs.Str.{is_utf8, IsUtf8, IsCharBoundary}
 use Rattle.std.proofs.lemmas.List.{take_more, length-drop, length-take-le, get_or-take, append_assoc, append-nil, take-append-drop}
 use Rattle.std.proofs.lemmas.List.Folds.{concat-append}
 use Rattle.std.proofs.lemmas.Str.{is_utf8-from_IsUtf8, IsUtf8-take}
-use Rattle.lsp_buffer.specs.Blocks.{EndsLine, AreFull, AreBlocks, IsCut}
+use Rattle.lsp_buffer.specs.Blocks.{EndsLine, AreBlocks}
+use Rattle.lsp_buffer.specs.inside.Cuts.{AreFull, IsCut}
 use Rattle.lsp_buffer.proofs.BlockLemmas.{ends_tail, full_last, full_front}
 
 pub record IsCutSoFar (text rest : List ℕ) (blocks : List (List ℕ)) : Type 0 where
@@ -59,3 +60,8 @@ cut_all text rest blocks now block utf8 block_is now_is so_far =
 pub concat_more : (blocks : List (List ℕ)) (index : ℕ) (block : List ℕ) → index < length blocks → block ≡ get_or blocks index block → concat (take (index + 1) blocks) ≡ concat (take index blocks) ++ block
 concat_more blocks index block within at =
     ap concat (take_more blocks index block within) ∙ (one_block (take index blocks) (get_or blocks index block) ∙ ap (λ b. concat (take index blocks) ++ b) (sym at))
+
+-- A text alone is one block.
+pub one_are : (before blocks : List (List ℕ)) (block bytes : List ℕ) → before ≡ [] → blocks ≡ before ++ block ∷ [] → block ≡ bytes → IsUtf8 bytes → AreBlocks blocks
+one_are before blocks block bytes none is same utf8 =
+    subst AreBlocks (sym (is ∙ ap (λ bs. bs ++ block ∷ []) none)) (is_utf8-from_IsUtf8 block (subst IsUtf8 (sym same) utf8))

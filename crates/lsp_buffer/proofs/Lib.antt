@@ -10,3 +10,6 @@ pub mod FoundLemmas
 pub mod ChangeLemmas
 pub mod PutLemmas
 pub mod AgainLemmas
+pub mod ReadLemmas
+pub mod ContentsLemmas
+pub mod JoinLemmas

@@ -13,6 +13,7 @@ use Rattle.lsp_text.specs.TextLines.{line_ends, line_at, splits_crlf}
 use Rattle.lsp_text.specs.LineStarts.{IsPlace}
 use Rattle.lsp_text.specs.Positions.{exact_position, denoted}
 use Rattle.lsp_text.proofs.PlaceLemmas.{place_add, place_order, place_end, place_within, place_rises}
+use Rattle.lsp_text.proofs.LineLemmas.{splits_none_past}
 use Rattle.lsp_text.proofs.PositionLemmas.{denoted_whole}
 use Rattle.lsp_text.proofs.NearLemmas.{exact_near}
 use Rattle.lsp_buffer.specs.Blocks.{EndsLine}
@@ -241,7 +242,7 @@ module _ (bytes front block rest : List ℕ) (are : AreThree bytes front block r
       moved p = record { line = line_ends (chars front) + p.line; character = p.character }
 
   -- Boundaries.
-  byte_in : (i : ℕ) → i < length block → slice_index bytes (length front + i) ≡ slice_index block i
+  pub byte_in : (i : ℕ) → i < length block → slice_index bytes (length front + i) ≡ slice_index block i
   byte_in i h =
       ap (λ bs. slice_index bs (length front + i)) are.whole ∙
       (get_or-append_right front (block ++ rest) (length front) (length front + i) 0 refl (omega arith) ∙
@@ -265,3 +266,21 @@ module _ (bytes front block rest : List ℕ) (are : AreThree bytes front block r
 
   pub take_three : (n : ℕ) → n ≤ length block → take (length front + n) bytes ≡ front ++ take n block
   take_three n h = ap (take (length front + n)) are.whole ∙ (take-append-add front (block ++ rest) n ∙ ap (λ bs. front ++ bs) (take-append-le n block rest h))
+
+  -- A place of the block is one of all, and so is the block's end.
+  pub place_outer : (inner : ℕ) → IsPlace (chars block) inner → IsPlace (chars bytes) (length front + inner)
+  place_outer inner at =
+      let j = at.0 in
+      let tail : length (chars block ++ chars rest) ≡ length (chars block) + length (chars rest) = length-append (chars block) (chars rest) in
+      let size : length (chars bytes) ≡ length (chars front) + length (chars block ++ chars rest) = ap length chars_are ∙ length-append (chars front) (chars block ++ chars rest) in (
+        length (chars front) + j,
+        omega (arith, size, tail, at.1),
+        ap (λ cs. splits_crlf cs (length (chars front) + j)) chars_are ∙
+            (splits_behind (chars front) (chars block ++ chars rest) closes_chars j ∙ (splits_before (chars block) (chars rest) j at.1 behind_chars ∙ at.2)),
+        ap (λ cs. place_of cs (length (chars front) + j)) chars_are ∙
+            (place_behind (chars front) (chars block ++ chars rest) closes_chars j ∙
+            (ap (λ n. n + place_of (chars block ++ chars rest) j) front_len ∙ ap (λ n. length front + n) (place_before (chars block) (chars rest) j at.1 ∙ at.3))),
+      )
+
+  pub place_last : IsPlace (chars block) (length block)
+  place_last = (length (chars block), omega arith, splits_none_past (chars block) (length (chars block)) (omega arith), place_end (chars block) ∙ block_len)

@@ -7,7 +7,8 @@ use Rattle.std.proofs.lemmas.List.Folds.{concat-append}
 use Rattle.std.proofs.lemmas.List.Sums.{sum_by-append, sum_by-cons}
 use Rattle.std.proofs.lemmas.Str.{IsUtf8-from_is_utf8, is_utf8-from_IsUtf8, IsUtf8-append, IsUtf8-take, IsUtf8-drop}
 use Rattle.lsp_text.specs.Starts.{IsLineOf}
-use Rattle.lsp_buffer.specs.Blocks.{EndsLine, AreFull, AreBlocks, IsBuffer, ends_of, sums_from}
+use Rattle.lsp_buffer.specs.Blocks.{EndsLine, AreBlocks, IsBuffer, ends_of, sums_from}
+use Rattle.lsp_buffer.specs.inside.Cuts.{AreFull}
 use Rattle.lsp_buffer.proofs.SumLemmas.{length-sums, sums_append, sums_put, sums_low}
 use Rattle.lsp_buffer.proofs.BlockLemmas.{IsSplit, split, full_length, joined_blocks, blocks_some}
 use Rattle.lsp_buffer.proofs.PartLemmas.{AreThree}

@@ -9,27 +9,12 @@ pub record EndsLine (bytes : List ℕ) : Type 0 where
   pub some : 0 < length bytes
   pub feed : slice_index bytes (length bytes - 1) ≡ line_feed
 
--- Each of these blocks is a text, and ends with a line feed.
-abbrev pub AreFull : List (List ℕ) → Type 0
-AreFull [] = Unit {0}
-AreFull (block ∷ blocks) = (is_utf8 block ≡ true) × EndsLine block × AreFull blocks
-
 -- There is at least one block, each is a text, and each but the last ends with a line feed.
 abbrev pub AreBlocks : List (List ℕ) → Type 0
 AreBlocks [] = ⊥
 AreBlocks (block ∷ []) = is_utf8 block ≡ true
-AreBlocks (block ∷ next ∷ blocks) = (is_utf8 block ≡ true) × EndsLine block × AreBlocks (next ∷ blocks)
-
--- The byte with this index is a line feed.
-pub record IsFeed (bytes : List ℕ) (at : ℕ) : Type 0 where
-  pub within : at < length bytes
-  pub feed : slice_index bytes at ≡ line_feed
-
--- A text can be cut here: a line feed is right before the offset, and it isn't the end.
-pub record IsCut (bytes : List ℕ) (cut : ℕ) : Type 0 where
-  pub some : 0 < cut
-  pub within : cut < length bytes
-  pub feed : slice_index bytes (cut - 1) ≡ line_feed
+AreBlocks (block ∷ next ∷ blocks) =
+    (is_utf8 block ≡ true) × EndsLine block × AreBlocks (next ∷ blocks)
 
 -- How many line ends a block has.
 abbrev pub ends_of : List ℕ → ℕ

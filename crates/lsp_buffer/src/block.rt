@@ -1,6 +1,6 @@
 //! A block of a text, with its lines.
-ghost use Rattle.std.specs.Prelude.{◌≡◌, ◌+◌, ◌-◌, ◌≤◌, IfOk, OnOk, OnErr, Some, ℕ, length, option_map, string_bytes};
-ghost use Rattle.std.specs.List.{replace_range};
+ghost use Rattle.std.specs.Prelude.{◌≡◌, ◌≢◌, ◌+◌, ◌-◌, ◌≤◌, ◌↔◌, ◌++◌, IsTrue, IfOk, IfNone, IfSome, OnOk, OnErr, Some, List, ℕ, length, option_map, string_bytes, string_len};
+ghost use Rattle.std.specs.List.{concat, replace_range};
 ghost use Rattle.std.specs.Result.{result_ok};
 ghost use Rattle.std.specs.Str.{IsCharBoundary, IsUtf8, chars};
 ghost use Rattle.lsp_text.specs.Text.{place_of};
@@ -33,13 +33,31 @@ impl Model for Block {
 }
 
 impl Block {
+    /// Takes a text and finds its lines. Fails only if it is out of memory.
+    pub fn new(alloc: Global, text: String) -> Result<Self, AllocError>
+        requires { string_len text ≤ 2147483648 }
+        ensures { IfOk result (λ block. block ≡ string_bytes text) }
+    {
+        let lines = Lines::new(alloc, &text)?;
+        Ok(Block { text, lines })
+    }
+
     /// Copies a text and finds its lines. Fails only if it is out of memory.
-    pub fn new(alloc: Global, text: &str) -> Result<Self, AllocError>
+    pub fn from_str(alloc: Global, text: &str) -> Result<Self, AllocError>
         requires { length text.now ≤ 2147483648 }
         ensures { IfOk result (λ block. block ≡ text.now) }
     {
         let lines = Lines::new(alloc, text)?;
         let text = String::from_str(alloc, text)?;
+        Ok(Block { text, lines })
+    }
+
+    /// Returns a copy. Fails only if it is out of memory.
+    pub fn copied(&self, alloc: Global) -> Result<Self, AllocError>
+        ensures { IfOk result (λ copy. copy ≡ self.now) }
+    {
+        let lines = self.lines.copied(alloc)?;
+        let text = String::from_str(alloc, &self.text)?;
         Ok(Block { text, lines })
     }
 
@@ -81,6 +99,21 @@ impl Block {
         self.lines.position(&self.text, encoding, offset)
     }
 
+    /// Returns whether a character begins at a byte offset of the block, or it ends there.
+    pub fn is_char_boundary(&self, offset: usize) -> bool
+        ensures { IsTrue result ↔ IsCharBoundary self.now offset }
+    {
+        self.text.is_char_boundary(offset)
+    }
+
+    /// Returns whether a position can denote a byte offset in the block alone.
+    pub fn is_place(&self, offset: usize) -> bool
+        ensures place { IsTrue result ↔ IsPlace (chars self.now) offset }
+        ensures boundary { IsTrue result → IsCharBoundary self.now offset }
+    {
+        self.lines.is_place(&self.text, offset)
+    }
+
     /// Replaces the bytes from `start` to `end`. Out of memory changes nothing.
     pub fn replace_range(&mut self, start: usize, end: usize, new: &str) -> Result<(), AllocError>
         requires order { start ≤ end }
@@ -92,4 +125,41 @@ impl Block {
     {
         put_in_place(&mut self.text, &mut self.lines, start, end, new)
     }
+}
+
+/// Copies some blocks. Fails only if it is out of memory.
+pub fn copied_blocks(alloc: Global, blocks: &[Block]) -> Result<Vec<Block>, AllocError>
+    ensures { IfOk result (λ copies. copies.items ≡ blocks.now) }
+{
+    let mut copies = Vec::with_capacity(alloc, blocks.len())?;
+    for block in blocks {
+        copies.push(block.copied(alloc)?)?;
+    }
+    Ok(copies)
+}
+
+/// Returns the bytes after some others, if these come first.
+fn rest_after<'a>(bytes: &'a [u8], front: &[u8]) -> Option<&'a [u8]>
+    ensures some { IfSome result (λ rest. bytes.now ≡ front.now ++ rest.now) }
+    ensures none { IfNone result ((rest : List ℕ) → bytes.now ≢ front.now ++ rest) }
+{
+    if bytes.len() < front.len() {
+        return None;
+    }
+    let (start, rest) = bytes.split_at(front.len());
+    if start == front { Some(rest) } else { None }
+}
+
+/// Returns whether these bytes are those of some blocks, one after another.
+pub fn are_text(blocks: &[Block], bytes: &[u8]) -> bool
+    ensures { IsTrue result ↔ (concat blocks.now ≡ bytes.now) }
+{
+    let mut rest = bytes;
+    for block in blocks {
+        match rest_after(rest, block.text().as_bytes()) {
+            Some(back) => rest = back,
+            None => return false,
+        }
+    }
+    rest.is_empty()
 }

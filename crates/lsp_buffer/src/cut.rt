@@ -2,15 +2,19 @@
 ghost use Rattle.std.specs.Prelude.{◌≡◌, ◌≤◌, IfOk, IfSome, length};
 ghost use Rattle.std.specs.List.{concat};
 ghost use Rattle.std.specs.Str.{IsCharBoundary};
-ghost use Rattle.lsp_buffer.specs.Blocks.{AreBlocks, AreFull, EndsLine, IsCut, IsFeed};
+ghost use Rattle.lsp_buffer.specs.Blocks.{AreBlocks, EndsLine};
+ghost use Rattle.lsp_buffer.specs.inside.Cuts.{AreFull, IsCut, IsFeed};
 
 use crate::block::Block;
 use memchr::{memchr, memrchr};
 use std::alloc::{AllocError, Global};
 
-/// How many bytes a block has at the most, if it is cut from a text with shorter lines. A change
-/// may make it twice as long.
+/// How many bytes a block has at the most where it is cut from a longer text with shorter lines.
+/// The last block may have half as many again, and a change may make a block twice as long.
 pub const CUT: usize = 4_096;
+
+/// How many bytes may be left in one block at the end of a text.
+pub const LAST: usize = CUT + CUT / 2;
 
 /// Returns the last line feed of the first `CUT` bytes. If they have none, the first after them.
 fn feed_of(bytes: &[u8]) -> Option<usize>
@@ -34,7 +38,7 @@ fn cut_of(text: &str) -> Option<usize>
     ensures boundary { IfSome result (IsCharBoundary text.now) }
 {
     let bytes = text.as_bytes();
-    if bytes.len() <= CUT {
+    if bytes.len() <= LAST {
         return None;
     }
     let at = feed_of(bytes)?;
@@ -55,9 +59,9 @@ pub fn blocks_of(alloc: Global, text: &str) -> Result<Vec<Block>, AllocError>
     let mut blocks = Vec::new(alloc);
     let mut rest = text;
     while let Some(cut) = cut_of(rest) {
-        blocks.push(Block::new(alloc, &rest[..cut])?)?;
+        blocks.push(Block::from_str(alloc, &rest[..cut])?)?;
         rest = &rest[cut..];
     }
-    blocks.push(Block::new(alloc, rest)?)?;
+    blocks.push(Block::from_str(alloc, rest)?)?;
     Ok(blocks)
 }

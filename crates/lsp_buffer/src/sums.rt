@@ -58,10 +58,12 @@ fn move_all(sums: &mut [u32], old: u32, new: u32)
 /// Moves the sums from index `first` on by as much as `old` moves to `new`.
 pub fn move_from(sums: &mut Vec<u32>, first: usize, old: u32, new: u32)
     requires first { first ≤ vec_len sums.old }
-    requires after { (k : ℕ) → k < length (drop first sums.old.items) → old ≤ slice_index (drop first sums.old.items) k }
-    requires room { (k : ℕ) → k < length (drop first sums.old.items) → slice_index (drop first sums.old.items) k - old + new < 2 ^ 32 }
-    ensures { sums.new.items
-        ≡ take first sums.old.items ++ map (λ start. start - old + new) (drop first sums.old.items) }
+    requires after { (k : ℕ) → k < length (drop first sums.old.items) →
+        old ≤ slice_index (drop first sums.old.items) k }
+    requires room { (k : ℕ) → k < length (drop first sums.old.items) →
+        slice_index (drop first sums.old.items) k - old + new < 2 ^ 32 }
+    ensures { sums.new.items ≡ take first sums.old.items
+        ++ map (λ start. start - old + new) (drop first sums.old.items) }
 {
     move_all(&mut sums[first..], old, new);
 }

@@ -1,25 +1,32 @@
 //! `TextBuffer`, a text in blocks.
-ghost use Rattle.std.specs.Prelude.{◌≡◌, ◌+◌, ◌-◌, ◌≤◌, ◌<◌, ℕ, List, Some, IfOk, OnOk, OnErr, length, take, drop, option_map, string_bytes};
-ghost use Rattle.std.specs.List.{replace_range, slice_range};
+ghost use Rattle.std.specs.Prelude.{◌≡◌, ◌+◌, ◌-◌, ◌≤◌, ◌<◌, ◌↔◌, ℕ, List, Some, IsTrue, IfOk, IfSome, IfNone, OnOk, OnErr, OnSome, length, take, drop, option_map, string_bytes, string_len};
+ghost use Rattle.std.specs.List.{concat, replace_range, slice_range};
 ghost use Rattle.std.specs.Result.{result_ok};
 ghost use Rattle.std.specs.Str.{IsCharBoundary, IsUtf8, chars};
 ghost use Rattle.lsp_text.specs.Text.{place_of};
-ghost use Rattle.lsp_text.specs.TextLines.{line_ends};
+ghost use Rattle.lsp_text.specs.TextLines.{line_ends, line_start, line_stop};
 ghost use Rattle.lsp_text.specs.LineStarts.{IsPlace};
 ghost use Rattle.lsp_text.specs.Units.{units_in};
 ghost use Rattle.lsp_text.specs.Positions.{exact_position, denoted};
+ghost use Rattle.lsp_buffer.specs.Contents.{IsContentOf};
+ghost use Rattle.lsp_buffer.specs.Blocks.{AreBlocks};
 
 pub(crate) mod change;
 
-use crate::block::Block;
+use crate::block::{Block, are_text, copied_blocks};
 use crate::cut::blocks_of;
 use crate::sums::{block_of, push_lines, push_starts};
-use crate::text_buffer::change::{fits, replace_across, replace_inside};
+use crate::text_buffer::change::{fits, joins, replace_across, replace_inside, replace_joined};
 use lsp_text::{Encoding, InsideCharacter, Position};
 use std::alloc::{AllocError, Global};
+use std::fmt;
 use std::marker::Model;
+use std::ops::Range;
 
-/// A text in blocks of whole lines. A change costs its block, and an addition for each later block.
+/// A text of at most 2,147,483,648 bytes in blocks of whole lines, some kilobytes each. A change
+/// costs its block, and an addition for each later block. A line that is longer than a block is
+/// one block alone, and costs what it costs in a `String`.
+///
 /// Clauses see the bytes of the text.
 #[derive(Debug, Drop)]
 pub struct TextBuffer {
@@ -41,13 +48,33 @@ impl Model for TextBuffer {
 }
 
 impl TextBuffer {
+    /// Takes a text of at most 2,147,483,648 bytes, without a copy. Fails only if it is out of
+    /// memory. Linear in the text, which is one chunk until its first change.
+    pub fn new(alloc: Global, text: String) -> Result<Self, AllocError>
+        requires { string_len text ≤ 2147483648 }
+        ensures { IfOk result (λ buffer. buffer ≡ string_bytes text) }
+    {
+        let mut blocks = Vec::with_capacity(alloc, 1)?;
+        blocks.push(Block::new(alloc, text)?)?;
+        TextBuffer::of_blocks(alloc, blocks)
+    }
+
     /// Copies a text of at most 2,147,483,648 bytes. Fails only if it is out of memory. Linear in
     /// the text.
-    pub fn new(alloc: Global, text: &str) -> Result<Self, AllocError>
+    pub fn from_str(alloc: Global, text: &str) -> Result<Self, AllocError>
         requires { length text.now ≤ 2147483648 }
-        ensures { IfOk result (λ kept. kept ≡ text.now) }
+        ensures { IfOk result (λ buffer. buffer ≡ text.now) }
     {
         let blocks = blocks_of(alloc, text)?;
+        TextBuffer::of_blocks(alloc, blocks)
+    }
+
+    /// Sums up the first bytes and the first lines of some blocks.
+    fn of_blocks(alloc: Global, blocks: Vec<Block>) -> Result<Self, AllocError>
+        requires are { AreBlocks blocks.items }
+        requires size { length (concat blocks.items) ≤ 2147483648 }
+        ensures { IfOk result (λ buffer. buffer ≡ concat blocks.items) }
+    {
         let mut starts = Vec::with_capacity(alloc, blocks.len())?;
         let mut lines = Vec::with_capacity(alloc, blocks.len())?;
         let _ = push_starts(&mut starts, &blocks, 0)?;
@@ -59,7 +86,22 @@ impl TextBuffer {
         })
     }
 
-    /// Returns how many bytes the text has.
+    /// Returns a copy. Fails only if it is out of memory. Linear in the text, but no line is
+    /// searched for again.
+    pub fn copied(&self, alloc: Global) -> Result<Self, AllocError>
+        ensures { IfOk result (λ copy. copy ≡ self.now) }
+    {
+        let blocks = copied_blocks(alloc, &self.blocks)?;
+        let starts = Vec::from_slice(alloc, &self.starts)?;
+        let lines = Vec::from_slice(alloc, &self.lines)?;
+        Ok(TextBuffer {
+            blocks,
+            starts,
+            lines,
+        })
+    }
+
+    /// Returns how many bytes the text has. In constant time.
     pub fn len(&self) -> usize
         ensures len { result ≡ length self.now }
         ensures size { length self.now ≤ 2147483648 }
@@ -70,7 +112,8 @@ impl TextBuffer {
         self.starts[last] as usize + block.len()
     }
 
-    /// Returns how many lines there are: one more than line ends, so at least one.
+    /// Returns how many lines there are: one more than line ends, so at least one. In constant
+    /// time.
     pub fn line_count(&self) -> usize
         ensures { result ≡ line_ends (chars self.now) + 1 }
     {
@@ -82,8 +125,8 @@ impl TextBuffer {
     /// Returns the byte offset that a position denotes (LSP 3.17, Position).
     ///
     /// A position past the last line denotes the end of the text, one past a line's content the end
-    /// of that content. A position inside a character is an error. Costs two binary searches, and the
-    /// line's text up to the position.
+    /// of that content. A position inside a character is an error. Costs a binary search over the
+    /// blocks, and the line's text up to the position; in UTF-8 only the search.
     pub fn resolve(&self, encoding: Encoding, position: Position) -> Result<usize, InsideCharacter>
         ensures value { result_ok result
             ≡ option_map (place_of (chars self.now))
@@ -103,7 +146,8 @@ impl TextBuffer {
         }
     }
 
-    /// Returns the exact position of a byte offset (LSP 3.17, Position).
+    /// Returns the exact position of a byte offset (LSP 3.17, Position). Costs a binary search over
+    /// the blocks, one over a block's lines, and the line's text up to the offset.
     pub fn position(&self, encoding: Encoding, offset: usize) -> Position
         requires { IsPlace (chars self.now) offset }
         ensures exact { (k : ℕ) → k ≤ length (chars self.now) → place_of (chars self.now) k ≡ offset
@@ -120,19 +164,134 @@ impl TextBuffer {
         }
     }
 
-    /// Returns the text from an offset to the end of its block: some of it, if the offset isn't the
-    /// end. Costs a binary search.
+    /// Returns whether a character begins at this byte offset, or the text ends there. Costs a
+    /// binary search over the blocks.
+    pub fn is_char_boundary(&self, offset: usize) -> bool
+        ensures { IsTrue result ↔ IsCharBoundary self.now offset }
+    {
+        let index = block_of(&self.starts, offset);
+        let block = &self.blocks[index];
+        block.is_char_boundary(offset - self.starts[index] as usize)
+    }
+
+    /// Returns whether a position can denote this byte offset: it is a boundary of characters that
+    /// splits no CRLF. Costs a binary search over the blocks.
+    pub fn is_place(&self, offset: usize) -> bool
+        ensures place { IsTrue result ↔ IsPlace (chars self.now) offset }
+        ensures boundary { IsTrue result → IsCharBoundary self.now offset }
+    {
+        let index = block_of(&self.starts, offset);
+        let block = &self.blocks[index];
+        block.is_place(offset - self.starts[index] as usize)
+    }
+
+    /// Returns the byte offsets of a line's content, without its line end, or `None` if there is no
+    /// such line. Costs two binary searches over the blocks.
+    pub fn line(&self, line: u32) -> Option<Range<usize>>
+        ensures content { IfSome result (IsContentOf self.now line) }
+        ensures some { OnSome result (line ≤ line_ends (chars self.now)) }
+        ensures none { IfNone result (line_ends (chars self.now) < line) }
+    {
+        if line as usize >= self.line_count() {
+            return None;
+        }
+        Some(self.line_start(line)..self.line_end(line))
+    }
+
+    /// Returns the byte offset at which a line starts.
+    fn line_start(&self, line: u32) -> usize
+        requires { line ≤ line_ends (chars self.now) }
+        ensures { result ≡ place_of (chars self.now) (line_start (chars self.now) line) }
+    {
+        let first = Position { line, character: 0 };
+        self.resolve(Encoding::Utf8, first).unwrap_or(0)
+    }
+
+    /// Returns the byte offset at which the content of a line ends.
+    fn line_end(&self, line: u32) -> usize
+        requires { line ≤ line_ends (chars self.now) }
+        ensures value { result ≡ place_of (chars self.now) (line_stop (chars self.now) line) }
+        ensures utf8 { IsUtf8 self.now }
+    {
+        // A text has at most 2,147,483,648 bytes, so no line has a character so far on.
+        let after_all = Position {
+            line,
+            character: u32::MAX,
+        };
+        let len = self.len();
+        self.resolve(Encoding::Utf8, after_all).unwrap_or(len)
+    }
+
+    /// Returns the text from an offset on, up to the end of its block. It is empty only at the end
+    /// of the text. Costs a binary search over the blocks.
+    ///
+    /// The next chunk begins at `offset + chunk.len()`.
     pub fn chunk_from(&self, offset: usize) -> &str
         requires { IsCharBoundary self.now offset }
         ensures part { result.now ≡ take (length result.now) (drop offset self.now) }
         ensures some { offset < length self.now → 0 < length result.now }
+        ensures next { IsCharBoundary self.now (offset + length result.now) }
     {
         let index = block_of(&self.starts, offset);
         let block = &self.blocks[index];
         &block.text()[offset - self.starts[index] as usize..]
     }
 
-    /// Copies the text into one string. Fails only if it is out of memory.
+    /// Returns the part of the text from `offset` to `end`, or to the end of the chunk before it.
+    fn chunk_to(&self, offset: usize, end: usize) -> &str
+        requires order { offset ≤ end }
+        requires at_offset { IsCharBoundary self.now offset }
+        requires at_end { IsCharBoundary self.now end }
+        ensures part { result.now ≡ take (length result.now) (drop offset self.now) }
+        ensures within { offset + length result.now ≤ end }
+        ensures some { offset < end → 0 < length result.now }
+        ensures next { IsCharBoundary self.now (offset + length result.now) }
+    {
+        let chunk = self.chunk_from(offset);
+        let len = end - offset;
+        if chunk.len() <= len {
+            chunk
+        } else {
+            &chunk[..len]
+        }
+    }
+
+    /// Copies the bytes from `start` to `end`. Fails only if it is out of memory. Costs a binary
+    /// search for each block of the range, and its bytes.
+    pub fn slice(&self, alloc: Global, start: usize, end: usize) -> Result<String, AllocError>
+        requires order { start ≤ end }
+        requires at_start { IsCharBoundary self.now start }
+        requires at_end { IsCharBoundary self.now end }
+        ensures { IfOk result (λ text. string_bytes text ≡ slice_range self.now start end) }
+    {
+        let mut text = String::with_capacity(alloc, end - start)?;
+        let mut offset = start;
+        while offset < end {
+            let chunk = self.chunk_to(offset, end);
+            text.push_str(chunk)?;
+            offset += chunk.len();
+        }
+        Ok(text)
+    }
+
+    /// Returns the text without a copy, if it is in one chunk.
+    pub fn as_str(&self) -> Option<&str>
+        ensures { IfSome result (λ text. text.now ≡ self.now) }
+    {
+        match self.blocks.as_slice() {
+            [block] => Some(block.text()),
+            _ => None,
+        }
+    }
+
+    /// Returns whether the text is this one, byte for byte. Nothing is copied. Linear in the text.
+    pub fn is_text(&self, text: &str) -> bool
+        ensures { IsTrue result ↔ (self.now ≡ text.now) }
+    {
+        are_text(&self.blocks, text.as_bytes())
+    }
+
+    /// Copies the text into one string. Fails only if it is out of memory. Linear in the text.
     pub fn to_string(&self, alloc: Global) -> Result<String, AllocError>
         ensures { IfOk result (λ text. string_bytes text ≡ self.now) }
     {
@@ -145,9 +304,9 @@ impl TextBuffer {
 
     /// Replaces the bytes from `start` to `end` by another text. Out of memory changes nothing.
     ///
-    /// Costs the new text, the blocks of the two ends, and an addition for each later block. If a
-    /// block gets too long, or the ends are in two blocks, it is cut again: then all sums are made
-    /// anew.
+    /// Costs the new text, the blocks of the two ends, and an addition for each later block. Blocks
+    /// are cut again if the ends are in two of them, or if one gets too long, and one that gets
+    /// short is joined with the next: then the sums of all blocks are built anew.
     pub fn replace_range(&mut self, start: usize, end: usize, new: &str) -> Result<(), AllocError>
         requires order { start ≤ end }
         requires at_start { IsCharBoundary self.old start }
@@ -158,27 +317,24 @@ impl TextBuffer {
     {
         let first = block_of(&self.starts, start);
         let last = block_of(&self.starts, end);
-        if first == last && fits(&self.blocks, first, new) {
-            replace_inside(
-                &mut self.blocks,
-                &mut self.starts,
-                &mut self.lines,
-                first,
-                start,
-                end,
-                new,
-            )
+        let (blocks, starts, lines) = (&mut self.blocks, &mut self.starts, &mut self.lines);
+        if joins(blocks, starts, first, last, start, end, new) {
+            replace_joined(blocks, starts, lines, first, last, start, end, new)
+        } else if first == last && fits(blocks, first, new) {
+            replace_inside(blocks, starts, lines, first, start, end, new)
         } else {
-            replace_across(
-                &mut self.blocks,
-                &mut self.starts,
-                &mut self.lines,
-                first,
-                last,
-                start,
-                end,
-                new,
-            )
+            replace_across(blocks, starts, lines, first, last, start, end, new)
         }
+    }
+}
+
+impl fmt::Display for TextBuffer {
+    ghost output = { λ buffer. Some buffer };
+
+    fn fmt<W: fmt::Write>(&self, f: &mut fmt::Formatter<W>) -> fmt::Result {
+        for block in &self.blocks {
+            f.write_str(block.text())?;
+        }
+        Ok(())
     }
 }

@@ -1,21 +1,52 @@
-//! A change of a text in blocks: in its block, or with the blocks cut again.
-ghost use Rattle.std.specs.Prelude.{◌≡◌, ◌+◌, ◌-◌, ◌≤◌, ◌<◌, ◌++◌, OnOk, OnErr, length, take, drop, vec_len, slice_index, string_bytes, IfOk, map, sum};
+//! A change of a text in blocks: inside a block, or across blocks, which are cut again.
+ghost use Rattle.std.specs.Prelude.{◌≡◌, ◌+◌, ◌-◌, ◌≤◌, ◌<◌, ◌++◌, IsTrue, OnOk, OnErr, length, take, drop, vec_len, slice_index, string_bytes, IfOk, map, sum};
 ghost use Rattle.std.specs.List.{concat, replace_range};
 ghost use Rattle.std.specs.Str.{IsCharBoundary};
 ghost use Rattle.lsp_text.specs.Starts.{IsLineOf};
 ghost use Rattle.lsp_buffer.specs.Blocks.{AreBlocks, IsBuffer, ends_of, sums_from};
 
 use crate::block::Block;
-use crate::cut::{CUT, blocks_of};
-use crate::sums::{move_from, push_lines, push_starts};
+use crate::cut::{CUT, LAST, blocks_of};
+use crate::sums::{block_of, move_from, push_lines, push_starts};
+use memchr::memchr;
 use std::alloc::{AllocError, Global};
 
-/// Whether a block may take a new text in.
+/// A block that a change leaves with fewer bytes is joined with the next one.
+const SMALL: usize = CUT / 4;
+
+/// Returns whether a block may take a new text in: it is short enough, or it is one long line that
+/// remains one.
 pub fn fits(blocks: &[Block], index: usize, new: &str) -> bool
     requires { index < length blocks.now }
 {
     let block = &blocks[index];
     block.len().saturating_add(new.len()) <= 2 * CUT
+        || (block.ends() <= 1 && memchr(b'\n', new.as_bytes()).is_none())
+}
+
+/// Returns whether a change leaves so little of its blocks that it is joined with the next one.
+pub fn joins(
+    blocks: &[Block],
+    starts: &[u32],
+    first: usize,
+    last: usize,
+    start: usize,
+    end: usize,
+    new: &str,
+) -> bool
+    requires first { first < length starts.now }
+    requires last { last < length starts.now }
+    requires counts { length starts.now ≡ length blocks.now }
+    ensures { IsTrue result → last + 1 < length blocks.now }
+{
+    let next = last + 1;
+    if next >= blocks.len() {
+        return false;
+    }
+    let front = start.saturating_sub(starts[first] as usize);
+    let back = (starts[next] as usize).saturating_sub(end);
+    let left = front.saturating_add(new.len()).saturating_add(back);
+    left < SMALL && left.saturating_add(blocks[next].len()) <= LAST
 }
 
 /// What a block is like after a change: its lengths before and after, and its line ends before and
@@ -73,7 +104,8 @@ pub fn replace_inside(
     requires order { start ≤ end }
     requires at_start { IsCharBoundary (concat blocks.old.items) start }
     requires at_end { IsCharBoundary (concat blocks.old.items) end }
-    requires room { length (replace_range (concat blocks.old.items) start end new.now) ≤ 2147483648 }
+    requires room { length (replace_range (concat blocks.old.items) start end new.now)
+        ≤ 2147483648 }
     ensures are { IsBuffer blocks.new.items starts.new.items lines.new.items }
     ensures changed { OnOk result
         (concat blocks.new.items ≡ replace_range (concat blocks.old.items) start end new.now) }
@@ -118,15 +150,16 @@ fn replace_blocks(
 ) -> Result<(), AllocError>
     requires order { from ≤ to }
     requires within { to ≤ vec_len blocks.old }
-    ensures ok { OnOk result
-        (blocks.new.items ≡ take from blocks.old.items ++ (fresh.items ++ drop to blocks.old.items)) }
+    ensures ok { OnOk result (blocks.new.items
+        ≡ take from blocks.old.items ++ (fresh.items ++ drop to blocks.old.items)) }
     ensures unchanged { OnErr result (blocks.new.items ≡ blocks.old.items) }
 {
     let _ = blocks.splice(from..to, fresh)?;
     Ok(())
 }
 
-/// Makes the first bytes of all blocks, if those from index `first` to index `past` become others.
+/// Returns the first bytes of all blocks, if those from index `first` to index `past` become
+/// others.
 fn starts_of(
     alloc: Global,
     starts: &[u32],
@@ -153,7 +186,8 @@ fn starts_of(
     Ok(made)
 }
 
-/// Makes the first lines of all blocks, if those from index `first` to index `past` become others.
+/// Returns the first lines of all blocks, if those from index `first` to index `past` become
+/// others.
 fn lines_of(
     alloc: Global,
     lines: &[u32],
@@ -198,7 +232,8 @@ pub fn replace_across(
     requires order { start ≤ end }
     requires at_start { IsCharBoundary (concat blocks.old.items) start }
     requires at_end { IsCharBoundary (concat blocks.old.items) end }
-    requires room { length (replace_range (concat blocks.old.items) start end new.now) ≤ 2147483648 }
+    requires room { length (replace_range (concat blocks.old.items) start end new.now)
+        ≤ 2147483648 }
     ensures are { IsBuffer blocks.new.items starts.new.items lines.new.items }
     ensures changed { OnOk result
         (concat blocks.new.items ≡ replace_range (concat blocks.old.items) start end new.now) }
@@ -230,4 +265,40 @@ pub fn replace_across(
     *starts = next_starts;
     *lines = next_lines;
     Ok(())
+}
+
+/// Replaces bytes, and joins what they leave of their blocks with the next block. Out of memory
+/// changes nothing.
+pub fn replace_joined(
+    blocks: &mut Vec<Block>,
+    starts: &mut Vec<u32>,
+    lines: &mut Vec<u32>,
+    first: usize,
+    last: usize,
+    start: usize,
+    end: usize,
+    new: &str,
+) -> Result<(), AllocError>
+    requires are { IsBuffer blocks.old.items starts.old.items lines.old.items }
+    requires first { IsLineOf starts.old.items start first }
+    requires last { IsLineOf starts.old.items end last }
+    requires next { last + 1 < vec_len blocks.old }
+    requires order { start ≤ end }
+    requires at_start { IsCharBoundary (concat blocks.old.items) start }
+    requires at_end { IsCharBoundary (concat blocks.old.items) end }
+    requires room { length (replace_range (concat blocks.old.items) start end new.now)
+        ≤ 2147483648 }
+    ensures are { IsBuffer blocks.new.items starts.new.items lines.new.items }
+    ensures changed { OnOk result
+        (concat blocks.new.items ≡ replace_range (concat blocks.old.items) start end new.now) }
+    ensures unchanged { OnErr result (concat blocks.new.items ≡ concat blocks.old.items) }
+{
+    let alloc = *blocks.allocator();
+    let block = &blocks[last];
+    let (_, back) = block.text().split_at(end - starts[last] as usize);
+    let mut text = String::from_str(alloc, new)?;
+    text.push_str(back)?;
+    let next = starts[last + 1] as usize;
+    let last = block_of(starts, next);
+    replace_across(blocks, starts, lines, first, last, start, next, &text)
 }

@@ -1,6 +1,6 @@
 use Rattle.std.proofs.Common.{arith, ap, ◌∙◌, sym, subst, ℕ, List, slice_index, length, ◌<◌, ◌≡◌}
 use Rattle.std.proofs.lemmas.Str.{IsCharBoundary-after_ascii}
-use Rattle.lsp_buffer.specs.Blocks.{IsFeed}
+use Rattle.lsp_buffer.specs.inside.Cuts.{IsFeed}
 use Rattle.lsp_buffer.proofs.cut.cut_of.Goals as goal
 
 pub returns-then-at-bytes-clause-boundary : goal.returns-then-at-bytes-clause-boundary

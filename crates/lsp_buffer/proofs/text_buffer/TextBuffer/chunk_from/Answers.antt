@@ -2,7 +2,8 @@ use Rattle.std.proofs.Common.{◌≡◌, ◌+◌, ◌-◌, ◌∙◌, ◌≤◌,
 use Rattle.std.specs.List.{concat}
 use Rattle.lsp_text.specs.Starts.{AreStarts}
 use Rattle.lsp_buffer.proofs.BufferLemmas.{starts_count, starts_are_starts}
-use Rattle.lsp_buffer.proofs.FoundLemmas.{IsPlaceFound, found_place, chunk_boundary, chunk_is}
+use Rattle.lsp_buffer.proofs.FoundLemmas.{IsPlaceFound, found_place, chunk_boundary, chunk_is, bytes_utf8}
+use Rattle.lsp_buffer.proofs.ReadLemmas.{chunk_next}
 use Rattle.lsp_buffer.proofs.text_buffer.TextBuffer.chunk_from.Goals as goal
 
 pub block_of-index-requires : goal.block_of-index-requires
@@ -32,3 +33,12 @@ returns-clause-some c =
     (found_place c.self.inside.blocks.items c.self.inside.starts.items c.self.inside.lines.items c.args.self.now c.self.invariant c.self.view_is c.block_of-index.result c.index-block.result.now c.index-block.ensures
     c.args.offset c.index.result.now c.deref.result.now c.deref.ensures.value c.block_of-index.ensures c.index.ensures)
     c.requires).some
+
+pub returns-clause-next : goal.returns-clause-next
+returns-clause-next c =
+    chunk_next c.args.self.now (concat (take c.block_of-index.result c.self.inside.blocks.items)) c.index-block.result.now (concat (drop (c.block_of-index.result + 1) c.self.inside.blocks.items)) c.args.offset c.index.result.now
+    (found_place c.self.inside.blocks.items c.self.inside.starts.items c.self.inside.lines.items c.args.self.now c.self.invariant c.self.view_is c.block_of-index.result c.index-block.result.now c.index-block.ensures
+    c.args.offset c.index.result.now c.deref.result.now c.deref.ensures.value c.block_of-index.ensures c.index.ensures)
+    c.text.result.now c.range_from.result.now
+    (bytes_utf8 c.self.inside.blocks.items c.self.inside.starts.items c.self.inside.lines.items c.args.self.now c.self.invariant c.self.view_is)
+    c.text.ensures c.range_from.ensures.value c.requires

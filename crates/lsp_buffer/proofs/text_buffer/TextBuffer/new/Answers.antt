@@ -1,13 +1,8 @@
-use Rattle.std.proofs.Common.{◌≡◌, ◌+◌, ◌≤◌, ℕ, List, length, map, sum, arith, ap}
-use Rattle.lsp_buffer.specs.Blocks.{ends_of}
-use Rattle.lsp_buffer.proofs.BlockLemmas.{full_length}
-use Rattle.lsp_buffer.proofs.FoundLemmas.{blocks_ends}
+use Rattle.std.proofs.Common.{string_bytes}
+use Rattle.std.proofs.lemmas.Str.{IsUtf8-string_bytes}
+use Rattle.lsp_buffer.proofs.CutLemmas.{one_are}
 use Rattle.lsp_buffer.proofs.text_buffer.TextBuffer.new.Goals as goal
 
-pub push_starts-requires : goal.push_starts-requires
-push_starts-requires c =
-    omega (arith, ap (λ (bs : List (List ℕ)). sum (map length bs)) c.deref.ensures.value, full_length c.in_ok-blocks.blocks.items, ap length c.in_ok-blocks.ensures.text, c.requires)
-
-pub push_lines-requires : goal.push_lines-requires
-push_lines-requires c =
-    omega (arith, ap (λ (bs : List (List ℕ)). sum (map ends_of bs)) c.deref-2.ensures.value, blocks_ends c.in_ok-blocks.blocks.items c.in_ok-blocks.ensures.blocks, ap length c.in_ok-blocks.ensures.text, c.requires)
+pub of_blocks-requires-clause-are : goal.of_blocks-requires-clause-are
+of_blocks-requires-clause-are c =
+    one_are c.in_ok-blocks.blocks.items c.push.new.self.items c.in_ok-new.field-0 (string_bytes c.args.text) c.in_ok-blocks.ensures.items c.in_ok-push.ensures.items c.in_ok-new.ensures (IsUtf8-string_bytes c.args.text)

@@ -12,3 +12,7 @@ block_of-last-requires c = subst AreStarts (sym c.deref-2.ensures.value) (starts
 pub fits-requires : goal.fits-requires
 fits-requires c =
     omega (arith, c.block_of-first.ensures.within, ap length c.deref.ensures.value, ap length c.deref-then-first-last.ensures.value, starts_count c.self.inside.blocks.items c.self.inside.starts.items c.self.inside.lines.items c.self.invariant)
+
+pub joins-requires-clause-counts : goal.joins-requires-clause-counts
+joins-requires-clause-counts c =
+    omega (arith, ap length c.deref-4.ensures.value, ap length c.deref-3.ensures.value, starts_count c.self.inside.blocks.items c.self.inside.starts.items c.self.inside.lines.items c.self.invariant)

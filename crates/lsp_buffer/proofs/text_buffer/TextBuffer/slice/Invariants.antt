@@ -1,0 +1,15 @@
+use Rattle.std.proofs.Common.{◌≡◌, ◌≤◌, ◌-◌, string_bytes}
+use Rattle.std.specs.List.{slice_range}
+use Rattle.std.specs.Str.{IsCharBoundary}
+use Rattle.lsp_buffer.proofs.text_buffer.TextBuffer.slice.Given as goal
+
+abbrev pub invariant-loop-offset : goal.invariant-loop-offset
+invariant-loop-offset l = record {
+  low : l.start ≤ l.offset;
+  high : l.offset ≤ l.end;
+  at : IsCharBoundary l.self l.offset;
+  text : string_bytes l.text ≡ slice_range l.self l.start l.offset;
+}
+
+abbrev pub decreases-loop-offset : goal.decreases-loop-offset
+decreases-loop-offset l = l.end - l.offset
