@@ -1,7 +1,7 @@
 -- A change that cuts blocks again.
-use Rattle.std.proofs.Common.{ℕ, zero, suc, ◌≡◌, ◌+◌, ◌-◌, ◌<◌, ◌≤◌, ◌⊎◌, true, List, [], ◌∷◌, ◌++◌, length, take, drop, map, sum, get_or, slice_index, ⊎_elim, inl, inr, refl, sym, ap, ◌∙◌, arith, subst}
+use Rattle.std.proofs.Common.{ℕ, ◌≡◌, ◌+◌, ◌-◌, ◌<◌, ◌≤◌, ◌⊎◌, List, [], ◌++◌, length, take, drop, map, sum, get_or, slice_index, ⊎_elim, inl, inr, refl, sym, ap, ◌∙◌, arith, subst}
 use Rattle.std.specs.List.{concat, replace_range}
-use Rattle.std.specs.Str.{is_utf8, IsUtf8, IsCharBoundary}
+use Rattle.std.specs.Str.{IsCharBoundary}
 use Rattle.std.proofs.lemmas.Bool.{cases_lt}
 use Rattle.std.proofs.lemmas.List.{length-append, length-drop, get_or_default, append_assoc, map-append}
 use Rattle.std.proofs.lemmas.List.Folds.{concat-append}
@@ -9,8 +9,8 @@ use Rattle.std.proofs.lemmas.List.Sums.{sum_by-append}
 use Rattle.lsp_text.specs.Starts.{IsLineOf}
 use Rattle.lsp_buffer.specs.Blocks.{EndsLine, AreBlocks, IsBuffer, ends_of, sums_from}
 use Rattle.lsp_buffer.specs.inside.Cuts.{AreFull}
-use Rattle.lsp_buffer.proofs.BlockLemmas.{IsSplit, split, full_length, joined_blocks, blocks_some}
-use Rattle.lsp_buffer.proofs.BufferLemmas.{starts_count, lines_count, next_start, starts_sum, lines_sum}
+use Rattle.lsp_buffer.proofs.BlockLemmas.{split, full_length, joined_blocks, blocks_some}
+use Rattle.lsp_buffer.proofs.BufferLemmas.{starts_count, next_start, starts_sum, lines_sum}
 use Rattle.lsp_buffer.proofs.FoundLemmas.{IsPlaceFound, found_place, blocks_ends, chunk_boundary}
 use Rattle.lsp_buffer.proofs.ChangeLemmas.{replaced_parts, back_ends, sums_three}
 

@@ -1,17 +1,16 @@
 -- A text in blocks, with the first byte and the first line of each: what they say of the block with an index.
-use Rattle.std.proofs.Common.{ℕ, zero, suc, ◌≡◌, ◌+◌, ◌-◌, ◌<◌, ◌≤◌, ◌⊎◌, true, List, [], ◌∷◌, ◌++◌, length, take, drop, map, sum, get_or, slice_index, Option, Some, None, option_map, ⊎_elim, inl, inr, refl, sym, ap, ◌∙◌, arith, subst}
+use Rattle.std.proofs.Common.{ℕ, ◌≡◌, ◌+◌, ◌-◌, ◌<◌, ◌≤◌, ◌⊎◌, List, [], ◌++◌, length, take, drop, map, sum, get_or, slice_index, ⊎_elim, inl, inr, refl, sym, ap, ◌∙◌, arith, subst}
 use Rattle.std.specs.List.{concat}
 use Rattle.std.specs.Str.{chars, IsUtf8}
 use Rattle.std.proofs.lemmas.Bool.{cases_lt}
-use Rattle.std.proofs.lemmas.List.{length-map, length-append, length-drop, get_or_default, drop_all, take-map}
+use Rattle.std.proofs.lemmas.List.{length-map, length-append, get_or_default, drop_all, take-map}
 use Rattle.std.proofs.lemmas.Str.{IsUtf8-from_is_utf8}
 use Rattle.lsp_text.specs.Starts.{AreStarts, IsLineOf}
 use Rattle.lsp_text.specs.TextLines.{line_ends}
-use Rattle.lsp_buffer.specs.Blocks.{EndsLine, AreBlocks, IsBuffer, ends_of, sums_from}
-use Rattle.lsp_buffer.specs.inside.Cuts.{AreFull}
+use Rattle.lsp_buffer.specs.Blocks.{EndsLine, AreBlocks, IsBuffer, ends_of}
 use Rattle.lsp_buffer.proofs.SumLemmas.{length-sums, sums_starts, sums_at, row_more}
 use Rattle.lsp_buffer.proofs.BlockLemmas.{IsSplit, split, split_text, full_utf8, full_closes, full_ends, full_length, blocks_some, blocks_utf8}
-use Rattle.lsp_buffer.proofs.PartLemmas.{AreThree, Behind}
+use Rattle.lsp_buffer.proofs.PartLemmas.{AreThree}
 
 module _ (blocks : List (List ℕ)) (starts lines : List ℕ) (is : IsBuffer blocks starts lines) where
   pub some : 0 < length blocks

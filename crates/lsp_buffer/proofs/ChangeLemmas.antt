@@ -1,21 +1,13 @@
 -- A change of a text in blocks: in its block, or with the blocks cut again.
-use Rattle.std.proofs.Common.{ℕ, zero, suc, ◌≡◌, ◌+◌, ◌-◌, ◌<◌, ◌≤◌, ◌⊎◌, true, List, [], ◌∷◌, ◌++◌, length, take, drop, map, sum, set, get_or, slice_index, ⊎_elim, inl, inr, refl, sym, ap, ◌∙◌, arith, subst}
-use Rattle.std.specs.List.{concat, replace_range}
-use Rattle.std.specs.Str.{chars, is_utf8, IsUtf8, IsCharBoundary}
-use Rattle.std.proofs.lemmas.Bool.{cases_lt}
-use Rattle.std.proofs.lemmas.List.{length-append, length-drop, length-map, length-take-le, get_or_default, set_at, append_assoc, append-nil, map-append, drop_all, take-map, take_at, take-append-drop}
-use Rattle.std.proofs.lemmas.List.Folds.{concat-append}
-use Rattle.std.proofs.lemmas.List.Sums.{sum_by-append, sum_by-cons}
-use Rattle.std.proofs.lemmas.Str.{IsUtf8-from_is_utf8, is_utf8-from_IsUtf8, IsUtf8-append, IsUtf8-take, IsUtf8-drop}
-use Rattle.lsp_text.specs.Starts.{AreStarts, IsLineOf}
-use Rattle.lsp_text.specs.TextLines.{line_ends}
-use Rattle.lsp_buffer.specs.Blocks.{EndsLine, AreBlocks, IsBuffer, ends_of, sums_from}
-use Rattle.lsp_buffer.specs.inside.Cuts.{AreFull}
-use Rattle.lsp_buffer.proofs.SumLemmas.{length-sums, sums_append, sums_put}
-use Rattle.lsp_buffer.proofs.BlockLemmas.{IsSplit, split, full_length, full_utf8, ends_tail, ends_join, joined_blocks}
-use Rattle.lsp_buffer.proofs.PartLemmas.{AreThree, take_three, drop_three, boundary_in}
-use Rattle.lsp_buffer.proofs.BufferLemmas.{starts_count, lines_count, three, start_is, line_is}
-use Rattle.lsp_buffer.proofs.FoundLemmas.{IsPlaceFound, found_place, blocks_ends}
+use Rattle.std.proofs.Common.{ℕ, ◌≡◌, ◌+◌, ◌-◌, ◌<◌, ◌≤◌, List, ◌++◌, length, take, drop, map, sum, sym, ap, ◌∙◌, arith, subst}
+use Rattle.std.specs.List.{replace_range}
+use Rattle.std.specs.Str.{IsCharBoundary}
+use Rattle.std.proofs.lemmas.List.{length-drop, length-map, length-take-le, append_assoc, map-append, take_at, take-append-drop}
+use Rattle.lsp_buffer.specs.Blocks.{EndsLine, sums_from}
+use Rattle.lsp_buffer.proofs.SumLemmas.{length-sums, sums_append}
+use Rattle.lsp_buffer.proofs.BlockLemmas.{ends_tail, ends_join}
+use Rattle.lsp_buffer.proofs.PartLemmas.{take_three, drop_three, boundary_in}
+use Rattle.lsp_buffer.proofs.FoundLemmas.{IsPlaceFound}
 
 assoc : (a b c : List ℕ) → a ++ b ++ c ≡ a ++ (b ++ c)
 assoc a b c = simp append_assoc

@@ -1,9 +1,8 @@
 -- The block that is found for a place or for a line, and what it says of the text.
-use Rattle.std.proofs.Common.{ℕ, zero, suc, ◌≡◌, ◌+◌, ◌-◌, ◌<◌, ◌≤◌, ◌⊎◌, true, false, List, [], ◌∷◌, ◌++◌, length, take, drop, map, sum, get_or, slice_index, Option, Some, None, option_map, ⊎_elim, inl, inr, refl, sym, ap, ◌∙◌, arith, subst}
+use Rattle.std.proofs.Common.{ℕ, zero, suc, ◌≡◌, ◌+◌, ◌-◌, ◌<◌, ◌≤◌, ◌⊎◌, false, List, [], ◌∷◌, ◌++◌, length, take, drop, map, sum, get_or, slice_index, Option, option_map, ⊎_elim, sym, ap, ◌∙◌, arith, subst}
 use Rattle.std.specs.List.{concat}
 use Rattle.std.specs.Str.{chars, IsUtf8, IsCharBoundary}
-use Rattle.std.proofs.lemmas.Bool.{cases_Bool}
-use Rattle.std.proofs.lemmas.List.{length-append, length-drop, get_or_default, take_at, append-nil}
+use Rattle.std.proofs.lemmas.List.{length-append, length-drop, get_or_default, take_at}
 use Rattle.std.proofs.lemmas.Str.{encodes-chars, length-le-encodes, IsUtf8-from_is_utf8}
 use Rattle.lsp_text.specs.declared.position.Position.{Position}
 use Rattle.lsp_text.specs.declared.encoding.Encoding.{Encoding}
@@ -17,11 +16,9 @@ use Rattle.lsp_text.specs.UnitLaws.{utf8_bounds, utf16_bounds, utf32_bounds}
 use Rattle.lsp_text.specs.Positions.{exact_position, denoted}
 use Rattle.lsp_text.proofs.LineLemmas.{line_step}
 use Rattle.lsp_text.proofs.PlaceLemmas.{place_one}
-use Rattle.lsp_text.proofs.ExactLemmas.{exact_resolves}
-use Rattle.lsp_text.proofs.ResolveLemmas.{denoted_place, denoted_boundary}
 use Rattle.lsp_buffer.specs.Blocks.{IsBuffer, AreBlocks, ends_of}
 use Rattle.std.proofs.lemmas.List.Sums.{sum_by-cons}
-use Rattle.lsp_buffer.proofs.PartLemmas.{AreThree, resolved_three, IsInner, inner_index, exact_three, boundary_in, drop_three, ends_three}
+use Rattle.lsp_buffer.proofs.PartLemmas.{AreThree, resolved_three, inner_index, exact_three, boundary_in, drop_three, ends_three}
 use Rattle.lsp_buffer.proofs.BufferLemmas.{starts_count, lines_count, three, start_is, line_is, place_inside, line_inside, last_none, utf8_all, whole_length}
 
 pub units_some : (encoding : Encoding) (c : ℕ) → 1 ≤ units_in encoding c

@@ -1,24 +1,22 @@
 -- A text in three parts: what stands before a block, the block, and what stands behind it. Positions, boundaries and changes of the text by those of the block.
-use Rattle.std.proofs.Common.{ℕ, zero, suc, ◌≡◌, ◌+◌, ◌-◌, ◌<◌, ◌≤◌, ◌⊎◌, true, false, List, [], ◌∷◌, ◌++◌, length, take, drop, get_or, slice_index, Option, Some, None, option_map, ⊎_elim, inl, inr, refl, sym, ap, ◌∙◌, arith, subst}
+use Rattle.std.proofs.Common.{ℕ, ◌≡◌, ◌+◌, ◌-◌, ◌<◌, ◌≤◌, ◌⊎◌, false, List, [], ◌++◌, length, take, drop, get_or, slice_index, Option, Some, None, option_map, ⊎_elim, inl, inr, refl, sym, ap, ◌∙◌, arith, subst}
 use Rattle.std.specs.Prelude.{encode_utf8_all}
-use Rattle.std.specs.List.{replace_range}
 use Rattle.std.specs.Str.{chars, IsUtf8, IsCharBoundary}
 use Rattle.std.proofs.Math.Seq.{drop-append-add, take-append-add, drop-append_seam}
-use Rattle.std.proofs.lemmas.Bool.{cases_lt}
-use Rattle.std.proofs.lemmas.List.{length-append, length-drop, length-take-le, get_or-append_right, get_or_append_left, take-append-le, drop-append-le, append_assoc, append-nil, take_at}
+use Rattle.std.proofs.lemmas.List.{length-append, get_or-append_right, get_or_append_left, take-append-le, drop-append-le, append-nil, take_at}
 use Rattle.std.proofs.lemmas.Str.{chars-append, chars-nil, encodes-chars}
 use Rattle.lsp_text.specs.declared.position.Position.{Position}
 use Rattle.lsp_text.specs.Text.{place_of}
 use Rattle.lsp_text.specs.TextLines.{line_ends, line_at, splits_crlf}
 use Rattle.lsp_text.specs.LineStarts.{IsPlace}
 use Rattle.lsp_text.specs.Positions.{exact_position, denoted}
-use Rattle.lsp_text.proofs.PlaceLemmas.{place_add, place_order, place_end, place_within, place_rises}
+use Rattle.lsp_text.proofs.PlaceLemmas.{place_add, place_order, place_end}
 use Rattle.lsp_text.proofs.LineLemmas.{splits_none_past}
 use Rattle.lsp_text.proofs.PositionLemmas.{denoted_whole}
 use Rattle.lsp_text.proofs.NearLemmas.{exact_near}
 use Rattle.lsp_buffer.specs.Blocks.{EndsLine}
 use Rattle.lsp_buffer.proofs.SeamLemmas.{denoted_left, denoted_right, exact_right, seam_splits, beyond_splits, seam_count}
-use Rattle.lsp_buffer.proofs.BlockLemmas.{Closes, feed_chars, ends_tail, ends_join}
+use Rattle.lsp_buffer.proofs.BlockLemmas.{Closes, feed_chars}
 
 -- Characters: the first part is empty or ends with a line feed.
 module _ (a r : List ℕ) (closes : Closes a) where

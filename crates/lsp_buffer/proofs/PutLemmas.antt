@@ -2,7 +2,7 @@
 use Rattle.std.proofs.Common.{ℕ, zero, suc, ◌≡◌, ◌+◌, ◌-◌, ◌<◌, ◌≤◌, ◌^◌, ◌⊎◌, true, List, [], ◌∷◌, ◌++◌, length, take, drop, map, sum, set, get_or, slice_index, ⊎_elim, inl, inr, refl, sym, ap, ◌∙◌, arith, subst}
 use Rattle.std.specs.List.{concat, replace_range}
 use Rattle.std.specs.Str.{is_utf8, IsUtf8, IsCharBoundary}
-use Rattle.std.proofs.lemmas.List.{length-append, length-drop, length-map, length-take-le, get_or_default, set_at, append_assoc, map-append, take-append-drop, drop_at}
+use Rattle.std.proofs.lemmas.List.{length-append, length-drop, length-map, length-take-le, get_or_default, set_at, append_assoc, map-append, drop_at}
 use Rattle.std.proofs.lemmas.List.Folds.{concat-append}
 use Rattle.std.proofs.lemmas.List.Sums.{sum_by-append, sum_by-cons}
 use Rattle.std.proofs.lemmas.Str.{IsUtf8-from_is_utf8, is_utf8-from_IsUtf8, IsUtf8-append, IsUtf8-take, IsUtf8-drop}
@@ -11,7 +11,6 @@ use Rattle.lsp_buffer.specs.Blocks.{EndsLine, AreBlocks, IsBuffer, ends_of, sums
 use Rattle.lsp_buffer.specs.inside.Cuts.{AreFull}
 use Rattle.lsp_buffer.proofs.SumLemmas.{length-sums, sums_append, sums_put, sums_low}
 use Rattle.lsp_buffer.proofs.BlockLemmas.{IsSplit, split, full_length, joined_blocks, blocks_some}
-use Rattle.lsp_buffer.proofs.PartLemmas.{AreThree}
 use Rattle.lsp_buffer.proofs.BufferLemmas.{starts_count, next_start}
 use Rattle.lsp_buffer.proofs.FoundLemmas.{IsPlaceFound, found_place, blocks_ends, chunk_boundary, ends_low}
 use Rattle.lsp_buffer.proofs.ChangeLemmas.{replaced_parts, back_ends}

@@ -1,5 +1,5 @@
 -- What is read of a text in blocks: places, chunks and slices.
-use Rattle.std.proofs.Common.{ℕ, suc, false, refl, ◌≡◌, ◌≢◌, ◌+◌, ◌-◌, ◌<◌, ◌≤◌, ◌↔◌, ◌⊎◌, ⊎_elim, Bool, IsTrue, List, ◌++◌, length, take, drop, get_or, slice_index, min, sym, ap, ◌∙◌, arith, subst}
+use Rattle.std.proofs.Common.{ℕ, suc, false, refl, ◌≡◌, ◌≢◌, ◌+◌, ◌-◌, ◌<◌, ◌≤◌, ◌↔◌, ⊎_elim, Bool, IsTrue, List, ◌++◌, length, take, drop, get_or, slice_index, min, sym, ap, ◌∙◌, arith, subst}
 use Rattle.std.specs.List.{concat, slice_range}
 use Rattle.std.specs.Str.{bytes_eq, chars, IsUtf8, IsCharBoundary}
 use Rattle.std.proofs.Math.Seq.{drop-cons, take-append-add}

@@ -1,15 +1,15 @@
 -- Two texts, one after the other, the first of which ends with a line feed: the lines and positions of both are those of each.
-use Rattle.std.proofs.Common.{ℕ, zero, suc, ◌≡◌, ◌+◌, ◌-◌, ◌<◌, ◌≤◌, ◌⊎◌, ◌==◌, ◌&&◌, ◌||◌, not, Bool, true, false, cond, List, [], ◌∷◌, ◌++◌, length, take, drop, map, get_or, slice_index, filter, find, sum_by, nat_lt, nat_le, Option, Some, None, option_map, ⊎_elim, inl, inr, refl, sym, ap, ◌∙◌, arith, subst, add-suc, le-ltb, lt-ltb, ltb-false, ltb-true}
-use Rattle.std.proofs.lemmas.Bool.{cases_Bool, cases_eq, cases_lt}
+use Rattle.std.proofs.Common.{ℕ, zero, suc, ◌≡◌, ◌+◌, ◌-◌, ◌<◌, ◌≤◌, ◌==◌, ◌&&◌, not, Bool, true, false, cond, List, [], ◌∷◌, ◌++◌, length, take, drop, map, get_or, slice_index, filter, find, sum_by, nat_le, Option, Some, option_map, ⊎_elim, refl, sym, ap, ◌∙◌, arith, le-ltb, lt-ltb}
+use Rattle.std.proofs.lemmas.Bool.{cases_Bool, cases_lt}
 use Rattle.std.proofs.lemmas.Bool.Decides.{nat_tests}
-use Rattle.std.proofs.lemmas.List.{length-append, length-take-le, length-drop, get_or-append_right, get_or_append_left, take-append-le, drop-append-le, append_assoc, append-nil}
+use Rattle.std.proofs.lemmas.List.{length-append, length-drop, get_or-append_right, get_or_append_left, take-append-le, drop-append-le, append-nil}
 use Rattle.std.proofs.lemmas.List.Elements.{filter-append}
 use Rattle.std.proofs.Math.Seq.{drop-append-add}
 use Rattle.lsp_text.specs.declared.position.Position.{Position}
-use Rattle.lsp_text.specs.TextLines.{line_feed, carriage_return, ends_line, splits_crlf, line_at, line_ends, numbers_from, first_or, last_or, is_in_content, line_content, line_start, line_stop}
+use Rattle.lsp_text.specs.TextLines.{ends_line, splits_crlf, line_at, line_ends, numbers_from, is_in_content, line_content, line_start, line_stop}
 use Rattle.lsp_text.specs.Units.{units_between}
 use Rattle.lsp_text.specs.Positions.{exact_position, denoted}
-use Rattle.lsp_text.proofs.LineLemmas.{line_rises, in_content, in_content_line, in_content_whole, line_has_start, line_has_stop, IsStart, IsStop}
+use Rattle.lsp_text.proofs.LineLemmas.{line_rises, in_content_line, line_has_start, line_has_stop, IsStart, IsStop}
 use Rattle.lsp_text.proofs.SpliceLemmas.{filter_moved}
 use Rattle.lsp_buffer.specs.Blocks.{EndsLine}
 

@@ -1,8 +1,8 @@
 -- Sums of numbers, one after another.
-use Rattle.std.proofs.Common.{ℕ, zero, suc, ◌≡◌, ◌+◌, ◌-◌, ◌<◌, ◌≤◌, List, [], ◌∷◌, ◌++◌, length, take, drop, map, sum, get_or, slice_index, refl, sym, ap, ◌∙◌, arith, subst}
+use Rattle.std.proofs.Common.{ℕ, zero, suc, ◌≡◌, ◌+◌, ◌-◌, ◌<◌, ◌≤◌, List, [], ◌∷◌, ◌++◌, length, take, drop, map, sum, get_or, refl, sym, ap, ◌∙◌, arith}
 use Rattle.std.proofs.lemmas.List.Sums.{sum_by-cons, sum_by-append}
 use Rattle.std.proofs.lemmas.List.{take_more, map-append, length-append, length-map, length-take-le, get_or-append_right, get_or-drop, take_at, drop_at, append_assoc}
-use Rattle.lsp_text.specs.Starts.{AreStarts, IsLineOf}
+use Rattle.lsp_text.specs.Starts.{AreStarts}
 use Rattle.lsp_buffer.specs.Blocks.{sums_from}
 
 pub length-sums : (first : ℕ) (numbers : List ℕ) → length (sums_from first numbers) ≡ length numbers

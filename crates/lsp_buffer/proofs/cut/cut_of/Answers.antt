@@ -1,4 +1,4 @@
-use Rattle.std.proofs.Common.{arith, ap, ◌∙◌, sym, subst, ℕ, List, slice_index, length, ◌<◌, ◌≡◌}
+use Rattle.std.proofs.Common.{arith, subst, ℕ, List}
 use Rattle.std.proofs.lemmas.Str.{IsCharBoundary-after_ascii}
 use Rattle.lsp_buffer.specs.inside.Cuts.{IsFeed}
 use Rattle.lsp_buffer.proofs.cut.cut_of.Goals as goal

@@ -1,5 +1,5 @@
-use Rattle.std.proofs.Common.{◌≡◌, ◌-◌, ◌+◌, ◌≤◌, ℕ, List, map, take, drop, arith, length, get_or, slice_index, ap, ◌∙◌}
-use Rattle.std.proofs.lemmas.List.{get_or_default, get_or-append_right, get_or-drop, length-map, length-take-le}
+use Rattle.std.proofs.Common.{◌-◌, ◌+◌, ℕ, arith, slice_index}
+use Rattle.std.proofs.lemmas.List.{get_or_default}
 use Rattle.std.proofs.lemmas.List.Edits.{map_over_more}
 use Rattle.lsp_buffer.proofs.SumLemmas.{moved_at}
 use Rattle.lsp_buffer.proofs.sums.move_all.Goals as goal

@@ -1,4 +1,4 @@
-use Rattle.std.proofs.Common.{arith, length, ap, ◌∙◌, ℕ, List, ◌≡◌, sym}
+use Rattle.std.proofs.Common.{arith, ◌∙◌}
 use Rattle.lsp_buffer.specs.Blocks.{ends_of}
 use Rattle.lsp_buffer.proofs.SumLemmas.{row_more, row_low, sums_more}
 use Rattle.lsp_buffer.proofs.sums.push_lines.Goals as goal

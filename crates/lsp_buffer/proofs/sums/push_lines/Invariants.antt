@@ -1,4 +1,4 @@
-use Rattle.std.proofs.Common.{◌≡◌, ◌++◌, ◌+◌, ℕ, List, map, take, sum}
+use Rattle.std.proofs.Common.{◌≡◌, ◌++◌, ◌+◌, map, take, sum}
 use Rattle.lsp_buffer.specs.Blocks.{sums_from, ends_of}
 use Rattle.lsp_buffer.proofs.sums.push_lines.Given as goal
 

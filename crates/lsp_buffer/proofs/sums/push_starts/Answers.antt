@@ -1,5 +1,4 @@
-use Rattle.std.proofs.Common.{arith, length, ap, ◌∙◌, ℕ, List, ◌≡◌, sym}
-use Rattle.lsp_buffer.specs.Blocks.{ends_of}
+use Rattle.std.proofs.Common.{arith, length, ◌∙◌, ℕ}
 use Rattle.lsp_buffer.proofs.SumLemmas.{row_more, row_low, sums_more}
 use Rattle.lsp_buffer.proofs.sums.push_starts.Goals as goal
 

@@ -1,4 +1,4 @@
-use Rattle.std.proofs.Common.{◌≡◌, ◌++◌, ◌+◌, ℕ, List, length, map, take, sum}
+use Rattle.std.proofs.Common.{◌≡◌, ◌++◌, ◌+◌, length, map, take, sum}
 use Rattle.lsp_buffer.specs.Blocks.{sums_from}
 use Rattle.lsp_buffer.proofs.sums.push_starts.Given as goal
 

@@ -1,4 +1,4 @@
-use Rattle.std.proofs.Common.{ap, length, string_bytes, arith, ◌∙◌}
+use Rattle.std.proofs.Common.{ap, string_bytes, arith}
 use Rattle.std.specs.Str.{chars}
 use Rattle.lsp_text.specs.TextLines.{line_ends}
 use Rattle.lsp_buffer.proofs.block.Block.ends.Goals as goal

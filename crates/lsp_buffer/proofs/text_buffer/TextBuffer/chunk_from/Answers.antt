@@ -1,8 +1,8 @@
-use Rattle.std.proofs.Common.{◌≡◌, ◌+◌, ◌-◌, ◌∙◌, ◌≤◌, ◌<◌, ℕ, List, take, drop, length, arith, sym, ap, subst}
+use Rattle.std.proofs.Common.{◌+◌, take, drop, length, arith, sym, ap, subst}
 use Rattle.std.specs.List.{concat}
 use Rattle.lsp_text.specs.Starts.{AreStarts}
 use Rattle.lsp_buffer.proofs.BufferLemmas.{starts_count, starts_are_starts}
-use Rattle.lsp_buffer.proofs.FoundLemmas.{IsPlaceFound, found_place, chunk_boundary, chunk_is, bytes_utf8}
+use Rattle.lsp_buffer.proofs.FoundLemmas.{found_place, chunk_boundary, chunk_is, bytes_utf8}
 use Rattle.lsp_buffer.proofs.ReadLemmas.{chunk_next}
 use Rattle.lsp_buffer.proofs.text_buffer.TextBuffer.chunk_from.Goals as goal
 

@@ -1,4 +1,4 @@
-use Rattle.std.proofs.Common.{◌≡◌, ◌+◌, ◌-◌, ◌∙◌, ◌≤◌, ◌<◌, ℕ, List, take, drop, length, arith, sym, ap, subst}
+use Rattle.std.proofs.Common.{◌+◌, take, drop, length, arith, sym, ap, subst}
 use Rattle.std.specs.List.{concat}
 use Rattle.lsp_text.specs.Starts.{AreStarts}
 use Rattle.lsp_buffer.proofs.BufferLemmas.{starts_count, starts_are_starts}

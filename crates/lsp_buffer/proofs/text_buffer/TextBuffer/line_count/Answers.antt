@@ -1,6 +1,4 @@
-use Rattle.std.proofs.Common.{◌≡◌, ◌+◌, ◌-◌, ◌∙◌, ◌≤◌, ◌<◌, ℕ, List, length, arith, sym, ap}
-use Rattle.std.specs.Str.{chars}
-use Rattle.lsp_text.specs.TextLines.{line_ends}
+use Rattle.std.proofs.Common.{◌≡◌, ◌+◌, ◌-◌, length, arith}
 use Rattle.lsp_buffer.proofs.BufferLemmas.{some, lines_count}
 use Rattle.lsp_buffer.proofs.FoundLemmas.{last_lines, bytes_utf8, bytes_size, ends_low}
 use Rattle.lsp_buffer.proofs.text_buffer.TextBuffer.line_count.Goals as goal

@@ -1,4 +1,4 @@
-use Rattle.std.proofs.Common.{◌≡◌, ◌+◌, ◌≤◌, ℕ, List, length, map, sum, arith, ap}
+use Rattle.std.proofs.Common.{ℕ, List, length, map, sum, arith, ap}
 use Rattle.lsp_buffer.specs.Blocks.{ends_of}
 use Rattle.lsp_buffer.proofs.BlockLemmas.{full_length}
 use Rattle.lsp_buffer.proofs.FoundLemmas.{blocks_ends}

@@ -1,11 +1,11 @@
-use Rattle.std.proofs.Common.{◌≡◌, ◌+◌, ◌-◌, ◌∙◌, ◌≤◌, ◌<◌, ℕ, List, take, drop, length, arith, sym, ap, subst}
+use Rattle.std.proofs.Common.{◌+◌, ◌≤◌, ◌<◌, take, drop, length, arith, sym, ap, subst}
 use Rattle.std.specs.List.{concat}
 use Rattle.std.specs.Str.{chars}
 use Rattle.lsp_text.specs.Starts.{AreStarts}
 use Rattle.lsp_text.specs.Units.{units_in}
 use Rattle.lsp_text.proofs.ExactLemmas.{exact_resolves}
 use Rattle.lsp_buffer.proofs.BufferLemmas.{starts_count, lines_count, starts_are_starts}
-use Rattle.lsp_buffer.proofs.FoundLemmas.{IsPlaceFound, found_place, line_at_index, place_inner, exact_found, exact_low, bytes_utf8, bytes_size, units_some}
+use Rattle.lsp_buffer.proofs.FoundLemmas.{found_place, line_at_index, place_inner, exact_found, exact_low, bytes_utf8, bytes_size, units_some}
 use Rattle.lsp_buffer.proofs.text_buffer.TextBuffer.position.Goals as goal
 
 pub block_of-index-requires : goal.block_of-index-requires

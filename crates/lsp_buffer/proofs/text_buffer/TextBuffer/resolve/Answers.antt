@@ -1,14 +1,12 @@
-use Rattle.std.proofs.Common.{◌≡◌, ◌+◌, ◌-◌, ◌∙◌, ◌≤◌, ◌<◌, ℕ, List, Option, Some, None, option_map, take, drop, length, arith, sym, ap, subst}
+use Rattle.std.proofs.Common.{◌≡◌, ◌+◌, ◌≤◌, ◌<◌, ℕ, List, Some, None, take, drop, length, arith, sym, ap, subst}
 use Rattle.std.specs.List.{concat}
-use Rattle.std.specs.Str.{chars, IsUtf8}
-use Rattle.lsp_text.specs.Text.{place_of}
+use Rattle.std.specs.Str.{chars}
 use Rattle.lsp_text.specs.Units.{units_in}
-use Rattle.lsp_text.specs.Positions.{denoted}
 use Rattle.lsp_text.proofs.ResolveLemmas.{denoted_place, denoted_boundary}
 use Rattle.lsp_buffer.proofs.BufferLemmas.{starts_count, lines_count, lines_are_starts}
-use Rattle.lsp_buffer.proofs.FoundLemmas.{IsLineFound, found_line, resolved_found, bytes_utf8, bytes_size}
+use Rattle.lsp_buffer.proofs.FoundLemmas.{found_line, resolved_found, bytes_utf8, bytes_size}
 use Rattle.lsp_buffer.proofs.text_buffer.TextBuffer.resolve.Goals as goal
-use Rattle.lsp_text.specs.Starts.{AreStarts, IsLineOf}
+use Rattle.lsp_text.specs.Starts.{AreStarts}
 use Rattle.std.proofs.Common.{get_or}
 use Rattle.std.proofs.lemmas.List.{get_or_default}
 

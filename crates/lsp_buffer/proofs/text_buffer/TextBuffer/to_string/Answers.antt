@@ -1,5 +1,4 @@
-use Rattle.std.proofs.Common.{◌≡◌, ◌∙◌, ◌++◌, List, ℕ, ap, sym, take, string_bytes}
-use Rattle.std.specs.List.{concat}
+use Rattle.std.proofs.Common.{◌∙◌, ◌++◌, ap, sym, string_bytes}
 use Rattle.lsp_buffer.proofs.CutLemmas.{concat_more}
 use Rattle.lsp_buffer.proofs.text_buffer.TextBuffer.to_string.Goals as goal
 

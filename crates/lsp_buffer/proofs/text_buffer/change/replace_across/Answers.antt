@@ -1,8 +1,8 @@
-use Rattle.std.proofs.Common.{◌≡◌, ◌+◌, ◌-◌, ◌++◌, ◌∷◌, ◌∙◌, ◌≤◌, ◌<◌, ℕ, List, take, drop, map, sum, length, slice_index, arith, sym, ap, subst}
-use Rattle.std.specs.List.{concat, replace_range}
-use Rattle.lsp_buffer.specs.Blocks.{IsBuffer, ends_of, sums_from}
+use Rattle.std.proofs.Common.{◌≡◌, ◌+◌, ◌-◌, ◌++◌, ◌∙◌, ℕ, List, take, drop, map, sum, length, slice_index, arith, ap}
+use Rattle.std.specs.List.{concat}
+use Rattle.lsp_buffer.specs.Blocks.{ends_of, sums_from}
 use Rattle.lsp_buffer.proofs.BufferLemmas.{starts_count, lines_count}
-use Rattle.lsp_buffer.proofs.AgainLemmas.{IsAgain, again_start, again_stop, again_text, again_is, text_small, starts_room, lines_room, last_within}
+use Rattle.lsp_buffer.proofs.AgainLemmas.{IsAgain, again_start, again_stop, again_text, again_is, text_small, starts_room, lines_room}
 use Rattle.lsp_buffer.proofs.text_buffer.change.replace_across.Goals as goal
 
 -- What was made of slices, said of what they were lent from.

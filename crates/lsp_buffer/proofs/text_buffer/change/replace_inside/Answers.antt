@@ -1,4 +1,4 @@
-use Rattle.std.proofs.Common.{◌≡◌, ◌+◌, ◌-◌, ◌++◌, ◌∷◌, ◌∙◌, ◌≤◌, ◌<◌, ◌^◌, ℕ, List, take, drop, map, sum, length, set, slice_index, arith, sym, ap, subst}
+use Rattle.std.proofs.Common.{◌≡◌, ◌+◌, ◌-◌, ◌++◌, ◌∷◌, ◌∙◌, ℕ, List, take, drop, map, length, set, arith, sym, ap, subst}
 use Rattle.std.specs.List.{concat, replace_range}
 use Rattle.lsp_buffer.specs.Blocks.{IsBuffer, ends_of, sums_from}
 use Rattle.lsp_buffer.proofs.BufferLemmas.{starts_count, lines_count}

@@ -1,5 +1,5 @@
-use Rattle.std.proofs.Common.{◌≡◌, ◌+◌, ◌-◌, ◌≤◌, ◌<◌, ◌++◌, ◌∙◌, ℕ, List, OnOk, take, drop, length, refl, arith, sym, ap, subst}
-use Rattle.std.specs.List.{concat, replace_range}
+use Rattle.std.proofs.Common.{◌≡◌, ◌+◌, ◌-◌, ◌++◌, ◌∙◌, ℕ, List, OnOk, take, drop, length, refl, arith, sym, ap, subst}
+use Rattle.std.specs.List.{concat}
 use Rattle.lsp_text.specs.Starts.{AreStarts}
 use Rattle.lsp_buffer.proofs.BufferLemmas.{starts_count, starts_are_starts}
 use Rattle.lsp_buffer.proofs.FoundLemmas.{found_place, chunk_boundary}
