@@ -90,12 +90,17 @@ fn is_moved_in(alloc: Global, text: String) -> Result<bool, AllocError> {
     if text.len() > MOST {
         return Ok(false);
     }
-    let mut buffer = TextBuffer::new(alloc, text)?;
-    if buffer.len() != 16_000 || buffer.as_str().is_none() || !buffer.is_char_boundary(16) {
+    let plain = String::from_str(alloc, &text)?;
+    let buffer = TextBuffer::new(alloc, text)?;
+    if buffer.as_str() != Some(plain.as_str()) {
         return Ok(false);
     }
-    buffer.replace_range(16, 16, "a")?;
-    Ok(buffer.as_str().is_none() && buffer.len() == 16_001)
+    let mut both = Pair { buffer, plain };
+    Ok(
+        change(&mut both, 16, 16, "a")?
+            && same(alloc, &both, 0, 16)?
+            && both.buffer.as_str().is_none(),
+    )
 }
 
 #[test]
