@@ -8,7 +8,7 @@ import queue
 import subprocess
 import threading
 
-from peers.nvim import line_end_of, steps_of
+from peers.buffers import line_end_of, steps_of
 
 HERE = os.path.dirname(os.path.abspath(__file__))
 run = lambda *words: subprocess.run(words, stdout=subprocess.PIPE, text=True, check=True).stdout

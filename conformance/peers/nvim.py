@@ -7,28 +7,17 @@ import os
 import subprocess
 import tempfile
 
+from peers.buffers import line_end_of, steps_of
+
 HERE = os.path.dirname(os.path.abspath(__file__))
 TITLE = "Neovim " + subprocess.run(["nvim", "--version"], stdout=subprocess.PIPE, text=True, check=True).stdout.split("\n")[0].removeprefix("NVIM v")
 FILES = ["vectors.jsonl", "edits.jsonl"]
 LINE_ENDS_ARE_LF = FINAL_LINE_END_IS_APART = True
 
 
-def steps_of(vector):
-    """The lists of text edits that are applied one after another."""
-    if "edits" in vector:
-        return [vector["edits"]]
-    return [[{"range": change.get("range"), "newText": change["text"]}] for change in vector["changes"]]
-
-
 def asked(vector):
     edits = [edit for step in steps_of(vector) for edit in step]
     return all(edit["range"] for edit in edits) and "\0" not in vector["text"] + "".join(edit["newText"] for edit in edits)
-
-
-def line_end_of(text):
-    if "\r\n" in text and text.count("\r\n") == text.count("\r") == text.count("\n"):
-        return "\r\n"
-    return "\r" if "\r" in text and "\n" not in text else "\n"
 
 
 def answers(vectors):
