@@ -1,7 +1,7 @@
 //! The limits that a user sets once, and that every layer keeps.
 
 ghost use Rattle.std.specs.Prelude.{◌≡◌, ◌≤◌, None, Some, MatchResult};
-ghost use Rattle.lsp_frame.specs.Limits.{Bounds, first_out_of_range};
+ghost use Rattle.lsp_frame.specs.Limits.{Bounds, AreInRange, first_out_of_range};
 
 use std::marker::Model;
 use thiserror::Error;
@@ -135,6 +135,8 @@ impl Limits {
     pub fn max_body(&self) -> usize
         ensures value { result ≡ self.now.max_body }
         ensures range { (4096 ≤ result) × (result ≤ 1073741824) }
+        // So are all four, whichever is asked for.
+        ensures in_range { AreInRange self.now }
     {
         self.max_body
     }

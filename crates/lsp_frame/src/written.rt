@@ -72,7 +72,9 @@ pub fn put_header(bytes: &mut [u8], body: usize) -> usize
 }
 
 /// Writes bytes right before an index, over those there. Returns the index where they start.
-fn put_before(bytes: &mut [u8], index: usize, new: &[u8]) -> usize
+///
+/// It takes no memory, and moves no other byte.
+pub fn put_before(bytes: &mut [u8], index: usize, new: &[u8]) -> usize
     requires room { length new.now ≤ index }
     requires within { index ≤ length bytes.old }
     ensures put { drop result bytes.new ≡ new.now ++ drop index bytes.old }
