@@ -5,7 +5,7 @@
 //! - `params`: the typed parameters of the document messages.
 //! - `agreement`: what a client offers and what a server announces.
 //! - `outgoing`: the messages that are written, and the errors of replies.
-//! - `writer`: the canonical body of each of them.
+//! - `writer`: the canonical body of each of them, and its frame.
 //! - `members`: the members of a JSON object, moved out of it.
 //! - `laws`: what holds of bodies and messages by their definitions.
 #![tactic(auto)]
@@ -25,4 +25,4 @@ pub use outgoing::{ErrorCode, Outgoing};
 pub use params::{
     ChangeParams, CloseParams, OpenParams, ParamsFault, params_change, params_close, params_open,
 };
-pub use writer::{push_change, write};
+pub use writer::{push_change, push_document, write, write_frame};

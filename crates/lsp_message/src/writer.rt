@@ -1,6 +1,8 @@
 //! The canonical body of each message, written a token at a time.
 
 ghost use Rattle.std.specs.Prelude.{◌≡◌, ◌++◌, IfOk, OnErr, OnOk};
+ghost use Rattle.serde_json.specs.Written.{compact_text};
+ghost use Rattle.lsp_frame.specs.Frame.{frame};
 ghost use Rattle.lsp_message.specs.Outgoing as spec;
 ghost use Rattle.lsp_message.specs.Sent.{IsProper, IsReadAsSent, IsReadBack};
 ghost use Rattle.lsp_message.specs.Seen.{change_message, outgoing_view};
@@ -11,13 +13,14 @@ mod lifecycle;
 mod members;
 
 use crate::outgoing::Outgoing;
-use crate::writer::documents::{write_change, write_close, write_open};
+use crate::writer::documents::{write_change, write_close, write_document, write_open};
 use crate::writer::lifecycle::{
     write_error_reply, write_exit, write_initialize, write_initialize_result, write_initialized,
     write_shutdown, write_shutdown_result,
 };
 use json::Writer;
 use lsp_edit::Change;
+use lsp_frame::frame;
 use std::alloc::{AllocError, Global};
 use std::mem;
 
@@ -70,6 +73,46 @@ pub fn push_change(
         bytes.truncate(len);
     }
     written
+}
+
+/// Appends the object of a document, compact: a `TextDocumentItem` (LSP 3.17, TextDocumentItem)
+/// whose texts are borrowed.
+///
+/// Fails only where memory runs out, and then the bytes are unchanged. Linear in the texts, which
+/// are copied only into it.
+pub fn push_document(
+    bytes: &mut Vec<u8>,
+    uri: &str,
+    language: &str,
+    version: i32,
+    text: &str,
+) -> Result<(), AllocError>
+    ensures ok { OnOk result (bytes.new.items ≡ bytes.old.items ++ compact_text
+        (spec.opened_document
+        (record { uri = uri.now; language = language.now; version = version; text = text.now }))) }
+    ensures unchanged { OnErr result (bytes.new.items ≡ bytes.old.items) }
+{
+    let alloc = *bytes.allocator();
+    let len = bytes.len();
+    let mut writer = Writer::new(mem::replace(bytes, Vec::new(alloc)));
+    let written = write_document(&mut writer, uri, language, version, text);
+    *bytes = writer.into_inner();
+    if written.is_err() {
+        bytes.truncate(len);
+    }
+    written
+}
+
+/// Returns the frame of a message (LSP 3.17, Base Protocol): the body of [`write`] after its
+/// header.
+///
+/// Fails only where memory runs out. The body may have any length, and is copied once.
+pub fn write_frame(alloc: Global, message: &Outgoing) -> Result<Vec<u8>, AllocError>
+    ensures { IfOk result
+        (λ bytes. bytes.items ≡ frame (spec.body_of (outgoing_view message.now))) }
+{
+    let body = write(alloc, message)?;
+    frame(alloc, &body)
 }
 
 fn write_message(writer: &mut Writer, message: &Outgoing) -> Result<(), AllocError>

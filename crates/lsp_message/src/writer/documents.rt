@@ -33,19 +33,29 @@ fn open_params(writer: &mut Writer, params: &OpenParams) -> Result<(), AllocErro
 {
     writer.begin_object()?;
     writer.key("textDocument")?;
-    opened_document(writer, params)?;
+    let (language, text) = (params.language.as_str(), params.text.as_str());
+    write_document(writer, params.uri.as_str(), language, params.version, text)?;
     writer.end_object()
 }
 
-fn opened_document(writer: &mut Writer, params: &OpenParams) -> Result<(), AllocError>
-    ensures { OnOk result
-        (Appends writer.old writer.new (tokens_of (spec.opened_document (open_view params.now)))) }
+/// Writes a `TextDocumentItem`, whose texts are borrowed.
+pub fn write_document(
+    writer: &mut Writer,
+    uri: &str,
+    language: &str,
+    version: i32,
+    text: &str,
+) -> Result<(), AllocError>
+    ensures tokens { OnOk result (Appends writer.old writer.new
+        (tokens_of (spec.opened_document
+        (record { uri = uri.now; language = language.now; version = version; text = text.now })))) }
+    ensures before { writer.new.before ≡ writer.old.before }
 {
     writer.begin_object()?;
-    text_member(writer, "languageId", params.language.as_str())?;
-    text_member(writer, "text", params.text.as_str())?;
-    text_member(writer, "uri", params.uri.as_str())?;
-    integer_member(writer, "version", params.version)?;
+    text_member(writer, "languageId", language)?;
+    text_member(writer, "text", text)?;
+    text_member(writer, "uri", uri)?;
+    integer_member(writer, "version", version)?;
     writer.end_object()
 }
 

@@ -1,12 +1,12 @@
 use Rattle.std.proofs.Common.{◌≡◌, sym, rules, w32, to_z, of_z}
 use Rattle.std.proofs.lemmas.Int.{to_z-of_z}
 use Rattle.lsp_message.proofs.Tokens.{put, add, ending, integer_text}
-use Rattle.lsp_message.proofs.writer.documents.opened_document.Goals as goal
+use Rattle.lsp_message.proofs.writer.documents.write_document.Goals as goal
 
-pub returns : goal.returns
-returns c =
-    let number = c.args.params.now.version in
+pub returns-clause-tokens : goal.returns-clause-tokens
+returns-clause-tokens c =
+    let number = c.args.version in
     let version : to_z w32 (of_z w32 number) ≡ number = to_z-of_z w32 number (search rules) in
-    rw (integer_text number, sym version, sym c.as_str.ensures.value, sym c.as_str-2.ensures.value, sym c.as_str-3.ensures.value)
+    rw (integer_text number, sym version)
     (ending c.end_object.result (λ e. put c.in_ok-begin_object.ensures (add c.in_ok-text_member.ensures.tokens (add c.in_ok-text_member-2.ensures.tokens
     (add c.in_ok-text_member-3.ensures.tokens (add c.in_ok-integer_member.ensures.tokens e))))) c.end_object.ensures)
