@@ -1,5 +1,5 @@
 -- A value by its first token.
-use Rattle.std.proofs.Common.{◌≡◌, ℕ, zero, suc, ◌-◌, List, ◌∷◌, length, Bool, true, false, Option, Some, None, refl, sym, ap, ◌∙◌, arith}
+use Rattle.std.proofs.Common.{◌≡◌, ℕ, zero, suc, ◌-◌, List, ◌∷◌, length, Bool, true, false, Option, Some, None, refl, sym, ap, ◌∙◌, arith, ◌⊎◌, inl, inr}
 use Rattle.json.specs.Token.{Token}
 use Rattle.json.specs.Json.{parse_map}
 use Rattle.json.specs.Reads.{token_of}
@@ -87,10 +87,13 @@ opened_object opening.Object depth old new is h = ap (value_at depth) h.1 ∙ va
 opened_object opening.Null depth old new is h = absurd cc
 opened_object opening.Other depth old new is h = absurd cc
 
-pub opened_null : (o : Opening) (depth : ℕ) (old new : List Token) → o ≡ opening.Null → IsOpening o depth old new → value_at depth old ≡ Some (null, new)
-opened_null opening.Object depth old new is h = absurd cc
-opened_null opening.Null depth old new is h = h
-opened_null opening.Other depth old new is h = absurd cc
+-- the value of an opening that is no object
+pub opened_otherwise : (o : Opening) (depth : ℕ) (old new : List Token) → (o ≡ opening.Null) ⊎ (o ≡ opening.Other) → IsOpening o depth old new
+    → (d : Data) × (value_at depth old ≡ Some (d, new)) × (as_object d ≡ None)
+opened_otherwise opening.Object depth old new (inl is) h = absurd cc
+opened_otherwise opening.Object depth old new (inr is) h = absurd cc
+opened_otherwise opening.Null depth old new is h = (null, h, refl)
+opened_otherwise opening.Other depth old new is h = (h.0, h.1, h.2)
 
 pub opened_array : (o : Bool) (depth : ℕ) (old new : List Token) → o ≡ true → IsArrayOpening o depth old new
     → value_at depth old ≡ parse_map array (items_at (depth - 1) (length new) new)

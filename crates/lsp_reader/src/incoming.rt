@@ -165,13 +165,7 @@ fn read_text(alloc: Global, text: &str, scratch: &mut Scratch) -> Result<Option<
     let mut reader = Reader::new(text, scratch)?;
     match open_object(&mut reader, MAX_DEPTH)? {
         Opening::Object => {}
-        Opening::Null => {
-            return match reader.next() {
-                Some(_) => Err(Fault::NotJson),
-                None => Ok(Some(Incoming::NotAMessage { id: None })),
-            };
-        }
-        Opening::Other => {
+        Opening::Null | Opening::Other => {
             return match reader.next() {
                 Some(_) => Err(Fault::NotJson),
                 None => Ok(Some(Incoming::NotAMessage { id: None })),
