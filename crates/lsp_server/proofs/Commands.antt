@@ -1,5 +1,5 @@
 -- Commands on the store, as the server's definitions and the store's calls write them.
-use Rattle.std.proofs.Common.{◌≡◌, ◌≢◌, List, [], ◌∷◌, map, refl, ap, Option, Some, None, option_map, Result, Ok, Err, IfOk, IfErr, OnOk, OnErr, inl, inr}
+use Rattle.std.proofs.Common.{◌≡◌, ◌≢◌, List, [], ◌∷◌, map, refl, sym, ap, subst, Option, Some, None, option_map, Result, Ok, Err, IfOk, IfErr, OnOk, OnErr, inl, inr}
 use Rattle.lsp_edit.specs.declared.change.Change.{Change}
 use Rattle.lsp_edit.specs.Edited as made
 use Rattle.lsp_message.specs.Seen.{edit_view}
@@ -9,13 +9,13 @@ use Rattle.lsp_store.specs.Faults.{fault_of}
 use Rattle.lsp_store.specs.Opened.{StoreData, Takes, IsRefused}
 use Rattle.lsp_store.specs.Table as table
 use Rattle.lsp_message.specs.Params.{DocumentItem}
-use Rattle.lsp_store.specs.Table.{Command, unless_refused, command_refusal, table_after}
+use Rattle.lsp_store.specs.Table.{Command, unless_refused, command_refusal, table_after, after_command}
 use Rattle.lsp_server.specs.declared.answer.Answer.{Answer}
 use Rattle.lsp_server.specs.declared.answer.Answer.TheVariants.{Changed, Refused}
 use Rattle.lsp_server.specs.declared.answer.Refusal.TheVariants.{Store}
-use Rattle.lsp_server.specs.Answer.{as_sent, refused}
+use Rattle.lsp_server.specs.Answer.{refused, IsQuiet}
 use Rattle.lsp_server.specs.Step.{State, edit_from_data, stays, obeyed, obeys}
-use Rattle.lsp_server.specs.Seen.{answer_view}
+use Rattle.lsp_server.specs.Calls.{IsStepOf, IsRowOf}
 
 -- The changes as they were read are those that the store is given.
 pub edits_of : (changes : List Change) → map edit_from_data (map edit_view changes) ≡ map made.edit_of changes
@@ -43,29 +43,33 @@ obeyed_as_refused s command fault other (inl e) = absurd (other e)
 obeyed_as_refused s command fault other (inr e) =
     refusal_answered s (command_refusal s.config.limits s.table command) (table_after s.table command) fault e
 
--- How a command on the store went is what the server answers.
-pub answered : {E : Type 0} (s : State) (given command : Command) (new : StoreData) (outcome : Result (Unit {0}) StoreFault) (result : Result Answer E)
+-- The store's result of a command, as an answer, is the step that obeys it.
+pub obeyed_step : {E : Type 0} (s : State) (given command : Command) (new : StoreData) (outcome : Result (Unit {0}) StoreFault) (result : Result Answer E)
     → OnOk outcome (Takes (store_of s) given new)
+    → OnErr outcome (new ≡ store_of s)
     → IfErr outcome (IsRefused (store_of s) given)
     → OnOk outcome (result ≡ Ok Changed)
     → IfErr outcome (λ fault. IfOk result (λ a. (fault ≢ NoMemory) × (a ≡ Refused (Store fault))))
     → given ≡ command
-    → IfOk result (λ a. answer_view a ≡ as_sent (obeys s command).answer)
-answered s given command new (Ok u) result takes error changed other same = rw (← same, changed, takes.table) refl
-answered s given command new (Err fault) (Err e) takes error changed other same = tt
-answered s given command new (Err fault) (Ok a) takes error changed other same =
-    rw (← same, other.1, obeyed_as_refused s given fault other.0 error) refl
+    → IsStepOf (obeys s command) result s (over s new)
+obeyed_step s given command new (Ok u) result takes unchanged error changed other same =
+    subst (λ r. IsStepOf (obeys s command) r s (over s new)) (sym changed)
+    (record { answer = rw (← same, takes.table) refl; state = rw (← same, takes.table, takes.limits) refl; unchanged = tt })
+obeyed_step s given command new (Err fault) (Err e) takes unchanged error changed other same =
+    record { answer = tt; state = tt; unchanged = rw unchanged refl }
+obeyed_step s given command new (Err fault) (Ok a) takes unchanged error changed other same =
+    let refused_step = obeyed_as_refused s given fault other.0 error in record {
+      answer = rw (← same, other.1, refused_step) refl;
+      state = rw (← same, unchanged, refused_step) refl;
+      unchanged = tt;
+    }
 
--- So is what becomes of it.
-pub after : {E : Type 0} (s : State) (given command : Command) (new : StoreData) (outcome : Result (Unit {0}) StoreFault) (result : Result Answer E)
-    → OnOk outcome (Takes (store_of s) given new)
-    → OnErr outcome (new ≡ store_of s)
-    → IfErr outcome (IsRefused (store_of s) given)
-    → IfErr outcome (λ fault. IfOk result (λ a. (fault ≢ NoMemory) × (a ≡ Refused (Store fault))))
-    → given ≡ command
-    → OnOk result (over s new ≡ (obeys s command).state)
-after s given command new (Ok u) (Err e) takes unchanged error other same = tt
-after s given command new (Ok u) (Ok a) takes unchanged error other same = rw (← same, takes.table, takes.limits) refl
-after s given command new (Err fault) (Err e) takes unchanged error other same = tt
-after s given command new (Err fault) (Ok a) takes unchanged error other same =
-    rw (← same, unchanged, obeyed_as_refused s given fault other.0 error) refl
+-- A step that answers for the store takes memory.
+loud : (s : State) (result : Result (List DocumentItem) table.Refusal) → IsQuiet (obeyed s result).answer → ⊥
+loud s (Ok next) quiet = quiet
+loud s (Err refusal) quiet = quiet
+
+pub obeyed_row : {E : Type 0} (s : State) (command : Command) (result : Result Answer E) (old new : State)
+    → IsStepOf (obeys s command) result old new → IsRowOf (obeys s command) result old new
+obeyed_row s command result old new step =
+    record { taken = step; quiet = λ quiet. absurd (loud s (after_command s.config.limits s.table command) quiet) }

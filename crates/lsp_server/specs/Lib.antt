@@ -4,3 +4,4 @@ pub mod Answer
 pub mod Step
 pub mod Laws
 pub mod Seen
+pub mod Calls

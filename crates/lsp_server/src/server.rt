@@ -1,26 +1,24 @@
 //! The server's end of a session: one body in, one answer out.
 
-ghost use Rattle.std.specs.Prelude.{◌≡◌, ◌≢◌, ◌↔◌, ℕ, List, Option, None, Some, Ok, Err, IfOk, IfErr, OnOk, OnErr, IsOk, IsSome, IsErrOf, IsUtf8, option_map};
-ghost use Rattle.lsp_frame.specs.Frame.{frame};
+ghost use Rattle.std.specs.Prelude.{◌≡◌, ◌≢◌, ◌↔◌, IfOk, OnOk, OnErr, IsOk, IsSome, IsErrOf, IsUtf8};
 ghost use Rattle.lsp_message.specs.Message.{reading};
-ghost use Rattle.lsp_message.specs.Outgoing.{error_reply, body_of};
-ghost use Rattle.lsp_message.specs.Seen.{id_view, outgoing_view, open_view, change_view, close_view};
-ghost use Rattle.lsp_store.specs.declared.fault.StoreFault.TheVariants.{NoMemory};
-ghost use Rattle.lsp_store.specs.Table.{opens};
-ghost use Rattle.lsp_server.specs.declared.phase.Phase.TheVariants.{Running, Down, Ended};
-ghost use Rattle.lsp_server.specs.Answer.{IsQuiet, reply, sent, as_sent};
-ghost use Rattle.lsp_server.specs.Step.{start, with_encoding, step, step_on, begins, obeys, change_command, close_command};
-ghost use Rattle.lsp_reader.specs.Incoming.{incoming_of, initialize, shutdown, other_request, exit, did_open, did_change, did_close, other_notification};
-ghost use Rattle.lsp_reader.specs.Seen.{incoming_view};
+ghost use Rattle.lsp_server.specs.declared.phase.Phase.TheVariants.{Running, Ended};
+ghost use Rattle.lsp_server.specs.Step.{start, with_encoding, step, step_on};
+ghost use Rattle.lsp_server.specs.Answer.{IsQuiet, as_sent};
 ghost use Rattle.lsp_server.specs.Seen.{answer_view};
+ghost use Rattle.lsp_server.specs.Calls.{IsRowOf};
+ghost use Rattle.lsp_reader.specs.Incoming.{incoming_of};
+ghost use Rattle.lsp_reader.specs.Seen.{incoming_view};
 
-use crate::answer::{Answer, Refusal, ServerFault};
+mod documents;
+mod lifecycle;
+
+use crate::answer::{Answer, ServerFault};
 use crate::config::{Config, EncodingChoice, Sync};
 use crate::phase::Phase;
-use lsp_frame::frame;
-use lsp_message::{ChangeParams, CloseParams, ErrorCode, Id, Offers, OpenParams, Outgoing, write};
+use lsp_message::ErrorCode;
 use lsp_reader::{Incoming, Scratch};
-use lsp_store::{Store, StoreFault};
+use lsp_store::Store;
 use lsp_text::Encoding;
 use std::alloc::{AllocError, Global};
 use std::fmt;
@@ -152,7 +150,7 @@ impl Server {
             return Err(ServerFault::AlreadyEnded);
         }
         let incoming = self.read(body)?;
-        self.handle_incoming(incoming)
+        Ok(self.step(incoming)?)
     }
 
     /// Reads what a body asks, for a program that reads it before
@@ -187,17 +185,12 @@ impl Server {
         if self.phase == Phase::Ended {
             return Err(ServerFault::AlreadyEnded);
         }
-        Ok(self.answer(incoming)?)
+        Ok(self.step(incoming)?)
     }
 
-    fn answer(&mut self, incoming: Incoming) -> Result<Answer, AllocError>
+    fn step(&mut self, incoming: Incoming) -> Result<Answer, AllocError>
         requires { self.old.phase ≢ Ended }
-        ensures answer { IfOk result
-            (λ a. answer_view a ≡ as_sent (step_on self.old (incoming_view incoming)).answer) }
-        ensures state { OnOk result (self.new ≡ (step_on self.old (incoming_view incoming)).state) }
-        ensures unchanged { OnErr result (self.new ≡ self.old) }
-        ensures quiet { OnErr result
-            (IsQuiet (step_on self.old (incoming_view incoming)).answer → ⊥) }
+        ensures { IsRowOf (step_on self.old (incoming_view incoming)) result self.old self.new }
     {
         match incoming {
             Incoming::NotJson => self.fail(None, ErrorCode::ParseError),
@@ -214,231 +207,6 @@ impl Server {
         }
     }
 
-    /// Returns an error response, and changes nothing.
-    fn fail(&self, id: Option<Id>, error: ErrorCode) -> Result<Answer, AllocError>
-        ensures { IfOk result
-            (λ a. answer_view a ≡ reply (sent (error_reply (option_map id_view id) error))) }
-    {
-        let frame = framed(self.alloc, &Outgoing::ErrorReply { id, error })?;
-        Ok(Answer::Reply {
-            frame,
-            code: Some(error),
-        })
-    }
-
-    fn initialize(&mut self, id: Id, offers: Option<Offers>) -> Result<Answer, AllocError>
-        requires { self.old.phase ≢ Ended }
-        ensures answer { IfOk result
-            (λ a. answer_view a
-            ≡ as_sent (step_on self.old (initialize (id_view id) offers)).answer) }
-        ensures state { OnOk result
-            (self.new ≡ (step_on self.old (initialize (id_view id) offers)).state) }
-        ensures unchanged { OnErr result (self.new ≡ self.old) }
-        ensures quiet { OnErr result
-            (IsQuiet (step_on self.old (initialize (id_view id) offers)).answer → ⊥) }
-    {
-        match self.phase {
-            Phase::New => match offers {
-                Some(offers) => self.begin(id, offers),
-                None => self.fail(Some(id), ErrorCode::InvalidParams),
-            },
-            _ => self.fail(Some(id), ErrorCode::InvalidRequest),
-        }
-    }
-
-    fn begin(&mut self, id: Id, offers: Offers) -> Result<Answer, AllocError>
-        ensures answer { IfOk result
-            (λ a. answer_view a ≡ as_sent (begins self.old (id_view id) offers).answer) }
-        ensures state { OnOk result (self.new ≡ (begins self.old (id_view id) offers).state) }
-        ensures unchanged { OnErr result (self.new ≡ self.old) }
-    {
-        let encoding = self.choice.chosen(offers);
-        let accepted = Outgoing::InitializeResult {
-            id,
-            encoding,
-            kind: self.sync.kind(),
-        };
-        let frame = framed(self.alloc, &accepted)?;
-        self.phase = Phase::Running;
-        self.encoding = Some(encoding);
-        Ok(Answer::Reply { frame, code: None })
-    }
-
-    fn shutdown(&mut self, id: Id) -> Result<Answer, AllocError>
-        requires { self.old.phase ≢ Ended }
-        ensures answer { IfOk result
-            (λ a. answer_view a ≡ as_sent (step_on self.old (shutdown (id_view id))).answer) }
-        ensures state { OnOk result (self.new ≡ (step_on self.old (shutdown (id_view id))).state) }
-        ensures unchanged { OnErr result (self.new ≡ self.old) }
-        ensures quiet { OnErr result
-            (IsQuiet (step_on self.old (shutdown (id_view id))).answer → ⊥) }
-    {
-        match self.phase {
-            Phase::New => self.fail(Some(id), ErrorCode::ServerNotInitialized),
-            Phase::Running => {
-                let frame = framed(self.alloc, &Outgoing::ShutdownResult { id })?;
-                self.phase = Phase::Down;
-                Ok(Answer::Reply { frame, code: None })
-            }
-            _ => self.fail(Some(id), ErrorCode::InvalidRequest),
-        }
-    }
-
-    fn other_request(&self, id: Id) -> Result<Answer, AllocError>
-        requires { self.now.phase ≢ Ended }
-        ensures answer { (method : List ℕ)
-            → IfOk result
-            (λ a. answer_view a
-            ≡ as_sent (step_on self.now (other_request (id_view id) method)).answer) }
-        ensures state { (method : List ℕ)
-            → (step_on self.now (other_request (id_view id) method)).state ≡ self.now }
-        ensures quiet { (method : List ℕ)
-            → IsQuiet (step_on self.now (other_request (id_view id) method)).answer → ⊥ }
-    {
-        let error = match self.phase {
-            Phase::New => ErrorCode::ServerNotInitialized,
-            Phase::Running => ErrorCode::MethodNotFound,
-            _ => ErrorCode::InvalidRequest,
-        };
-        self.fail(Some(id), error)
-    }
-
-    fn exit(&mut self) -> Answer
-        requires { self.old.phase ≢ Ended }
-        ensures answer { answer_view result ≡ as_sent (step_on self.old exit).answer }
-        ensures state { self.new ≡ (step_on self.old exit).state }
-    {
-        let status = match self.phase {
-            Phase::Down => 0,
-            _ => 1,
-        };
-        self.phase = Phase::Ended;
-        Answer::Exit(status)
-    }
-
-    /// Returns the params of a document message that is obeyed, else its answer: it is dropped
-    /// outside phase Running, and refused where its params don't fit.
-    fn admit<P: Drop>(&self, params: Option<P>) -> Result<P, Answer>
-        ensures admitted { IfOk result (λ p. (self.now.phase ≡ Running) × (params ≡ Some p)) }
-        ensures dropped { OnErr result (self.now.phase ≢ Running → result ≡ Err Answer.Dropped) }
-        ensures refused { OnErr result (self.now.phase ≡ Running → (params ≡ None)
-            × (result ≡ Err (Answer.Refused Refusal.InvalidParams))) }
-    {
-        if self.phase != Phase::Running {
-            return Err(Answer::Dropped);
-        }
-        params.ok_or(Answer::Refused(Refusal::InvalidParams))
-    }
-
-    fn did_open(&mut self, params: Option<OpenParams>) -> Result<Answer, AllocError>
-        requires { self.old.phase ≢ Ended }
-        ensures answer { IfOk result
-            (λ a. answer_view a
-            ≡ as_sent (step_on self.old (did_open (option_map open_view params))).answer) }
-        ensures state { OnOk result
-            (self.new ≡ (step_on self.old (did_open (option_map open_view params))).state) }
-        ensures unchanged { OnErr result (self.new ≡ self.old) }
-        ensures quiet { OnErr result
-            (IsQuiet (step_on self.old (did_open (option_map open_view params))).answer → ⊥) }
-    {
-        match self.admit(params) {
-            Ok(params) => self.open(params),
-            Err(answer) => Ok(answer),
-        }
-    }
-
-    fn open(&mut self, params: OpenParams) -> Result<Answer, AllocError>
-        ensures answer { IfOk result
-            (λ a. answer_view a
-            ≡ as_sent (obeys self.old (opens (open_view params))).answer) }
-        ensures state { OnOk result
-            (self.new ≡ (obeys self.old (opens (open_view params))).state) }
-        ensures unchanged { OnErr result (self.new ≡ self.old) }
-    {
-        let OpenParams {
-            uri,
-            language,
-            version,
-            text,
-        } = params;
-        answer_of(self.store.open(uri, language, version, text))
-    }
-
-    fn did_change(&mut self, params: Option<ChangeParams>) -> Result<Answer, AllocError>
-        requires { self.old.phase ≢ Ended }
-        ensures answer { IfOk result
-            (λ a. answer_view a
-            ≡ as_sent (step_on self.old (did_change (option_map change_view params))).answer) }
-        ensures state { OnOk result
-            (self.new ≡ (step_on self.old (did_change (option_map change_view params))).state) }
-        ensures unchanged { OnErr result (self.new ≡ self.old) }
-        ensures quiet { OnErr result
-            (IsQuiet (step_on self.old (did_change (option_map change_view params))).answer → ⊥) }
-    {
-        match self.admit(params) {
-            Ok(params) => self.change(params),
-            Err(answer) => Ok(answer),
-        }
-    }
-
-    fn change(&mut self, params: ChangeParams) -> Result<Answer, AllocError>
-        ensures answer { IfOk result
-            (λ a. answer_view a
-            ≡ as_sent (obeys self.old (change_command self.old (change_view params))).answer) }
-        ensures state { OnOk result
-            (self.new ≡ (obeys self.old (change_command self.old (change_view params))).state) }
-        ensures unchanged { OnErr result (self.new ≡ self.old) }
-    {
-        let encoding = self.encoding.unwrap_or(Encoding::Utf16);
-        let ChangeParams {
-            uri,
-            version,
-            changes,
-        } = params;
-        answer_of(self.store.change(&uri, version, encoding, &changes))
-    }
-
-    fn did_close(&mut self, params: Option<CloseParams>) -> Result<Answer, AllocError>
-        requires { self.old.phase ≢ Ended }
-        ensures answer { IfOk result
-            (λ a. answer_view a
-            ≡ as_sent (step_on self.old (did_close (option_map close_view params))).answer) }
-        ensures state { OnOk result
-            (self.new ≡ (step_on self.old (did_close (option_map close_view params))).state) }
-        ensures unchanged { OnErr result (self.new ≡ self.old) }
-        ensures quiet { OnErr result
-            (IsQuiet (step_on self.old (did_close (option_map close_view params))).answer → ⊥) }
-    {
-        match self.admit(params) {
-            Ok(params) => self.close(params),
-            Err(answer) => Ok(answer),
-        }
-    }
-
-    fn close(&mut self, params: CloseParams) -> Result<Answer, AllocError>
-        ensures answer { IfOk result
-            (λ a. answer_view a
-            ≡ as_sent (obeys self.old (close_command (close_view params))).answer) }
-        ensures state { OnOk result
-            (self.new ≡ (obeys self.old (close_command (close_view params))).state) }
-        ensures unchanged { OnErr result (self.new ≡ self.old) }
-    {
-        answer_of(self.store.close(&params.uri))
-    }
-
-    fn other_notification(&self) -> Answer
-        requires { self.now.phase ≢ Ended }
-        ensures answer { (method : List ℕ)
-            → answer_view result ≡ as_sent (step_on self.now (other_notification method)).answer }
-        ensures state { (method : List ℕ)
-            → (step_on self.now (other_notification method)).state ≡ self.now }
-    {
-        match self.phase {
-            Phase::Running => Answer::Ignored,
-            _ => Answer::Dropped,
-        }
-    }
-
     /// Sets the encoding of changes (LSP 3.17, PositionEncodingKind), whichever was chosen: for a
     /// log that names another server's choice.
     ///
@@ -450,27 +218,4 @@ impl Server {
             self.encoding = Some(encoding);
         }
     }
-}
-
-/// Converts the store's result of a command into an answer.
-fn answer_of(outcome: Result<(), StoreFault>) -> Result<Answer, AllocError>
-    ensures changed { OnOk outcome (result ≡ Ok Answer.Changed) }
-    ensures refused { IfErr outcome
-        (λ fault. IfOk result
-        (λ a. (fault ≢ NoMemory) × (a ≡ Answer.Refused (Refusal.Store fault)))) }
-    ensures memory { OnErr result (outcome ≡ Err StoreFault.NoMemory) }
-{
-    match outcome {
-        Ok(()) => Ok(Answer::Changed),
-        Err(StoreFault::NoMemory) => Err(AllocError),
-        Err(fault) => Ok(Answer::Refused(Refusal::Store(fault))),
-    }
-}
-
-/// Returns the frame of a reply.
-fn framed(alloc: Global, message: &Outgoing) -> Result<Vec<u8>, AllocError>
-    ensures { IfOk result (λ bytes. bytes.items ≡ frame (body_of (outgoing_view message.now))) }
-{
-    let body = write(alloc, message)?;
-    frame(alloc, &body)
 }
