@@ -6,10 +6,9 @@ ghost use Rattle.lsp_client.specs.Seen.{IsSent, IsFaultOf};
 
 use crate::agreed::Agreed;
 use crate::fault::ClientFault;
-use crate::framed::framed;
 use crate::phase::Phase;
 use lsp_frame::Limits;
-use lsp_message::{Offers, Outgoing};
+use lsp_message::{Offers, Outgoing, write_frame};
 use lsp_store::Store;
 use lsp_text::Encoding;
 use std::alloc::Global;
@@ -90,7 +89,7 @@ impl Client {
     {
         match self.phase {
             Phase::New => {
-                let frame = framed(self.alloc, &Outgoing::Initialize(self.offers))?;
+                let frame = write_frame(self.alloc, &Outgoing::Initialize(self.offers))?;
                 self.phase = Phase::Asked;
                 Ok(frame)
             }
@@ -111,7 +110,7 @@ impl Client {
     {
         match self.phase {
             Phase::Ready => {
-                let frame = framed(self.alloc, &Outgoing::Shutdown)?;
+                let frame = write_frame(self.alloc, &Outgoing::Shutdown)?;
                 self.phase = Phase::Closing;
                 Ok(frame)
             }
@@ -131,7 +130,7 @@ impl Client {
     {
         match self.phase {
             Phase::Closed => {
-                let frame = framed(self.alloc, &Outgoing::Exit)?;
+                let frame = write_frame(self.alloc, &Outgoing::Exit)?;
                 self.phase = Phase::Done;
                 Ok(frame)
             }

@@ -11,11 +11,10 @@ use crate::agreed::Agreed;
 use crate::client::Client;
 use crate::delivered::Delivered;
 use crate::fault::ClientFault;
-use crate::framed::framed;
 use crate::phase::{Phase, Reason};
 use lsp_message::{
     Announced, ErrorCode, Id, Message, Outcome, Outgoing, ReadFault, SyncKind, read,
-    result_initialize,
+    result_initialize, write_frame,
 };
 use std::alloc::AllocError;
 
@@ -81,7 +80,7 @@ impl Client {
                     id: Some(id),
                     error: ErrorCode::MethodNotFound,
                 };
-                Ok(Delivered::Send(framed(self.alloc, &reply)?))
+                Ok(Delivered::Send(write_frame(self.alloc, &reply)?))
             }
             Message::Response { id, outcome } => self.deliver_response(id, outcome),
         }
@@ -147,7 +146,7 @@ impl Client {
             SyncKind::Off => Ok(self.fail(Reason::NoSync)),
             SyncKind::Full | SyncKind::Incremental => match announced.encoding {
                 Some(encoding) if self.offers.includes(encoding) => {
-                    let frame = framed(self.alloc, &Outgoing::Initialized)?;
+                    let frame = write_frame(self.alloc, &Outgoing::Initialized)?;
                     self.phase = Phase::Ready;
                     self.agreed = Some(Agreed { encoding, kind });
                     Ok(Delivered::Send(frame))

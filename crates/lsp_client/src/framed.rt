@@ -1,4 +1,4 @@
-//! The frames of messages.
+//! The frames of messages under a limit.
 
 ghost use Rattle.std.specs.Prelude.{◌≡◌, IfErr, IfOk, None, OnOk};
 ghost use Rattle.lsp_frame.specs.Frame.{frame};
@@ -7,18 +7,10 @@ ghost use Rattle.lsp_message.specs.Seen.{outgoing_view};
 ghost use Rattle.lsp_store.specs.Faults.{IsRefusal};
 ghost use Rattle.lsp_store.specs.Message.{body_refusal};
 
-use lsp_frame::{Limits, encode, frame};
+use lsp_frame::{Limits, encode};
 use lsp_message::{Outgoing, write};
 use lsp_store::StoreFault;
-use std::alloc::{AllocError, Global};
-
-/// Returns the frame of a message of any length.
-pub(crate) fn framed(alloc: Global, message: &Outgoing) -> Result<Vec<u8>, AllocError>
-    ensures { IfOk result (λ bytes. bytes.items ≡ frame (body_of (outgoing_view message.now))) }
-{
-    let body = write(alloc, message)?;
-    frame(alloc, &body)
-}
+use std::alloc::Global;
 
 /// Returns the frame of a message, unless its body is too long.
 pub(crate) fn framed_within(

@@ -54,7 +54,7 @@
 //! - `fault`: why a call is refused.
 //! - `phase`: the phases of a session.
 //! - `agreed`: the encoding and the kind of synchronisation of a session.
-//! - `framed`: the frames of messages.
+//! - `framed`: the frames of messages under a limit.
 //! - `whole`: edits where the server asked for whole texts.
 #![tactic(auto)]
 
