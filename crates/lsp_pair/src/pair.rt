@@ -16,7 +16,7 @@ ghost use Rattle.lsp_pair.specs.Seen.{event_view, happened_view};
 
 use crate::delivery::{hear_first, serve_first};
 use crate::event::{Event, Happened};
-use crate::setting::{PairFault, are_within, is_utf16, known_limits};
+use crate::setting::{PairFault, are_within, is_utf16};
 use lsp_client::{Client, ClientFault};
 use lsp_frame::Limits;
 use lsp_message::Offers;
@@ -88,8 +88,6 @@ impl Pair {
         if !are_within(&limits, &config.limits) {
             return Err(PairFault::LimitsTooSmall);
         }
-        known_limits(&limits);
-        known_limits(&config.limits);
         Ok(Pair {
             alloc,
             client: Client::new(alloc, limits, offers),
@@ -160,7 +158,6 @@ impl Pair {
                 &mut self.to_server,
             ),
             _ => {
-                known_event(event);
                 self.to_server.reserve(1)?;
                 let sent = call(self.alloc, &mut self.client, event);
                 push_call(&mut self.to_server, sent)
@@ -170,6 +167,7 @@ impl Pair {
 }
 
 /// Makes the call of an event.
+#[tactic(auto, using(crate::proofs::EventLemmas::proper_event))]
 fn call(alloc: Global, client: &mut Client, event: &Event) -> Result<Vec<u8>, ClientFault>
     requires { IsCall (event_view event.now) }
     ensures ok { IfOk result (λ bytes. HoldsOnCall (event_view event.now)
@@ -177,6 +175,8 @@ fn call(alloc: Global, client: &mut Client, event: &Event) -> Result<Vec<u8>, Cl
     ensures unchanged { OnErr result (client.new ≡ client.old) }
     ensures error { IfErr result (λ fault. (fault ≡ NoMemory)
         ⊎ HoldsOnCall (event_view event.now) (λ c. IsFaultOf (call_result client.old c) fault)) }
+    // Its numbers are in their ranges, and its texts UTF-8.
+    ensures proper { IsProperEvent (event_view event.now) }
 {
     match event {
         Event::Start => client.start(),
@@ -185,7 +185,10 @@ fn call(alloc: Global, client: &mut Client, event: &Event) -> Result<Vec<u8>, Cl
             language,
             version,
             text,
-        } => client.open(uri.clone()?, language.clone()?, *version, text.clone()?),
+        } => {
+            let version = *version;
+            client.open(uri.clone()?, language.clone()?, version, text.clone()?)
+        }
         Event::Edit {
             uri,
             version,
@@ -217,26 +220,5 @@ fn push_call(
         }
         Err(ClientFault::NoMemory) => Err(AllocError),
         Err(fault) => Ok(Happened::Refused(fault)),
-    }
-}
-
-/// Does nothing: its contract states that an event's numbers are in their ranges, and its texts
-/// UTF-8.
-fn known_event(event: &Event)
-    ensures { IsProperEvent (event_view event.now) }
-{
-    match event {
-        Event::Open { version, .. } => {
-            let _version = *version;
-        }
-        Event::Edit { version, .. } => {
-            let _version = *version;
-        }
-        Event::Close { .. } => {}
-        Event::Start => {}
-        Event::Shutdown => {}
-        Event::Exit => {}
-        Event::ToServer => {}
-        Event::ToClient => {}
     }
 }

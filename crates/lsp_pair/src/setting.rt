@@ -32,20 +32,11 @@ pub(crate) fn is_utf16(choice: EncodingChoice) -> bool
 
 /// Returns whether each of the limits is at most the other's.
 pub(crate) fn are_within(small: &Limits, great: &Limits) -> bool
-    ensures { result ≡ are_within small.now great.now }
+    ensures value { result ≡ are_within small.now great.now }
+    ensures in_range { AreInRange small.now × AreInRange great.now }
 {
     small.max_body() <= great.max_body()
         && small.max_text() <= great.max_text()
         && small.max_docs() <= great.max_docs()
         && small.max_changes() <= great.max_changes()
-}
-
-/// Does nothing: its contract states that limits are in their ranges.
-pub(crate) fn known_limits(limits: &Limits)
-    ensures { AreInRange limits.now }
-{
-    let _ = limits.max_body();
-    let _ = limits.max_text();
-    let _ = limits.max_docs();
-    let _ = limits.max_changes();
 }

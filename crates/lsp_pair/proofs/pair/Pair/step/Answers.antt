@@ -73,7 +73,7 @@ invariant_of-self-in_default c =
     let steps = call_is c.self.inside.server c.self.inside.client c.call-sent.new.client c.reserve.new.self.items c.push_call.new.queue.items (frames c.self.inside.to_client.items) (event_view c.args.event.now) c.call-sent.result c.push_call.result
     (is_call c.args.event.now c.in_default.not-ToServer c.in_default.not-ToClient) c.call-sent.ensures.ok c.call-sent.ensures.unchanged c.call-sent.ensures.error c.push_call.ensures.sent c.push_call.ensures.refused in
     let same = call_same c.self.inside.server c.self.inside.client c.call-sent.new.client c.reserve.new.self.items c.push_call.new.queue.items (frames c.self.inside.to_client.items) c.call-sent.result c.push_call.result c.call-sent.ensures.unchanged c.push_call.ensures.sent c.push_call.ensures.refused in
-    reach_or_same happened_view (both_ends c.self.inside.client c.self.inside.server (frames c.reserve.new.self.items) (frames c.self.inside.to_client.items)) _ (event_view c.args.event.now) c.push_call.result c.known_event.ensures
+    reach_or_same happened_view (both_ends c.self.inside.client c.self.inside.server (frames c.reserve.new.self.items) (frames c.self.inside.to_client.items)) _ (event_view c.args.event.now) c.push_call.result c.call-sent.ensures.proper
     (rw items c.self.invariant) steps same
 
 pub returns-in_ok-reserve-in_default : goal.returns-in_ok-reserve-in_default
@@ -82,7 +82,7 @@ returns-in_ok-reserve-in_default c =
     (is_call c.args.event.now c.in_default.not-ToServer c.in_default.not-ToClient) c.call-sent.ensures.ok c.call-sent.ensures.unchanged c.call-sent.ensures.error c.push_call.ensures.sent c.push_call.ensures.refused in
     let same = call_same c.self.inside.server c.self.inside.client c.call-sent.new.client c.reserve.new.self.items c.push_call.new.queue.items (frames c.self.inside.to_client.items) c.call-sent.result c.push_call.result c.call-sent.ensures.unchanged c.push_call.ensures.sent c.push_call.ensures.refused in
     let was = ap (λ items. both_ends c.self.inside.client c.self.inside.server (frames items) (frames c.self.inside.to_client.items)) c.in_ok-reserve-in_default.ensures.items ∙ c.self.view_is in
-    let at = at_if happened_view _ _ _ c.push_call.result c.known_event.ensures (step_from happened_view _ _ _ _ _ c.push_call.result was refl steps) in
+    let at = at_if happened_view _ _ _ c.push_call.result c.call-sent.ensures.proper (step_from happened_view _ _ _ _ _ c.push_call.result was refl steps) in
     record {
       step = step_from happened_view _ _ _ _ _ c.push_call.result was refl steps;
       unchanged = same_from _ _ _ c.push_call.result was same;
