@@ -16,15 +16,12 @@ use Rattle.lsp_server.specs.declared.answer.Refusal.TheVariants.{Store}
 use Rattle.lsp_server.specs.Answer.{refused, IsQuiet}
 use Rattle.lsp_server.specs.Step.{State, edit_from_data, stays, obeyed, obeys}
 use Rattle.lsp_server.specs.Calls.{IsStepOf, IsRowOf}
+use Rattle.lsp_server.specs.Planned.{store_of}
 
 -- The changes as they were read are those that the store is given.
 pub edits_of : (changes : List Change) → map edit_from_data (map edit_view changes) ≡ map made.edit_of changes
 edits_of [] = refl
 edits_of (change ∷ changes) = ap (λ edits. made.edit_of change ∷ edits) (edits_of changes)
-
--- the store of a server
-abbrev pub store_of : State → StoreData
-store_of s = record { limits = s.config.limits; table = s.table }
 
 -- a server with another store
 abbrev pub over : State → StoreData → State
@@ -37,7 +34,7 @@ refusal_answered s None next fault e = cc
 refusal_answered s (Some refusal) next fault e =
     let same : fault_of refusal ≡ fault = cc in ap (λ error. stays s (refused (Store error))) same
 
-obeyed_as_refused : (s : State) (command : Command) (fault : StoreFault)
+pub obeyed_as_refused : (s : State) (command : Command) (fault : StoreFault)
     → fault ≢ NoMemory → IsRefused (store_of s) command fault → obeys s command ≡ stays s (refused (Store fault))
 obeyed_as_refused s command fault other (inl e) = absurd (other e)
 obeyed_as_refused s command fault other (inr e) =

@@ -1,3 +1,4 @@
 mod Commands
+mod Changes
 pub mod LawLemmas
 pub mod EditLemmas

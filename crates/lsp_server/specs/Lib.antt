@@ -5,3 +5,4 @@ pub mod Step
 pub mod Laws
 pub mod Seen
 pub mod Calls
+pub mod Planned

@@ -65,6 +65,7 @@
 //! - `answer`: what a server answers.
 //! - `config`: limits, the choice of an encoding, and the kind of synchronisation.
 //! - `phase`: the phases of a session.
+//! - `planned`: what becomes of a change, before anything changes.
 //! - `laws`: what holds of every step.
 #![tactic(auto)]
 
@@ -72,6 +73,7 @@ mod answer;
 mod config;
 mod laws;
 mod phase;
+mod planned;
 mod server;
 
 pub use answer::{Answer, Refusal, ServerFault};
@@ -81,7 +83,8 @@ pub use lsp_edit::{Change, EditFault, Side, TextEdit, TextEditFault};
 pub use lsp_frame::{BadLimits, Limits};
 pub use lsp_message::{ChangeParams, CloseParams, ErrorCode, Id, Offers, OpenParams, SyncKind};
 pub use lsp_reader::Incoming;
-pub use lsp_store::{Document, Documents, Store, StoreFault};
+pub use lsp_store::{Document, Documents, Plan, Store, StoreFault};
 pub use lsp_text::{Encoding, InsideCharacter, Lines, Position, Range, UnknownEncoding};
 pub use phase::Phase;
+pub use planned::PlannedChange;
 pub use server::Server;

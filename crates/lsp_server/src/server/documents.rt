@@ -4,21 +4,26 @@ ghost use Rattle.std.specs.Prelude.{◌≡◌, ◌≢◌, Ok, Err, IfOk, IfErr, 
 ghost use Rattle.lsp_store.specs.declared.fault.StoreFault.TheVariants.{NoMemory};
 
 use super::Server;
-use crate::answer::{Answer, Refusal};
+use crate::answer::{Answer, Refusal, ServerFault};
 use crate::phase::Phase;
+use crate::planned::PlannedChange;
 use lsp_message::{ChangeParams, CloseParams, OpenParams};
-use lsp_store::StoreFault;
+use lsp_store::{Plan, StoreFault};
 use lsp_text::Encoding;
 use std::alloc::AllocError;
 
 impl Server {
-    ghost use Rattle.std.specs.Prelude.{◌≡◌, ◌≢◌, Some, None, Err, IfOk, OnErr, option_map};
+    ghost use Rattle.std.specs.Prelude.{◌≡◌, ◌≢◌, ◌↔◌, Some, None, Err, IfOk, IsErrOf, OnErr, OnOk, map, option_map, string_bytes};
     ghost use Rattle.lsp_message.specs.Seen.{open_view, change_view, close_view};
     ghost use Rattle.lsp_reader.specs.Incoming.{did_open, did_change, did_close};
+    ghost use Rattle.lsp_edit.specs.Edited.{edit_of};
+    ghost use Rattle.lsp_message.specs.Params.{ChangeData};
+    ghost use Rattle.lsp_store.specs.Opened.{MayTakeMemory};
     ghost use Rattle.lsp_store.specs.Table.{opens};
     ghost use Rattle.lsp_server.specs.declared.phase.Phase.TheVariants.{Running, Ended};
     ghost use Rattle.lsp_server.specs.Step.{step_on, obeys, change_command, close_command};
     ghost use Rattle.lsp_server.specs.Calls.{IsStepOf, IsRowOf};
+    ghost use Rattle.lsp_server.specs.Planned.{IsCommittable, IsPlanOfChange, IsPlannedAs, after_commit, store_of};
 
     /// Returns the params of a notification that is obeyed, else its answer: it is dropped outside
     /// phase Running, and refused where its params don't fit.
@@ -66,22 +71,88 @@ impl Server {
             self.old self.new }
     {
         match self.admit(params) {
-            Ok(params) => self.change(params),
+            Ok(params) => self.change(&params),
             Err(answer) => Ok(answer),
         }
     }
 
-    fn change(&mut self, params: ChangeParams) -> Result<Answer, AllocError>
-        ensures { IsStepOf (obeys self.old (change_command self.old (change_view params))) result
-            self.old self.new }
+    /// Resolves a change on the open documents, before it is made (LSP 3.17,
+    /// DidChangeTextDocument). The result borrows the params, and nothing of the server. Nothing
+    /// changes.
+    ///
+    /// [`handle_incoming`](Server::handle_incoming) of a change is this call and
+    /// [`commit_change`](Server::commit_change). Between the two a caller can ask
+    /// [`store`](Server::store) what the plan does, as
+    /// [`Store::planned_message`](lsp_store::Store::planned_message).
+    ///
+    /// A change is dropped in phases New and Down, and refused in phase Running as
+    /// [`Store::change`](lsp_store::Store::change) refuses it, in the same order; both are an
+    /// answer and no fault. [`ServerFault::AlreadyEnded`] comes in phase Ended, and only there.
+    ///
+    /// Costs what [`Store::plan`](lsp_store::Store::plan) costs.
+    #[tactic(auto, using(crate::proofs::Changes::dropped_is))]
+    pub fn plan_change<'a>(
+        &self,
+        params: &'a ChangeParams,
+    ) -> Result<PlannedChange<'a>, ServerFault>
+        ensures planned { IfOk result (IsPlannedAs self.now (change_view params.now)) }
+        ensures ended { IsErrOf result ServerFault.AlreadyEnded ↔ (self.now.phase ≡ Ended) }
+        // Memory is taken only in phase Running, once nothing but what the batch means can refuse
+        // it.
+        ensures memory { result ≡ Err ServerFault.NoMemory → (self.now.phase ≡ Running)
+            × MayTakeMemory (store_of self.now) (string_bytes params.now.uri) params.now.version
+            (map edit_of params.now.changes.items) }
+    {
+        match self.phase {
+            Phase::New | Phase::Down => Ok(PlannedChange::Answered(Answer::Dropped)),
+            Phase::Running => Ok(self.plan(params)?),
+            Phase::Ended => Err(ServerFault::AlreadyEnded),
+        }
+    }
+
+    /// Resolves a change of a running session.
+    fn plan<'a>(&self, params: &'a ChangeParams) -> Result<PlannedChange<'a>, AllocError>
+        requires { self.now.phase ≡ Running }
+        ensures planned { IfOk result (IsPlannedAs self.now (change_view params.now)) }
+        ensures memory { OnErr result (MayTakeMemory (store_of self.now)
+            (string_bytes params.now.uri) params.now.version (map edit_of params.now.changes.items)) }
     {
         let encoding = self.encoding.unwrap_or(Encoding::Utf16);
-        let ChangeParams {
-            uri,
-            version,
-            changes,
-        } = params;
-        answer_of(self.store.change(&uri, version, encoding, &changes))
+        let (version, changes) = (params.version, &params.changes);
+        match self.store.plan(&params.uri, version, encoding, changes) {
+            Ok(plan) => Ok(PlannedChange::Accepted(plan)),
+            Err(fault) => Ok(PlannedChange::Answered(refused(fault)?)),
+        }
+    }
+
+    /// Makes a change that was planned ([`plan_change`](Server::plan_change)) on the server as it
+    /// is, and answers it: [`Answer::Changed`].
+    ///
+    /// Fails only if it is out of memory, and then changes nothing; the change has to be planned
+    /// again. Costs what [`Store::apply`](lsp_store::Store::apply) costs.
+    pub fn commit_change(&mut self, plan: Plan<'_>) -> Result<Answer, AllocError>
+        requires { IsCommittable self.old plan }
+        ensures committed { OnOk result (self.new ≡ after_commit self.old plan.entry) }
+        ensures answer { IfOk result (λ a. a ≡ Answer.Changed) }
+        // It is the step of each change that the plan is of.
+        ensures step { (p : ChangeData) → IsPlanOfChange self.old p plan.entry
+            → IsStepOf (step_on self.old (did_change (Some p))) result self.old self.new }
+        ensures unchanged { OnErr result (self.new ≡ self.old) }
+    {
+        self.store.apply(plan)?;
+        Ok(Answer::Changed)
+    }
+
+    /// Makes a change of a running session.
+    fn change(&mut self, params: &ChangeParams) -> Result<Answer, AllocError>
+        requires { self.old.phase ≡ Running }
+        ensures { IsStepOf (obeys self.old (change_command self.old (change_view params.now))) result
+            self.old self.new }
+    {
+        match self.plan(params)? {
+            PlannedChange::Accepted(plan) => self.commit_change(plan),
+            PlannedChange::Answered(answer) => Ok(answer),
+        }
     }
 
     #[tactic(auto, using(crate::proofs::Commands::obeyed_row))]
@@ -104,7 +175,7 @@ impl Server {
     }
 }
 
-/// Converts the store's result of a command into an answer.
+/// Returns the answer to a command with this result on the store.
 fn answer_of(outcome: Result<(), StoreFault>) -> Result<Answer, AllocError>
     ensures changed { OnOk outcome (result ≡ Ok Answer.Changed) }
     ensures refused { IfErr outcome
@@ -114,7 +185,18 @@ fn answer_of(outcome: Result<(), StoreFault>) -> Result<Answer, AllocError>
 {
     match outcome {
         Ok(()) => Ok(Answer::Changed),
-        Err(StoreFault::NoMemory) => Err(AllocError),
-        Err(fault) => Ok(Answer::Refused(Refusal::Store(fault))),
+        Err(fault) => refused(fault),
+    }
+}
+
+/// Returns the answer to a command that the store refuses.
+fn refused(fault: StoreFault) -> Result<Answer, AllocError>
+    ensures refused { IfOk result
+        (λ a. (fault ≢ NoMemory) × (a ≡ Answer.Refused (Refusal.Store fault))) }
+    ensures memory { OnErr result (fault ≡ NoMemory) }
+{
+    match fault {
+        StoreFault::NoMemory => Err(AllocError),
+        _ => Ok(Answer::Refused(Refusal::Store(fault))),
     }
 }

@@ -1,15 +1,15 @@
-use Rattle.std.proofs.Common.{map, string_bytes, rules}
-use Rattle.lsp_edit.specs.Edited.{edit_of}
-use Rattle.lsp_store.specs.Table.{Command, changes}
-use Rattle.lsp_server.proofs.Commands.{edits_of, obeyed_step}
-use Rattle.lsp_server.specs.Step.{encoding_of}
-use Rattle.lsp_server.specs.contracts.server.Server.{the_view}
+use Rattle.lsp_message.specs.Seen.{change_view}
+use Rattle.lsp_server.proofs.Changes.{accepted_on, accepted_step, answered_step}
 use Rattle.lsp_server.proofs.server.Server.change.Goals as goal
 
-pub returns : goal.returns
-returns c =
-    let s = the_view c.self.inside in
-    let command : Command = changes (string_bytes c.args.params.uri) c.args.params.version (encoding_of s) (map edit_of c.args.params.changes.items) in
-    rw (edits_of c.args.params.changes.items, ← c.self.view_is)
-    (obeyed_step s _ command c.change.new.self c.change.result c.answer_of.result
-    c.change.ensures.taken c.change.ensures.unchanged c.change.ensures.error c.answer_of.ensures.changed c.answer_of.ensures.refused (search rules))
+pub commit_change-requires : goal.commit_change-requires
+commit_change-requires c =
+    (accepted_on c.args.self.now (change_view c.args.params.now) c.in_ok-plan.field-0 c.in-Accepted.plan c.in-Accepted.is c.in_ok-plan.ensures.planned).0
+
+pub returns-in-Accepted : goal.returns-in-Accepted
+returns-in-Accepted c =
+    accepted_step c.args.self.now (change_view c.args.params.now) c.in_ok-plan.field-0 c.in-Accepted.plan c.commit_change.result c.commit_change.new.self c.in-Accepted.is c.requires c.in_ok-plan.ensures.planned c.commit_change.ensures.step
+
+pub returns-in-Answered : goal.returns-in-Answered
+returns-in-Answered c =
+    answered_step c.args.self.now (change_view c.args.params.now) c.in_ok-plan.field-0 c.in-Answered.answer c.in-Answered.is c.requires c.in_ok-plan.ensures.planned
