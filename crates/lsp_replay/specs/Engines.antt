@@ -1,7 +1,5 @@
 -- The output of each engine for the records of a log.
 use Rattle.std.specs.Prelude.{ℕ, Bool, true, false, ◌==◌, ◌++◌, if◌then◌else◌, nat_lt, length, map, drop, List, [], ◌∷◌, Option, Some, None, Result, Ok, Err, codes, decimal, flat_map}
-use Rattle.serde_json.specs.Data.{Data, number, string, object, member, no_members}
-use Rattle.serde_json.specs.Find.{of_integer}
 use Rattle.serde_json.specs.Written.{compact_text}
 use Rattle.lsp_frame.specs.Frame.{frame}
 use Rattle.lsp_frame.specs.Limits.{default_limits}
@@ -12,6 +10,7 @@ use Rattle.lsp_edit.specs.declared.fault.EditFault.TheVariants.{InsideCharacter,
 use Rattle.lsp_message.specs.declared.outgoing.ErrorCode.{ErrorCode}
 use Rattle.lsp_message.specs.declared.outgoing.ErrorCode.TheVariants.{ParseError, InvalidRequest, MethodNotFound, InvalidParams, ServerNotInitialized}
 use Rattle.lsp_message.specs.Message.{reading}
+use Rattle.lsp_message.specs.Outgoing.{opened_document}
 use Rattle.lsp_message.specs.Params.{DocumentItem, ChangeData}
 use Rattle.lsp_store.specs.Message.{canonical_body}
 use Rattle.lsp_store.specs.declared.fault.StoreFault.{StoreFault}
@@ -158,17 +157,9 @@ checking = record {
 
 -- ---- `replay`: at the end a line for each open document, in order of opening
 
--- A document as a JSON object.
-abbrev pub document_value : DocumentItem → Data
-document_value entry =
-    object (member (codes "languageId") (string entry.language)
-    (member (codes "text") (string entry.text)
-    (member (codes "uri") (string entry.uri)
-    (member (codes "version") (number (of_integer entry.version)) no_members))))
-
--- A document's line: its object without spaces, and a line feed.
+-- A document's line: its object without spaces, as `textDocument/didOpen` has it, and a line feed.
 unfoldable pub document_line : DocumentItem → List ℕ
-document_line entry = compact_text (document_value entry) ++ codes "\n"
+document_line entry = compact_text (opened_document entry) ++ codes "\n"
 
 -- The lines of the documents from an index on.
 abbrev pub report_from : ℕ → List DocumentItem → List ℕ

@@ -55,8 +55,11 @@ impl Default for Settings {
 impl Settings {
     /// The server of a log command.
     fn config(&self) -> Config
-        ensures { result ≡ log_config self.now }
+        ensures value { result ≡ log_config self.now }
+        ensures in_range { AreInRange self.now.limits }
     {
+        // States that the limits are in their ranges.
+        let _ = self.limits.max_body();
         Config {
             limits: self.limits,
             choice: EncodingChoice::Fixed(self.encoding),
@@ -69,15 +72,6 @@ impl Settings {
         ensures { result ≡ self.now.squash }
     {
         self.squash
-    }
-
-    /// States that the limits are in their ranges, as all limits are; it does nothing else.
-    fn known(&self)
-        ensures { AreInRange self.now.limits }
-    {
-        let limits = self.limits;
-        let _bytes = (limits.max_body(), limits.max_text());
-        let _counts = (limits.max_docs(), limits.max_changes());
     }
 
     /// How the log is read. With `only_one` version 2 is refused.
@@ -210,7 +204,6 @@ pub fn convert<R: Source, W: Sink>(
         (ports (R.seen reader.old) (W.seen writer.old))
         (ports (R.seen reader.new) (W.seen writer.new)) result }
 {
-    settings.known();
     let rules = settings.rules(true);
     let mut convert = Convert::new(alloc, settings.config());
     run_engine(alloc, reader, writer, &mut convert, rules, max_turns)
@@ -274,7 +267,6 @@ fn normalise_each<R: Source, W: Sink>(
         (ports (R.seen reader.old) (W.seen writer.old))
         (ports (R.seen reader.new) (W.seen writer.new)) result }
 {
-    settings.known();
     let rules = settings.rules(false);
     let mut normalise = Normalise::new(alloc, settings.config());
     run_engine(alloc, reader, writer, &mut normalise, rules, max_turns)
@@ -295,7 +287,6 @@ fn normalise_squashed<R: Source, W: Sink>(
         (ports (R.seen reader.old) (W.seen writer.old))
         (ports (R.seen reader.new) (W.seen writer.new)) result }
 {
-    settings.known();
     let rules = settings.rules(false);
     let mut squashing = Squashing::new(alloc, settings.config());
     run_engine(alloc, reader, writer, &mut squashing, rules, max_turns)

@@ -13,7 +13,7 @@ use crate::handler::{Given, Handler, Output};
 use crate::outcome::Outcome;
 use crate::session::writing::Appended;
 use crate::session::{Session, in_log};
-use lsp_frame::put_header;
+use lsp_frame::{put_before, put_header};
 use lsp_log::Head;
 use lsp_server::Config;
 use lsp_stream::EngineFault;
@@ -143,17 +143,4 @@ fn put_front(buffer: &mut [u8], head: Head) -> usize
     let header = put_header(buffer, FRONT_ROOM);
     let mark = put_before(buffer, header, mark_bytes(head));
     put_before(buffer, mark, line_bytes(head.line_due))
-}
-
-/// Writes some bytes right before an index, over what is there. Returns the index where they begin.
-fn put_before(buffer: &mut [u8], index: usize, bytes: &[u8]) -> usize
-    requires room { length bytes.now ≤ index }
-    requires within { index ≤ length buffer.old }
-    ensures put { drop result buffer.new ≡ bytes.now ++ drop index buffer.old }
-    ensures len { length buffer.new ≡ length buffer.old }
-    ensures begins { result ≡ index - length bytes.now }
-{
-    let start = index - bytes.len();
-    buffer[start..index].copy_from_slice(bytes);
-    start
 }

@@ -1,28 +1,23 @@
 //! `replay`: the documents that are open at the end of a log.
 
-ghost use Rattle.std.specs.Prelude.{◌≡◌, ◌∷◌, ◌++◌, ◌-◌, [], refl, OnOk, length, false};
-ghost use Rattle.std.specs.Fmt.{signed_decimal};
-ghost use Rattle.json.specs.Token as token;
-ghost use Rattle.lsp_message.specs.inside.Tokens.{Appends, tokens_of};
+ghost use Rattle.std.specs.Prelude.{◌≡◌, ◌++◌, ◌-◌, refl, OnOk, length, false};
 ghost use Rattle.lsp_replay.specs.Session.{opened};
-ghost use Rattle.lsp_replay.specs.Engines.{replaying, replaying_from, run_output_in, document_line, document_value};
+ghost use Rattle.lsp_replay.specs.Engines.{replaying, replaying_from, run_output_in, document_line};
 
 use crate::handler::{Given, Handler, Output};
 use crate::outcome::Outcome;
 use crate::session::Session;
-use json::Writer;
 use lsp_log::Head;
+use lsp_message::push_document;
 use lsp_server::Config;
 use lsp_store::Document;
 use lsp_stream::EngineFault;
 use std::alloc::{AllocError, Global};
-use std::mem::replace;
 
 /// Writes a line for each document that is open at the end, in order of opening.
 #[derive(Drop)]
 pub struct Replay {
     pub session: Session,
-    pub alloc: Global,
     // The index of the next document to be written.
     pub next: usize,
 }
@@ -35,11 +30,7 @@ impl Replay {
             ≡ run_output_in replaying (opened config) }
     {
         let session = Session::new(alloc, config);
-        Replay {
-            session,
-            alloc,
-            next: 0,
-        }
+        Replay { session, next: 0 }
     }
 }
 
@@ -79,52 +70,23 @@ impl Handler for Replay {
         let Some(document) = documents.at(self.next) else {
             return Ok(Some(self.session.outcome()));
         };
-        push_document(self.alloc, buffer, &document)?;
+        push_document_line(buffer, &document)?;
         self.next += 1;
         Ok(None)
     }
 }
 
-/// Writes a document's line. Its texts are copied only once, into the line.
-fn push_document(
-    alloc: Global,
-    buffer: &mut Vec<u8>,
-    document: &Document<'_>,
-) -> Result<(), AllocError>
+/// Appends a document's line. Its texts are copied only once, into the line.
+fn push_document_line(buffer: &mut Vec<u8>, document: &Document<'_>) -> Result<(), AllocError>
     ensures { OnOk result (buffer.new.items ≡ buffer.old.items ++ document_line document.now) }
 {
-    let mut writer = Writer::new(replace(buffer, Vec::new(alloc)));
-    write_document(&mut writer, document)?;
-    *buffer = writer.into_inner();
+    push_document(
+        buffer,
+        document.uri(),
+        document.language(),
+        document.version(),
+        document.text(),
+    )?;
     buffer.extend_from_slice(b"\n")?;
     Ok(())
-}
-
-fn write_document(writer: &mut Writer, document: &Document<'_>) -> Result<(), AllocError>
-    ensures { OnOk result
-        (Appends writer.old writer.new (tokens_of (document_value document.now))) }
-{
-    writer.begin_object()?;
-    text_member(writer, "languageId", document.language())?;
-    text_member(writer, "text", document.text())?;
-    text_member(writer, "uri", document.uri())?;
-    integer_member(writer, "version", document.version())?;
-    writer.end_object()
-}
-
-fn text_member(writer: &mut Writer, name: &str, text: &str) -> Result<(), AllocError>
-    ensures { OnOk result
-        (Appends writer.old writer.new (token.key name.now ∷ token.string text.now ∷ [])) }
-{
-    writer.key(name)?;
-    writer.string(text)
-}
-
-fn integer_member(writer: &mut Writer, name: &str, number: i32) -> Result<(), AllocError>
-    ensures { OnOk result
-        (Appends writer.old writer.new
-        (token.key name.now ∷ token.number (signed_decimal number) ∷ [])) }
-{
-    writer.key(name)?;
-    writer.i64(i64::from(number))
 }

@@ -8,7 +8,7 @@ use Rattle.lsp_replay.proofs.engines.replay.Goals as goal
 
 pub returns : goal.returns
 returns g c =
-    let run_output = rw c.config.ensures at c.new-replay.ensures.run_output in
+    let run_output = rw c.config.ensures.value at c.new-replay.ensures.run_output in
     let run = rw c.rules-rules.ensures at c.run_engine.ensures.run in
     record {
       run = run_of c.run_engine.ensures.first c.run_engine.ensures.version replaying (opened (log_config c.args.settings)) true
