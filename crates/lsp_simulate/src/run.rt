@@ -7,7 +7,7 @@ use crate::command_line::{Setting, parse};
 use crate::script::{ScriptFault, event_of};
 use crate::word::write_happened;
 use clap::error as clap_error;
-use json::Writer;
+use lsp_message::push_document;
 use lsp_pair::{Pair, PairFault};
 use lsp_store::{Document, Store};
 use std::alloc::{AllocError, Global};
@@ -140,18 +140,16 @@ fn write_documents<W: Write>(
 
 /// A document as one line of JSON.
 fn document_line(alloc: Global, document: &Document<'_>) -> Result<Vec<u8>, AllocError> {
-    let mut writer = Writer::new(Vec::new(alloc));
-    writer.begin_object()?;
-    writer.key("languageId")?;
-    writer.string(document.language())?;
-    writer.key("text")?;
-    writer.string(document.text())?;
-    writer.key("uri")?;
-    writer.string(document.uri())?;
-    writer.key("version")?;
-    writer.i64(i64::from(document.version()))?;
-    writer.end_object()?;
-    Ok(writer.into_inner())
+    let mut line = Vec::new(alloc);
+    let (uri, language) = (document.uri(), document.language());
+    push_document(
+        &mut line,
+        uri,
+        language,
+        document.version(),
+        document.text(),
+    )?;
+    Ok(line)
 }
 
 fn read_fault(kind: ErrorKind) -> RunFault
