@@ -1,18 +1,22 @@
 -- What was resolved once, read again.
-use Rattle.std.proofs.Common.{ℕ, ◌≡◌, ◌+◌, ◌-◌, ◌≤◌, true, false, List, length, refl, sym, ap, ◌∙◌, subst, arith, ⊎_elim, nat_lt, Some, Result, Ok, Err}
+use Rattle.std.proofs.Common.{ℕ, ◌≡◌, ◌+◌, ◌-◌, ◌≤◌, true, false, List, length, map, refl, sym, ap, ◌∙◌, subst, arith, ⊎_elim, nat_lt, Some, Result, Ok, Err, IfOk}
 use Rattle.std.proofs.lemmas.Bool.{cases_Bool}
 use Rattle.std.specs.List.{replace_range}
 use Rattle.std.specs.Str.{IsCharBoundary, chars}
-use Rattle.lsp_text.specs.LineStarts.{Indexes}
+use Rattle.lsp_text.specs.LineStarts.{Indexes, start_places}
 use Rattle.lsp_edit.specs.declared.indexed.TextFault.TheVariants.{TooLong}
 use Rattle.lsp_edit.specs.Items.{Item, plain, text_of}
-use Rattle.lsp_edit.specs.Batch.{Fault, after_change, continue_with, meaning}
+use Rattle.lsp_edit.specs.Batch.{Edit, Fault, after_change, continue_with, meaning}
 use Rattle.lsp_edit.specs.Canonical.{gaps}
-use Rattle.lsp_edit.specs.Edited.{ArePieces}
+use Rattle.lsp_edit.specs.Edited.{ArePieces, edit_of}
 use Rattle.lsp_edit.specs.Indexed.{alone, bytes_left, text_within}
 use Rattle.lsp_edit.specs.Laws.{AllHaveExactEnds}
-use Rattle.lsp_edit.specs.Once.{IsPut, put_items}
-use Rattle.lsp_edit.specs.Parts.{AreParts, items_of}
+use Rattle.lsp_edit.specs.declared.delta.Delta.{Delta}
+use Rattle.lsp_edit.specs.declared.delta.Delta.TheVariants.{Put, Left}
+use Rattle.lsp_edit.specs.Once.{IsOn, IsPut, meant_by, put_items}
+use Rattle.lsp_text.specs.Units.{units_in}
+use Rattle.lsp_edit.specs.Parts.{AreParts, Part, items_of}
+use Rattle.lsp_edit.specs.inside.Deltas.{AreSameItems, IsDelta}
 use Rattle.lsp_edit.specs.inside.Parts.{AreCut, AreOrdered, replaced_parts, whole_parts}
 use Rattle.lsp_edit.proofs.AppliedLemmas as applied
 use Rattle.lsp_edit.proofs.AppliedLemmas.{AreEnds, IsNext, ends_told}
@@ -20,6 +24,10 @@ use Rattle.lsp_edit.proofs.EditedLemmas.{begun, plain_text, whole_is}
 use Rattle.lsp_edit.proofs.GapLemmas.{ends_exact}
 use Rattle.lsp_edit.proofs.InPlaceLemmas.{replaced_len, range_means, range_order, range_start, range_stop}
 use Rattle.lsp_edit.proofs.PutLemmas.{replaced_few}
+
+pub if_ok : {A E : Type 0} {P Q : A → Type 0} (r : Result A E) → ((a : A) → P a → Q a) → IfOk r P → IfOk r Q
+if_ok (Ok a) then p = then a p
+if_ok (Err e) then p = tt
 
 -- A text that is within a limit is what a batch leaves.
 pub record IsWithin (before : List ℕ) (meant : Result (List Item) (ℕ × Fault)) (left : List ℕ) : Type 0 where
@@ -93,3 +101,40 @@ module _ (units : ℕ → ℕ) (before : List ℕ) (start stop : ℕ) (new : Lis
         let means : meaning units (chars before) (alone p.range new) ≡ Ok (put_items before start stop new) = range_means units before p.utf8 p.range new p.new_utf8 start stop p.places in
         let same : Ok (items_of (chars before) (replaced_parts (whole_parts before) start stop new)) ≡ Ok (put_items before start stop new) = sym all ∙ means in
         cc
+
+  -- ---- as a delta of its own spans
+
+  own_lines : Indexes (start_places (chars before)) before
+  own_lines = record { starts = refl; size = omega (arith, p.size) }
+
+  pub layer_start : AreCut (whole_parts before) start
+  layer_start = put_start_cut _ own_lines
+
+  pub layer_stop : AreCut (whole_parts before) stop
+  layer_stop = put_stop_cut _ own_lines
+
+  pub layer_ordered : AreOrdered (whole_parts before)
+  layer_ordered = put_ordered _ own_lines
+
+  pub layer_is : (parts owned : List Part) → parts ≡ replaced_parts (whole_parts before) start stop new → AreSameItems owned parts → IsDelta (Ok (put_items before start stop new)) before owned
+  layer_is parts owned made same =
+      let kept : AreParts before owned × (items_of (chars before) owned ≡ items_of (chars before) parts) = same before (subst (AreParts before) (sym made) (put_are _ own_lines)) in
+      record {
+        utf8 = p.utf8;
+        are = kept.0;
+        means = ap (λ (items : List Item). Ok items) (sym (kept.1 ∙ (ap (items_of (chars before)) made ∙ put_items_are _ own_lines)));
+      }
+
+-- A delta means what some batch means.
+pub record HasBatch (before : List ℕ) (delta : Delta) : Type 0 where
+  pub units : ℕ → ℕ
+  pub batch : List Edit
+  pub means : meaning units (chars before) batch ≡ meant_by before delta
+
+pub has_batch : (before : List ℕ) (delta : Delta) → IsOn before delta → HasBatch before delta
+has_batch before (Put encoding start stop new) on = record {
+  units = units_in encoding;
+  batch = alone on.range new.now;
+  means = range_means (units_in encoding) before on.utf8 on.range new.now on.new_utf8 start stop on.places;
+}
+has_batch before (Left encoding changes left) on = record { units = units_in encoding; batch = map edit_of changes.now; means = refl }

@@ -1,5 +1,5 @@
 -- What text edits leave of a text.
-use Rattle.std.proofs.Common.{ℕ, zero, suc, ◌≡◌, ◌+◌, ◌-◌, ◌<◌, ◌≤◌, ◌⊎◌, Bool, true, false, List, [], ◌∷◌, ◌++◌, length, map, take, drop, nat_lt, IsCharBoundary, Result, Ok, Err, refl, sym, ap, ◌∙◌, subst, arith, ⊎_elim, inl, inr, ltb-true, append_assoc, append-nil, take-append-drop, encode_utf8_all, string_bytes}
+use Rattle.std.proofs.Common.{ℕ, zero, suc, ◌≡◌, ◌+◌, ◌-◌, ◌<◌, ◌≤◌, ◌⊎◌, true, false, List, [], ◌∷◌, ◌++◌, length, map, take, drop, nat_lt, IsCharBoundary, Ok, Err, refl, sym, ap, ◌∙◌, subst, arith, ⊎_elim, inl, inr, ltb-true, append_assoc, append-nil, take-append-drop, encode_utf8_all, string_bytes}
 use Rattle.std.specs.List.{AllByRecursion}
 use Rattle.std.specs.Str.{chars, is_utf8, IsUtf8}
 use Rattle.std.proofs.lemmas.Bool.{cases_Bool}
@@ -7,7 +7,6 @@ use Rattle.std.proofs.lemmas.List.Elements.{All-from_recursion, recursion_from_A
 use Rattle.std.proofs.lemmas.List.Sorted.{All-permutation}
 use Rattle.std.proofs.lemmas.Str.{encodes-chars, is_utf8-from_IsUtf8, IsUtf8-string_bytes}
 use Rattle.lsp_text.specs.LineStarts.{IsPlace}
-use Rattle.lsp_text.specs.Text.{place_of}
 use Rattle.lsp_text.specs.TextLines.{numbers_from, splits_crlf}
 use Rattle.lsp_text.proofs.LineLemmas.{splits_none_past}
 use Rattle.lsp_text.proofs.PlaceLemmas.{place_boundary, place_end, place_rises, place_within}
@@ -22,8 +21,8 @@ use Rattle.lsp_edit.specs.Canonical.{canonical}
 use Rattle.lsp_edit.specs.Faults.{ends_of, places_at}
 use Rattle.lsp_edit.specs.Items.{Item, Old, New}
 use Rattle.lsp_edit.specs.Keeps.{Keeps}
-use Rattle.lsp_edit.specs.Parts.{Part, OldPart, AreParts, index_of, items_of, new_parts}
-use Rattle.lsp_edit.specs.TextEdits.{IsPlaced, ArePlaced, IsInOrder, AreApart, old_parts, parts_left, AreLeftByEdits, fault_of, LiesNowhere, DoOverlap}
+use Rattle.lsp_edit.specs.Parts.{Part, AreParts, index_of, items_of, new_parts}
+use Rattle.lsp_edit.specs.TextEdits.{IsPlaced, ArePlaced, AreApart, old_parts, parts_left, AreLeftByEdits, fault_of, LiesNowhere, DoOverlap}
 use Rattle.lsp_edit.proofs.AppliedLemmas.{AreEnds, ends_told}
 use Rattle.lsp_edit.proofs.DeltaLemmas.{are_both, items_both}
 use Rattle.lsp_edit.proofs.EditedLemmas.{index_first}

@@ -5,6 +5,8 @@ ghost use Rattle.std.specs.List.{replace_range};
 ghost use Rattle.std.specs.Str.{chars};
 ghost use Rattle.lsp_text.specs.Units.{units_in};
 ghost use Rattle.lsp_edit.specs.Canonical.{canonical};
+ghost use Rattle.lsp_edit.specs.Deltas.{delta_parts};
+ghost use Rattle.lsp_edit.specs.inside.Deltas.{IsDelta};
 ghost use Rattle.lsp_edit.specs.Edited.{edit_of};
 ghost use Rattle.lsp_edit.specs.Items.{Item};
 ghost use Rattle.lsp_edit.specs.Once.{IsOn, IsPut, bytes_after, encoding_of, meant_by, put_items};
@@ -12,6 +14,7 @@ ghost use Rattle.lsp_edit.specs.Once.{IsOn, IsPut, bytes_after, encoding_of, mea
 use crate::change::Change;
 use crate::indexed::IndexedText;
 use crate::indexed::in_place::replaced;
+use crate::joined::delta::Delta as Layer;
 use crate::pieces::canonical::canonical_of;
 use crate::pieces::spans::Spans;
 use lsp_text::Encoding;
@@ -100,6 +103,25 @@ impl<'a> Delta<'a> {
         }
     }
 
+    /// Returns a range that is replaced as spans that own their texts.
+    fn put_layer(
+        alloc: Global,
+        text: &IndexedText,
+        _encoding: Encoding,
+        start: usize,
+        stop: usize,
+        new: &str,
+    ) -> Result<Layer, AllocError>
+        requires put { IsPut (units_in _encoding) text.now start stop new.now }
+        ensures { IfOk result (λ layer. IsDelta (Ok (put_items text.now start stop new.now))
+            text.now (delta_parts layer)) }
+    {
+        let before = text.text();
+        let mut spans = Spans::whole(alloc, before);
+        spans.replace(alloc, start, stop, new)?;
+        Layer::of_spans(alloc, 0, spans.as_slice())
+    }
+
     /// Returns the canonical batch of a range that is replaced.
     fn put_canonical(
         alloc: Global,
@@ -119,6 +141,31 @@ impl<'a> Delta<'a> {
         let mut spans = Spans::whole(alloc, before);
         spans.replace(alloc, start, stop, new)?;
         canonical_of(alloc, before, lines, spans.as_slice(), encoding)
+    }
+
+    /// Returns it in spans that own their texts. Fails only if it is out of memory. A range costs
+    /// three spans, and a copy of its new text. Any other batch is composed.
+    pub(crate) fn layer(&self, alloc: Global, text: &IndexedText) -> Result<Layer, AllocError>
+        requires on { IsOn text.now self.now }
+        ensures { IfOk result (λ layer. IsDelta (meant_by text.now self.now) text.now
+            (delta_parts layer)) }
+    {
+        match self {
+            Delta::Put {
+                encoding,
+                start,
+                stop,
+                new,
+            } => Self::put_layer(alloc, text, *encoding, *start, *stop, new),
+            Delta::Left {
+                encoding,
+                changes,
+                ..
+            } => match text.layer(*encoding, changes, usize::MAX) {
+                Ok(layer) => Ok(layer),
+                Err(_) => Err(AllocError),
+            },
+        }
     }
 
     /// Returns the canonical batch, over the text that the delta was made of. It has one change for

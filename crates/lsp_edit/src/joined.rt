@@ -1,23 +1,25 @@
 //! `Joined`, batches of changes on a text, one after another, as one.
 
-ghost use Rattle.std.specs.Prelude.{◌≡◌, ◌≤◌, ◌⊎◌, Err, IfErr, IfOk, IsOk, Ok, OnErr, OnOk, length, map, string_bytes, string_len, sum_by};
+ghost use Rattle.std.specs.Prelude.{ℕ, ◌≡◌, ◌≤◌, ◌⊎◌, List, Err, IfErr, IfOk, IsOk, Ok, OnErr, OnOk, length, map, string_bytes, string_len, sum_by};
 ghost use Rattle.std.specs.Str.{chars};
 ghost use Rattle.lsp_text.specs.Units.{units_in};
 ghost use Rattle.lsp_edit.specs.declared.indexed.TextFault.TheVariants.{NoMemory};
-ghost use Rattle.lsp_edit.specs.Batch.{meaning};
+ghost use Rattle.lsp_edit.specs.Batch.{Edit, meaning};
 ghost use Rattle.lsp_edit.specs.Canonical.{canonical};
 ghost use Rattle.lsp_edit.specs.Edited.{edit_of};
 ghost use Rattle.lsp_edit.specs.Indexed.{text_within};
 ghost use Rattle.lsp_edit.specs.Items.{plain};
 ghost use Rattle.lsp_edit.specs.Joined.{IsJoined, IsReached};
+ghost use Rattle.lsp_edit.specs.Once.{IsOn, meant_by};
 ghost use Rattle.lsp_edit.specs.inside.Joined.{IsWhole};
 
 pub(crate) mod delta;
 
 use crate::change::{Change, MAX_NEW_TEXT};
 use crate::composed::MAX_OLD_TEXT;
+use crate::delta::Delta;
 use crate::indexed::{IndexedText, TextFault};
-use crate::joined::delta::Delta;
+use crate::joined::delta::Delta as Layer;
 use crate::pieces::MAX_TEXT;
 use crate::pieces::canonical::canonical_of;
 use crate::pieces::spans::Spans;
@@ -37,7 +39,7 @@ pub(crate) const RUN: usize = 1024;
 #[derive(Debug, Drop)]
 pub struct Joined {
     before: IndexedText,
-    deltas: Vec<Delta>,
+    deltas: Vec<Layer>,
 }
 
 impl Model for Joined {
@@ -171,10 +173,31 @@ impl Joined {
             (meaning (units_in encoding) (chars reached.now) (map edit_of changes.now))
             ≡ Err fault)) }
     {
+        let delta = reached.delta(encoding, changes, max_len)?;
+        self.add_delta(reached, &delta)?;
+        Ok(())
+    }
+
+    /// Adds a batch that was resolved on `reached`, the text after the batches before it.
+    ///
+    /// Fails only if it is out of memory, and then nothing changes. A range costs three spans and a
+    /// copy of its new text, any other batch is composed. Now and then there is a walk over the
+    /// spans of earlier batches.
+    pub fn add_delta(&mut self, reached: &IndexedText, delta: &Delta<'_>) -> Result<(), AllocError>
+        requires reached { IsReached self.old reached.now }
+        requires on { IsOn reached.now delta.now }
+        ensures ok { OnOk result ((units : ℕ → ℕ) (batch : List Edit)
+            → meaning units (chars reached.now) batch ≡ meant_by reached.now delta.now
+            → IsJoined units self.old batch self.new) }
+        ensures reached { OnOk result ((max_len : ℕ) (left : List ℕ)
+            → text_within max_len reached.now (meant_by reached.now delta.now) ≡ Ok left
+            → IsReached self.new left) }
+        ensures unchanged { OnErr result (self.new ≡ self.old) }
+    {
         self.join()?;
-        let delta = reached.layer(encoding, changes, max_len)?;
+        let layer = delta.layer(*self.deltas.allocator(), reached)?;
         self.deltas.reserve(1)?;
-        self.deltas.push_reserved(delta);
+        self.deltas.push_reserved(layer);
         Ok(())
     }
 
@@ -204,9 +227,10 @@ impl Joined {
             ≡ Err fault)) }
     {
         self.join()?;
-        let next = reached.layer(encoding, changes, max_len)?;
+        let delta = reached.delta(encoding, changes, max_len)?;
+        let next = delta.layer(*self.deltas.allocator(), reached)?;
         self.deltas.reserve(1)?;
-        reached.change(encoding, changes, max_len)?;
+        reached.apply(delta)?;
         self.deltas.push_reserved(next);
         Ok(())
     }

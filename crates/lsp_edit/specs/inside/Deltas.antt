@@ -1,5 +1,5 @@
 -- What only proofs and private contracts use of `Deltas`.
-use Rattle.std.specs.Prelude.{ℕ, ◌≡◌, List, [], ◌∷◌, Result, Ok}
+use Rattle.std.specs.Prelude.{ℕ, ◌≡◌, List, Result, Ok}
 use Rattle.std.specs.Str.{IsUtf8, chars}
 use Rattle.lsp_edit.specs.Items.{Item}
 use Rattle.lsp_edit.specs.Batch.{Fault}

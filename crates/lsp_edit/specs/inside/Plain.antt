@@ -1,5 +1,5 @@
 -- What only proofs and private contracts use of `Plain`.
-use Rattle.std.specs.Prelude.{ℕ, ◌≡◌, ◌≤◌, if◌then◌else◌, List, [], ◌∷◌}
+use Rattle.std.specs.Prelude.{ℕ, if◌then◌else◌, List, [], ◌∷◌}
 use Rattle.lsp_edit.specs.Batch.{Edit}
 use Rattle.lsp_edit.specs.Canonical.{Gap, is_changed, change_of}
 

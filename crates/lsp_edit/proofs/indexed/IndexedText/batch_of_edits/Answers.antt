@@ -1,5 +1,4 @@
-use Rattle.std.proofs.Common.{subst, ap, ◌∙◌, List, ℕ, string_bytes}
-use Rattle.std.specs.Str.{chars}
+use Rattle.std.proofs.Common.{subst, List, ℕ, string_bytes}
 use Rattle.std.proofs.lemmas.Str.{IsUtf8-string_bytes}
 use Rattle.lsp_text.specs.Units.{units_in}
 use Rattle.lsp_edit.specs.Parts.{parts_of}
