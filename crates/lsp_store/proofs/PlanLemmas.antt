@@ -1,5 +1,5 @@
 -- What a plan is of, and what it makes of a store.
-use Rattle.std.proofs.Common.{◌≡◌, ◌+◌, ◌≤◌, ℕ, ℤ, zero, suc, Bool, true, false, List, [], ◌∷◌, length, map, not, nat_lt, Option, Some, None, Result, Ok, Err, IfOk, IfErr, OnOk, OnErr, option_map, slice_get, position, String, string_bytes, bytes_eq, refl, sym, ap, ◌∙◌, subst, arith, ⊎_elim}
+use Rattle.std.proofs.Common.{◌≡◌, ◌+◌, ◌≤◌, ℕ, ℤ, zero, suc, Bool, true, false, List, [], ◌∷◌, length, map, nat_lt, Option, Some, None, Result, Ok, Err, IfOk, IfErr, OnOk, OnErr, option_map, slice_get, position, String, string_bytes, bytes_eq, refl, sym, ap, ◌∙◌, subst, arith, ⊎_elim}
 use Rattle.std.proofs.lemmas.Bool.{cases_Bool}
 use Rattle.std.proofs.lemmas.Option.{slice_get-map}
 use Rattle.std.proofs.lemmas.Slice.Eq.{bytes_eq-Decides}
@@ -34,6 +34,10 @@ use Rattle.lsp_store.proofs.TableLemmas.{at_uri}
 pub on_ok : {A E P Q : Type 0} (r : Result A E) → (P → Q) → OnOk r P → OnOk r Q
 on_ok (Ok a) then p = then p
 on_ok (Err e) then p = tt
+
+pub on_ok_on : {A E P O Q : Type 0} (r : Result A E) → (P → O → Q) → OnOk r P → OnOk r O → OnOk r Q
+on_ok_on (Ok a) then p o = then p o
+on_ok_on (Err e) then p o = tt
 
 pub on_err : {A E P Q : Type 0} (r : Result A E) → (P → Q) → OnErr r P → OnErr r Q
 on_err (Ok a) then p = tt
@@ -163,7 +167,7 @@ module _ (limits : Bounds) (es : List (String Global × Stored)) (kept : StoreDa
     entry_is : Some (entry_under (string_bytes h.key) stored) ≡ Some p.entry
     entry_is = ap (option_map entry_of) (sym h.at) ∙ (sym (slice_get-map entry_of es plan.index) ∙ (ap (λ (d : StoreData). slice_get d.table plan.index) view ∙ p.at))
 
-    same_entry : p.entry ≡ entry_under (string_bytes h.key) stored
+    pub same_entry : p.entry ≡ entry_under (string_bytes h.key) stored
     same_entry = ap (λ (o : Option DocumentItem). elim o [ None ↦ p.entry | Some e ↦ e ]) (sym entry_is)
 
     pub plan_key : p.entry.uri ≡ string_bytes h.key

@@ -17,6 +17,9 @@ use Rattle.lsp_edit.specs.Canonical.{canonical}
 use Rattle.lsp_edit.specs.Compose.{then_items}
 use Rattle.lsp_edit.specs.Joined.{IsJoined, IsReached, JoinedData, joined_text}
 use Rattle.lsp_edit.specs.Laws.{IsCanonical}
+use Rattle.lsp_edit.specs.declared.delta.Delta.{Delta}
+use Rattle.lsp_edit.specs.declared.delta.Delta.TheVariants.{Put, Left}
+use Rattle.lsp_edit.specs.Once.{IsOn, bytes_after, meant_by}
 use Rattle.lsp_edit.proofs.ComposeLemmas.{text_of-then, then_means}
 use Rattle.lsp_edit.proofs.EditedLemmas.{plain_text}
 use Rattle.lsp_edit.proofs.LawLemmas.{canonical_law, units_some}
@@ -24,13 +27,15 @@ use Rattle.lsp_store.specs.declared.fault.StoreFault.{StoreFault}
 use Rattle.lsp_store.specs.declared.store.stored.Stored.{Stored}
 use Rattle.lsp_store.specs.Faults.{IsRefusal}
 use Rattle.lsp_store.specs.Message.{AreTexts, body_refusal, change_body}
-use Rattle.lsp_store.specs.Opened.{entry_under}
+use Rattle.lsp_store.specs.declared.store.plan.Plan.{Plan}
+use Rattle.lsp_store.specs.Opened.{StoreData, entry_under}
+use Rattle.lsp_store.specs.Plan.{IsPlanOf, IsPlanOn}
 use Rattle.lsp_store.specs.Squash.{HasReached, IsSquashAfter, SquashData, add_refusal, reached_entry, squash_after, items_meant, squash_batch, squash_of, squash_refusal}
 use Rattle.lsp_message.specs.Params.{DocumentItem}
 use Rattle.lsp_store.specs.Table.{IsLeftToMeaning, Refusal, batch_bytes, changed, greatest_batch, entry_refusal, meant_text, too_many_changes}
 use Rattle.lsp_store.proofs.MessageLemmas.{accepted_parts}
 use Rattle.lsp_store.proofs.ProperLemmas.{bytes_sum}
-use Rattle.lsp_store.proofs.RefusalLemmas.{only_memory}
+use Rattle.lsp_store.proofs.RefusalLemmas.{meaning_accepted, only_memory}
 use Rattle.lsp_store.proofs.ScalarLemmas.{scalar-meaning, scalar-text}
 
 -- what callers see of the fields
@@ -213,3 +218,62 @@ memory_alone uri limits encoding joined before kept view entry version more acce
     let a = accepted_parts limits (units_in encoding) entry version more may in
     only_memory limits entry.text (meaning (units_in encoding) (chars entry.text) more) a.items a.means a.short fault
     (subst (λ (t : List ℕ). (fault ≡ NoMemory) ⊎ (text_within limits.max_text t (meaning (units_in encoding) (chars t) more) ≡ Err fault)) same error)
+
+-- ---- a batch that was planned
+
+on_utf8 : (before : List ℕ) (delta : Delta) → IsOn before delta → IsUtf8 before
+on_utf8 before (Put encoding start stop new) on = on.utf8
+on_utf8 before (Left encoding changes left) on = on.utf8
+
+module _ (uri : List ℕ) (limits : Bounds) (encoding : Encoding) (joined next : JoinedData) (before next_version : ℤ) (kept : SquashData) (view : seen uri limits encoding joined before ≡ kept)
+    (store : StoreData) (plan : Plan) (given : next_version ≡ plan.version) (text : List ℕ) (same : (on : IsPlanOn store plan) → text ≡ on.entry.text) (at : (on : IsPlanOn store plan) → HasReached kept on.entry)
+    (joins : (units : ℕ → ℕ) (batch : List Edit) → meaning units (chars text) batch ≡ meant_by text plan.delta → IsJoined units joined batch next)
+    (reaches : (max_len : ℕ) (left : List ℕ) → text_within max_len text (meant_by text plan.delta) ≡ Ok left → IsReached next left)
+    (document : List ℕ) (version : ℤ) (coded : Encoding) (batch : List Edit) (q : IsPlanOf store document version coded batch plan) (coded_is : kept.encoding ≡ coded) (limits_are : kept.limits ≡ store.limits) where
+  abbrev entry : DocumentItem
+  entry = q.on.entry
+
+  entry_accepts : entry_refusal store.limits (units_in coded) q.on.entry version batch ≡ None
+  entry_accepts = rw q.is_open at q.accepted
+
+  kept_accepts : entry_refusal kept.limits (units_in kept.encoding) q.on.entry version batch ≡ None
+  kept_accepts =
+      ap₂ (λ (l : Bounds) (e : Encoding). entry_refusal l (units_in e) q.on.entry version batch) limits_are coded_is
+      ∙ entry_accepts
+
+  added_accepted : add_refusal kept version batch ≡ None
+  added_accepted = add_accepted kept q.on.entry version batch (on_utf8 q.on.entry.text plan.delta q.on.on) (at q.on) kept_accepts
+
+  batch_means : meaning (units_in coded) (chars text) batch ≡ meant_by text plan.delta
+  batch_means = subst (λ (t : List ℕ). meaning (units_in coded) (chars t) batch ≡ meant_by t plan.delta) (sym (same q.on)) q.delta.means
+
+  encoding_is : encoding ≡ coded
+  encoding_is = ap (λ (k : SquashData). k.encoding) view ∙ coded_is
+
+  added_joins : IsJoined (units_in encoding) joined batch next
+  added_joins = subst (λ (e : Encoding). IsJoined (units_in e) joined batch next) (sym encoding_is) (joins (units_in coded) batch batch_means)
+
+  pub plan_after : IsSquashAfter kept version batch (seen uri limits encoding next next_version)
+  plan_after = joins_after uri limits encoding joined next before version next_version kept batch view added_accepted added_joins (given ∙ q.version_is)
+
+  plan_within : text_within store.limits.max_text text (meant_by text plan.delta) ≡ Ok (bytes_after q.on.entry.text plan.delta)
+  plan_within =
+      subst (λ (t : List ℕ). text_within store.limits.max_text t (meant_by t plan.delta) ≡ Ok (bytes_after q.on.entry.text plan.delta)) (sym (same q.on))
+      (subst (λ m. text_within store.limits.max_text q.on.entry.text m ≡ Ok (bytes_after q.on.entry.text plan.delta)) q.delta.means q.delta.is)
+
+  plan_left : meant_text q.on.entry.text (meaning (units_in coded) (chars q.on.entry.text) batch) ≡ bytes_after q.on.entry.text plan.delta
+  plan_left = (meaning_accepted store.limits q.on.entry.text _ _ q.delta.is).1
+
+  pub plan_reached : HasReached (seen uri limits encoding next next_version) (changed (units_in coded) q.on.entry version batch)
+  plan_reached = record {
+    text = ap chars plan_left ∙ (reaches store.limits.max_text (bytes_after q.on.entry.text plan.delta) plan_within).text_is;
+    version = sym (given ∙ q.version_is);
+  }
+
+-- The document that a plan is of is the one that was reached.
+pub plan_at : (uri : List ℕ) (limits : Bounds) (encoding : Encoding) (joined : JoinedData) (before : ℤ) (kept : SquashData) → seen uri limits encoding joined before ≡ kept
+    → (store : StoreData) (plan : Plan) (on : IsPlanOn store plan) (text : List ℕ) → text ≡ on.entry.text → HasReached kept on.entry → IsReached joined text
+plan_at uri limits encoding joined before kept view store plan on text same at = record {
+  utf8 = subst IsUtf8 (sym same) (on_utf8 on.entry.text plan.delta on.on);
+  text_is = ap chars same ∙ (at.text ∙ sym (ap (λ (k : SquashData). text_of (chars k.text) k.items) view));
+}

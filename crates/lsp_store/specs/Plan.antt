@@ -1,5 +1,5 @@
 -- A batch that was resolved once on an open document, and its application.
-use Rattle.std.specs.Prelude.{ℕ, ℤ, ◌≡◌, ◌≤◌, zero, suc, List, [], ◌∷◌, length, Some, None, slice_get}
+use Rattle.std.specs.Prelude.{ℕ, ℤ, ◌≡◌, ◌≤◌, zero, suc, List, [], ◌∷◌, ◌++◌, length, Some, None, slice_get}
 use Rattle.lsp_text.specs.Units.{units_in}
 use Rattle.lsp_text.specs.declared.encoding.Encoding.{Encoding}
 use Rattle.lsp_edit.specs.declared.delta.Delta.{Delta}
@@ -9,7 +9,7 @@ use Rattle.lsp_message.specs.Params.{DocumentItem}
 use Rattle.lsp_store.specs.declared.store.plan.Plan.{Plan}
 use Rattle.lsp_store.specs.declared.fault.StoreFault.{StoreFault}
 use Rattle.lsp_store.specs.Faults.{IsRefusal}
-use Rattle.lsp_store.specs.Message.{canonical_frame, message_refusal}
+use Rattle.lsp_store.specs.Message.{canonical_body, canonical_frame, message_refusal}
 use Rattle.lsp_store.specs.Opened.{MayTakeMemory, StoreData}
 use Rattle.lsp_store.specs.Table.{after_change, change_refusal, entry_at}
 
@@ -56,6 +56,14 @@ IsMessageOfPlan store plan bytes =
     (uri : List ℕ) (version : ℤ) (encoding : Encoding) (batch : List Edit)
     → IsPlanOf store uri version encoding batch plan
     → (bytes ≡ canonical_frame (units_in encoding) store.table uri version batch)
+    × (message_refusal store.limits (units_in encoding) store.table uri version batch ≡ None)
+
+-- The body of that message is appended.
+abbrev pub IsBodyOfPlan : StoreData → Plan → List ℕ → List ℕ → Type 0
+IsBodyOfPlan store plan old new =
+    (uri : List ℕ) (version : ℤ) (encoding : Encoding) (batch : List Edit)
+    → IsPlanOf store uri version encoding batch plan
+    → (new ≡ old ++ canonical_body (units_in encoding) store.table uri version batch)
     × (message_refusal store.limits (units_in encoding) store.table uri version batch ≡ None)
 
 -- Why the canonical message of each batch that a plan is of is refused, or out of memory.

@@ -12,7 +12,10 @@ use Rattle.lsp_edit.specs.Canonical.{canonical}
 use Rattle.lsp_edit.specs.Compose.{then_items}
 use Rattle.lsp_edit.specs.Indexed.{bytes_left}
 use Rattle.lsp_message.specs.Params.{DocumentItem}
-use Rattle.lsp_store.specs.Table.{Refusal, too_many_changes, entry_refusal}
+use Rattle.lsp_store.specs.declared.store.plan.Plan.{Plan}
+use Rattle.lsp_store.specs.Opened.{StoreData}
+use Rattle.lsp_store.specs.Plan.{IsPlanOf}
+use Rattle.lsp_store.specs.Table.{Refusal, changed, too_many_changes, entry_refusal}
 use Rattle.lsp_store.specs.Message.{change_body, body_refusal}
 
 -- Batches on one document. URI and text (as bytes) are the document's before any batch; the version
@@ -86,6 +89,16 @@ pub record IsSquashAfter (old : SquashData) (version : ℤ) (batch : List Edit)
   pub together : (before : List Edit) → meaning (units_in old.encoding) (chars old.text) before
       ≡ Ok old.items
       → meaning (units_in old.encoding) (chars old.text) (before ++ batch) ≡ Ok new.items
+
+-- A plan's batch is added to a squash of the same encoding and limits, which then leads to the
+-- document after it.
+abbrev pub IsSquashOfPlan : StoreData → Plan → SquashData → SquashData → Type 0
+IsSquashOfPlan store plan old new =
+    (uri : List ℕ) (version : ℤ) (encoding : Encoding) (batch : List Edit)
+    → (planned : IsPlanOf store uri version encoding batch plan)
+    → old.encoding ≡ encoding → old.limits ≡ store.limits
+    → IsSquashAfter old version batch new
+    × HasReached new (changed (units_in encoding) planned.on.entry version batch)
 
 -- ---- the message of all batches
 

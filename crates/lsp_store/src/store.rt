@@ -247,6 +247,17 @@ impl Store {
         }
     }
 
+    /// Returns the document that a plan is of, before the plan is applied. Costs one step.
+    pub fn planned_document(&self, plan: &Plan<'_>) -> Document<'_>
+        requires on { IsPlanOn self.now plan.now }
+        ensures { (on : IsPlanOn self.now plan.now) → result ≡ on.entry }
+    {
+        let Some((uri, stored)) = self.documents.get_index(plan.index) else {
+            unreachable!()
+        };
+        Document::new(uri, stored)
+    }
+
     /// Applies a plan that was made of this store as it is. Fails only if it is out of memory, and
     /// then changes nothing. Costs what the delta costs ([`lsp_edit::IndexedText::apply`]).
     pub fn apply(&mut self, plan: Plan<'_>) -> Result<(), AllocError>

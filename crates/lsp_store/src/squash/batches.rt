@@ -5,12 +5,15 @@ ghost use Rattle.lsp_text.specs.Units.{units_in};
 ghost use Rattle.lsp_edit.specs.declared.indexed.TextFault.TheVariants.{NoMemory};
 ghost use Rattle.lsp_edit.specs.Edited.{edit_of};
 ghost use Rattle.lsp_store.specs.Faults.{IsRefusal};
-ghost use Rattle.lsp_store.specs.Squash.{HasReached, IsSquashAfter, squash_frame, squash_of, squash_refusal};
+ghost use Rattle.lsp_store.specs.Plan.{IsPlanOn};
+ghost use Rattle.lsp_store.specs.Squash.{HasReached, IsSquashAfter, IsSquashOfPlan, squash_frame, squash_of, squash_refusal};
 ghost use Rattle.lsp_store.specs.Table.{changed, entry_refusal};
 
 use crate::fault::StoreFault;
+use crate::store::Store;
 use crate::store::canonical::framed_batch;
 use crate::store::document::Document;
+use crate::store::plan::Plan;
 use lsp_edit::{Change, Joined, TextFault};
 use lsp_frame::Limits;
 use lsp_text::Encoding;
@@ -114,6 +117,24 @@ impl Batches {
             return Err(out_of_memory(fault));
         }
         self.version = version;
+        Ok(())
+    }
+
+    /// Adds a batch that was planned on the document that the batches before it lead to, before the
+    /// plan is applied.
+    ///
+    /// Fails only where memory runs out, and then nothing changes. The batch isn't resolved again:
+    /// one change of a range costs three spans and a copy of its new text, any other batch is
+    /// composed. There is a share in the joins of earlier batches, as in [`Batches::add`].
+    pub fn add_plan(&mut self, store: &Store, plan: &Plan<'_>) -> Result<(), AllocError>
+        requires on { IsPlanOn store.now plan.now }
+        requires reached { (on : IsPlanOn store.now plan.now) → HasReached self.old on.entry }
+        ensures added { OnOk result (IsSquashOfPlan store.now plan.now self.old self.new) }
+        ensures unchanged { OnErr result (self.new ≡ self.old) }
+    {
+        let document = store.planned_document(plan);
+        self.joined.add_delta(&document.stored.text, &plan.delta)?;
+        self.version = plan.version;
         Ok(())
     }
 

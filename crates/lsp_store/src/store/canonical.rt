@@ -11,7 +11,7 @@ ghost use Rattle.lsp_store.specs.declared.fault.StoreFault.TheVariants.{BodyTooL
 ghost use Rattle.lsp_store.specs.Faults.{IsRefusal};
 ghost use Rattle.lsp_store.specs.Opened.{MayTakeMemory};
 ghost use Rattle.lsp_edit.specs.Once.{bytes_after};
-ghost use Rattle.lsp_store.specs.Plan.{IsMessageFault, IsMessageOfPlan, IsPlanOf, IsPlanOn};
+ghost use Rattle.lsp_store.specs.Plan.{IsBodyOfPlan, IsMessageFault, IsMessageOfPlan, IsPlanOf, IsPlanOn};
 ghost use Rattle.lsp_store.specs.Table.{change_refusal, too_many_changes};
 ghost use Rattle.lsp_store.specs.Message.{AreTexts, DoAlike, IsCanonicalOn, IsReadAgain, IsCanonicalOf};
 ghost use Rattle.lsp_store.specs.Message.{body_refusal, canonical_batch, canonical_body, canonical_frame, change_body, message_refusal};
@@ -265,6 +265,22 @@ impl Store {
         let alloc = *self.documents.allocator();
         let (uri, version, batch) = self.planned_batch(plan)?;
         framed_change(alloc, &self.limits, uri, version, batch)
+    }
+
+    /// Appends the body of that message, so that a caller can put its header before it
+    /// ([`lsp_frame::put_header`]).
+    ///
+    /// Refuses as [`Store::planned_message`] does, and then the bytes are unchanged. Costs the same,
+    /// with no copy of the message.
+    pub fn push_planned_body(&self, bytes: &mut Vec<u8>, plan: &Plan<'_>) -> Result<(), StoreFault>
+        requires on { IsPlanOn self.now plan.now }
+        ensures body { OnOk result
+            (IsBodyOfPlan self.now plan.now bytes.old.items bytes.new.items) }
+        ensures error { IfErr result (IsMessageFault self.now plan.now) }
+        ensures unchanged { OnErr result (bytes.new.items ≡ bytes.old.items) }
+    {
+        let (uri, version, changes) = self.planned_batch(plan)?;
+        push_body(bytes, &self.limits, uri, version, changes)
     }
 
     /// Returns the text that a plan leaves, before it is applied. Fails only if it is out of
