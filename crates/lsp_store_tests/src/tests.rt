@@ -6,6 +6,7 @@ mod documents;
 mod faults;
 mod limits;
 mod made_again;
+mod plans;
 mod positions;
 mod refused;
 mod squash;
