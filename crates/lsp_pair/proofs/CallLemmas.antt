@@ -8,7 +8,6 @@ use Rattle.lsp_message.specs.declared.agreement.SyncKind.TheVariants.{Incrementa
 use Rattle.lsp_message.specs.Outgoing as outgoing
 use Rattle.lsp_message.specs.Outgoing.{OutgoingData, body_of}
 use Rattle.lsp_store.specs.Table as documents
-use Rattle.lsp_message.specs.Params.{DocumentItem}
 use Rattle.lsp_store.specs.Table.{Command, table_after, table_of}
 use Rattle.lsp_client.specs.declared.agreed.Agreed.{Agreed}
 use Rattle.lsp_client.specs.declared.phase.Phase.{Phase}

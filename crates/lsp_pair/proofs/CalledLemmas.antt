@@ -28,6 +28,11 @@ is_call Exit p q = tt
 is_call ToServer p q = absurd (p refl)
 is_call ToClient p q = absurd (q refl)
 
+-- A call is no delivery.
+pub no_delivery : {A E : Type 0} (e : EventData) (sent replies : List (List ℕ)) (r : Result A E) → IsCall e → OnErr r ((e ≡ to_server → sent ≢ []) × (e ≡ to_client → replies ≢ []))
+no_delivery e sent replies (Ok x) is = tt
+no_delivery e sent replies (Err x) is = ((λ same. absurd (subst IsCall same is)), λ same. absurd (subst IsCall same is))
+
 module _ (s : server.State) (c new : client.State) (q next : List (Vec ℕ Global)) (b : List (List ℕ)) where
   sent_is : (r : Result Sending client.Refusal) (bytes : Vec ℕ Global) → IsSent r bytes.items new → next ≡ q ++ bytes ∷ [] → IsCallStep (both_ends c s (frames q) b) r call_sent (both_ends new s (frames next) b)
   sent_is (Ok sending) bytes sends pushed =

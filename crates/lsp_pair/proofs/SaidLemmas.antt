@@ -3,7 +3,7 @@ use Rattle.std.proofs.Common.{ℕ, ℤ, ◌≡◌, ◌≤◌, true, false, List,
 use Rattle.std.specs.Str.{chars}
 use Rattle.std.proofs.lemmas.Bool.{cases_Bool, ltb-false}
 use Rattle.std.proofs.lemmas.List.Elements.{All-nil, All-cons}
-use Rattle.std.proofs.lemmas.Str.{chars-encodes, encodes-chars, scalars-chars}
+use Rattle.std.proofs.lemmas.Str.{encodes-chars, scalars-chars}
 use Rattle.lsp_frame.specs.Limits.{Bounds, AreInRange}
 use Rattle.lsp_text.specs.declared.encoding.Encoding.{Encoding}
 use Rattle.lsp_text.specs.Units.{units_in}
@@ -20,7 +20,7 @@ use Rattle.lsp_message.specs.Params.{DocumentItem, ChangeData, CloseData}
 use Rattle.lsp_message.specs.Sent.{IsProper, IsProperDocument, IsProperChange, IsProperEdit}
 use Rattle.lsp_message.proofs.ReadBack.{reading-body_of, is_read_back, body_of-unique}
 use Rattle.lsp_store.specs.Table.{Refusal, Command, opens, changes, closes, body_too_long, change_refusal, after_change, changed, command_refusal, table_after, unless_refused}
-use Rattle.lsp_store.specs.Message.{AreTexts, written_edit, canonical_batch, whole_batch, whole_text, change_message, body_refusal, else_refused}
+use Rattle.lsp_store.specs.Message.{AreTexts, written_edit, canonical_batch, whole_batch, whole_text, change_message, body_refusal}
 use Rattle.lsp_store.specs.Laws.{AreWithin, AllWithin, IsWithin, IsReplacedBy}
 use Rattle.lsp_store.proofs.FirstLemmas.{first_none, later_none}
 use Rattle.lsp_store.proofs.MessageLemmas.{Accepts, accepted_parts, batch_at, proper}

@@ -171,6 +171,13 @@ steps_at setting sound old new events event happened proper at steps =
       agree = subst (HaveOneEncoding setting) (sym t.leaves) (agree_at setting (turn setting w event).world good.next.shape good.next.at);
     }
 
+-- A pair at a world has one encoding.
+pub agrees : (setting : Setting) (pair : PairData) (events : List EventData) → IsSound setting → IsAt setting pair events → HaveOneEncoding setting pair
+agrees setting pair events sound at =
+    let w : World = world_of setting events in
+    let ok : WorldSound setting w = world_sound setting sound events at.proper in
+    subst (HaveOneEncoding setting) (sym at.is) (agree_at setting w ok.shape ok.at)
+
 -- A step from a reached pair reaches the next.
 pub steps_reach : (old new : PairData) (event : EventData) (happened : HappenedData) → IsProperEvent event → IsReached old → IsStep old event happened new → IsReached new
 steps_reach old new event happened proper reached steps =

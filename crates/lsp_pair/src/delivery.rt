@@ -1,6 +1,6 @@
 //! An end handles the first frame of its queue.
 
-ghost use Rattle.std.specs.Prelude.{◌≡◌, ◌≢◌, ◌<◌, ◌++◌, true, false, IfOk, OnErr};
+ghost use Rattle.std.specs.Prelude.{◌≡◌, ◌≢◌, ◌<◌, ◌++◌, [], true, false, IfOk, OnErr};
 ghost use Rattle.std.specs.VecDeque.{deque_len, deque_capacity};
 ghost use Rattle.lsp_frame.specs.Stream.{IsFrame};
 ghost use Rattle.lsp_client.specs.Seen.{delivered_view};
@@ -47,6 +47,8 @@ pub(crate) fn serve_first(
         (both_ends client server.old (frames sent.old.items) (frames replies.old.items))
         to_server (happened_view happened)
         (both_ends client server.new (frames sent.new.items) (frames replies.new.items))) }
+    // Where nothing waits no memory is taken.
+    ensures memory { OnErr result (frames sent.old.items ≢ []) }
     ensures unchanged { OnErr result ((server.new ≡ server.old)
         × (frames sent.new.items ≡ frames sent.old.items)
         × (frames replies.new.items ≡ frames replies.old.items)) }
@@ -101,6 +103,8 @@ pub(crate) fn hear_first(
         (both_ends client.old other (frames sent.old.items) (frames replies.old.items))
         to_client (happened_view happened)
         (both_ends client.new other (frames sent.new.items) (frames replies.new.items))) }
+    // Where nothing waits no memory is taken.
+    ensures memory { OnErr result (frames replies.old.items ≢ []) }
     ensures unchanged { OnErr result ((client.new ≡ client.old)
         × (frames replies.new.items ≡ frames replies.old.items)
         × (frames sent.new.items ≡ frames sent.old.items)) }

@@ -5,7 +5,7 @@ ghost use Rattle.std.specs.VecDeque.{deque_len, deque_capacity};
 ghost use Rattle.lsp_client.specs.declared.fault.ClientFault.TheVariants.{NoMemory};
 ghost use Rattle.lsp_client.specs.Seen.{IsSent, IsFaultOf};
 ghost use Rattle.lsp_client.specs.Step.{call_result};
-ghost use Rattle.lsp_pair.specs.World.{Setting, EventData, IsProperEvent};
+ghost use Rattle.lsp_pair.specs.World.{Setting, EventData, IsProperEvent, to_server, to_client};
 ghost use Rattle.lsp_pair.specs.inside.Ends.{IsCall, HoldsOnCall};
 ghost use Rattle.lsp_pair.specs.Pair.{new_pair, IsSound, IsAt, IsStep, is_utf16, are_within};
 ghost use Rattle.lsp_pair.specs.At.{IsStepAt};
@@ -129,6 +129,10 @@ impl Pair {
         ensures step { IfOk result (λ happened.
             IsStep self.old (event_view event.now) (happened_view happened) self.new) }
         ensures unchanged { OnErr result (self.new ≡ self.old) }
+        // A delivery where nothing waits takes no memory.
+        ensures memory { OnErr result ((event_view event.now ≡ to_server
+            → self.old.to_server ≢ []) × (event_view event.now ≡ to_client
+            → self.old.to_client ≢ [])) }
         // A pair at the world of a list of events is afterwards at the world of the list with this
         // one added.
         ensures at { IfOk result (λ happened. (setting : Setting) (events : List EventData)

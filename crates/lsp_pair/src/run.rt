@@ -3,6 +3,7 @@
 ghost use Rattle.std.specs.Prelude.{◌↔◌, ◌≤◌, ◌<◌, ◌++◌, List, IsTrue, length, map, take};
 ghost use Rattle.lsp_pair.specs.World.{Setting, EventData};
 ghost use Rattle.lsp_pair.specs.Pair.{IsSound, IsAt, IsRun};
+ghost use Rattle.lsp_pair.specs.Usual.{HaveOneEncoding};
 ghost use Rattle.lsp_pair.specs.Commanded.{HaveCommanded};
 ghost use Rattle.lsp_pair.specs.inside.History.{IsHistory};
 ghost use Rattle.lsp_pair.specs.Documents.{History, HaveDocuments, IsLater};
@@ -34,6 +35,9 @@ pub fn run_pair(pair: &mut Pair, events: &[Event]) -> Ran
     ensures at { (setting : Setting) (before : List EventData) → IsSound setting
         → IsAt setting pair.old before
         → IsAt setting pair.new (before ++ take result.stepped (map event_view events.now)) }
+    // From Ready on both ends use the encoding that was chosen.
+    ensures agree { (setting : Setting) (before : List EventData) → IsSound setting
+        → IsAt setting pair.old before → HaveOneEncoding setting pair.new }
     // Each end has the table of the document commands that it sent, or that were delivered.
     ensures commanded { (setting : Setting) (before : List EventData) → IsSound setting
         → IsAt setting pair.old before → HaveCommanded setting

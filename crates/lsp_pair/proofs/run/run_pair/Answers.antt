@@ -2,7 +2,9 @@ use Rattle.std.proofs.Common.{◌≡◌, ◌+◌, ◌++◌, ◌∷◌, [], map, 
 use Rattle.std.proofs.lemmas.List.{append_assoc}
 use Rattle.lsp_pair.specs.Pair.{IsAt, IsRun}
 use Rattle.lsp_pair.specs.Seen.{event_view}
+use Rattle.lsp_pair.specs.Usual.{HaveOneEncoding}
 use Rattle.lsp_pair.specs.Documents.{after, IsLater}
+use Rattle.lsp_pair.proofs.StepLemmas.{agrees}
 use Rattle.lsp_pair.proofs.HistoryLemmas.{later-last, later_documents}
 use Rattle.lsp_pair.proofs.DocumentLemmas.{documents_after}
 use Rattle.lsp_pair.proofs.RunLemmas.{run-last, take_mapped}
@@ -30,6 +32,15 @@ loop-event-preserved c =
             (c.in-Ok.ensures.history was.0 was.2).0,
           );
     }
+
+pub returns-in_default-clause-agree : goal.returns-in_default-clause-agree
+returns-in_default-clause-agree c setting before sound at =
+    subst (HaveOneEncoding setting) (sym c.in_default.ensures.unchanged)
+    (agrees setting _ (before ++ take c.loop-event.event-index (map event_view c.args.events.now)) sound (c.loop-event.invariant.at setting before sound at))
+
+pub returns-clause-agree : goal.returns-clause-agree
+returns-clause-agree c setting before sound at =
+    agrees setting _ (before ++ take c.loop-event.event-index (map event_view c.args.events.now)) sound (c.loop-event.invariant.at setting before sound at)
 
 pub returns-in_default-clause-commanded : goal.returns-in_default-clause-commanded
 returns-in_default-clause-commanded c setting before sound at =

@@ -6,7 +6,7 @@ use Rattle.lsp_pair.proofs.pair.Pair.step.Goals as goal
 use Rattle.lsp_pair.proofs.ReachLemmas.{reached_serves, reached_hears, reach_or_same, at_if, step_from, same_at_server, same_at_client, same_from}
 use Rattle.lsp_pair.proofs.DocumentLemmas.{documents_if}
 use Rattle.lsp_pair.proofs.HistoryLemmas.{history_if}
-use Rattle.lsp_pair.proofs.CalledLemmas.{is_call, call_is, call_same}
+use Rattle.lsp_pair.proofs.CalledLemmas.{is_call, call_is, call_same, no_delivery}
 use Rattle.std.proofs.Common.{refl, ◌∙◌}
 
 pub serve_first-requires : goal.serve_first-requires
@@ -86,6 +86,7 @@ returns-in_ok-reserve-in_default c =
     record {
       step = step_from happened_view _ _ _ _ _ c.push_call.result was refl steps;
       unchanged = same_from _ _ _ c.push_call.result was same;
+      memory = no_delivery _ _ _ c.push_call.result (is_call c.args.event.now c.in_default.not-ToServer c.in_default.not-ToClient);
       at = at;
       commanded = documents_if happened_view _ _ _ c.push_call.result at;
       history = history_if _ _ _ c.push_call.result at;
