@@ -31,7 +31,7 @@ help:
 	@echo 'make install        installs programs, library, header, man pages and completions (PREFIX, DESTDIR); builds nothing'
 	@echo 'make uninstall      takes them away again'
 	@echo 'make release        $(RELEASES)/laspidru-$(VERSION).tar.gz and its SHA-256 sums; builds what is not current; needs rt'
-	@echo 'make verify         builds the release of the sums again in a new clone, and compares (SUMS=file); needs rt, 10 to 30 minutes'
+	@echo 'make verify         builds the release of the sums again in a new clone, and compares (SUMS=file); needs rt, about an hour'
 	@echo 'make check-install  tests all this with small stand-ins for what is built'
 
 library: $(STATIC) $(SHARED)
