@@ -77,7 +77,10 @@ impl Handler for Replay {
 }
 
 /// Appends a document's line. Its texts are copied only once, into the line.
-fn push_document_line(buffer: &mut Vec<u8>, document: &Document<'_>) -> Result<(), AllocError>
+pub(super) fn push_document_line(
+    buffer: &mut Vec<u8>,
+    document: &Document<'_>,
+) -> Result<(), AllocError>
     ensures { OnOk result (buffer.new.items ≡ buffer.old.items ++ document_line document.now) }
 {
     push_document(
