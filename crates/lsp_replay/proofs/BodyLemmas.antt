@@ -73,41 +73,6 @@ module _ (s : Session) (head : Head) (body : List ℕ) (t : Session) (read : Bod
 -- ---- a change that a running server is to receive
 
 -- only a client's record is a change
-asked_in : (read : BodyData) (p : ChangeData) → change_of read ≡ Some p → (version : Version) × (read ≡ from_client version (did_change (Some p)))
+pub asked_in : (read : BodyData) (p : ChangeData) → change_of read ≡ Some p → (version : Version) × (read ≡ from_client version (did_change (Some p)))
 asked_in (from_client version m) p is = (version, ap (from_client version) (asks_change m p is))
 asked_in (from_server body) p is = absurd (let none : None ≡ Some p = is in cc)
-
-appended_for : (s : Session) (version : Version) (p : ChangeData) (refusal : Option Refusal) (a : Option Appended) (old new : List ℕ) → s.server.phase ≡ Running → s.expected ≡ None → refusal_of s.server p ≡ refusal
-    → (refusal ≡ None → IsAppended s.server.config.limits.max_body (Some (canonical_change_body s.server p)) a old new) → (a ≢ None → refusal ≡ None)
-    → IsAppended s.server.config.limits.max_body (canonical_if s.server (Some p) (judge_incoming s version (did_change (Some p))).verdict) a old new
-appended_for s version p None a old new running known is canonical accepted =
-    subst (λ (v : Verdict). IsAppended s.server.config.limits.max_body (canonical_if s.server (Some p) v) a old new) (sym (running_accepted s version p running known is)) (canonical refl)
-appended_for s version p (Some refusal) None old new running known is canonical accepted =
-    subst (λ (c : Option (List ℕ)). IsAppended s.server.config.limits.max_body c None old new) (sym (running_refused s version p running known (Some refusal) is (λ (e : Some refusal ≡ None). cc))) refl
-appended_for s version p (Some refusal) (Some a) old new running known is canonical accepted = absurd (let none : Some refusal ≡ None = accepted (λ (e : Some a ≡ None). cc) in cc)
-
-pub appended_if : (s : Session) (read : BodyData) (p : ChangeParams) (result : Result (Option Appended) AllocError) (old new : List ℕ) → IsReceived s read (change_view p)
-    → IfOk result (λ a. change_refusal s.server.config.limits (units_in (encoding_of s.server)) s.server.table (string_bytes p.uri) p.version (map given.edit_of p.changes.items) ≡ None
-    → IsAppended s.server.config.limits.max_body (Some (canonical_change_body s.server (change_view p))) a old new)
-    → IfOk result (λ a. a ≢ None → refusal_of s.server (change_view p) ≡ None)
-    → IfOk result (λ a. IsAppended s.server.config.limits.max_body (canonical_read s read) a old new)
-appended_if s read p (Ok a) old new received canonical accepted =
-    let asked = asked_in read (change_view p) received.is in
-    subst (λ (b : BodyData). IsAppended s.server.config.limits.max_body (canonical_read s b) a old new) (sym asked.1)
-    (appended_for s asked.0 (change_view p) (refusal_of s.server (change_view p)) a old new received.running received.known refl
-    (λ may. canonical (rw (← edits_of p.changes.items) may)) accepted)
-appended_if s read p (Err fault) old new received canonical accepted = tt
-
-pub writing_if : (s : Session) (run : Option SquashData) (read : BodyData) (p : ChangeData) (result : Result Writing AllocError) → IsReceived s read p → IfOk result (IsChangeWriting s.server run p)
-    → IfOk result (λ w. IsWriting s.server run (change_of read) (judge_read s read).verdict w)
-writing_if s run read p (Ok w) received is =
-    let asked = asked_in read p received.is in
-    subst (λ (b : BodyData). IsWriting s.server run (change_of b) (judge_read s b).verdict w) (sym asked.1) (change_writing s asked.0 run p w received.running received.known is)
-writing_if s run read p (Err fault) received is = tt
-
-pub open_if : (s : Session) (run : Option SquashData) (read : BodyData) (p : ChangeData) (result : Result Writing AllocError) → IsReceived s read p → IfOk result (IsChangeWriting s.server run p)
-    → IfOk result (λ w. IsOpenAfter (judge_read s read).session.server w)
-open_if s run read p (Ok w) received is =
-    let asked = asked_in read p received.is in
-    subst (λ (b : BodyData). IsOpenAfter (judge_read s b).session.server w) (sym asked.1) (change_open s asked.0 run p w received.running received.known is)
-open_if s run read p (Err fault) received is = tt

@@ -125,7 +125,7 @@ pub record IsDone (s : Session) (r : Record) (p : ChangeData) : Type 0 where
   pub error : (judge s r).verdict ≡ answered changed
   pub leaves : IsAlike (session_after s p) (judge s r).session
 
-done_session : (s : Session) (version : Version) (p : ChangeData) → s.server.phase ≡ Running → s.expected ≡ None → refusal_of s.server p ≡ None
+pub done_session : (s : Session) (version : Version) (p : ChangeData) → s.server.phase ≡ Running → s.expected ≡ None → refusal_of s.server p ≡ None
     → (counted (judge_incoming s version (did_change (Some p)))).session ≡ numbered (one_more s.records) (one_more s.messages) (session_after s p)
 done_session s version p running waits may = rw (running, waits, may) refl
 

@@ -17,8 +17,8 @@ pub mod QuietLemmas
 pub mod ConvertedLogLemmas
 pub mod SquashingLemmas
 pub mod JoiningLemmas
-pub mod RefusedChangeLemmas
 pub mod BodyLemmas
+pub mod TakenLemmas
 pub mod SquashedLemmas
 pub mod NumberedLemmas
 pub mod PutLemmas

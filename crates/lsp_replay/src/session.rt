@@ -1,5 +1,6 @@
 //! A server over the records of a log: each record is read once and judged.
 //!
+//! - `planning`: changes, each of which is planned once.
 //! - `writing`: the canonical bodies of accepted changes.
 //! - `joining`: the open run of accepted changes.
 //! - `results`: the result of `initialize`.
@@ -16,6 +17,7 @@ ghost use Rattle.lsp_replay.specs.inside.Verdicts.{verdict_view};
 mod counting;
 pub(crate) mod joining;
 mod keeping;
+pub(crate) mod planning;
 mod results;
 pub(crate) mod writing;
 

@@ -6,12 +6,12 @@ use Rattle.lsp_log.specs.declared.record.Side.TheVariants as side
 use Rattle.lsp_message.specs.Message.{reading}
 use Rattle.lsp_message.specs.Params.{ChangeData}
 use Rattle.lsp_server.specs.declared.phase.Phase.TheVariants.{Running}
-use Rattle.lsp_server.specs.Incoming.{IncomingData, incoming_of}
+use Rattle.lsp_server.specs.Incoming.{IncomingData, did_change, incoming_of}
 use Rattle.lsp_server.specs.Seen.{incoming_view}
 use Rattle.lsp_replay.specs.declared.session.RecordBody.{RecordBody}
 use Rattle.lsp_replay.specs.declared.session.RecordBody.TheVariants.{Client, Server}
 use Rattle.lsp_replay.specs.Engines.{change_in, canonical_if}
-use Rattle.lsp_replay.specs.Session.{Session, Judged, judge_incoming, hear_for}
+use Rattle.lsp_replay.specs.Session.{Session, Judged, Verdict, counted, judge_incoming, hear_for}
 
 -- What a client's record in a log of a version asks of the server, or the body of a server's
 -- record.
@@ -48,3 +48,11 @@ pub record IsReceived (s : Session) (read : BodyData) (p : ChangeData) : Type 0 
   pub is : change_of read ≡ Some p
   pub running : s.server.phase ≡ Running
   pub known : s.expected ≡ None
+
+-- A change that a running server receives was judged and counted, whatever the log's version.
+pub record IsChangeTaken (s : Session) (p : ChangeData) (verdict : Verdict) (new : Session) :
+    Type 0 where
+  pub judged : (version : Version)
+      → verdict ≡ (judge_incoming s version (did_change (Some p))).verdict
+  pub session : (version : Version)
+      → new ≡ (counted (judge_incoming s version (did_change (Some p)))).session

@@ -1,8 +1,7 @@
 //! `normalise` with squash: writes accepted changes of one document, one after another, as one
 //! message.
 
-ghost use Rattle.std.specs.Prelude.{◌≡◌, ◌≢◌, ◌++◌, refl, Err, IfErr, IfOk, OnErr, OnOk, None, Ok, Some, false};
-ghost use Rattle.lsp_store.specs.declared.fault.StoreFault.TheVariants.{NoMemory};
+ghost use Rattle.std.specs.Prelude.{◌≡◌, ◌++◌, refl, OnOk, None, Some, false};
 ghost use Rattle.lsp_replay.specs.Session.{opened};
 ghost use Rattle.lsp_replay.specs.Engines.{front_of};
 ghost use Rattle.lsp_replay.specs.Squashed.{squashed_in, end_bytes};
@@ -12,10 +11,11 @@ use crate::commands::front::{push_front, push_line};
 use crate::handler::{Given, Handler, Output};
 use crate::outcome::Outcome;
 use crate::session::joining::Writing;
+use crate::session::planning::unless_refused;
 use crate::session::{Session, in_log};
 use lsp_log::Head;
 use lsp_server::Config;
-use lsp_store::{Batches, StoreFault};
+use lsp_store::Batches;
 use lsp_stream::EngineFault;
 use std::alloc::{AllocError, Global};
 use std::marker::Model;
@@ -63,7 +63,7 @@ impl Texts {
         ensures { OnOk result (output.new.items ≡ output.old.items
             ++ end_bytes (run_of self.now.front.items self.now.singles.items (Some batches.now))) }
     {
-        match frame_of(batches.message())? {
+        match unless_refused(batches.message())? {
             Some(frame) => {
                 output.extend_from_slice(&self.front)?;
                 output.extend_from_slice(&frame)
@@ -81,21 +81,6 @@ impl Texts {
             Some(batches) => self.push_run(output, batches),
             None => Ok(()),
         }
-    }
-}
-
-/// Returns the frame of a run's message, or `None` if the message has too many changes or is too
-/// long. Out of memory only where making it was.
-fn frame_of(message: Result<Vec<u8>, StoreFault>) -> Result<Option<Vec<u8>>, AllocError>
-    ensures frame { IfOk message (λ frame. result ≡ Ok (Some frame)) }
-    ensures refused { IfErr message
-        (λ fault. IfOk result (λ frame. (fault ≢ NoMemory) × (frame ≡ None))) }
-    ensures memory { OnErr result (message ≡ Err NoMemory) }
-{
-    match message {
-        Ok(frame) => Ok(Some(frame)),
-        Err(StoreFault::NoMemory) => Err(AllocError),
-        Err(_) => Ok(None),
     }
 }
 

@@ -11,7 +11,7 @@ use Rattle.lsp_replay.proofs.engines.parts.replay_part.Goals as goal
 
 pub returns : goal.returns
 returns g c =
-    let run_output = rw c.config.ensures at c.new-replay.ensures in
+    let run_output = rw c.config.ensures.value at c.new-replay.ensures in
     let run = rw c.rules-rules.ensures at c.run_engine.ensures.run in
     let whole = rw c.rules-rules.ensures at c.run_engine.ensures.whole in
     record {

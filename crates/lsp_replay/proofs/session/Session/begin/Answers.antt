@@ -1,38 +1,42 @@
-use Rattle.std.proofs.Common.{rules, ◌≡◌, ap, refl, w32, to_z, of_z}
-use Rattle.std.proofs.lemmas.Int.{to_z-of_z}
+use Rattle.std.proofs.Common.{◌≡◌, ap, refl}
 use Rattle.lsp_message.specs.Seen.{change_view}
 use Rattle.lsp_store.specs.Squash.{squash_of}
+use Rattle.lsp_server.specs.Planned.{store_of}
 use Rattle.lsp_server.specs.Step.{encoding_of}
-use Rattle.lsp_replay.proofs.JoiningLemmas.{accepts, begun_open, is_begun}
-use Rattle.lsp_replay.proofs.CanonicalLogLemmas.{edits_of}
+use Rattle.lsp_replay.proofs.TakenLemmas.{plan_document, plan_on, plan_started}
 use Rattle.lsp_replay.proofs.session.Session.begin.Goals as goal
 
-pub add-requires-clause-accepted : goal.add-requires-clause-accepted
-add-requires-clause-accepted c =
-    let version : to_z w32 (of_z w32 c.args.params.now.version) ≡ c.args.params.now.version = to_z-of_z w32 c.args.params.now.version (search rules) in
+pub planned_document-document-requires : goal.planned_document-document-requires
+planned_document-document-requires c =
     let server : c.self.inside.server ≡ c.args.self.now.server = ap (λ s. s.server) c.self.view_is in
-    let encoding : c.unwrap_or-encoding.result ≡ encoding_of c.args.self.now.server = rw (c.unwrap_or-encoding.ensures, c.encoding.ensures.value, server) refl in
-    let limits : c.limits-limits.result ≡ c.args.self.now.server.config.limits = rw (c.limits-limits.ensures, c.store.ensures, server) refl in
-    let started : c.in_ok-batches.batches ≡ squash_of c.args.self.now.server.config.limits (encoding_of c.args.self.now.server) c.args.document.now = rw (limits, encoding) at c.in_ok-batches.ensures.ok in
-    rw (started, version, c.deref.ensures.value) (rw (edits_of c.args.params.now.changes.items) at (accepts c.args.self.now.server (change_view c.args.params.now) c.args.document.now c.requires.found c.requires.accepted))
+    let store : c.store-store.result.now ≡ store_of c.args.self.now.server = rw (c.store-store.ensures, server) refl in
+    record { on = plan_on c.args.self.now.server (change_view c.args._params.now) c.args.plan.now c.requires.planned c.store-store.result.now store }
+
+pub add_plan-requires-clause-on : goal.add_plan-requires-clause-on
+add_plan-requires-clause-on c =
+    let server : c.self.inside.server ≡ c.args.self.now.server = ap (λ s. s.server) c.self.view_is in
+    let store : c.store-store.result.now ≡ store_of c.args.self.now.server = rw (c.store-store.ensures, server) refl in
+    plan_on c.args.self.now.server (change_view c.args._params.now) c.args.plan.now c.requires.planned c.store-store.result.now store
+
+pub add_plan-requires-clause-reached : goal.add_plan-requires-clause-reached
+add_plan-requires-clause-reached c = λ on. rw (c.planned_document-document.ensures on) at c.in_ok-batches.ensures.reached
 
 pub returns-clause-begun : goal.returns-clause-begun
 returns-clause-begun c =
-    let version : to_z w32 (of_z w32 c.args.params.now.version) ≡ c.args.params.now.version = to_z-of_z w32 c.args.params.now.version (search rules) in
     let server : c.self.inside.server ≡ c.args.self.now.server = ap (λ s. s.server) c.self.view_is in
+    let store : c.store-store.result.now ≡ store_of c.args.self.now.server = rw (c.store-store.ensures, server) refl in
     let encoding : c.unwrap_or-encoding.result ≡ encoding_of c.args.self.now.server = rw (c.unwrap_or-encoding.ensures, c.encoding.ensures.value, server) refl in
-    let limits : c.limits-limits.result ≡ c.args.self.now.server.config.limits = rw (c.limits-limits.ensures, c.store.ensures, server) refl in
-    let started : c.in_ok-batches.batches ≡ squash_of c.args.self.now.server.config.limits (encoding_of c.args.self.now.server) c.args.document.now = rw (limits, encoding) at c.in_ok-batches.ensures.ok in
-    is_begun c.args.self.now.server (change_view c.args.params.now) c.args.document.now c.requires.found c.add.new.self
-    (rw (edits_of c.args.params.now.changes.items) (rw (started, version, c.deref.ensures.value) at c.in_ok-add.ensures.ok))
+    let limits : c.limits-limits.result ≡ c.args.self.now.server.config.limits = rw (c.limits-limits.ensures, c.store-store.ensures, server) refl in
+    let document : c.planned_document-document.result ≡ c.requires.planned.on.entry = plan_document c.args.self.now.server (change_view c.args._params.now) c.args.plan.now c.requires.planned c.store-store.result.now store _ c.planned_document-document.ensures in
+    let started : c.in_ok-batches.batches ≡ squash_of c.args.self.now.server.config.limits (encoding_of c.args.self.now.server) c.requires.planned.on.entry = rw (limits, encoding, document) at c.in_ok-batches.ensures.ok in
+    (plan_started c.args.self.now.server (change_view c.args._params.now) c.args.plan.now c.requires.planned c.store-store.result.now store c.in_ok-batches.batches c.add_plan.new.self started c.in_ok-add_plan.ensures.added).0
 
 pub returns-clause-reached : goal.returns-clause-reached
 returns-clause-reached c =
-    let version : to_z w32 (of_z w32 c.args.params.now.version) ≡ c.args.params.now.version = to_z-of_z w32 c.args.params.now.version (search rules) in
     let server : c.self.inside.server ≡ c.args.self.now.server = ap (λ s. s.server) c.self.view_is in
+    let store : c.store-store.result.now ≡ store_of c.args.self.now.server = rw (c.store-store.ensures, server) refl in
     let encoding : c.unwrap_or-encoding.result ≡ encoding_of c.args.self.now.server = rw (c.unwrap_or-encoding.ensures, c.encoding.ensures.value, server) refl in
-    let limits : c.limits-limits.result ≡ c.args.self.now.server.config.limits = rw (c.limits-limits.ensures, c.store.ensures, server) refl in
-    let started : c.in_ok-batches.batches ≡ squash_of c.args.self.now.server.config.limits (encoding_of c.args.self.now.server) c.args.document.now = rw (limits, encoding) at c.in_ok-batches.ensures.ok in
-    begun_open c.args.self.now.server (change_view c.args.params.now) c.args.document.now c.requires.found c.add.new.self
-    (rw (edits_of c.args.params.now.changes.items) (rw (started, version, c.deref.ensures.value) at c.in_ok-add.ensures.ok))
-    (rw (edits_of c.args.params.now.changes.items) (rw (started, version, c.deref.ensures.value) at c.in_ok-add.ensures.reached))
+    let limits : c.limits-limits.result ≡ c.args.self.now.server.config.limits = rw (c.limits-limits.ensures, c.store-store.ensures, server) refl in
+    let document : c.planned_document-document.result ≡ c.requires.planned.on.entry = plan_document c.args.self.now.server (change_view c.args._params.now) c.args.plan.now c.requires.planned c.store-store.result.now store _ c.planned_document-document.ensures in
+    let started : c.in_ok-batches.batches ≡ squash_of c.args.self.now.server.config.limits (encoding_of c.args.self.now.server) c.requires.planned.on.entry = rw (limits, encoding, document) at c.in_ok-batches.ensures.ok in
+    (plan_started c.args.self.now.server (change_view c.args._params.now) c.args.plan.now c.requires.planned c.store-store.result.now store c.in_ok-batches.batches c.add_plan.new.self started c.in_ok-add_plan.ensures.added).1
