@@ -29,3 +29,5 @@ pub mod SquashLawLemmas
 pub mod PendingLemmas
 pub mod SingleLemmas
 pub mod SquashedLogLemmas
+pub mod KeptLemmas
+pub mod PartLemmas

@@ -31,7 +31,7 @@ use Rattle.lsp_replay.proofs.EngineLemmas.{empty_rest, still_short}
 abbrev IsCanonicalOf : View → Session → List Record → Type 0
 IsCanonicalOf view s rs = (more : List Record) (answer : Result Outcome EngineFault) → (run_output_in view s rs).stop ≡ Some answer → run_output_in view s (rs ++ more) ≡ run_output_in view s rs
 
-settled_on : (out : List ℕ) (end : Option (Result Outcome EngineFault)) (c longer : RunOutput) (answer : Result Outcome EngineFault) → (continue_with out end c).stop ≡ Some answer → (c.stop ≡ Some answer → longer ≡ c) → continue_with out end longer ≡ continue_with out end c
+pub settled_on : (out : List ℕ) (end : Option (Result Outcome EngineFault)) (c longer : RunOutput) (answer : Result Outcome EngineFault) → (continue_with out end c).stop ≡ Some answer → (c.stop ≡ Some answer → longer ≡ c) → continue_with out end longer ≡ continue_with out end c
 settled_on out None c longer answer e same = ap (continue_with out None) (same e)
 settled_on out (Some other) c longer answer e same = refl
 
@@ -41,10 +41,10 @@ settled view s (r ∷ rs) more answer e =
     settled_on (view.record_output s r (judge s r)).out (view.record_output s r (judge s r)).end (run_output_in view (judge s r).session rs) (run_output_in view (judge s r).session (rs ++ more)) answer e
     (settled view (judge s r).session rs more answer)
 
-pub Grows : RunOutput → RunOutput → Type 0
+unfoldable pub Grows : RunOutput → RunOutput → Type 0
 Grows c longer = (rest : List ℕ) × (longer.out ≡ c.out ++ rest)
 
-grows_on : (out : List ℕ) (end : Option (Result Outcome EngineFault)) (c longer : RunOutput) → Grows c longer → Grows (continue_with out end c) (continue_with out end longer)
+pub grows_on : (out : List ℕ) (end : Option (Result Outcome EngineFault)) (c longer : RunOutput) → Grows c longer → Grows (continue_with out end c) (continue_with out end longer)
 unfolding Grows
 grows_on out None c longer more = (more.0, ap (λ z. out ++ z) more.1 ∙ sym (append_assoc out c.out more.0))
 grows_on out (Some answer) c longer more = ([], sym (append-nil out))
@@ -217,7 +217,7 @@ ran_over_squashed first version reading s run state left_old left_new received_o
 
 -- ---- what the contract of an engine says, from what the loop does
 
-abbrev NoneCut : Bool → LogRules → (List Record → RunOutput) → Ports → Ports → Result Outcome EngineFault → Type 0
+abbrev pub NoneCut : Bool → LogRules → (List Record → RunOutput) → Ports → Ports → Result Outcome EngineFault → Type 0
 NoneCut in_parts reading run_output before after result =
     in_parts ≡ false → result ≡ Err NoMemory → WroteRecords reading run_output before.reader.left after.reader.left before.writer.written after.writer.written
 
@@ -239,6 +239,19 @@ pub run_of_squashed : FirstLaw → VersionLaw → (s : Session) (run_now : Optio
 run_of_squashed first version s run_now {reading} {flushes} {max_turns} {before} {after} {result} run whole = record {
   ran = run.ran;
   all_records = ran_over_squashed first version reading s run_now _ _ _ _ _ result run.ran;
+  whole = whole;
+  called = run.called;
+  none_passed_over = run.none_passed_over;
+  passed_on = run.passed_on;
+}
+
+-- the same of any output, which in one part is that of its end
+pub run_of_course : FirstLaw → VersionLaw → (run_output : List Record → RunOutput) → Settles run_output → GrowsAll run_output → (in_parts : Bool) {reading : LogRules} {flushes : Bool} {max_turns : ℕ} {before after : Ports} {result : Result Outcome EngineFault}
+    → IsLoopRun reading run_output flushes max_turns before after result → NoneCut in_parts reading run_output before after result
+    → IsEngineRun (record { reading = reading; run_output = run_output; flushes = flushes; in_parts = in_parts }) max_turns before after result
+run_of_course first version run_output settles grows_all in_parts {reading} {flushes} {max_turns} {before} {after} {result} run whole = record {
+  ran = run.ran;
+  all_records = over_course first version reading run_output settles grows_all _ _ _ _ _ result run.ran;
   whole = whole;
   called = run.called;
   none_passed_over = run.none_passed_over;

@@ -6,4 +6,5 @@ pub mod Squashed
 pub mod Laws
 pub mod AllRecords
 pub mod Run
+pub mod Parts
 pub mod inside

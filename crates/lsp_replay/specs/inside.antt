@@ -1,6 +1,8 @@
 -- Definitions that only private contracts speak of.
 pub mod Bodies
 pub mod Joining
+pub mod Kept
+pub mod Parts
 pub mod Progress
 pub mod Verdicts
 pub mod Engine

@@ -5,6 +5,7 @@ pub(crate) mod checking;
 pub(crate) mod converting;
 mod front;
 pub(crate) mod normalising;
+pub(crate) mod partial;
 pub(crate) mod replaying;
 pub(crate) mod serving;
 pub(crate) mod squashing;

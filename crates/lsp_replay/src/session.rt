@@ -4,6 +4,7 @@
 //! - `joining`: the open run of accepted changes.
 //! - `results`: the result of `initialize`.
 //! - `counting`: what counts as refused.
+//! - `keeping`: the text of a document, kept when it is closed.
 
 ghost use Rattle.std.specs.Prelude.{◌≡◌, ◌≢◌, ◌⊎◌, IfErr, IfOk, OnErr, OnOk, MatchOption, Some, None};
 ghost use Rattle.lsp_message.specs.Seen.{change_view, id_view};
@@ -14,6 +15,7 @@ ghost use Rattle.lsp_replay.specs.inside.Verdicts.{verdict_view};
 
 mod counting;
 pub(crate) mod joining;
+mod keeping;
 mod results;
 pub(crate) mod writing;
 

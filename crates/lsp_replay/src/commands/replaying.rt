@@ -86,7 +86,7 @@ impl Handler for Replay {
 }
 
 /// Writes a document's line. Its texts are copied only once, into the line.
-fn push_document(
+pub(super) fn push_document(
     alloc: Global,
     buffer: &mut Vec<u8>,
     document: &Document<'_>,

@@ -1,0 +1,111 @@
+-- `replay` of a part of a log: the documents after a record, or the last text of one document.
+use Rattle.std.specs.Prelude.{ℕ, Bool, false, ◌==◌, if◌then◌else◌, List, [], ◌∷◌, Option, Some, None, is_some, option_map, Ok}
+use Rattle.std.specs.String.{string_bytes}
+use Rattle.lsp_message.specs.Params.{DocumentItem}
+use Rattle.lsp_store.specs.Table.{entry_at}
+use Rattle.lsp_log.specs.Log.{Record}
+use Rattle.lsp_replay.specs.declared.engines.parts.Part.{Part}
+use Rattle.lsp_replay.specs.declared.engines.Settings.{Settings}
+use Rattle.lsp_replay.specs.declared.outcome.Outcome.{Outcome}
+use Rattle.lsp_replay.specs.declared.outcome.TheConstants.{NEVER_OPEN, NO_RECORD}
+use Rattle.lsp_replay.specs.RunOutput.{RunOutput}
+use Rattle.lsp_replay.specs.Engines.{RecordOutput, writes, ends, continue_with, unless_bad, report_from, as_log, log_config}
+use Rattle.lsp_replay.specs.Run.{Engine}
+use Rattle.lsp_replay.specs.Session.{Session, Judged, judge, opened, outcome_of}
+
+-- The part of a log that is replayed, and what is printed of it.
+pub record PartData : Type 0 where
+  -- the number of its last record, from 1; without one it is the whole log
+  pub at : Option ℕ
+  -- the document whose text is printed; without one it is all that are open
+  pub uri : Option (List ℕ)
+
+abbrev pub part_of : Part → PartData
+part_of part = record { at = part.at; uri = option_map string_bytes part.uri }
+
+-- ---- the last text of a document
+
+-- The text of a document that is open, and else the text that it had before.
+abbrev pub last_text : Option (List ℕ) → Option DocumentItem → Option (List ℕ)
+last_text before None = before
+last_text before (Some entry) = Some entry.text
+
+-- The same of the document with this URI. Without a URI there is no such text.
+abbrev pub last_text_in : Option (List ℕ) → Option (List ℕ) → List DocumentItem → Option (List ℕ)
+last_text_in None before table = None
+last_text_in (Some uri) before table = last_text before (entry_at table uri)
+
+-- ---- what is printed at the end of the part
+
+-- One document's last text, as it is; or a line for each open document.
+abbrev pub part_bytes : Option (List ℕ) → Option (List ℕ) → List DocumentItem → List ℕ
+part_bytes None last table = report_from 0 table
+part_bytes (Some uri) None table = []
+part_bytes (Some uri) (Some text) table = text
+
+-- The outcome is that of `replay`. A document that was never open has a status of its own.
+abbrev pub part_outcome : Option (List ℕ) → Option (List ℕ) → Outcome → Outcome
+part_outcome None last outcome = outcome
+part_outcome (Some uri) None outcome = record outcome { status = NEVER_OPEN }
+part_outcome (Some uri) (Some text) outcome = outcome
+
+-- Is this the number of the part's last record?
+abbrev pub is_last : Option ℕ → ℕ → Bool
+is_last None number = false
+is_last (Some at) number = at == number
+
+-- After the part's last record nothing more is read. Any other record prints nothing.
+abbrev pub part_step : PartData → Option (List ℕ) → Session → RecordOutput
+part_step part last s =
+    if is_last part.at s.records then
+    ends (part_bytes part.uri last s.server.table)
+    (Ok (part_outcome part.uri last (outcome_of s))) else writes []
+
+-- At the end of the input, if the part has no last record. Else that record isn't in the log.
+abbrev pub end_bytes : PartData → Option (List ℕ) → Session → List ℕ
+end_bytes part last s =
+    if is_some part.at then [] else part_bytes part.uri last s.server.table
+
+abbrev pub end_outcome : PartData → Option (List ℕ) → Session → Outcome
+end_outcome part last s =
+    if is_some part.at then record (outcome_of s) { status = NO_RECORD }
+    else part_outcome part.uri last (outcome_of s)
+
+-- ---- all records
+
+-- The last text after a record.
+abbrev pub next_text : PartData → Option (List ℕ) → Judged → Option (List ℕ)
+next_text part last j = last_text_in part.uri last j.session.server.table
+
+-- The output for a record.
+abbrev pub part_output : PartData → Option (List ℕ) → Record → Judged → RecordOutput
+part_output part last r j =
+    unless_bad r j.verdict (part_step part (next_text part last j) j.session)
+
+-- The output for records that a session judges one after another. `last` is the last text before
+-- them.
+abbrev pub replayed_in : PartData → Option (List ℕ) → Session → List Record → RunOutput
+replayed_in part last s []
+    = record {
+      out = [];
+      stop = None;
+      last = λ line_due. end_bytes part last s;
+      outcome = end_outcome part last s;
+    }
+replayed_in part last s (r ∷ rs) =
+    continue_with (part_output part last r (judge s r)).out (part_output part last r (judge s r)).end
+    (replayed_in part (next_text part last (judge s r)) (judge s r).session rs)
+
+-- The output of `replay` for a part of a log.
+abbrev pub part_report : Settings → PartData → List Record → RunOutput
+part_report settings part = replayed_in part None (opened (log_config settings))
+
+-- The engine that replays a part of a log. Its report is written at once.
+abbrev pub part_engine : Settings → Part → Engine
+part_engine settings part
+    = record {
+      reading = as_log settings;
+      run_output = part_report settings (part_of part);
+      flushes = false;
+      in_parts = false;
+    }

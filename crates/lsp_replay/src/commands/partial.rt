@@ -1,0 +1,158 @@
+//! `replay` of a part of a log: the documents after a record, or the last text of one document.
+
+ghost use Rattle.std.specs.Prelude.{◌≡◌, ◌++◌, ℕ, Bool, List, Option, None, refl, IfOk, OnOk, false, option_map, string_bytes};
+ghost use Rattle.lsp_message.specs.Params.{DocumentItem};
+ghost use Rattle.lsp_store.specs.Table.{entry_at};
+ghost use Rattle.lsp_log.specs.Log.{Record};
+ghost use Rattle.lsp_replay.specs.RunOutput.{RunOutput};
+ghost use Rattle.lsp_replay.specs.Session.{opened, outcome_of};
+ghost use Rattle.lsp_replay.specs.Engines.{report_from};
+ghost use Rattle.lsp_replay.specs.Parts.{is_last, last_text, part_bytes, part_of, part_outcome, replayed_in};
+ghost use Rattle.lsp_replay.specs.inside.Parts.{last_of};
+
+use crate::commands::replaying::push_document;
+use crate::engines::Part;
+use crate::handler::{Given, Handler, Output};
+use crate::outcome::{NEVER_OPEN, NO_RECORD, Outcome};
+use crate::session::Session;
+use lsp_log::Head;
+use lsp_server::Config;
+use lsp_store::Store;
+use lsp_stream::EngineFault;
+use std::alloc::{AllocError, Global};
+
+/// Writes the documents after the part's last record, or the last text of one.
+#[derive(Drop)]
+pub struct ReplayPart {
+    pub session: Session,
+    pub alloc: Global,
+    pub part: Part,
+    // The text that the part's document had when it was closed last.
+    pub kept: Option<String>,
+}
+
+impl ReplayPart {
+    /// Starts before the first record, over a new server.
+    pub fn new(alloc: Global, config: Config, part: Part) -> ReplayPart
+        ensures { replayed_in (part_of result.part) (last_of result) result.session
+            ≡ replayed_in (part_of part) None (opened config) }
+    {
+        let session = Session::new(alloc, config);
+        ReplayPart {
+            session,
+            alloc,
+            part,
+            kept: None,
+        }
+    }
+
+    /// Was the last record the part's last one?
+    fn is_last(&self) -> bool
+        ensures { result ≡ is_last self.now.part.at self.now.session.records }
+    {
+        match self.part.at {
+            Some(at) => at == self.session.records(),
+            None => false,
+        }
+    }
+
+    /// Returns the last text of the document with this URI.
+    fn last_text(&self, uri: &str) -> Option<&str>
+        ensures { option_map (λ text. text.now) result
+            ≡ last_text (option_map string_bytes self.now.kept)
+            (entry_at self.now.session.server.table uri.now) }
+    {
+        match self.session.server().store().get(uri) {
+            Some(document) => Some(document.text()),
+            None => self.kept.as_deref(),
+        }
+    }
+
+    /// Writes what is printed of the part, and returns the outcome.
+    fn push_report(&self, buffer: &mut Vec<u8>) -> Result<Outcome, AllocError>
+        ensures bytes { OnOk result (buffer.new.items ≡ buffer.old.items
+            ++ part_bytes (part_of self.now.part).uri (last_of self.now)
+            self.now.session.server.table) }
+        ensures outcome { IfOk result (λ outcome. outcome
+            ≡ part_outcome (part_of self.now.part).uri (last_of self.now)
+            (outcome_of self.now.session)) }
+    {
+        let outcome = self.session.outcome();
+        let Some(uri) = &self.part.uri else {
+            push_documents(self.alloc, buffer, self.session.server().store())?;
+            return Ok(outcome);
+        };
+        let Some(text) = self.last_text(uri) else {
+            return Ok(Outcome {
+                status: NEVER_OPEN,
+                ..outcome
+            });
+        };
+        buffer.extend_from_slice(text.as_bytes())?;
+        Ok(outcome)
+    }
+}
+
+impl Handler for ReplayPart {
+    ghost run_output = { λ replay.
+        replayed_in (part_of replay.part) (last_of replay) replay.session };
+
+    ghost FLUSHES = { false };
+
+    const FLUSHES: bool = false;
+
+    ghost parts = { λ replay. 0 };
+
+    ghost silent = { λ _. refl };
+
+    ghost unstopped = { λ _. refl };
+
+    fn handle(
+        &mut self,
+        head: Head,
+        _raw: &[u8],
+        body: &[u8],
+        buffer: &mut Vec<u8>,
+    ) -> Result<Given, EngineFault> {
+        self.session
+            .accept_and_keep(head, body, &self.part.uri, &mut self.kept)?;
+        if !self.is_last() {
+            return Ok(Given::more(Output::Bytes));
+        }
+        let outcome = self.push_report(buffer)?;
+        Ok(Given {
+            output: Output::Bytes,
+            end: Some(outcome),
+        })
+    }
+
+    fn finish(
+        &mut self,
+        _line_due: bool,
+        buffer: &mut Vec<u8>,
+    ) -> Result<Option<Outcome>, EngineFault> {
+        if self.part.at.is_some() {
+            return Ok(Some(Outcome {
+                status: NO_RECORD,
+                ..self.session.outcome()
+            }));
+        }
+        Ok(Some(self.push_report(buffer)?))
+    }
+}
+
+/// Writes a line for each open document, in order of opening.
+fn push_documents(alloc: Global, buffer: &mut Vec<u8>, documents: &Store) -> Result<(), AllocError>
+    ensures { OnOk result
+        (buffer.new.items ≡ buffer.old.items ++ report_from 0 documents.now.table) }
+{
+    let mut next = 0;
+    'documents: while next < documents.len() {
+        let Some(document) = documents.at(next) else {
+            return Ok(());
+        };
+        push_document(alloc, buffer, &document)?;
+        next += 1;
+    }
+    Ok(())
+}
