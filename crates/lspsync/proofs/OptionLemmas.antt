@@ -44,10 +44,6 @@ pub no_some : {A B : Type 0} (r : Option A) (s : Option B) → r ≡ None → Is
 no_some (Some x) s is some = let bad : Some x ≡ None = is in cc
 no_some None s is some = let bad : false ≡ true = some in cc
 
-no_settings : (found : Option Settings) → found ≡ None → IsSome found → ⊥
-no_settings (Some settings) none some = let bad : Some settings ≡ None = none in cc
-no_settings None none some = let bad : false ≡ true = some in cc
-
 -- ---- the part of a log
 
 none_of : (at : Option ℕ) (uri : Option (String Global)) → (not (is_some at) && not (is_some uri)) ≡ true → (at ≡ None) × (uri ≡ None)
@@ -70,13 +66,3 @@ named_part options settings part asked are given all some = by (is_whole part) r
     by : (b : Bool) → is_whole part ≡ b → IsCallNamed (codes "replay") options asked
     by true is = subst (IsCallNamed (codes "replay") options) (sym (all is)) (refl, are, whole_part options part is given)
     by false is = subst (IsCallNamed (codes "replay") options) (sym (some is)) (refl, are, given, is)
-
--- A call of `replay` has settings.
-pub replay_settings : (options : ArgMatches) (found : Option Settings) (asked : Call) → found ≡ None
-    → ((settings : Settings) → AreSettings options settings → IsSome found) → IsCallNamed (codes "replay") options asked → ⊥
-replay_settings options found (call.Serve config) none some named = let bad : codes "replay" ≡ codes "serve" = named.0 in cc
-replay_settings options found (call.Check settings) none some named = let bad : codes "replay" ≡ codes "check" = named.0 in cc
-replay_settings options found (call.Replay settings) none some named = no_settings found none (some settings named.1)
-replay_settings options found (call.ReplayPart settings part) none some named = no_settings found none (some settings named.1)
-replay_settings options found (call.Normalise settings) none some named = let bad : codes "replay" ≡ codes "normalise" = named.0 in cc
-replay_settings options found (call.Convert settings) none some named = let bad : codes "replay" ≡ codes "convert" = named.0 in cc
