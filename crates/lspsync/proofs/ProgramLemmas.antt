@@ -1,9 +1,9 @@
 -- The command line is put together.
-use Rattle.std.proofs.Common.{◌≡◌, ◌∙◌, ◌++◌, ◌||◌, ap, refl, sym, Bool, true, false, List, [], ◌∷◌, is_some, if◌then◌else◌}
+use Rattle.std.proofs.Common.{◌≡◌, ◌∙◌, ◌++◌, ◌||◌, ap, refl, Bool, false, List, [], ◌∷◌, is_some, if◌then◌else◌}
 use Rattle.std.specs.Prelude.{Result, Ok, Err, IfOk}
 use Rattle.std.proofs.Math.Bool.{or-false}
 use Rattle.std.proofs.lemmas.List.{append-nil, append_assoc}
-use Rattle.clap.specs.Words.{App, Rule, Shape, Text, app_of, rule_of, shape_of, new_app, AddsArg, with_rule}
+use Rattle.clap.specs.Words.{App, Rule, Text, app_of, rule_of, new_app, AddsArg, with_rule}
 use Rattle.clap.specs.Simple.{on_top}
 use Rattle.clap.specs.declared.builder.arg.Arg.{Arg}
 use Rattle.clap.specs.declared.builder.command.Command.{Command}
