@@ -19,7 +19,7 @@ class Browser:
     def __init__(self):
         self.home = tempfile.TemporaryDirectory()
         self.driver = subprocess.Popen([DRIVER, "--port=0"], stdout=subprocess.PIPE, stderr=subprocess.DEVNULL, text=True)
-        port = next(filter(None, (re.search(r"on port (\d+)", line) for line in self.driver.stdout)))[1]
+        port = next(filter(None, (re.search(r"successfully on port (\d+)", line) for line in self.driver.stdout)))[1]
         self.base = "http://127.0.0.1:%s" % port
         words = ["--headless=new", "--disable-gpu", "--disable-dev-shm-usage", "--no-first-run", "--user-data-dir=" + self.home.name]
         words += ["--no-sandbox"] if os.geteuid() == 0 else []
