@@ -23,7 +23,8 @@ class Browser:
         self.base = "http://127.0.0.1:%s" % port
         words = ["--headless=new", "--disable-gpu", "--disable-dev-shm-usage", "--no-first-run", "--user-data-dir=" + self.home.name]
         words += ["--no-sandbox"] if os.geteuid() == 0 else []
-        wanted = {"browserName": "chrome", "timeouts": {"script": 1000 * SECONDS}, "goog:loggingPrefs": {"browser": "ALL"}, "goog:chromeOptions": {"binary": CHROMIUM, "args": words}}
+        wanted = {"browserName": "chrome", "timeouts": {"script": 1000 * SECONDS}, "goog:loggingPrefs": {"browser": "ALL"},
+                  "goog:chromeOptions": {"binary": CHROMIUM, "args": words}}
         self.session = "/session/" + self.ask("POST", "/session", {"capabilities": {"alwaysMatch": wanted}})["sessionId"]
         self.size(1200, 800)
 
