@@ -4,7 +4,7 @@
     case NAME says|open ENCODING        one for each vector
     text TEXT                           the text before the message
     change SL SC EL EC TEXT             a change with its range: start and end, line and character
-    whole TEXT                          a change without a range
+    whole 0 0 0 0 TEXT                  a change without a range
     left TEXT                           what is left, or
     refused                             that the message has no result
 
@@ -27,5 +27,5 @@ for vector in map(json.loads, open(FILE, encoding="utf-8", newline="\n")):
             numbers = [change["range"][end][part] for end in ("start", "end") for part in ("line", "character")]
             print("change", *numbers, escaped(change["text"]))
         else:
-            print("whole", escaped(change["text"]))
+            print("whole 0 0 0 0", escaped(change["text"]))
     print("left " + escaped(vector["expect"]["text"]) if "text" in vector["expect"] else "refused")

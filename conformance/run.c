@@ -1,53 +1,62 @@
 /* Asks a library the vectors of single messages: ./lines.py | ./run. It prints each that is wrong, and then the counts.
    `library` is what is asked: put a function of yours there. It gets the text, the encoding (8, 16 or 32) and the changes, and puts the
-   text that is left into `out`. It returns how many bytes that has, or -1 where yours refuses. Status 1 says that it differs where LSP
-   3.17 decides. */
+   text that is left into `out`. It returns how many bytes that has, or -1 where yours refuses. Status 1: it differs where LSP 3.17
+   decides. */
 #include <stdio.h>
-#include <stdlib.h>
 #include <string.h>
 #include "laspidru.h"
 
-struct change { unsigned range[4]; int whole; const char *text; size_t len; };
-static char line[1 << 16], buffer[1 << 16], name[128], says[8];
+enum { ROOM = 1 << 13, MOST = 64 };
+struct text { char bytes[ROOM]; size_t len; };
+struct change { unsigned line, character, end_line, end_character; int is_whole; struct text text; };
 
-static long laspidru(const char *text, size_t len, int encoding, const struct change *changes, int count, char *out) {
-    laspidru_handle document = {0}; laspidru_edit edits[64]; laspidru_fault fault; laspidru_size got = -1; char texts[1 << 16]; size_t at = 0;
-    for (int i = 0; i < count; i++) {
-        laspidru_edit edit = {{changes[i].range[0], changes[i].range[1]}, {changes[i].range[2], changes[i].range[3]}, changes[i].len, changes[i].whole};
-        edits[i] = edit; memcpy(texts + at, changes[i].text, changes[i].len); at += changes[i].len;
+static long laspidru(const struct text *text, int encoding, const struct change *changes, size_t count, char *out) {
+    static unsigned char texts[MOST * ROOM];
+    laspidru_handle document = {0};
+    laspidru_edit edits[MOST];
+    laspidru_fault fault;
+    laspidru_size len = 0, left = 0;
+    for (const struct change *it = changes; it < changes + count; len += it++->text.len) {
+        edits[it - changes] = (laspidru_edit){{it->line, it->character}, {it->end_line, it->end_character}, it->text.len, it->is_whole};
+        memcpy(texts + len, it->text.bytes, it->text.len);
     }
-    int units = encoding == 8 ? LASPIDRU_UTF8 : encoding == 16 ? LASPIDRU_UTF16 : LASPIDRU_UTF32;
-    int ok = laspidru_document_open(&document, (const unsigned char *)text, len) == LASPIDRU_OK
-        && laspidru_document_change(&document, units, edits, count, (const unsigned char *)texts, at, &fault) == LASPIDRU_OK
-        && laspidru_document_copy(&document, 0, (unsigned char *)out, sizeof buffer, &got) == LASPIDRU_OK;
+    int is_done = laspidru_document_open(&document, (const unsigned char *)text->bytes, text->len) == LASPIDRU_OK
+        && laspidru_document_change(&document, encoding, edits, count, texts, len, &fault) == LASPIDRU_OK
+        && laspidru_document_copy(&document, 0, (unsigned char *)out, ROOM, &left) == LASPIDRU_OK;
     laspidru_close(&document);
-    return ok ? (long)got : -1;
+    return is_done ? (long)left : -1;
 }
 
 #define library laspidru /* the line to replace */
 
-static size_t plain(char *text) { /* undoes the escapes of lines.py */
-    char *to = text;
-    for (char *from = text; *from && *from != '\n'; from++, to++)
-        *to = *from != '\\' ? *from : *++from == 'n' ? '\n' : *from == 'r' ? '\r' : *from == '0' ? '\0' : '\\';
-    return to - text;
+static void read_text(const char *from, struct text *text) { /* undoes the escapes of lines.py */
+    for (text->len = 0; *from && *from != '\n'; from++)
+        text->bytes[text->len++] = *from != '\\' ? *from : *++from == 'n' ? '\n' : *from == 'r' ? '\r' : *from == '0' ? '\0' : '\\';
 }
 
 int main(void) {
-    char *text = NULL; size_t len = 0; struct change changes[64]; int count = 0, encoding = 16, right = 0, wrong = 0, other = 0, at;
+    static struct change changes[MOST];
+    static struct text text, want;
+    char line[ROOM], name[128], says[8], word[8], out[ROOM];
+    int encoding = 16, count = 0, right = 0, other = 0, wrong = 0, at;
     while (fgets(line, sizeof line, stdin)) {
-        char *copy = strdup(line); struct change *c = &changes[count];
-        if (sscanf(line, "case %127s %7s utf-%d", name, says, &encoding) == 3) count = 0;
-        else if (!strncmp(line, "text ", 5)) text = copy + 5, len = plain(text);
-        else if (!strncmp(line, "whole ", 6)) c->whole = 1, memset(c->range, 0, sizeof c->range), c->text = copy + 6, c->len = plain(copy + 6), count++;
-        else if (sscanf(line, "change %u %u %u %u%n", &c->range[0], &c->range[1], &c->range[2], &c->range[3], &at) == 4)
-            c->whole = 0, c->text = copy + at + 1, c->len = plain(copy + at + 1), count++;
-        else { /* left TEXT, or refused */
-            long got = library(text, len, encoding, changes, count, buffer), want = *line == 'r' ? -1 : (long)plain(copy + 5);
-            int same = got == want && (got < 0 || !memcmp(buffer, copy + 5, got));
-            if (same) right++; else if (*says == 'o') other++; else wrong++, printf("%s\n", name);
+        struct change *it = &changes[count];
+        if (sscanf(line, "case %127s %7s utf-%d", name, says, &encoding) == 3) {
+            count = 0;
+        } else if (!strncmp(line, "text ", 5)) {
+            read_text(line + 5, &text);
+        } else if (!strncmp(line, "left ", 5) || !strcmp(line, "refused\n")) {
+            long got = library(&text, encoding, changes, count, out);
+            read_text(line + 5, &want);
+            int is_right = *line == 'r' ? got < 0 : got == (long)want.len && !memcmp(out, want.bytes, want.len);
+            if (!is_right && *says == 's') puts(name);
+            *(is_right ? &right : *says == 's' ? &wrong : &other) += 1;
+        } else if (sscanf(line, "%7s %u %u %u %u%n", word, &it->line, &it->character, &it->end_line, &it->end_character, &at) == 5) {
+            it->is_whole = !strcmp(word, "whole");
+            read_text(line + at + 1, &it->text);
+            count++;
         }
     }
     printf("%d right, %d other, %d wrong\n", right, other, wrong);
-    return wrong ? 1 : 0;
+    return wrong || !right;
 }

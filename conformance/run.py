@@ -1,9 +1,9 @@
 #!/usr/bin/env python3
 """Asks a library the vectors, and counts the right answers by group: run.py [FILE ..], by default all four files.
 
-`LIBRARY` is what is asked: put a function of yours there. It gets a vector, and returns what came of it, as the member `expect`
-has it: {"text": ..} of a message or of text edits, {"documents": [..]} of a session, {"bodies": [..]} of a stream; {"refused": ..}
-where your library refuses; and None if it can't be asked. Status 1 says that it differs where LSP 3.17 decides."""
+`LIBRARY` is what is asked: put a function of yours there. It gets a vector and returns what came of it, as the member `expect` has it:
+{"text": ..} of a message or of text edits, {"documents": [..]} of a session, {"bodies": [..]} of a stream; {"refused": ..} where your
+library refuses; None if it can't be asked. More members of `expect` may be there. Status 1: it differs where LSP 3.17 decides."""
 import collections
 import json
 import os
@@ -21,26 +21,25 @@ def laspidru(vector):
 LIBRARY = laspidru  # the line to replace
 
 
-def verdict(vector, got):
-    """Compares the members of an answer that the vector has too; a refusal is one for whatever reason."""
-    expect = vector["expect"]
-    if got is None:
-        return "not asked"
-    same = "refused" in expect if "refused" in got else all(got[name] == expect.get(name) for name in got if got[name] is not None)
-    return "right" if same else "WRONG" if vector["standard"] == "says" else "other"
+def is_right(expect, got):
+    """Compares the members that both have, among which is the result; a refusal is one for whatever reason."""
+    if "refused" in expect or "refused" in got:
+        return "refused" in expect and "refused" in got
+    needed = {"text", "documents", "bodies"} & expect.keys()
+    return all(got.get(name) == expect[name] for name in expect if name in needed or got.get(name) is not None)
 
 
 def run(library, files=(), say=print):
     """Returns the names of the vectors that are wrong."""
     counts, wrong = collections.defaultdict(collections.Counter), []
-    for file in files or FILES:
-        for line in open(file, encoding="utf-8", newline="\n"):
-            vector = json.loads(line)
-            found = verdict(vector, library(vector))
-            counts[vector["name"].split("/")[0]][found] += 1
-            if found == "WRONG":
-                wrong.append(vector["name"])
-                say(f"{vector['name']}: {vector.get('about', '')}")
+    for vector in (json.loads(line) for file in files or FILES for line in open(file, encoding="utf-8", newline="\n")):
+        got = library(vector)
+        differs = "WRONG" if vector["standard"] == "says" else "other"
+        found = "not asked" if got is None else "right" if is_right(vector["expect"], got) else differs
+        counts[vector["name"].split("/")[0]][found] += 1
+        if found == "WRONG":
+            wrong.append(vector["name"])
+            say(f"{vector['name']}: {vector.get('about', '')}")
     for group, found in counts.items():
         say(f"{group:16}" + ", ".join(f"{count} {word}" for word, count in sorted(found.items())))
     return wrong

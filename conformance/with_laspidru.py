@@ -1,10 +1,13 @@
-"""Laspidru's answers to vectors, by its binding for Python (docs/EMBEDDING.md says how it is built and found)."""
+"""Laspidru's answers to vectors, by its binding for Python. LASPIDRU_LIBRARY names the shared library that `make library` builds."""
 import json
 import os
 import sys
 
 sys.path.insert(0, os.path.join(os.path.dirname(os.path.abspath(__file__)), "..", "bindings", "python"))
-from laspidru import Document, LaspidruError, replay  # noqa: E402
+from laspidru import Document, LaspidruError, check, replay  # noqa: E402
+
+REFUSALS = {"M4": "invalid-params", "S1": "already-open", "S4": "not-open", "S5": "stale-version", "E1": "inside-character",
+            "E2": "reversed-range"}
 
 
 def framed(value):
@@ -12,15 +15,17 @@ def framed(value):
     return b"Content-Length: %d\r\n\r\n%s" % (len(body), body)
 
 
-def documents_after(encoding, messages):
+def session(encoding, messages):
     log = framed({"id": 1, "method": "initialize", "params": {"capabilities": {}}}) + b"".join(map(framed, messages))
-    lines = replay(log, encoding=encoding).output.decode().split("\n")[:-1]
-    return [{name: document[name] for name in ("text", "uri", "version")} for document in map(json.loads, lines)]
+    answers = [line.split(" ")[-1] for line in check(log, encoding=encoding).output.decode().splitlines()[1:]]
+    documents = map(json.loads, replay(log, encoding=encoding).output.decode().split("\n")[:-1])
+    return {"answers": [REFUSALS.get(word, word) for word in answers],
+            "documents": [{name: document[name] for name in ("text", "uri", "version")} for document in documents]}
 
 
 def answer(vector):
     if "messages" in vector:
-        return {"documents": documents_after(vector["encoding"], vector["messages"])}
+        return session(vector["encoding"], vector["messages"])
     if "bytes" in vector:
         return None  # the binding takes whole logs, and shows no bodies
     document = Document(vector["text"], vector["encoding"])
