@@ -207,7 +207,7 @@ class Tests(unittest.TestCase):
             with open(path, "wb") as file:
                 file.write("one\r\n\u00e9".encode())
             document = TextDocument("file://" + urllib.parse.quote(path))
-        self.assertEqual((document.source, document.filename), ("one\r\n\u00e9", "a b.txt"))
+            self.assertEqual((document.source, document.filename), ("one\r\n\u00e9", "a b.txt"))
 
     def test_file_is_read_late(self):
         """Once, at the first use: an editor may open a file that isn't there yet."""

@@ -91,7 +91,7 @@ class Document:
         with self.__lock:
             text = self.__whole()
             if self.__lines is None:
-                self.__lines = list(io.StringIO(text, newline=""))
+                self.__lines = _lines(text)
             return list(self.__lines)
 
     def change(self, changes: Sequence[Any]) -> None:
@@ -156,6 +156,16 @@ class Document:
     def position_in(self, position: Any, encoding: str) -> Dict[str, int]:
         """A position of the document's encoding in another one, as in "utf-32" for jedi, which counts code points."""
         return self.position(self.byte_offset(position), encoding)
+
+
+# What else ends lines for `str.splitlines`, which is the faster way where there is none of these.
+_NO_LINE_ENDS = "\v\f\x1c\x1d\x1e\x85\u2028\u2029"
+
+
+def _lines(text: str) -> List[str]:
+    if any(letter in text for letter in _NO_LINE_ENDS):
+        return list(io.StringIO(text, newline=""))
+    return text.splitlines(True)
 
 
 def _changes(batch_: Handle) -> List[Dict[str, Any]]:
