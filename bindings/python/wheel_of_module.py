@@ -1,4 +1,4 @@
-"""Makes the wheel of the module laspidru, for pip. It needs Python alone, so `pip install` works without a network."""
+"""Makes the wheel of the package laspidru, for pip. It needs Python alone, so `pip install` works without a network."""
 import base64
 import hashlib
 import os
@@ -19,8 +19,11 @@ Requires-Python: >=3.8
 
 
 def _files():
-    with open(os.path.join(FOLDER, "laspidru.py"), "rb") as file:
-        yield "laspidru.py", file.read()
+    package = os.path.join(FOLDER, "laspidru")
+    for name in sorted(os.listdir(package)):
+        if name.endswith(".py") or name == "py.typed":
+            with open(os.path.join(package, name), "rb") as file:
+                yield f"laspidru/{name}", file.read()
     yield f"{INFO}/METADATA", METADATA.encode()
     yield f"{INFO}/WHEEL", b"Wheel-Version: 1.0\nGenerator: wheel_of_module\nRoot-Is-Purelib: true\nTag: py3-none-any\n"
 
