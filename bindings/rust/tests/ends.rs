@@ -188,8 +188,8 @@ fn streams() {
     assert!(framer.next().is_none());
     assert_eq!(Framer::new(4095).err(), Some(FrameError::BadLimit));
     let mut server = Server::new(&server::Settings::default()).unwrap();
-    server.receive(b"Content-Length: x");
-    assert_eq!(server.next_message(), Err(ServerError::Frame(FrameError::Fault { number: 5, place: 16 })));
+    server.receive(b"Content-Length: x\r\n\r\n");
+    assert_eq!(server.next_message(), Err(ServerError::Frame(FrameError::Fault { number: 5, place: 20 })));
 }
 
 #[test]
