@@ -96,7 +96,7 @@ def _library() -> ctypes.CDLL:
     except OSError as error:
         raise ImportError(f"{error}; LASPIDRU_LIBRARY names the shared library") from error
     handle, size, text = POINTER(Handle), POINTER(c_size_t), [c_char_p, c_size_t]
-    batch = [handle, c_uint32, POINTER(Edit), c_size_t] + text
+    batch = [handle, c_uint32, c_void_p, c_size_t] + text
     log = [handle, POINTER(LogSettings)] + text + [POINTER(Ending)]
     copied = [c_size_t, c_void_p, c_size_t, size]
     arguments = {
@@ -126,7 +126,7 @@ def _library() -> ctypes.CDLL:
         "client_new": [handle, POINTER(ClientSettings)],
         "client_start": [handle, size],
         "client_open": [handle] + text + text + [c_int32] + text + [size],
-        "client_edit": [handle] + text + [c_int32, POINTER(Edit), c_size_t] + text + [POINTER(Fault), size],
+        "client_edit": [handle] + text + [c_int32, c_void_p, c_size_t] + text + [POINTER(Fault), size],
         "client_close": [handle] + text + [size],
         "client_shutdown": [handle, size],
         "client_exit": [handle, size],
@@ -149,6 +149,19 @@ def _library() -> ctypes.CDLL:
 
 
 LIBRARY = _library()
+
+
+def _fast() -> Any:
+    """The extension that makes changes without ctypes, where it was built (docs/python.md)."""
+    try:
+        from . import _fast as fast
+    except ImportError:
+        return None
+    fast.bind(ctypes.cast(LIBRARY.laspidru_document_change, c_void_p).value)
+    return fast
+
+
+FAST = _fast()
 
 
 class LaspidruError(ValueError):
@@ -282,8 +295,11 @@ def _ends(range_: Any) -> Tuple[Place, Place]:
     return place_of(range_.start), place_of(range_.end)
 
 
-def batch(changes: Sequence[Any]) -> Tuple[Any, bytes]:
-    """The changes of a didChange as the library takes them."""
+def batch(changes: Sequence[Any]) -> Tuple[Any, int, bytes]:
+    """The changes of a didChange as the library takes them: the edits, how many they are, and their texts."""
+    read = None if FAST is None else FAST.read(changes)
+    if read is not None:
+        return read[0], len(read[0]) // ctypes.sizeof(Edit), read[1]
     edits, texts = (Edit * len(changes))(), []
     for count, (edit, change) in enumerate(zip(edits, changes)):
         range_, text = _parts(change)
@@ -294,10 +310,10 @@ def batch(changes: Sequence[Any]) -> Tuple[Any, bytes]:
                 edit.start, edit.end = _ends(range_)
         except LaspidruError as error:
             raise LaspidruError(error.code, count) from error
-    return edits, b"".join(texts)
+    return edits, len(edits), b"".join(texts)
 
 
-def batch_of_edits(edits: Sequence[Any]) -> Tuple[Any, bytes]:
+def batch_of_edits(edits: Sequence[Any]) -> Tuple[Any, int, bytes]:
     """Text edits as the library takes them."""
     if any(_parts(edit)[0] is None for edit in edits):
         raise TypeError("a text edit has a range")

@@ -6,10 +6,10 @@ import os
 import re
 import threading
 import urllib.parse
-from ctypes import byref, c_size_t, create_string_buffer
+from ctypes import addressof, byref, c_size_t, create_string_buffer
 from typing import Any, Callable, Dict, List, Optional, Pattern, Sequence
 
-from ._library import (LIBRARY, Edit, Fault, Handle, Length, Line, Place, TextEditsFault, batch, batch_of_edits, copy_out, demand,
+from ._library import (FAST, LIBRARY, Edit, Fault, Handle, Length, Line, Place, TextEditsFault, batch, batch_of_edits, copy_out, demand,
                        demand_change, demand_edits, encoding_number, number, place_of, utf8)
 
 # The methods of `Document` keep their state in names of the class alone (`__lock`), so that a subclass may use any name.
@@ -24,6 +24,7 @@ class Document:
 
     def __begin(self, encoding: str, load: Optional[Callable[[], str]] = None) -> None:
         self.__handle, self.__lock = Handle(), threading.Lock()
+        self.__address = addressof(self.__handle)
         self.__text: Optional[str] = None
         self.__lines: Optional[List[str]] = None
         self.__encoding, self.__load = encoding_number(encoding), load
@@ -96,43 +97,56 @@ class Document:
 
     def change(self, changes: Sequence[Any]) -> None:
         """Makes the changes of a didChange, in order, or raises and makes none of them."""
-        edits, texts = batch(changes)
+        if FAST is not None and self.__change_fast(FAST.read(changes)):
+            return
+        edits, count, texts = batch(changes)
         fault = Fault()
         with self.__lock:
             code = LIBRARY.laspidru_document_change(
-                self.__full(), self.__encoding, edits, len(edits), texts, len(texts), byref(fault))
+                self.__full(), self.__encoding, edits, count, texts, len(texts), byref(fault))
             if code == 0:
                 self.__changed()
         demand_change(code, fault)
 
+    def __change_fast(self, read: Any) -> bool:
+        """Makes changes that the extension has read, if it has. Else nothing has changed."""
+        if read is None:
+            return False
+        with self.__lock:
+            self.__full()
+            is_done = FAST.change(self.__address, self.__encoding, *read)
+            if is_done:
+                self.__changed()
+        return is_done
+
     def canonical(self, changes: Sequence[Any]) -> List[Dict[str, Any]]:
         """The one canonical batch that means the same on the text: a list of changes as LSP writes them."""
-        edits, texts = batch(changes)
+        edits, count, texts = batch(changes)
         found, fault = Handle(), Fault()
         with self.__lock:
             code = LIBRARY.laspidru_document_canonical(
-                self.__full(), self.__encoding, edits, len(edits), texts, len(texts), byref(found), byref(fault))
+                self.__full(), self.__encoding, edits, count, texts, len(texts), byref(found), byref(fault))
         demand_change(code, fault)
         return _changes(found)
 
     def apply_edits(self, edits: Sequence[Any]) -> None:
         """Makes text edits, as a formatter returns them, or raises EditsFault and makes none of them. All count in the text as it is."""
-        passed, texts = batch_of_edits(edits)
+        passed, count, texts = batch_of_edits(edits)
         fault = TextEditsFault()
         with self.__lock:
             code = LIBRARY.laspidru_document_apply_edits(
-                self.__full(), self.__encoding, passed, len(passed), texts, len(texts), byref(fault))
+                self.__full(), self.__encoding, passed, count, texts, len(texts), byref(fault))
             if code == 0:
                 self.__changed()
         demand_edits(code, fault)
 
     def batch_of_edits(self, edits: Sequence[Any]) -> List[Dict[str, Any]]:
         """The canonical batch of what text edits mean on the text: the changes of the didChange that reports them."""
-        passed, texts = batch_of_edits(edits)
+        passed, count, texts = batch_of_edits(edits)
         found, fault = Handle(), TextEditsFault()
         with self.__lock:
             code = LIBRARY.laspidru_document_batch_of_edits(
-                self.__full(), self.__encoding, passed, len(passed), texts, len(texts), byref(found), byref(fault))
+                self.__full(), self.__encoding, passed, count, texts, len(texts), byref(found), byref(fault))
         demand_edits(code, fault)
         return _changes(found)
 

@@ -247,9 +247,9 @@ class Client(_End):
         """Changes a document: one `textDocument/didChange`, with the canonical batch, or where the server asked for it with the
         whole text. Positions count units of `encoding`."""
         name, length, fault = utf8(uri), c_size_t(), Fault()
-        edits, texts = batch(changes)
+        edits, count, texts = batch(changes)
         with self._lock:
-            code = LIBRARY.laspidru_client_edit(byref(self._handle), name, len(name), version_number(version), edits, len(edits),
+            code = LIBRARY.laspidru_client_edit(byref(self._handle), name, len(name), version_number(version), edits, count,
                                                 texts, len(texts), byref(fault), byref(length))
             demand_change(code, fault)
             return self.__frame(length.value)
