@@ -4,10 +4,11 @@ import os
 import sys
 
 sys.path.insert(0, os.path.join(os.path.dirname(os.path.abspath(__file__)), "..", "bindings", "python"))
-from laspidru import Document, LaspidruError, check, replay  # noqa: E402
+from laspidru import Document, FrameFault, Framer, LaspidruError, check, replay  # noqa: E402
 
 REFUSALS = {"M4": "invalid-params", "S1": "already-open", "S4": "not-open", "S5": "stale-version", "E1": "inside-character",
             "E2": "reversed-range"}
+FAULTS = ("bad-header", "header-too-long", "missing-length", "repeated-header", "bad-length", "body-too-long", "bad-charset")
 
 
 def framed(value):
@@ -23,11 +24,20 @@ def session(encoding, messages):
             "documents": [{name: document[name] for name in ("text", "uri", "version")} for document in documents]}
 
 
+def frames(stream):
+    fault = None
+    try:
+        bodies = Framer().receive(stream)
+    except FrameFault as found:
+        bodies, fault = found.events, {"offset": found.place, "why": FAULTS[found.frame - 1]}
+    return {"bodies": [body.decode("latin-1") for body in bodies], "fault": fault}
+
+
 def answer(vector):
     if "messages" in vector:
         return session(vector["encoding"], vector["messages"])
     if "bytes" in vector:
-        return None  # the binding takes whole logs, and shows no bodies
+        return frames(vector["bytes"].encode("latin-1"))
     document = Document(vector["text"], vector["encoding"])
     try:
         if "edits" in vector:

@@ -1,5 +1,5 @@
-/* The library for Node, by N-API: documents as externals, which `close` or the collector frees. index.js makes classes of
-   them, and functions of the commands on logs. It is the only caller: it has checked the numbers, and passes texts as the
+/* The library for Node, by N-API: documents and the ends of sessions as externals, which `close` or the collector frees. index.js
+   makes classes of them, and functions of the commands on logs. It is the only caller: it has checked the numbers, and passes texts as the
    bytes of their UTF-8. */
 #include <node_api.h>
 #include <stdio.h>
@@ -8,10 +8,11 @@
 #include "laspidru.h"
 
 enum {
-    MOST_ARGUMENTS = 4,
+    MOST_ARGUMENTS = 5,
     FEW_EDITS = 4,
     NUMBERS_OF_EDIT = 6,
     NUMBERS_OF_SETTINGS = 6,
+    NUMBERS_OF_SERVER = 7,
     MESSAGE_LEN = 96,
     REPORTED_STEP = 65536 /* the collector hears of a document's size after changes of so many bytes */
 };
@@ -47,6 +48,12 @@ static const char *word_of(laspidru_u32 code) {
         [LASPIDRU_BAD_LOG] = "BAD_LOG",
         [LASPIDRU_TOO_MANY_TURNS] = "TOO_MANY_TURNS",
         [LASPIDRU_OVERLAP] = "OVERLAP",
+        [LASPIDRU_FAILED] = "FAILED",
+        [LASPIDRU_NO_MESSAGE] = "NO_MESSAGE",
+        [LASPIDRU_WRONG_PHASE] = "WRONG_PHASE",
+        [LASPIDRU_NOT_AN_ANSWER] = "NOT_AN_ANSWER",
+        [LASPIDRU_ERROR_ANSWER] = "ERROR_ANSWER",
+        [LASPIDRU_NO_SYNC] = "NO_SYNC",
     };
     return code < sizeof words / sizeof *words ? words[code] : "UNKNOWN";
 }
@@ -222,17 +229,14 @@ static void free_batch(batch *it) {
         free(it->edits);
 }
 
-/* Reads the arguments (document, encoding, numbers, texts). `numbers` is a Uint32Array with six of each edit: the start's line
-   and character, the end's, how many bytes its text has, and 1 where it is of the whole text. `texts` is a Uint8Array, which
-   may be longer than the texts. Where it returns false it has thrown, and there is nothing to free. */
-static int read_batch(napi_env env, napi_callback_info info, batch *it) {
-    napi_value found[MOST_ARGUMENTS];
-    const void *numbers;
+/* Reads edits. `numbers` is a Uint32Array with six of each: the start's line and character, the end's, how many bytes its text
+   has, and 1 where it is of the whole text. `texts` is a Uint8Array, which may be longer than the texts. Where it returns false
+   it has thrown, and there is nothing to free. */
+static int read_edits(napi_env env, napi_value numbers, napi_value texts, batch *it) {
+    const void *all;
     size_t len;
-    if (!arguments(env, info, 4, found) || !document_of(env, found[0], &it->document) ||
-        napi_get_value_uint32(env, found[1], &it->encoding) != napi_ok ||
-        !elements(env, found[2], napi_uint32_array, &numbers, &len) || len % NUMBERS_OF_EDIT != 0 ||
-        !elements(env, found[3], napi_uint8_array, &it->texts, &it->texts_len)) {
+    if (!elements(env, numbers, napi_uint32_array, &all, &len) || len % NUMBERS_OF_EDIT != 0 ||
+        !elements(env, texts, napi_uint8_array, &it->texts, &it->texts_len)) {
         refuse_arguments(env);
         return 0;
     }
@@ -244,11 +248,22 @@ static int read_batch(napi_env env, napi_callback_info info, batch *it) {
         return 0;
     }
     for (size_t i = 0; i < it->count; i++) {
-        const laspidru_u32 *n = (const laspidru_u32 *)numbers + NUMBERS_OF_EDIT * i;
+        const laspidru_u32 *n = (const laspidru_u32 *)all + NUMBERS_OF_EDIT * i;
         it->edits[i] = (laspidru_edit){{n[0], n[1]}, {n[2], n[3]}, n[4], n[5] != 0};
         it->put_in += n[4];
     }
     return 1;
+}
+
+/* Reads the arguments (document, encoding, numbers, texts). Where it returns false it has thrown, and there is nothing to free. */
+static int read_batch(napi_env env, napi_callback_info info, batch *it) {
+    napi_value found[MOST_ARGUMENTS];
+    if (!arguments(env, info, 4, found) || !document_of(env, found[0], &it->document) ||
+        napi_get_value_uint32(env, found[1], &it->encoding) != napi_ok) {
+        refuse_arguments(env);
+        return 0;
+    }
+    return read_edits(env, found[2], found[3], it);
 }
 
 /* After a batch was made: the size is reported where that is due. */
@@ -458,6 +473,301 @@ static napi_value position(napi_env env, napi_callback_info info) {
     return is_made ? out : refuse(env, LASPIDRU_OUT_OF_MEMORY);
 }
 
+/* Ends: a framer, a server or a client, each a handle of its own */
+
+static void free_end(napi_env env, void *data, void *hint) {
+    (void)env;
+    (void)hint;
+    laspidru_close(data);
+    free(data);
+}
+
+static int end_of(napi_env env, napi_value value, laspidru_handle **found) {
+    return napi_get_value_external(env, value, (void **)found) == napi_ok;
+}
+
+/* The external of a handle that a call has filled, or not. */
+static napi_value made_end(napi_env env, laspidru_handle *handle, laspidru_u32 code) {
+    napi_value out;
+    if (code == LASPIDRU_OK && napi_create_external(env, handle, free_end, NULL, &out) != napi_ok)
+        code = LASPIDRU_OUT_OF_MEMORY;
+    if (code == LASPIDRU_OK)
+        return out;
+    laspidru_close(handle);
+    free(handle);
+    return refuse(env, code);
+}
+
+typedef laspidru_u32 copying(laspidru_handle *handle, laspidru_size start, unsigned char *out, laspidru_size out_len,
+                             laspidru_size *copied);
+
+/* A Buffer of so many bytes that a call copies, or NULL. */
+static napi_value buffer_of(napi_env env, copying *copy, laspidru_handle *handle, size_t len) {
+    static unsigned char no_room[1];
+    napi_value out;
+    void *bytes = NULL;
+    laspidru_size copied;
+    if (napi_create_buffer(env, len, &bytes, &out) != napi_ok)
+        return NULL;
+    return copy(handle, 0, len > 0 ? bytes : no_room, len, &copied) == LASPIDRU_OK ? out : NULL;
+}
+
+/* An array of numbers and then, unless it is NULL, of a value. */
+static napi_value array_of(napi_env env, const double *numbers, size_t count, napi_value last) {
+    napi_value out, number;
+    int is_made = napi_create_array_with_length(env, count + (last != NULL), &out) == napi_ok;
+    for (size_t i = 0; is_made && i < count; i++)
+        is_made = napi_create_double(env, numbers[i], &number) == napi_ok &&
+                  napi_set_element(env, out, (uint32_t)i, number) == napi_ok;
+    if (is_made && last != NULL)
+        is_made = napi_set_element(env, out, (uint32_t)count, last) == napi_ok;
+    return is_made ? out : refuse(env, LASPIDRU_OUT_OF_MEMORY);
+}
+
+/* newFramer(maxBody) */
+static napi_value new_framer(napi_env env, napi_callback_info info) {
+    napi_value found[MOST_ARGUMENTS];
+    laspidru_u32 max_body;
+    if (!arguments(env, info, 1, found) || napi_get_value_uint32(env, found[0], &max_body) != napi_ok)
+        return refuse_arguments(env);
+    laspidru_handle *handle = calloc(1, sizeof *handle);
+    return handle != NULL ? made_end(env, handle, laspidru_framer_new(handle, max_body)) : refuse(env, LASPIDRU_OUT_OF_MEMORY);
+}
+
+/* feed(framer, piece, start): [how many bytes of the piece were taken from `start` on, and where a message is whole its body], or
+   where the frame is faulty the negative number of F1 to F7, and its place. */
+static napi_value feed(napi_env env, napi_callback_info info) {
+    napi_value found[MOST_ARGUMENTS], body = NULL;
+    laspidru_handle *framer;
+    laspidru_taken taken = {0};
+    laspidru_u32 start;
+    const void *piece;
+    size_t len;
+    if (!arguments(env, info, 3, found) || !end_of(env, found[0], &framer) ||
+        !elements(env, found[1], napi_uint8_array, &piece, &len) || napi_get_value_uint32(env, found[2], &start) != napi_ok ||
+        start > len)
+        return refuse_arguments(env);
+    laspidru_u32 code = laspidru_framer_feed(framer, (const unsigned char *)piece + start, len - start, &taken);
+    if (code == LASPIDRU_BAD_FRAME)
+        return array_of(env, (const double[]){-(double)taken.frame, (double)taken.place}, 2, NULL);
+    if (code != LASPIDRU_OK)
+        return refuse(env, code);
+    if (taken.is_whole) {
+        body = buffer_of(env, laspidru_framer_body, framer, taken.body_len);
+        if (body == NULL)
+            return refuse(env, LASPIDRU_OUT_OF_MEMORY);
+        laspidru_framer_next(framer);
+    }
+    return array_of(env, (const double[]){(double)taken.bytes}, 1, body);
+}
+
+/* isAtRest(framer) */
+static napi_value is_at_rest(napi_env env, napi_callback_info info) {
+    napi_value found[MOST_ARGUMENTS], out = NULL;
+    laspidru_handle *framer;
+    laspidru_bool at_rest = 0;
+    if (!arguments(env, info, 1, found) || !end_of(env, found[0], &framer))
+        return refuse_arguments(env);
+    laspidru_u32 code = laspidru_framer_at_rest(framer, &at_rest);
+    return code == LASPIDRU_OK ? made(env, napi_get_boolean(env, at_rest, &out), &out) : refuse(env, code);
+}
+
+/* newServer(numbers): a Uint32Array in the order of laspidru_settings */
+static napi_value new_server(napi_env env, napi_callback_info info) {
+    napi_value found[MOST_ARGUMENTS];
+    const void *numbers;
+    size_t count;
+    if (!arguments(env, info, 1, found) || !elements(env, found[0], napi_uint32_array, &numbers, &count) ||
+        count != NUMBERS_OF_SERVER)
+        return refuse_arguments(env);
+    const laspidru_u32 *n = numbers;
+    laspidru_settings settings = {n[0], n[1], n[2], n[3], n[4], n[5] != 0, n[6] != 0};
+    laspidru_handle *handle = calloc(1, sizeof *handle);
+    return handle != NULL ? made_end(env, handle, laspidru_server_new(handle, &settings)) : refuse(env, LASPIDRU_OUT_OF_MEMORY);
+}
+
+/* newClient(numbers): a Uint32Array in the order of laspidru_client_settings */
+static napi_value new_client(napi_env env, napi_callback_info info) {
+    napi_value found[MOST_ARGUMENTS];
+    const void *numbers;
+    size_t count;
+    if (!arguments(env, info, 1, found) || !elements(env, found[0], napi_uint32_array, &numbers, &count) ||
+        count != NUMBERS_OF_SETTINGS)
+        return refuse_arguments(env);
+    const laspidru_u32 *n = numbers;
+    laspidru_client_settings settings = {n[0], n[1], n[2], n[3], n[4] != 0, n[5] != 0};
+    laspidru_handle *handle = calloc(1, sizeof *handle);
+    return handle != NULL ? made_end(env, handle, laspidru_client_new(handle, &settings)) : refuse(env, LASPIDRU_OUT_OF_MEMORY);
+}
+
+typedef laspidru_u32 handling(laspidru_handle *end, const unsigned char *body, laspidru_size body_len, laspidru_answer *answer);
+
+/* What an end did with a body: [kind, reason, status, error, and where there is a frame to send that]. */
+static napi_value handled(napi_env env, napi_callback_info info, handling *handle, copying *copy) {
+    napi_value found[MOST_ARGUMENTS], frame = NULL;
+    laspidru_handle *end;
+    laspidru_answer it = {0};
+    const void *body;
+    size_t len;
+    if (!arguments(env, info, 2, found) || !end_of(env, found[0], &end) ||
+        !elements(env, found[1], napi_uint8_array, &body, &len))
+        return refuse_arguments(env);
+    laspidru_u32 code = handle(end, body, len, &it);
+    if (code != LASPIDRU_OK)
+        return refuse(env, code);
+    if (it.kind == LASPIDRU_REPLIED && (frame = buffer_of(env, copy, end, it.reply_len)) == NULL)
+        return refuse(env, LASPIDRU_OUT_OF_MEMORY);
+    return array_of(env, (const double[]){it.kind, it.reason, it.status, it.error}, 4, frame);
+}
+
+/* handle(server, body) */
+static napi_value handle_body(napi_env env, napi_callback_info info) {
+    return handled(env, info, laspidru_server_handle, laspidru_server_reply);
+}
+
+/* deliver(client, body) */
+static napi_value deliver(napi_env env, napi_callback_info info) {
+    return handled(env, info, laspidru_client_deliver, laspidru_client_frame);
+}
+
+/* The frame of a client's call that is done. */
+static napi_value frame_of(napi_env env, laspidru_handle *client, laspidru_u32 code, size_t len) {
+    if (code != LASPIDRU_OK)
+        return refuse(env, code);
+    napi_value out = buffer_of(env, laspidru_client_frame, client, len);
+    return out != NULL ? out : refuse(env, LASPIDRU_OUT_OF_MEMORY);
+}
+
+/* call(client, which): 0 of start, 1 of shutdown, 2 of exit */
+static napi_value call(napi_env env, napi_callback_info info) {
+    static laspidru_u32 (*const calls[])(laspidru_handle *, laspidru_size *) = {laspidru_client_start, laspidru_client_shutdown,
+                                                                                laspidru_client_exit};
+    napi_value found[MOST_ARGUMENTS];
+    laspidru_handle *client;
+    laspidru_u32 which;
+    laspidru_size len = 0;
+    if (!arguments(env, info, 2, found) || !end_of(env, found[0], &client) ||
+        napi_get_value_uint32(env, found[1], &which) != napi_ok || which > 2)
+        return refuse_arguments(env);
+    laspidru_u32 code = calls[which](client, &len);
+    return frame_of(env, client, code, len);
+}
+
+/* openAt(client, uri, language, version, text) */
+static napi_value open_at(napi_env env, napi_callback_info info) {
+    napi_value found[MOST_ARGUMENTS];
+    laspidru_handle *client;
+    const void *uri, *language, *text;
+    size_t uri_len, language_len, text_len;
+    int32_t version;
+    laspidru_size len = 0;
+    if (!arguments(env, info, 5, found) || !end_of(env, found[0], &client) ||
+        !elements(env, found[1], napi_uint8_array, &uri, &uri_len) ||
+        !elements(env, found[2], napi_uint8_array, &language, &language_len) ||
+        napi_get_value_int32(env, found[3], &version) != napi_ok ||
+        !elements(env, found[4], napi_uint8_array, &text, &text_len))
+        return refuse_arguments(env);
+    laspidru_u32 code = laspidru_client_open(client, uri, uri_len, language, language_len, version, text, text_len, &len);
+    return frame_of(env, client, code, len);
+}
+
+/* edit(client, uri, version, numbers, texts) */
+static napi_value edit(napi_env env, napi_callback_info info) {
+    napi_value found[MOST_ARGUMENTS];
+    laspidru_handle *client;
+    laspidru_fault fault = {0, 0};
+    laspidru_size len = 0;
+    const void *uri;
+    size_t uri_len;
+    int32_t version;
+    batch it;
+    if (!arguments(env, info, 5, found) || !end_of(env, found[0], &client) ||
+        !elements(env, found[1], napi_uint8_array, &uri, &uri_len) || napi_get_value_int32(env, found[2], &version) != napi_ok)
+        return refuse_arguments(env);
+    if (!read_edits(env, found[3], found[4], &it))
+        return NULL;
+    laspidru_u32 code =
+        laspidru_client_edit(client, uri, uri_len, version, it.edits, it.count, it.texts, it.texts_len, &fault, &len);
+    free_batch(&it);
+    return code == LASPIDRU_OK ? frame_of(env, client, code, len) : refuse_change(env, code, fault);
+}
+
+/* closeAt(client, uri) */
+static napi_value close_at(napi_env env, napi_callback_info info) {
+    napi_value found[MOST_ARGUMENTS];
+    laspidru_handle *client;
+    laspidru_size len = 0;
+    const void *uri;
+    size_t uri_len;
+    if (!arguments(env, info, 2, found) || !end_of(env, found[0], &client) ||
+        !elements(env, found[1], napi_uint8_array, &uri, &uri_len))
+        return refuse_arguments(env);
+    laspidru_u32 code = laspidru_client_close(client, uri, uri_len, &len);
+    return frame_of(env, client, code, len);
+}
+
+/* state(client): [phase, reason, encoding, how many documents are open] */
+static napi_value state_of(napi_env env, napi_callback_info info) {
+    napi_value found[MOST_ARGUMENTS];
+    laspidru_handle *client;
+    laspidru_state it;
+    if (!arguments(env, info, 1, found) || !end_of(env, found[0], &client))
+        return refuse_arguments(env);
+    laspidru_u32 code = laspidru_client_state(client, &it);
+    if (code != LASPIDRU_OK)
+        return refuse(env, code);
+    return array_of(env, (const double[]){it.phase, it.reason, it.encoding, (double)it.documents}, 4, NULL);
+}
+
+/* documents(server): how many are open */
+static napi_value documents(napi_env env, napi_callback_info info) {
+    napi_value found[MOST_ARGUMENTS], out = NULL;
+    laspidru_handle *server;
+    laspidru_size len = 0;
+    if (!arguments(env, info, 1, found) || !end_of(env, found[0], &server))
+        return refuse_arguments(env);
+    laspidru_u32 code = laspidru_server_documents(server, &len);
+    return code == LASPIDRU_OK ? made(env, napi_create_double(env, (double)len, &out), &out) : refuse(env, code);
+}
+
+/* The text of an open document, of so many bytes: a string, or NULL. */
+static napi_value string_at(napi_env env, laspidru_handle *end, int is_client, const void *uri, size_t uri_len, size_t len) {
+    napi_value out = NULL;
+    laspidru_size copied = 0;
+    unsigned char *bytes = malloc(len + 1);
+    if (bytes == NULL)
+        return NULL;
+    laspidru_u32 code = is_client ? laspidru_client_text(end, uri, uri_len, 0, bytes, len, &copied)
+                                  : laspidru_server_text(end, uri, uri_len, 0, bytes, len, &copied);
+    if (code != LASPIDRU_OK || napi_create_string_utf8(env, (const char *)bytes, copied, &out) != napi_ok)
+        out = NULL;
+    free(bytes);
+    return out;
+}
+
+/* document(end, isClient, uri, withText): [version, and where it is asked for the text] of an open document, or undefined */
+static napi_value document_at(napi_env env, napi_callback_info info) {
+    napi_value found[MOST_ARGUMENTS], text = NULL;
+    laspidru_handle *end;
+    laspidru_opened it;
+    bool is_client, with_text;
+    const void *uri;
+    size_t uri_len;
+    if (!arguments(env, info, 4, found) || !end_of(env, found[0], &end) ||
+        napi_get_value_bool(env, found[1], &is_client) != napi_ok || !elements(env, found[2], napi_uint8_array, &uri, &uri_len) ||
+        napi_get_value_bool(env, found[3], &with_text) != napi_ok)
+        return refuse_arguments(env);
+    laspidru_u32 code =
+        is_client ? laspidru_client_document(end, uri, uri_len, &it) : laspidru_server_document(end, uri, uri_len, &it);
+    if (code == LASPIDRU_NOT_OPEN)
+        return NULL;
+    if (code != LASPIDRU_OK)
+        return refuse(env, code);
+    if (with_text && (text = string_at(env, end, is_client, uri, uri_len, it.bytes)) == NULL)
+        return refuse(env, LASPIDRU_OUT_OF_MEMORY);
+    return array_of(env, (const double[]){it.version}, 1, text);
+}
+
 /* Logs */
 
 typedef laspidru_u32 log_command(laspidru_handle *output, const laspidru_log_settings *settings, const unsigned char *log,
@@ -466,17 +776,6 @@ typedef laspidru_u32 log_command(laspidru_handle *output, const laspidru_log_set
 /* The settings of a command: six numbers, in the order of laspidru_log_settings. */
 static laspidru_log_settings settings_of(const laspidru_u32 *n) {
     return (laspidru_log_settings){n[0], n[1], n[2], n[3], n[4], n[5] != 0};
-}
-
-/* A Buffer of the output in a handle, or NULL. */
-static napi_value output_of(napi_env env, laspidru_handle *output, size_t len) {
-    static unsigned char no_room[1];
-    napi_value out;
-    void *bytes = NULL;
-    laspidru_size copied;
-    if (napi_create_buffer(env, len, &bytes, &out) != napi_ok)
-        return NULL;
-    return laspidru_log_output(output, 0, bytes != NULL ? bytes : no_room, len, &copied) == LASPIDRU_OK ? out : NULL;
 }
 
 /* How a command ended, for index.js: {code, output, status, messages, refused, frame, place}. */
@@ -508,7 +807,7 @@ static napi_value run_log(napi_env env, napi_callback_info info) {
     laspidru_u32 code = commands[command](&handle, &settings, log, log_len, &ending);
     if (!handle.is_full)
         return refuse(env, code);
-    output = output_of(env, &handle, ending.output_len);
+    output = buffer_of(env, laspidru_log_output, &handle, ending.output_len);
     laspidru_close(&handle);
     return output != NULL ? ended(env, code, output, ending) : refuse(env, LASPIDRU_OUT_OF_MEMORY);
 }
@@ -522,6 +821,13 @@ NAPI_MODULE_INIT() {
         {"batchOfEdits", 0, batch_of_edits, 0, 0, 0, napi_default, 0},
         {"log", 0, run_log, 0, 0, 0, napi_default, 0},
         {"offset", 0, offset, 0, 0, 0, napi_default, 0},      {"position", 0, position, 0, 0, 0, napi_default, 0},
+        {"newFramer", 0, new_framer, 0, 0, 0, napi_default, 0}, {"feed", 0, feed, 0, 0, 0, napi_default, 0},
+        {"isAtRest", 0, is_at_rest, 0, 0, 0, napi_default, 0}, {"newServer", 0, new_server, 0, 0, 0, napi_default, 0},
+        {"handle", 0, handle_body, 0, 0, 0, napi_default, 0}, {"documents", 0, documents, 0, 0, 0, napi_default, 0},
+        {"newClient", 0, new_client, 0, 0, 0, napi_default, 0}, {"call", 0, call, 0, 0, 0, napi_default, 0},
+        {"openAt", 0, open_at, 0, 0, 0, napi_default, 0},     {"edit", 0, edit, 0, 0, 0, napi_default, 0},
+        {"closeAt", 0, close_at, 0, 0, 0, napi_default, 0},   {"deliver", 0, deliver, 0, 0, 0, napi_default, 0},
+        {"state", 0, state_of, 0, 0, 0, napi_default, 0},     {"document", 0, document_at, 0, 0, 0, napi_default, 0},
     };
     return made(env, napi_define_properties(env, exports, sizeof functions / sizeof *functions, functions), &exports);
 }

@@ -1,4 +1,4 @@
-// Texts that are kept as LSP 3.17 says, by a library that is proved (docs/EMBEDDING.md).
+// Texts that are kept as LSP 3.17 says, and both ends of a session, by a library that is proved (docs/node.md).
 
 /** A position: a line, counted from 0, and the UTF-16 units before it in that line. Both are integers from 0 to 2^32 - 1. */
 export interface Position {
@@ -30,7 +30,9 @@ export interface TextEdit {
  * - `EMPTY`: the document is closed.
  * - `TOO_LONG`: a text has more than 1,073,741,824 bytes of UTF-8.
  * - `OUT_OF_MEMORY`
- * - `BAD_LIMIT`, `BAD_ENCODING`, `TOO_MANY_TURNS`: of the commands on logs.
+ * - `BAD_LIMIT`, `BAD_ENCODING`: of the ends, and of the commands on logs; `TOO_MANY_TURNS`: of those commands.
+ * - `WRONG_PHASE`, `ENDED`: of an end that is not, or no more, in the phase for the call; `FAILED`: after a faulty frame.
+ * - `NOT_OPEN` to `STALE_VERSION`: of a client's calls on documents.
  */
 export interface Refusal extends RangeError {
   code:
@@ -43,7 +45,15 @@ export interface Refusal extends RangeError {
     | 'OUT_OF_MEMORY'
     | 'BAD_LIMIT'
     | 'BAD_ENCODING'
-    | 'TOO_MANY_TURNS';
+    | 'TOO_MANY_TURNS'
+    | 'WRONG_PHASE'
+    | 'ENDED'
+    | 'FAILED'
+    | 'NOT_OPEN'
+    | 'ALREADY_OPEN'
+    | 'TOO_MANY_DOCUMENTS'
+    | 'TOO_MANY_CHANGES'
+    | 'STALE_VERSION';
   /** The faulty change, counted from 0, of `update` and `canonical`. */
   change?: number;
   /** The faulty text edit, counted from 0, of `applyEdits` and `batchOfEdits`. */
@@ -84,7 +94,7 @@ export class TextDocument {
   /** The text, or the part in a range. The ends of a reversed range are swapped. */
   getText(range?: Range): string;
 
-  /** The index in the text of a position. One after the line's end is the line's end. */
+  /** The index in the text of a position. One after the line's end is the line's end. The first call after a change reads the text. */
   offsetAt(position: Position): number;
 
   /** The position of an index in the text. One before the start is the start, one past the end the end, one inside a CRLF the end of its line. */
@@ -92,6 +102,96 @@ export class TextDocument {
 
   /** Frees the text at once; else the collector does. Each later call that needs it throws, with the code `EMPTY`. */
   close(): void;
+}
+
+export interface Limits {
+  /** 4,096 to 1,073,741,824 bytes of a message; 16,777,216 where it isn't given. */
+  maxBody?: number;
+  /** Up to 1,073,741,824 bytes of a document; 16,777,216 where it isn't given. */
+  maxText?: number;
+  /** 1 to 65,536 documents; 1,024 where it isn't given. */
+  maxDocs?: number;
+  /** 1 to 1,048,576 changes in a message; 65,536 where it isn't given. */
+  maxChanges?: number;
+}
+
+/** A faulty frame. No more of its stream is taken; `events` came before it. */
+export class FrameFault<Event = unknown> extends Error {
+  private constructor();
+  readonly code: 'BAD_FRAME';
+  /** The byte offset in the stream on which the fault was decided. */
+  readonly place: number;
+  /** 1 to 7, for F1 to F7 of docs/FORMATS.md. */
+  readonly frame: number;
+  readonly events: Event[];
+}
+
+/** Takes a stream apart into the bodies of its messages, in whatever pieces it comes. */
+export class Framer {
+  constructor(options?: { maxBody?: number });
+
+  /** The bodies of the messages that end in these bytes. A faulty frame throws FrameFault. */
+  receive(bytes: Uint8Array): Buffer[];
+
+  /** May the stream end here? */
+  readonly isAtRest: boolean;
+}
+
+/** What a server did with a message, whose body it has. */
+export type ServerEvent = { body: Uint8Array } & (
+  /** `frame` is to be sent. A request that the server doesn't handle has the error -32601: it is yours, and your answer goes in its place. */
+  | { kind: 'replied'; frame: Buffer; error: number }
+  | { kind: 'changed' | 'dropped' | 'ignored' }
+  | { kind: 'refused'; reason: string }
+  | { kind: 'exited'; status: 0 | 1 }
+);
+
+/** A server's end of a session, without input and output of its own. */
+export class Server {
+  constructor(options?: Limits & { encoding?: 'utf-8' | 'utf-16' | 'utf-32'; isFixed?: boolean; isFull?: boolean });
+
+  /** What the server does with each message that ends in these bytes. A faulty frame throws FrameFault. */
+  receive(bytes: Uint8Array): ServerEvent[];
+
+  /** What the server does with the body of a message. */
+  handle(body: Uint8Array): ServerEvent;
+
+  readonly documentCount: number;
+  version(uri: string): number | undefined;
+  text(uri: string): string | undefined;
+}
+
+/** What a client did with a message of the server, whose body it has. */
+export type ClientEvent = { body: Uint8Array } & (
+  | { kind: 'send'; frame: Buffer }
+  | { kind: 'noted' | 'ignored' }
+  | { kind: 'bad-server'; reason: 'NOT_AN_ANSWER' | 'ERROR_ANSWER' | 'NO_SYNC' | 'BAD_ENCODING' }
+);
+
+/** A client's end of a session: it keeps an editor's documents, and each call returns the bytes to send. UTF-16 is always offered. */
+export class Client {
+  constructor(options?: Limits & { utf8?: boolean; utf32?: boolean });
+
+  start(): Buffer;
+  open(uri: string, languageId: string, version: number, text: string): Buffer;
+  /** One `textDocument/didChange`, with the canonical batch, or where the server asked for it with the whole text. */
+  edit(uri: string, version: number, changes: TextDocumentContentChangeEvent[]): Buffer;
+  close(uri: string): Buffer;
+  shutdown(): Buffer;
+  exit(): Buffer;
+
+  /** What the client does with each message that ends in these bytes. A faulty frame throws FrameFault. */
+  receive(bytes: Uint8Array): ClientEvent[];
+
+  /** What the client does with the body of a message. */
+  deliver(body: Uint8Array): ClientEvent;
+
+  readonly phase: 'new' | 'asked' | 'ready' | 'closing' | 'closed' | 'done' | 'failed';
+  /** The encoding that was agreed on. */
+  readonly encoding: 'utf-8' | 'utf-16' | 'utf-32' | undefined;
+  readonly documentCount: number;
+  version(uri: string): number | undefined;
+  text(uri: string): string | undefined;
 }
 
 export interface LogOptions {

@@ -1,5 +1,5 @@
 'use strict';
-// Texts that are kept as LSP 3.17 says, by a library that is proved (docs/EMBEDDING.md). `TextDocument` has the members
+// Texts that are kept as LSP 3.17 says, and both ends of a session, by a library that is proved (docs/node.md). `TextDocument` has the members
 // of vscode-languageserver-textdocument. Unlike there a position inside a character is refused by a RangeError.
 const path = require('path');
 const addon = require(process.env.LASPIDRU_ADDON ? path.resolve(process.env.LASPIDRU_ADDON) : './laspidru.node');
@@ -77,12 +77,32 @@ function written([line, character, endLine, endCharacter, isWhole, text]) {
   return { range: { start: { line, character }, end: { line: endLine, character: endCharacter } }, text };
 }
 
+/** The indexes at which the lines of a text start. CR, LF and CRLF end a line and nothing else does. */
+function lineStarts(text) {
+  const starts = [0];
+  for (const end of text.matchAll(/\r\n|\r|\n/g)) starts.push(end.index + end[0].length);
+  return starts;
+}
+
+/** The number of the last of these indexes that isn't after an index. */
+function lastUpTo(starts, index) {
+  let low = 0;
+  let high = starts.length;
+  while (high - low > 1) {
+    const middle = (low + high) >>> 1;
+    if (starts[middle] > index) high = middle;
+    else low = middle;
+  }
+  return low;
+}
+
 class TextDocument {
   #uri;
   #languageId;
   #version;
   #document;
   #text;
+  #starts; // of the lines, once an index was asked for after the last change
 
   constructor(uri, languageId, version, content) {
     this.#uri = uri;
@@ -98,7 +118,7 @@ class TextDocument {
   /** Makes the changes of a didChange, in order, or throws and makes none of them. */
   static update(document, changes, version) {
     addon.change(document.#document, UTF16, ...passed(changes));
-    document.#text = undefined;
+    document.#text = document.#starts = undefined;
     document.#version = version;
     return document;
   }
@@ -151,28 +171,261 @@ class TextDocument {
     return range ? this.#text.substring(this.offsetAt(range.start), this.offsetAt(range.end)) : this.#text;
   }
 
-  /** The index in the text of a position. */
+  #lines() {
+    this.#starts ??= lineStarts(this.getText());
+    return this.#starts;
+  }
+
+  /** The exact position of a line and a character, as the library has it. */
+  #exact(line, character) {
+    return addon.position(this.#document, UTF16, addon.offset(this.#document, UTF16, line, character));
+  }
+
+  /** The index in the text of a position. The first call after a change reads the text, and the others its line alone. */
   offsetAt({ line, character }) {
-    const bytes = addon.offset(this.#document, UTF16, uint(line), uint(character));
-    return Buffer.from(this.getText()).toString('utf8', 0, bytes).length;
+    const [exactLine, exactCharacter] = this.#exact(uint(line), uint(character));
+    return this.#lines()[exactLine] + exactCharacter;
   }
 
   /** The position of an index in the text. One before the start is the start, one past the end the end, one inside a CRLF
-   * the end of its line. */
+   * the end of its line. The first call after a change reads the text, and the others the line alone. */
   positionAt(offset) {
     if (typeof offset !== 'number') throw new TypeError('an offset is no number');
     if (!Number.isInteger(offset)) throw refusal('OUT_OF_RANGE', `${offset} is no offset`);
-    const text = this.getText();
-    let end = Math.min(Math.max(offset, 0), text.length);
-    if (text[end - 1] === '\r' && text[end] === '\n') end -= 1;
-    const [line, character] = addon.position(this.#document, UTF16, Buffer.byteLength(text.slice(0, end)));
+    const starts = this.#lines();
+    const index = Math.min(Math.max(offset, 0), this.getText().length);
+    const number = lastUpTo(starts, index);
+    const [line, character] = this.#exact(number, index - starts[number]);
     return { line, character };
   }
 
   /** Frees the text at once; else the collector does. Each later call that needs it throws, with the code EMPTY. */
   close() {
     addon.close(this.#document);
-    this.#text = undefined;
+    this.#text = this.#starts = undefined;
+  }
+}
+
+/** Bytes that were received, or a body. */
+function bytesOf(value) {
+  if (!(value instanceof Uint8Array)) throw new TypeError('bytes are no Uint8Array');
+  return value;
+}
+
+/** A version, as the library can take it. */
+function int(value) {
+  if (typeof value !== 'number') throw new TypeError('a version is no number');
+  if ((value | 0) !== value) throw refusal('OUT_OF_RANGE', `${value} is no version`);
+  return value;
+}
+
+const utf8 = (text) => Buffer.from(checked(text));
+
+const LIMITS = { maxBody: 16777216, maxText: 16777216, maxDocs: 1024, maxChanges: 65536 };
+
+/** The four limits of options. */
+function limitsOf(options) {
+  const { maxBody, maxText, maxDocs, maxChanges } = { ...LIMITS, ...options };
+  const limits = [maxBody, maxText, maxDocs, maxChanges];
+  if (!limits.every((limit) => limit >>> 0 === limit)) throw refusal('BAD_LIMIT');
+  return limits;
+}
+
+/** A fault of a stream: which of F1 to F7 its `frame` has, and the byte offset `place` on which that was decided. No more of the
+ * stream is taken. `events` came before it. */
+class FrameFault extends Error {
+  constructor(frame, place) {
+    super(`F${frame} at ${place}`);
+    Object.assign(this, { name: 'FrameFault', code: 'BAD_FRAME', place, frame, events: [] });
+  }
+}
+
+/** Takes a stream apart into the bodies of its messages, in whatever pieces it comes (LSP 3.17, Base Protocol). */
+class Framer {
+  #framer;
+  #rest = Buffer.alloc(0);
+  #at = 0;
+
+  constructor({ maxBody = LIMITS.maxBody } = {}) {
+    this.#framer = addon.newFramer(limitsOf({ maxBody })[0]);
+  }
+
+  /** The bodies of the messages that end in these bytes. A faulty frame throws FrameFault, whose `events` are the bodies before it. */
+  receive(bytes) {
+    return receive(this, bytes, (body) => body);
+  }
+
+  /** May the stream end here? No byte of a message is left, and there was no fault. */
+  get isAtRest() {
+    return addon.isAtRest(this.#framer) && this.#at === this.#rest.length;
+  }
+
+  /** Takes bytes, which stay until they are taken apart. */
+  add(bytes) {
+    this.#rest = this.#at < this.#rest.length ? Buffer.concat([this.#rest.subarray(this.#at), bytesOf(bytes)]) : bytesOf(bytes);
+    this.#at = 0;
+  }
+
+  /** The next body that is whole, or undefined. One that waits, since it couldn't be handled yet, comes first. */
+  next() {
+    if (this.waiting !== undefined) return this.waiting;
+    const [count, body] = addon.feed(this.#framer, this.#rest, this.#at);
+    if (count < 0) throw new FrameFault(-count, body);
+    this.#at += count;
+    return body;
+  }
+}
+
+/** What `handle` has of each body that ends in these bytes. Where memory runs out after some they are returned, and a call with no
+ * bytes continues. */
+function receive(framer, bytes, handle) {
+  const events = [];
+  framer.add(bytes);
+  try {
+    for (let body = framer.next(); body !== undefined; body = framer.next()) {
+      framer.waiting = body;
+      events.push(handle(body));
+      framer.waiting = undefined;
+    }
+  } catch (error) {
+    if (error.code !== 'OUT_OF_MEMORY') framer.waiting = undefined;
+    if (error instanceof FrameFault) error.events = events;
+    // (an end that listens no more has no use for what follows)
+    else if (events.length > 0 && ['OUT_OF_MEMORY', 'ENDED', 'WRONG_PHASE'].includes(error.code)) return events;
+    throw error;
+  }
+  return events;
+}
+
+const WORDS = [
+  'OK', 'NOT_UTF8', 'OUT_OF_MEMORY', 'IN_USE', 'EMPTY', 'TOO_LONG', 'INSIDE_CHARACTER', 'REVERSED_RANGE', 'BAD_ENCODING', 'BAD_LENGTH',
+  'OTHER_KIND', 'OUT_OF_RANGE', 'BAD_LIMIT', 'ENDED', 'NOT_OPEN', 'ALREADY_OPEN', 'TOO_MANY_DOCUMENTS', 'STALE_VERSION',
+  'TOO_MANY_CHANGES', 'INVALID_PARAMS', 'CUT', 'BAD_FRAME', 'BODY_TOO_LONG', 'BAD_LOG', 'TOO_MANY_TURNS', 'OVERLAP', 'FAILED',
+  'NO_MESSAGE', 'WRONG_PHASE', 'NOT_AN_ANSWER', 'ERROR_ANSWER', 'NO_SYNC',
+];
+const SERVER_KINDS = ['replied', 'changed', 'dropped', 'ignored', 'refused', 'exited'];
+const CLIENT_KINDS = { 0: 'send', 3: 'ignored', 6: 'noted', 7: 'bad-server' };
+const PHASES = ['new', 'asked', 'ready', 'closing', 'closed', 'done', 'failed'];
+const NAMES = { 8: 'utf-8', 16: 'utf-16', 32: 'utf-32' };
+
+/** A server's end of a session, without input and output of its own. */
+class Server {
+  #server;
+  #framer;
+
+  constructor({ encoding = 'utf-16', isFixed = false, isFull = false, ...limits } = {}) {
+    if (!Object.hasOwn(ENCODINGS, encoding)) throw refusal('BAD_ENCODING');
+    const numbers = [...limitsOf(limits), ENCODINGS[encoding], isFixed ? 1 : 0, isFull ? 1 : 0];
+    this.#server = addon.newServer(Uint32Array.from(numbers));
+    this.#framer = new Framer({ maxBody: numbers[0] });
+  }
+
+  /** What the server does with each message that ends in these bytes. A faulty frame throws FrameFault, whose `events` came before it. */
+  receive(bytes) {
+    return receive(this.#framer, bytes, (body) => this.handle(body));
+  }
+
+  /** What the server does with the body of a message. */
+  handle(body) {
+    const [kind, reason, status, error, frame] = addon.handle(this.#server, bytesOf(body));
+    const event = { kind: SERVER_KINDS[kind], body };
+    if (frame) Object.assign(event, { frame, error });
+    if (event.kind === 'refused') event.reason = WORDS[reason];
+    if (event.kind === 'exited') event.status = status;
+    return event;
+  }
+
+  get documentCount() {
+    return addon.documents(this.#server);
+  }
+
+  /** The version of the open document of a URI, or undefined. */
+  version(uri) {
+    return addon.document(this.#server, false, utf8(uri), false)?.[0];
+  }
+
+  /** The text of the open document of a URI, or undefined. */
+  text(uri) {
+    return addon.document(this.#server, false, utf8(uri), true)?.[1];
+  }
+}
+
+/** A client's end of a session: it keeps an editor's documents, and each call returns the bytes to send. */
+class Client {
+  #client;
+  #framer;
+
+  constructor({ utf8 = false, utf32 = false, ...limits } = {}) {
+    const numbers = [...limitsOf(limits), utf8 ? 1 : 0, utf32 ? 1 : 0];
+    this.#client = addon.newClient(Uint32Array.from(numbers));
+    this.#framer = new Framer({ maxBody: numbers[0] });
+  }
+
+  /** Begins the session: `initialize`. */
+  start() {
+    return addon.call(this.#client, 0);
+  }
+
+  /** Opens a document: `textDocument/didOpen`. */
+  open(uri, languageId, version, text) {
+    return addon.openAt(this.#client, utf8(uri), utf8(languageId), int(version), utf8(text));
+  }
+
+  /** Changes a document: one `textDocument/didChange`, with the canonical batch, or where the server asked for it the whole text. */
+  edit(uri, version, changes) {
+    return addon.edit(this.#client, utf8(uri), int(version), ...passed(changes));
+  }
+
+  /** Closes a document: `textDocument/didClose`. */
+  close(uri) {
+    return addon.closeAt(this.#client, utf8(uri));
+  }
+
+  /** Asks the server to shut down. */
+  shutdown() {
+    return addon.call(this.#client, 1);
+  }
+
+  /** Ends the session, once `shutdown` was answered. */
+  exit() {
+    return addon.call(this.#client, 2);
+  }
+
+  /** What the client does with each message that ends in these bytes. A faulty frame throws FrameFault, whose `events` came before it. */
+  receive(bytes) {
+    return receive(this.#framer, bytes, (body) => this.deliver(body));
+  }
+
+  /** What the client does with the body of a message of the server. */
+  deliver(body) {
+    const [kind, reason, , , frame] = addon.deliver(this.#client, bytesOf(body));
+    const event = { kind: CLIENT_KINDS[kind], body };
+    if (frame) event.frame = frame;
+    if (event.kind === 'bad-server') event.reason = WORDS[reason];
+    return event;
+  }
+
+  get phase() {
+    return PHASES[addon.state(this.#client)[0]];
+  }
+
+  /** The encoding that was agreed on; undefined before. */
+  get encoding() {
+    return NAMES[addon.state(this.#client)[2]];
+  }
+
+  get documentCount() {
+    return addon.state(this.#client)[3];
+  }
+
+  /** The version of the open document of a URI, or undefined. */
+  version(uri) {
+    return addon.document(this.#client, true, utf8(uri), false)?.[0];
+  }
+
+  /** The text of the open document of a URI, or undefined. */
+  text(uri) {
+    return addon.document(this.#client, true, utf8(uri), true)?.[1];
   }
 }
 
@@ -212,4 +465,4 @@ const normalise = (log, options) => run(2, log, options);
 /** A log of version 1 in version 2, with the replies that a server gives. */
 const convert = (log, options) => run(3, log, options);
 
-module.exports = { TextDocument, LogFault, check, replay, normalise, convert };
+module.exports = { TextDocument, Framer, Server, Client, FrameFault, LogFault, check, replay, normalise, convert };

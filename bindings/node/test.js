@@ -3,7 +3,7 @@
 const assert = require('assert');
 const fs = require('fs');
 const path = require('path');
-const { TextDocument, LogFault, check, replay, normalise, convert } = require('./index.js');
+const { TextDocument, Framer, Server, Client, FrameFault, LogFault, check, replay, normalise, convert } = require('./index.js');
 
 const at = (line, character) => ({ line, character });
 const change = (start, end, text) => ({ range: { start, end }, text });
@@ -157,4 +157,162 @@ assert.throws(() => check(Buffer.alloc(0), { maxBody: 1 }), { code: 'BAD_LIMIT' 
 assert.throws(() => check(Buffer.alloc(0), { maxBody: 2 ** 32 + 4096 }), { code: 'BAD_LIMIT' });
 assert.throws(() => check(Buffer.alloc(0), { encoding: 'utf-7' }), { code: 'BAD_ENCODING' });
 assert.throws(() => check('text'), TypeError);
+// Numbers that look random.
+let seed = 1;
+function below(bound) {
+  seed = (Math.imul(seed, 1103515245) + 12345) & 0x7fffffff;
+  return (seed >>> 8) % bound;
+}
+const LETTERS = ['a', '\r', '\n', '\r\n', '\u00e9', '\u2028', '\u{1F600}'];
+const someText = (most) => Array.from({ length: below(most) }, () => LETTERS[below(LETTERS.length)]).join('');
+const somePlace = () => at(below(4), below(6));
+const someChange = () => (below(8) ? change(somePlace(), somePlace(), someText(4)) : { text: someText(4) });
+
+/** The index of a position, or undefined inside a character: LSP 3.17 as a plain program. */
+function denoted(text, { line, character }) {
+  let start = 0;
+  for (; line > 0; line--) {
+    const end = text.slice(start).match(/\r\n|\r|\n/);
+    if (!end) return text.length;
+    start += end.index + end[0].length;
+  }
+  const index = start + Math.min(character, text.slice(start).match(/^[^\r\n]*/)[0].length);
+  return /[\ud800-\udbff]/.test(text[index - 1]) && /[\udc00-\udfff]/.test(text[index]) ? undefined : index;
+}
+
+// Indexes and positions, against the plain program, after each of some changes.
+for (let count = 0; count < 300; count++) {
+  const document = TextDocument.create('file:///a', 'plain', 1, someText(12));
+  for (let version = 2; version < 5; version++) {
+    const text = document.getText();
+    for (let line = 0; line < 5; line++) {
+      for (let character = 0; character < 8; character++) {
+        const index = denoted(text, at(line, character));
+        if (index === undefined) assert.throws(() => document.offsetAt(at(line, character)), { code: 'INSIDE_CHARACTER' });
+        else {
+          assert.strictEqual(document.offsetAt(at(line, character)), index);
+          assert.strictEqual(denoted(text, document.positionAt(index)), index);
+        }
+      }
+    }
+    TextDocument.update(document, [{ text: someText(12) }], version);
+  }
+}
+
+// Both ends, and the bytes between them.
+const URIS = ['file:///a', 'file:///b', ''];
+class Pair {
+  constructor() {
+    this.server = new Server({ encoding: ['utf-8', 'utf-16', 'utf-32'][below(3)], isFull: below(4) === 0 });
+    this.client = new Client({ utf8: below(2) === 0, utf32: below(2) === 0 });
+    this.toServer = Buffer.alloc(0);
+    this.toClient = Buffer.alloc(0);
+    this.kinds = [];
+  }
+
+  send(frame) {
+    this.toServer = Buffer.concat([this.toServer, frame]);
+  }
+
+  serve(count) {
+    const piece = this.toServer.subarray(0, count);
+    this.toServer = this.toServer.subarray(count);
+    for (const { kind, frame } of this.server.receive(piece)) {
+      this.kinds.push(kind);
+      if (frame) this.toClient = Buffer.concat([this.toClient, frame]);
+    }
+  }
+
+  hear(count) {
+    const piece = this.toClient.subarray(0, count);
+    this.toClient = this.toClient.subarray(count);
+    for (const { kind, frame } of this.client.receive(piece)) {
+      this.kinds.push(kind);
+      if (frame) this.send(frame);
+    }
+  }
+
+  carryAll() {
+    while (this.toServer.length || this.toClient.length) {
+      this.serve(this.toServer.length);
+      this.hear(this.toClient.length);
+    }
+  }
+
+  /** A call of an editor; a refused one leaves all as it was. */
+  call() {
+    const uri = URIS[below(3)];
+    const before = documentsOf(this.client);
+    const version = (this.client.version(uri) ?? 0) + below(4);
+    const which = below(8);
+    try {
+      if (which === 0) this.send(this.client.open(uri, 'c', version, someText(12)));
+      else if (which === 1) this.send(this.client.close(uri));
+      else this.send(this.client.edit(uri, version, Array.from({ length: below(4) }, someChange)));
+    } catch (error) {
+      assert(error instanceof RangeError);
+      assert.deepStrictEqual(documentsOf(this.client), before);
+    }
+  }
+}
+
+const documentsOf = (end) => [...URIS.map((uri) => [end.version(uri), end.text(uri)]), end.documentCount];
+
+for (let count = 0; count < (process.env.LASPIDRU_SESSIONS ?? 200); count++) {
+  const pair = new Pair();
+  pair.send(pair.client.start());
+  while (pair.client.phase !== 'ready') {
+    pair.serve(below(40));
+    pair.hear(below(40));
+  }
+  for (let steps = below(30); steps > 0; steps--) {
+    const step = below(4);
+    if (step === 0) pair.serve(below(300));
+    else if (step === 1) pair.hear(below(300));
+    else pair.call();
+  }
+  pair.carryAll();
+  assert.deepStrictEqual(documentsOf(pair.client), documentsOf(pair.server));
+  pair.send(pair.client.shutdown());
+  pair.carryAll();
+  pair.send(pair.client.exit());
+  pair.carryAll();
+  assert.deepStrictEqual([pair.client.phase, pair.kinds.at(-1)], ['done', 'exited']);
+  assert(!pair.kinds.some((kind) => ['refused', 'dropped', 'bad-server'].includes(kind)));
+}
+
+// Refused calls of both ends.
+const framed = (body) => Buffer.from(`Content-Length: ${Buffer.byteLength(body)}\r\n\r\n${body}`);
+const client = new Client({ utf8: true });
+assert.deepStrictEqual([client.phase, client.encoding, client.documentCount], ['new', undefined, 0]);
+assert.throws(() => client.open('a', 'c', 1, ''), { name: 'RangeError', code: 'WRONG_PHASE' });
+client.start();
+const [begun] = client.receive(framed('{"jsonrpc":"2.0","id":1,"result":{"capabilities":{"positionEncoding":"utf-8","textDocumentSync":2}}}'));
+assert.deepStrictEqual([begun.kind, begun.frame.toString(), client.encoding],
+  ['send', framed('{"jsonrpc":"2.0","method":"initialized","params":{}}').toString(), 'utf-8']);
+assert.throws(() => client.edit('a', 1, []), { code: 'NOT_OPEN' });
+client.open('a', 'c', 1, '\u00e9');
+assert.throws(() => client.open('a', 'c', 1, ''), { code: 'ALREADY_OPEN' });
+assert.throws(() => client.edit('a', 1, []), { code: 'STALE_VERSION' });
+assert.throws(() => client.edit('a', 2, [change(at(0, 0), at(0, 1), '')]), { code: 'INSIDE_CHARACTER', change: 0, atEnd: true });
+assert.throws(() => client.open('b', 'c', 2 ** 31, ''), { code: 'OUT_OF_RANGE' });
+assert.throws(() => client.open('b', 'c', '1', ''), TypeError);
+assert.throws(() => client.open(1, 'c', 1, ''), TypeError);
+assert.throws(() => client.receive('text'), TypeError);
+assert.deepStrictEqual([client.version('a'), client.text('a'), client.text('b')], [1, '\u00e9', undefined]);
+const { kind, reason } = client.deliver(Buffer.from('{'));
+assert.deepStrictEqual([kind, reason, client.phase, client.text('a')], ['bad-server', 'NOT_AN_ANSWER', 'failed', '\u00e9']);
+assert.throws(() => client.deliver(Buffer.from('{}')), { code: 'WRONG_PHASE' });
+assert.throws(() => new Client({ maxDocs: 0 }), { code: 'BAD_LIMIT' });
+assert.throws(() => new Server({ encoding: 'utf-7' }), { code: 'BAD_ENCODING' });
+const exit = framed('{"jsonrpc":"2.0","method":"exit"}');
+const ended = new Server();
+assert.deepStrictEqual(ended.receive(Buffer.concat([exit, exit])).map((event) => [event.kind, event.status]), [['exited', 1]]);
+assert.throws(() => ended.receive(exit), { code: 'ENDED' });
+const framer = new Framer({ maxBody: 4096 });
+assert.deepStrictEqual(framer.receive(Buffer.concat([framed('x'), framed(''), Buffer.from('Content-Le')])).map(String), ['x', '']);
+assert.throws(() => framer.receive(Buffer.from('ngth: 1\r\n\r\nyContent-Length 2')), (error) => error instanceof FrameFault &&
+  error.frame === 1 && error.place === 43 + 22 + 14 && error.events.map(String).join() === 'y');
+assert.throws(() => framer.receive(Buffer.alloc(0)), { code: 'FAILED' });
+assert(!framer.isAtRest && new Framer().isAtRest);
 console.log('passed');

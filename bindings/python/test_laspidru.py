@@ -3,6 +3,7 @@ import os
 import random
 import re
 import tempfile
+import threading
 import types
 import unittest
 import urllib.parse
@@ -206,7 +207,52 @@ class Tests(unittest.TestCase):
             with open(path, "wb") as file:
                 file.write("one\r\n\u00e9".encode())
             document = TextDocument("file://" + urllib.parse.quote(path))
-        self.assertEqual((document.source, document.filename), ("one\r\n\u00e9", "a b.txt"))
+            self.assertEqual((document.source, document.filename), ("one\r\n\u00e9", "a b.txt"))
+
+    def test_file_is_read_late(self):
+        """Once, at the first use: an editor may open a file that isn't there yet."""
+        with tempfile.TemporaryDirectory() as folder:
+            path = os.path.join(folder, "late.txt")
+            document, missing = TextDocument("file://" + path), TextDocument("file://" + path + ".not")
+            with open(path, "wb") as file:
+                file.write(b"one")
+            self.assertEqual((document.line_count, document.source), (1, "one"))
+            self.assertRaises(FileNotFoundError, lambda: missing.source)
+        self.assertEqual(document.source, "one")
+
+    def test_names_of_subclasses(self):
+        """A subclass may use any name, also that of a lock."""
+        class Mine(TextDocument):
+            def __init__(self, *arguments):
+                self._lock = threading.RLock()
+                self._handle = self._text = self._encoding = None
+                super().__init__(*arguments)
+
+            @property
+            def source(self):
+                with self._lock:
+                    return super().source
+
+        mine = Mine("file:///a", "one")
+        mine.change([change(at(0, 0), at(0, 0), "X")])
+        self.assertEqual((mine.source, mine._text), ("Xone", None))
+
+    def test_whole_messages(self):
+        document = TextDocument("file:///a", "ab", 1)
+        with self.assertRaises(LaspidruError):
+            document.apply_changes([change(at(0, 0), at(0, 0), "X"), change(at(0, 1), at(0, 0), "")], 2)
+        self.assertEqual((document.source, document.version), ("ab", 1))
+        document.apply_changes([change(at(0, 0), at(0, 0), "X"), change(at(0, 1), at(0, 2), "")], 2)
+        self.assertEqual((document.source, document.version), ("Xb", 2))
+
+    def test_other_encodings(self):
+        document = Document("\U0001F600x\n\u00e9y", "utf-16")
+        self.assertEqual(document.position_in(at(0, 2), "utf-32"), at(0, 1))
+        self.assertEqual(document.position_in(at(1, 1), "utf-8"), at(1, 2))
+        self.assertEqual(document.byte_offset(at(0, 1), "utf-32"), 4)
+        self.assertEqual(document.position(4, "utf-8"), at(0, 4))
+        self.refuses(8, document.position_in, at(0, 0), "utf-7")
+        self.refuses(6, document.position_in, at(0, 1), "utf-32")
 
     def test_position_codec(self):
         codec = types.SimpleNamespace(encoding="utf-32")

@@ -1,4 +1,4 @@
-//! Texts that are kept as LSP 3.17 says, by a library that is proved (docs/EMBEDDING.md).
+//! Texts that are kept as LSP 3.17 says, and both ends of a session, by a library that is proved (docs/rust.md).
 //!
 //! ```
 //! use laspidru::{Change, Document, Encoding, Position, Range};
@@ -10,14 +10,23 @@
 //! # Ok::<(), laspidru::Error>(())
 //! ```
 
-use std::cell::{OnceCell, RefCell};
+#![deny(unsafe_code)]
+
+use std::cell::OnceCell;
 use std::fmt;
 
+pub mod client;
+#[allow(unsafe_code)]
 mod ffi;
+pub mod framer;
 pub mod log;
 #[cfg(feature = "lsp-types")]
 mod lsp;
 pub mod server;
+
+pub use client::Client;
+pub use framer::Framer;
+pub use server::Server;
 
 /// The limits that `lspsync` has by default: max_body, max_text, max_docs and max_changes.
 const DEFAULT_LIMITS: [usize; 4] = [16_777_216, 16_777_216, 1_024, 65_536];
@@ -95,22 +104,18 @@ impl std::error::Error for Error {}
 
 /// A text with its lines.
 pub struct Document {
-    handle: RefCell<ffi::Handle>,
+    handle: ffi::Handle,
     // The text, once it was asked for after the last change.
     text: OnceCell<String>,
     encoding: Encoding,
 }
 
-// The library proves that its handles may go to another thread.
-unsafe impl Send for Document {}
-
 impl Document {
     /// A document of a text. Positions count units of `encoding`.
     pub fn new(text: &str, encoding: Encoding) -> Result<Self, Error> {
-        let mut handle = ffi::Handle::EMPTY;
-        let code = unsafe { ffi::laspidru_document_open(&mut handle, text.as_ptr(), text.len()) };
-        demand(code, &ffi::Fault::default())?;
-        Ok(Document { handle: RefCell::new(handle), text: OnceCell::new(), encoding })
+        let handle = ffi::Handle::empty();
+        demand(handle.document_open(text), &ffi::Fault::default())?;
+        Ok(Document { handle, text: OnceCell::new(), encoding })
     }
 
     /// The text. The first call after a change copies it out of the library.
@@ -127,8 +132,7 @@ impl Document {
     /// The rest of the text is not read.
     pub fn line(&self, number: u32) -> Option<String> {
         let mut line = ffi::Line::default();
-        let code = unsafe { ffi::laspidru_document_line(&mut *self.handle.borrow_mut(), number, &mut line) };
-        match code {
+        match self.handle.document_line(number, &mut line) {
             ffi::OK => Some(self.copied(line.start, line.end - line.start)),
             ffi::OUT_OF_RANGE => None,
             code => unreachable!("code {code} of a full handle"),
@@ -139,17 +143,7 @@ impl Document {
     pub fn change(&mut self, changes: &[Change]) -> Result<(), Error> {
         let (edits, texts) = batch(changes);
         let mut fault = ffi::Fault::default();
-        let code = unsafe {
-            ffi::laspidru_document_change(
-                &mut *self.handle.borrow_mut(),
-                self.encoding as u32,
-                edits.as_ptr(),
-                edits.len(),
-                texts.as_ptr(),
-                texts.len(),
-                &mut fault,
-            )
-        };
+        let code = self.handle.document_change(self.encoding as u32, &edits, &texts, &mut fault);
         demand(code, &fault)?;
         self.text.take();
         Ok(())
@@ -159,38 +153,17 @@ impl Document {
     pub fn canonical(&self, changes: &[Change]) -> Result<Vec<Change>, Error> {
         let (edits, texts) = batch(changes);
         let mut fault = ffi::Fault::default();
-        let mut made = Batch(ffi::Handle::EMPTY);
-        let code = unsafe {
-            ffi::laspidru_document_canonical(
-                &mut *self.handle.borrow_mut(),
-                self.encoding as u32,
-                edits.as_ptr(),
-                edits.len(),
-                texts.as_ptr(),
-                texts.len(),
-                &mut made.0,
-                &mut fault,
-            )
-        };
+        let found = ffi::Handle::empty();
+        let code = self.handle.document_canonical(self.encoding as u32, &edits, &texts, &found, &mut fault);
         demand(code, &fault)?;
-        Ok(made.changes())
+        Ok(changes_of(&found))
     }
 
     /// Makes text edits, or none of them. All their ranges count in the text as it is.
     pub fn apply_edits(&mut self, edits: &[TextEdit]) -> Result<(), Error> {
         let (passed, texts) = passed_edits(edits);
         let mut fault = ffi::EditsFault::default();
-        let code = unsafe {
-            ffi::laspidru_document_apply_edits(
-                &mut *self.handle.borrow_mut(),
-                self.encoding as u32,
-                passed.as_ptr(),
-                passed.len(),
-                texts.as_ptr(),
-                texts.len(),
-                &mut fault,
-            )
-        };
+        let code = self.handle.document_apply_edits(self.encoding as u32, &passed, texts.as_bytes(), &mut fault);
         demand_edits(code, &fault)?;
         self.text.take();
         Ok(())
@@ -201,63 +174,37 @@ impl Document {
     pub fn batch_of_edits(&self, edits: &[TextEdit]) -> Result<Vec<Change>, Error> {
         let (passed, texts) = passed_edits(edits);
         let mut fault = ffi::EditsFault::default();
-        let mut found = Batch(ffi::Handle::EMPTY);
-        let code = unsafe {
-            ffi::laspidru_document_batch_of_edits(
-                &mut *self.handle.borrow_mut(),
-                self.encoding as u32,
-                passed.as_ptr(),
-                passed.len(),
-                texts.as_ptr(),
-                texts.len(),
-                &mut found.0,
-                &mut fault,
-            )
-        };
+        let found = ffi::Handle::empty();
+        let units = self.encoding as u32;
+        let code = self.handle.document_batch_of_edits(units, &passed, texts.as_bytes(), &found, &mut fault);
         demand_edits(code, &fault)?;
-        Ok(found.changes())
+        Ok(changes_of(&found))
     }
 
     /// The byte offset of a position. One after the line's end is the line's end.
     pub fn offset(&self, position: Position) -> Result<usize, Error> {
         let mut offset = 0;
-        let code = unsafe {
-            ffi::laspidru_document_offset(&mut *self.handle.borrow_mut(), self.encoding as u32, position, &mut offset)
-        };
+        let code = self.handle.document_offset(self.encoding as u32, position, &mut offset);
         if code == ffi::OK { Ok(offset) } else { Err(Error::NoPlace) }
     }
 
     /// The exact position of a byte offset.
     pub fn position(&self, offset: usize) -> Result<Position, Error> {
         let mut position = Position::default();
-        let code = unsafe {
-            ffi::laspidru_document_position(&mut *self.handle.borrow_mut(), self.encoding as u32, offset, &mut position)
-        };
+        let code = self.handle.document_position(self.encoding as u32, offset, &mut position);
         if code == ffi::OK { Ok(position) } else { Err(Error::NoPlace) }
     }
 
     fn length(&self) -> ffi::Length {
         let mut length = ffi::Length::default();
-        let code = unsafe { ffi::laspidru_document_size(&mut *self.handle.borrow_mut(), &mut length) };
+        let code = self.handle.document_size(&mut length);
         assert_eq!(code, ffi::OK, "the handle of a document is full");
         length
     }
 
     /// Copies a part of the text, which begins and ends between characters.
     fn copied(&self, start: usize, len: usize) -> String {
-        let (mut bytes, mut copied) = (Vec::with_capacity(len), 0);
-        let handle = &mut *self.handle.borrow_mut();
-        let code = unsafe { ffi::laspidru_document_copy(handle, start, bytes.as_mut_ptr(), len, &mut copied) };
-        assert_eq!((code, copied), (ffi::OK, len), "the part is in the text");
-        // SAFETY: the library has written these bytes.
-        unsafe { bytes.set_len(copied) };
-        String::from_utf8(bytes).expect("the library keeps UTF-8")
-    }
-}
-
-impl Drop for Document {
-    fn drop(&mut self) {
-        unsafe { ffi::laspidru_close(self.handle.get_mut()) }
+        String::from_utf8(self.handle.document_bytes(start, len)).expect("the library keeps UTF-8")
     }
 }
 
@@ -267,43 +214,23 @@ impl fmt::Debug for Document {
     }
 }
 
-/// A canonical batch of the library.
-struct Batch(ffi::Handle);
-
-impl Batch {
-    fn changes(&mut self) -> Vec<Change> {
-        let mut len = 0;
-        let code = unsafe { ffi::laspidru_batch_len(&mut self.0, &mut len) };
-        assert_eq!(code, ffi::OK, "the handle of a batch is full");
-        (0..len).map(|index| self.change(index)).collect()
-    }
-
-    /// Asks for the length of a change's text first, then for the text.
-    fn change(&mut self, index: usize) -> Change {
-        let (mut edit, mut bytes, mut copied) = (ffi::Edit::default(), Vec::new(), 0);
-        for _ in 0..2 {
-            bytes.resize(edit.len, 0);
-            let code = unsafe {
-                ffi::laspidru_batch_edit(
-                    &mut self.0,
-                    index,
-                    &mut edit,
-                    bytes.as_mut_ptr(),
-                    bytes.len(),
-                    &mut copied,
-                )
-            };
-            assert_eq!(code, ffi::OK, "the batch has this change");
-        }
-        let range = (!edit.is_whole).then_some(Range { start: edit.start, end: edit.end });
-        Change { range, text: String::from_utf8(bytes).expect("the library keeps UTF-8") }
-    }
+/// The changes of a canonical batch of the library.
+fn changes_of(batch: &ffi::Handle) -> Vec<Change> {
+    let mut len = 0;
+    assert_eq!(batch.batch_len(&mut len), ffi::OK, "the handle of a batch is full");
+    (0..len).map(|index| change_at(batch, index)).collect()
 }
 
-impl Drop for Batch {
-    fn drop(&mut self) {
-        unsafe { ffi::laspidru_close(&mut self.0) }
+/// Asks for the length of a change's text first, then for the text.
+fn change_at(batch: &ffi::Handle, index: usize) -> Change {
+    let (mut edit, mut bytes, mut copied) = (ffi::Edit::default(), Vec::new(), 0);
+    for _ in 0..2 {
+        bytes.resize(edit.len, 0);
+        let code = batch.batch_edit(index, &mut edit, &mut bytes, &mut copied);
+        assert_eq!(code, ffi::OK, "the batch has this change");
     }
+    let range = (!edit.is_whole).then_some(Range { start: edit.start, end: edit.end });
+    Change { range, text: String::from_utf8(bytes).expect("the library keeps UTF-8") }
 }
 
 /// A batch as the library takes it: its texts follow each other.

@@ -74,43 +74,25 @@ impl std::error::Error for LogError {}
 
 /// What a server answers to each record of a log, a line for each.
 pub fn check(log: &[u8], settings: &LogSettings) -> Result<Output, LogError> {
-    run(ffi::laspidru_log_check, log, settings)
+    run(ffi::Command::Check, log, settings)
 }
 
 /// The documents that are open at the end of a log, a line of JSON for each.
 pub fn replay(log: &[u8], settings: &LogSettings) -> Result<Output, LogError> {
-    run(ffi::laspidru_log_replay, log, settings)
+    run(ffi::Command::Replay, log, settings)
 }
 
 /// The log with each accepted change as its canonical message.
 pub fn normalise(log: &[u8], settings: &LogSettings) -> Result<Output, LogError> {
-    run(ffi::laspidru_log_normalise, log, settings)
+    run(ffi::Command::Normalise, log, settings)
 }
 
 /// A log of version 1 in version 2, with the replies that a server gives.
 pub fn convert(log: &[u8], settings: &LogSettings) -> Result<Output, LogError> {
-    run(ffi::laspidru_log_convert, log, settings)
+    run(ffi::Command::Convert, log, settings)
 }
 
-/// The output of a command behind a handle.
-struct Held(ffi::Handle);
-
-impl Held {
-    fn bytes(&mut self, len: usize) -> Vec<u8> {
-        let (mut bytes, mut copied) = (vec![0; len], 0);
-        let code = unsafe { ffi::laspidru_log_output(&mut self.0, 0, bytes.as_mut_ptr(), len, &mut copied) };
-        assert_eq!((code, copied), (ffi::OK, len), "the handle holds the output");
-        bytes
-    }
-}
-
-impl Drop for Held {
-    fn drop(&mut self) {
-        unsafe { ffi::laspidru_close(&mut self.0) }
-    }
-}
-
-fn run(command: ffi::LogCommand, log: &[u8], settings: &LogSettings) -> Result<Output, LogError> {
+fn run(command: ffi::Command, log: &[u8], settings: &LogSettings) -> Result<Output, LogError> {
     let settings = ffi::LogSettings {
         max_body: settings.max_body,
         max_text: settings.max_text,
@@ -119,11 +101,10 @@ fn run(command: ffi::LogCommand, log: &[u8], settings: &LogSettings) -> Result<O
         encoding: settings.encoding as u32,
         squash: settings.squash,
     };
-    let (mut held, mut ending) = (Held(ffi::Handle::EMPTY), ffi::Ending::default());
-    let code = unsafe { command(&mut held.0, &settings, log.as_ptr(), log.len(), &mut ending) };
-    let fault = match code {
+    let (output, mut ending) = (ffi::Handle::empty(), ffi::Ending::default());
+    let fault = match output.log_run(command, &settings, log, &mut ending) {
         ffi::OK => {
-            let bytes = held.bytes(ending.output_len);
+            let bytes = output.log_output(ending.output_len);
             return Ok(Output { bytes, messages: ending.messages, refused: ending.refused });
         }
         ffi::OUT_OF_MEMORY => return Err(LogError::OutOfMemory),
@@ -135,5 +116,5 @@ fn run(command: ffi::LogCommand, log: &[u8], settings: &LogSettings) -> Result<O
         ffi::BAD_LOG => LogFault::BadLog,
         code => unreachable!("code {code} of an empty handle and valid arguments"),
     };
-    Err(LogError::Fault { fault, place: ending.place, output: held.bytes(ending.output_len) })
+    Err(LogError::Fault { fault, place: ending.place, output: output.log_output(ending.output_len) })
 }

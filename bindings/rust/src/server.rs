@@ -1,7 +1,7 @@
-//! A server's end of a session: bodies of messages go in, and it keeps the open documents.
+//! A server's end of a session: bytes or bodies of messages go in, and it keeps the open documents.
 
+use crate::framer::{Framer, FrameError};
 use crate::{DEFAULT_LIMITS, Encoding, ffi};
-use std::cell::RefCell;
 use std::fmt;
 
 /// How a server is set up. The default is that of `lspsync serve`.
@@ -55,7 +55,7 @@ pub enum Answer {
     Exit(u8),
 }
 
-/// Why a document notification was refused.
+/// Why a document notification of the client, or a client's call on a document, was refused.
 #[derive(Clone, Copy, Debug, PartialEq, Eq)]
 pub enum Refusal {
     /// The params are not those of the notification.
@@ -87,6 +87,17 @@ pub enum ServerError {
     BadLimit,
     /// `exit` came before.
     Ended,
+    /// The stream is faulty, and no more of it is taken.
+    Frame(FrameError),
+}
+
+impl From<FrameError> for ServerError {
+    fn from(error: FrameError) -> Self {
+        match error {
+            FrameError::OutOfMemory => ServerError::OutOfMemory,
+            error => ServerError::Frame(error),
+        }
+    }
 }
 
 impl fmt::Display for ServerError {
@@ -95,13 +106,14 @@ impl fmt::Display for ServerError {
             ServerError::OutOfMemory => write!(f, "out of memory"),
             ServerError::BadLimit => write!(f, "a limit is out of its range"),
             ServerError::Ended => write!(f, "the session has ended"),
+            ServerError::Frame(error) => write!(f, "{error}"),
         }
     }
 }
 
 impl std::error::Error for ServerError {}
 
-/// A server's end of a session. Taking the stream apart into bodies is yours.
+/// A server's end of a session, without input and output of its own: bytes that were read go in, frames to send come out.
 ///
 /// ```
 /// use laspidru::server::{Answer, Server, Settings};
@@ -113,11 +125,11 @@ impl std::error::Error for ServerError {}
 /// # Ok::<(), laspidru::server::ServerError>(())
 /// ```
 pub struct Server {
-    handle: RefCell<ffi::Handle>,
+    handle: ffi::Handle,
+    framer: Framer,
+    // A body that wasn't handled yet, since the server was out of memory.
+    waiting: Option<Vec<u8>>,
 }
-
-// The library proves that its handles may go to another thread.
-unsafe impl Send for Server {}
 
 impl Server {
     /// A server at the start of a session.
@@ -131,19 +143,55 @@ impl Server {
             is_fixed: settings.is_fixed,
             is_full: settings.is_full,
         };
-        let mut handle = ffi::Handle::EMPTY;
-        demand(unsafe { ffi::laspidru_server_new(&mut handle, &settings) })?;
-        Ok(Server { handle: RefCell::new(handle) })
+        let handle = ffi::Handle::empty();
+        demand(handle.server_new(&settings))?;
+        let framer = Framer::new(settings.max_body).map_err(|error| match error {
+            FrameError::BadLimit => ServerError::BadLimit,
+            _ => ServerError::OutOfMemory,
+        })?;
+        Ok(Server { handle, framer, waiting: None })
+    }
+
+    /// Takes bytes that were read. [`Server::next_message`] then has the messages that end in them.
+    pub fn receive(&mut self, bytes: &[u8]) {
+        self.framer.receive(bytes);
+    }
+
+    /// The next message that is whole, and what the server did with it; none where the rest of it is to come.
+    ///
+    /// After [`ServerError::OutOfMemory`] the same call continues. A request that the server doesn't handle is answered by
+    /// the code -32601: it is yours, and your answer goes in place of that frame.
+    pub fn next_message(&mut self) -> Result<Option<(Vec<u8>, Answer)>, ServerError> {
+        let body = match self.waiting.take() {
+            Some(body) => body,
+            None => match self.framer.next_body().map_err(ServerError::from)? {
+                Some(body) => body,
+                None => return Ok(None),
+            },
+        };
+        match self.handle(&body) {
+            Ok(answer) => Ok(Some((body, answer))),
+            Err(error) => {
+                if error == ServerError::OutOfMemory {
+                    self.waiting = Some(body);
+                }
+                Err(error)
+            }
+        }
+    }
+
+    /// Whether the stream may end here: no byte of a message is left.
+    pub fn is_at_rest(&self) -> bool {
+        self.waiting.is_none() && self.framer.is_at_rest()
     }
 
     /// Answers the body of a message: the bytes after its header.
     pub fn handle(&mut self, body: &[u8]) -> Result<Answer, ServerError> {
         let mut answer = ffi::Answer::default();
-        let handle = self.handle.get_mut();
-        demand(unsafe { ffi::laspidru_server_handle(handle, body.as_ptr(), body.len(), &mut answer) })?;
+        demand(self.handle.server_handle(body, &mut answer))?;
         Ok(match answer.kind {
             ffi::REPLIED => Answer::Reply {
-                frame: self.reply_of(answer.reply_len),
+                frame: self.handle.server_reply(answer.reply_len),
                 code: (answer.error != 0).then_some(answer.error),
             },
             ffi::CHANGED => Answer::Changed,
@@ -158,50 +206,18 @@ impl Server {
     /// How many documents are open.
     pub fn document_count(&self) -> usize {
         let mut len = 0;
-        let code = unsafe { ffi::laspidru_server_documents(&mut *self.handle.borrow_mut(), &mut len) };
-        assert_eq!(code, ffi::OK, "the handle of a server is full");
+        assert_eq!(self.handle.server_documents(&mut len), ffi::OK, "the handle of a server is full");
         len
     }
 
     /// The version of the open document of a URI, which is compared byte for byte.
     pub fn version(&self, uri: &str) -> Option<i32> {
-        self.opened(uri).map(|opened| opened.version)
+        self.handle.opened(ffi::End::Server, uri).map(|opened| opened.version)
     }
 
     /// A copy of the text of the open document of a URI, which is compared byte for byte.
     pub fn text(&self, uri: &str) -> Option<String> {
-        let len = self.opened(uri)?.bytes;
-        let (mut bytes, mut copied) = (vec![0; len], 0);
-        let handle = &mut *self.handle.borrow_mut();
-        let code = unsafe {
-            ffi::laspidru_server_text(handle, uri.as_ptr(), uri.len(), 0, bytes.as_mut_ptr(), len, &mut copied)
-        };
-        assert_eq!((code, copied), (ffi::OK, len), "the document is open");
-        Some(String::from_utf8(bytes).expect("the library keeps UTF-8"))
-    }
-
-    fn opened(&self, uri: &str) -> Option<ffi::Opened> {
-        let mut opened = ffi::Opened::default();
-        let handle = &mut *self.handle.borrow_mut();
-        match unsafe { ffi::laspidru_server_document(handle, uri.as_ptr(), uri.len(), &mut opened) } {
-            ffi::OK => Some(opened),
-            ffi::NOT_OPEN => None,
-            code => unreachable!("code {code} of a full handle and a URI in UTF-8"),
-        }
-    }
-
-    fn reply_of(&mut self, len: usize) -> Vec<u8> {
-        let (mut bytes, mut copied) = (vec![0; len], 0);
-        let handle = self.handle.get_mut();
-        let code = unsafe { ffi::laspidru_server_reply(handle, 0, bytes.as_mut_ptr(), len, &mut copied) };
-        assert_eq!((code, copied), (ffi::OK, len), "the server has the reply");
-        bytes
-    }
-}
-
-impl Drop for Server {
-    fn drop(&mut self) {
-        unsafe { ffi::laspidru_close(self.handle.get_mut()) }
+        self.handle.text(ffi::End::Server, uri)
     }
 }
 
@@ -221,7 +237,7 @@ fn demand(code: u32) -> Result<(), ServerError> {
     }
 }
 
-fn refusal(reason: u32) -> Refusal {
+pub(crate) fn refusal(reason: u32) -> Refusal {
     match reason {
         ffi::TOO_LONG => Refusal::TooLong,
         ffi::INSIDE_CHARACTER => Refusal::InsideCharacter,

@@ -1,10 +1,12 @@
 /* Copyright (c) 2026 The Laspidru authors. SPDX-License-Identifier: MIT OR Apache-2.0 */
 
-/* Laspidru: texts that are kept as LSP 3.17 says, by a library that is proved. docs/EMBEDDING.md has examples.
+/* Laspidru: texts that are kept as LSP 3.17 says, by a library that is proved. docs/c.md has examples, and
+   CODES.md beside this file each function's codes.
 
    Each function tests what it is passed and returns a code. Where the code isn't LASPIDRU_OK nothing has changed; only after
-   the four faults of a log, 20 to 23, the output up to the fault is kept. Memory is taken last: LASPIDRU_OUT_OF_MEMORY is
-   returned only where the arguments are not refused.
+   the four faults of a log, 20 to 23, the output up to the fault is kept, and after LASPIDRU_BAD_FRAME a framer takes no
+   more of its stream. Memory is taken last: LASPIDRU_OUT_OF_MEMORY is returned only where the arguments are not refused.
+   A client's calls on documents take memory earlier: they may return it also where the documents would refuse the call.
    A handle of zeroes is empty. It is given to one call at a time, and never copied while it is full; it may be used
    by any thread. What a handle holds is freed by laspidru_close. Pointers are never null, also where a length is 0. */
 #ifndef LASPIDRU_H
@@ -40,37 +42,58 @@ enum {
     LASPIDRU_ENDED = 13,           /* the session has ended */
     LASPIDRU_NOT_OPEN = 14,        /* no document of this URI is open */
 
-    /* Only as the reason of a refused notification, as are 5, 6, 7 and 14. */
+    /* Of a client's calls; and as the reason of a refused notification, as are 5, 6, 7 and 14. */
     LASPIDRU_ALREADY_OPEN = 15,       /* a document of this URI is open already */
     LASPIDRU_TOO_MANY_DOCUMENTS = 16, /* as many documents are open as may be */
     LASPIDRU_STALE_VERSION = 17,      /* the version is not greater than the current one */
     LASPIDRU_TOO_MANY_CHANGES = 18,   /* too many changes, or too long ones */
-    LASPIDRU_INVALID_PARAMS = 19,     /* the params are not those of the notification */
+    LASPIDRU_INVALID_PARAMS = 19,     /* only as a reason: the params are not those of the notification */
 
     /* Faults of a log, with their place. The handle holds the output up to the fault. */
     LASPIDRU_CUT = 20,           /* the log ends inside a record */
-    LASPIDRU_BAD_FRAME = 21,     /* the header of a frame is faulty */
+    LASPIDRU_BAD_FRAME = 21,     /* the header of a frame is faulty; also of a framer's stream */
     LASPIDRU_BODY_TOO_LONG = 22, /* the canonical message of a change has a longer body than max_body */
     LASPIDRU_BAD_LOG = 23,       /* what is there belongs in no log, or for laspidru_log_convert in none of version 1 */
 
     LASPIDRU_TOO_MANY_TURNS = 24, /* too many reads and writes: 2^64 - 1 are allowed; nothing has changed */
-    LASPIDRU_OVERLAP = 25         /* two text edits overlap */
+    LASPIDRU_OVERLAP = 25,        /* two text edits overlap */
+    LASPIDRU_FAILED = 26,         /* a framer returned LASPIDRU_BAD_FRAME before */
+    LASPIDRU_NO_MESSAGE = 27,     /* no whole message is buffered */
+    LASPIDRU_WRONG_PHASE = 28,    /* a client's call that isn't allowed in this phase */
+
+    /* Only as the reason of LASPIDRU_BAD_SERVER, as is 8: an encoding that wasn't offered. */
+    LASPIDRU_NOT_AN_ANSWER = 29,  /* no message, a response to no request of the client, or one that can't be read */
+    LASPIDRU_ERROR_ANSWER = 30,   /* an error response to initialize or shutdown */
+    LASPIDRU_NO_SYNC = 31         /* the server doesn't want to be notified of documents, or of changes */
 };
 
-/* Kinds of a server's answer. */
+/* Kinds of a server's answer, and of a client's: REPLIED, IGNORED, NOTED or BAD_SERVER. */
 enum {
-    LASPIDRU_REPLIED = 0, /* there is a reply to send */
+    LASPIDRU_REPLIED = 0, /* there is a frame to send */
     LASPIDRU_CHANGED = 1, /* the open documents changed */
     LASPIDRU_DROPPED = 2, /* a notification before initialize or after shutdown */
     LASPIDRU_IGNORED = 3, /* a response, or a notification that is yours to handle */
     LASPIDRU_REFUSED = 4, /* a document notification that changed nothing */
-    LASPIDRU_EXITED = 5   /* the session ends, and the process is to end with a status */
+    LASPIDRU_EXITED = 5,  /* the session ends, and the process is to end with a status */
+    LASPIDRU_NOTED = 6,   /* the response to shutdown */
+    LASPIDRU_BAD_SERVER = 7 /* the session can't continue; the documents stay */
+};
+
+/* Phases of a client's session. */
+enum {
+    LASPIDRU_NEW = 0,     /* nothing was sent */
+    LASPIDRU_ASKED = 1,   /* initialize was sent */
+    LASPIDRU_READY = 2,   /* documents are opened, edited and closed */
+    LASPIDRU_CLOSING = 3, /* shutdown was sent */
+    LASPIDRU_CLOSED = 4,  /* shutdown was answered; only exit is left */
+    LASPIDRU_DONE = 5,    /* exit was sent */
+    LASPIDRU_BROKEN = 6   /* the server sent what no session can continue with */
 };
 
 /* Encodings: what a position's character counts. */
 enum { LASPIDRU_UTF8 = 8, LASPIDRU_UTF16 = 16, LASPIDRU_UTF32 = 32 };
 
-/* A handle: room for a document, a batch, a server or the output of a command on a log. */
+/* A handle: room for a document, a batch, a framer, a server, a client or the output of a command on a log. */
 typedef struct laspidru_handle {
     void *pointer;
     laspidru_bool is_full;
@@ -136,6 +159,33 @@ typedef struct laspidru_answer {
     laspidru_i32 error;      /* REPLIED: the number of an error reply (LSP 3.17, ErrorCodes), 0 of a result */
     laspidru_size reply_len; /* REPLIED: how many bytes laspidru_server_reply copies */
 } laspidru_answer;
+
+/* What a framer took of a piece of a stream, or where the stream is faulty. A member that isn't of the code is 0. */
+typedef struct laspidru_taken {
+    laspidru_size bytes;    /* OK: how many bytes of the piece */
+    laspidru_size body_len; /* OK: how many bytes the body has, once the message is whole */
+    laspidru_u64 place;     /* BAD_FRAME: the byte offset in the stream on which the fault was decided */
+    laspidru_u32 frame;     /* BAD_FRAME: 1 to 7, for F1 to F7 of docs/FORMATS.md */
+    laspidru_bool is_whole; /* OK: whether the message is whole */
+} laspidru_taken;
+
+/* How a client is set up. It offers UTF-16, and these. */
+typedef struct laspidru_client_settings {
+    laspidru_size max_body;    /* 4,096 to 1,073,741,824 bytes of a message that it sends for a document */
+    laspidru_size max_text;    /* up to 1,073,741,824 bytes */
+    laspidru_size max_docs;    /* 1 to 65,536 */
+    laspidru_size max_changes; /* 1 to 1,048,576 in a message */
+    laspidru_bool utf8;
+    laspidru_bool utf32;
+} laspidru_client_settings;
+
+/* The state of a client's session. */
+typedef struct laspidru_state {
+    laspidru_u32 phase;      /* LASPIDRU_NEW .. LASPIDRU_BROKEN */
+    laspidru_u32 reason;     /* BROKEN: the code that says why; else 0 */
+    laspidru_u32 encoding;   /* the encoding that was agreed on; 0 before */
+    laspidru_size documents; /* how many are open */
+} laspidru_state;
 
 /* The version of an open document, and how many bytes its text has. */
 typedef struct laspidru_opened {
@@ -243,6 +293,77 @@ laspidru_u32 laspidru_server_document(laspidru_handle *server, const unsigned ch
 
 /* Copies the bytes of an open document's text from `start` on, as many as `out` holds, and says how many. */
 laspidru_u32 laspidru_server_text(laspidru_handle *server, const unsigned char *uri, laspidru_size uri_len,
+    laspidru_size start, unsigned char *out, laspidru_size out_len, laspidru_size *copied);
+
+/* ---- A framer takes a stream apart: feed, then body and next for each message, until all of the piece was taken.
+
+   Makes a framer in an empty handle, at the start of a stream. A body may have 4,096 to 1,073,741,824 bytes. */
+laspidru_u32 laspidru_framer_new(laspidru_handle *framer, laspidru_size max_body);
+
+/* Takes bytes of the next piece of the stream: all of them, or those up to the end of one message. While a whole message is
+   buffered it takes none. After LASPIDRU_BAD_FRAME no more is taken. */
+laspidru_u32 laspidru_framer_feed(laspidru_handle *framer, const unsigned char *piece, laspidru_size piece_len,
+    laspidru_taken *taken);
+
+/* Copies the bytes of the body of the whole message from `start` on, as many as `out` holds, and says how many. */
+laspidru_u32 laspidru_framer_body(laspidru_handle *framer, laspidru_size start,
+    unsigned char *out, laspidru_size out_len, laspidru_size *copied);
+
+/* Releases the whole message, so that the next one is taken. Where none is whole it does nothing. */
+laspidru_u32 laspidru_framer_next(laspidru_handle *framer);
+
+/* Whether the stream may end here: no byte of a message is buffered, and there was no fault. */
+laspidru_u32 laspidru_framer_at_rest(laspidru_handle *framer, laspidru_bool *at_rest);
+
+/* ---- A client keeps an editor's documents and says what to send. Each call that is done leaves a frame in it, which
+   laspidru_client_frame copies: `frame_len` bytes with their header, until the next call or delivery that is done.
+
+   Makes a client in an empty handle, at the start of a session. */
+laspidru_u32 laspidru_client_new(laspidru_handle *client, const laspidru_client_settings *settings);
+
+/* initialize, in phase NEW, which becomes ASKED. */
+laspidru_u32 laspidru_client_start(laspidru_handle *client, laspidru_size *frame_len);
+
+/* textDocument/didOpen, in phase READY. */
+laspidru_u32 laspidru_client_open(laspidru_handle *client, const unsigned char *uri, laspidru_size uri_len,
+    const unsigned char *language, laspidru_size language_len, laspidru_i32 version,
+    const unsigned char *text, laspidru_size text_len, laspidru_size *frame_len);
+
+/* One textDocument/didChange, in phase READY: the canonical batch of these changes, or where the server asked for it the
+   whole text. Positions are in the encoding that was agreed on. The version must be greater than the current one.
+   With INSIDE_CHARACTER and REVERSED_RANGE `fault` says which change is faulty. */
+laspidru_u32 laspidru_client_edit(laspidru_handle *client, const unsigned char *uri, laspidru_size uri_len,
+    laspidru_i32 version, const laspidru_edit *edits, laspidru_size edits_len, const unsigned char *texts,
+    laspidru_size texts_len, laspidru_fault *fault, laspidru_size *frame_len);
+
+/* textDocument/didClose, in phase READY. */
+laspidru_u32 laspidru_client_close(laspidru_handle *client, const unsigned char *uri, laspidru_size uri_len,
+    laspidru_size *frame_len);
+
+/* shutdown, in phase READY, which becomes CLOSING. */
+laspidru_u32 laspidru_client_shutdown(laspidru_handle *client, laspidru_size *frame_len);
+
+/* exit, in phase CLOSED, which becomes DONE. */
+laspidru_u32 laspidru_client_exit(laspidru_handle *client, laspidru_size *frame_len);
+
+/* Hands the body of a message of the server to a client that listens, from ASKED to CLOSED. REPLIED says that there is a frame
+   to send, `reply_len` bytes: initialized after the response to initialize, else an error reply to a request. */
+laspidru_u32 laspidru_client_deliver(laspidru_handle *client, const unsigned char *body, laspidru_size body_len,
+    laspidru_answer *answer);
+
+/* Copies the bytes of the frame to send from `start` on, as many as `out` holds, and says how many. */
+laspidru_u32 laspidru_client_frame(laspidru_handle *client, laspidru_size start,
+    unsigned char *out, laspidru_size out_len, laspidru_size *copied);
+
+/* The phase, the encoding, and how many documents are open. */
+laspidru_u32 laspidru_client_state(laspidru_handle *client, laspidru_state *state);
+
+/* The version and the length of the open document of a URI, which is compared byte for byte. */
+laspidru_u32 laspidru_client_document(laspidru_handle *client, const unsigned char *uri, laspidru_size uri_len,
+    laspidru_opened *document);
+
+/* Copies the bytes of an open document's text from `start` on, as many as `out` holds, and says how many. */
+laspidru_u32 laspidru_client_text(laspidru_handle *client, const unsigned char *uri, laspidru_size uri_len,
     laspidru_size start, unsigned char *out, laspidru_size out_len, laspidru_size *copied);
 
 /* Four commands on the bytes of a log, each as lspsync's of the same name. The output goes into the empty handle `output`:

@@ -19,7 +19,7 @@ use Rattle.lsp_edit.specs.Edited.{edit_of}
 use Rattle.lsp_edit.specs.Indexed.{IsCanonicalBatch, text_within}
 use Rattle.laspidru.specs.declared.codes.TheConstants.{BAD_LENGTH, INSIDE_CHARACTER, NOT_UTF8, OK, OUT_OF_MEMORY, OUT_OF_RANGE, REVERSED_RANGE, TOO_LONG}
 use Rattle.laspidru.specs.declared.object.Object.{Object}
-use Rattle.laspidru.specs.declared.object.Object.TheVariants.{Document, Batch, Server, Output}
+use Rattle.laspidru.specs.declared.object.Object.TheVariants.{Document, Batch, Server, Output, Framer, Client}
 use Rattle.laspidru.specs.declared.place.Place.{Place}
 use Rattle.laspidru.specs.declared.place.Edit.{Edit}
 use Rattle.laspidru.specs.declared.place.Fault.{Fault}
@@ -106,6 +106,8 @@ IsBatchOf asked (Batch changes) =
 IsBatchOf asked (Document other) = ⊥
 IsBatchOf asked (Server session) = ⊥
 IsBatchOf asked (Output bytes) = ⊥
+IsBatchOf asked (Framer framing) = ⊥
+IsBatchOf asked (Client editor) = ⊥
 
 -- The handle has the canonical batch of this batch.
 abbrev pub HoldsBatchOf : Asked → Option Object → Type 0

@@ -18,7 +18,7 @@ use Rattle.lsp_edit.specs.Indexed.{text_within}
 use Rattle.lsp_edit.specs.TextEdits.{IsBatchOfEdits, IsEditsFault}
 use Rattle.laspidru.specs.declared.codes.TheConstants.{INSIDE_CHARACTER, OK, OUT_OF_MEMORY, OVERLAP, REVERSED_RANGE, TOO_LONG}
 use Rattle.laspidru.specs.declared.object.Object.{Object}
-use Rattle.laspidru.specs.declared.object.Object.TheVariants.{Document, Batch, Server, Output}
+use Rattle.laspidru.specs.declared.object.Object.TheVariants.{Document, Batch, Server, Output, Framer, Client}
 use Rattle.laspidru.specs.declared.place.Place.{Place}
 use Rattle.laspidru.specs.declared.place.Edit.{Edit}
 use Rattle.laspidru.specs.declared.place.EditsFault.{EditsFault}
@@ -106,6 +106,8 @@ IsEditsBatch asked (Batch changes) = IsBatchOfAsked asked changes.items
 IsEditsBatch asked (Document other) = ⊥
 IsEditsBatch asked (Server session) = ⊥
 IsEditsBatch asked (Output bytes) = ⊥
+IsEditsBatch asked (Framer framing) = ⊥
+IsEditsBatch asked (Client editor) = ⊥
 
 -- the same of what a handle holds
 abbrev pub HoldsEditsBatch : EditsAsked → Option Object → Type 0

@@ -1,8 +1,11 @@
 pub mod Sessions
+pub mod Editors
 pub mod Stored
 pub mod Codes
 pub mod Objects
 pub mod Batches
 pub mod Edits
 pub mod Servers
+pub mod Framers
+pub mod Clients
 pub mod Logs

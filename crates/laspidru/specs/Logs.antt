@@ -20,7 +20,7 @@ use Rattle.laspidru.specs.declared.command.Command.TheVariants.{Check, Replay, N
 use Rattle.laspidru.specs.declared.endings.Ending.{Ending}
 use Rattle.laspidru.specs.declared.endings.LogSettings.{LogSettings}
 use Rattle.laspidru.specs.declared.object.Object.{Object}
-use Rattle.laspidru.specs.declared.object.Object.TheVariants.{Document, Batch, Server, Output}
+use Rattle.laspidru.specs.declared.object.Object.TheVariants.{Document, Batch, Server, Output, Framer, Client}
 use Rattle.laspidru.specs.Codes.{and_then}
 use Rattle.laspidru.specs.Objects.{encoding_at}
 use Rattle.laspidru.specs.Servers.{limits_asked}
@@ -148,6 +148,8 @@ output_of (Document text) = Err OTHER_KIND
 output_of (Batch changes) = Err OTHER_KIND
 output_of (Server session) = Err OTHER_KIND
 output_of (Output bytes) = Ok bytes.items
+output_of (Framer framing) = Err OTHER_KIND
+output_of (Client editor) = Err OTHER_KIND
 
 -- The output in a handle.
 abbrev pub output_in : Option Object → Result (List ℕ) ℕ

@@ -17,7 +17,7 @@ use Rattle.laspidru.specs.declared.place.Line.{Line}
 use Rattle.laspidru.specs.declared.place.Place.{Place}
 use Rattle.laspidru.specs.declared.place.Size.{Size}
 use Rattle.laspidru.specs.declared.object.Object.{Object}
-use Rattle.laspidru.specs.declared.object.Object.TheVariants.{Document, Batch, Server, Output}
+use Rattle.laspidru.specs.declared.object.Object.TheVariants.{Document, Batch, Server, Output, Framer, Client}
 use Rattle.laspidru.specs.Codes.{and_then}
 
 -- A handle that is to be filled is refused if it has an object.
@@ -38,6 +38,8 @@ document_of (Document text) = Ok text
 document_of (Batch changes) = Err OTHER_KIND
 document_of (Server session) = Err OTHER_KIND
 document_of (Output bytes) = Err OTHER_KIND
+document_of (Framer framing) = Err OTHER_KIND
+document_of (Client editor) = Err OTHER_KIND
 
 -- The text of the document in a handle.
 abbrev pub document_in : Option Object → Result (List ℕ) ℕ
@@ -50,6 +52,8 @@ batch_of (Document text) = Err OTHER_KIND
 batch_of (Batch changes) = Ok changes.items
 batch_of (Server session) = Err OTHER_KIND
 batch_of (Output bytes) = Err OTHER_KIND
+batch_of (Framer framing) = Err OTHER_KIND
+batch_of (Client editor) = Err OTHER_KIND
 
 -- The changes of the batch in a handle.
 abbrev pub batch_in : Option Object → Result (List Change) ℕ

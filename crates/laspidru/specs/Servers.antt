@@ -28,7 +28,7 @@ use Rattle.laspidru.specs.declared.answers.Opened.{Opened}
 use Rattle.laspidru.specs.declared.answers.Settings.{Settings}
 use Rattle.laspidru.specs.declared.codes.TheConstants.{ALREADY_OPEN, BAD_LIMIT, CHANGED, DROPPED, EMPTY, ENDED, EXITED, IGNORED, INSIDE_CHARACTER, INVALID_PARAMS, NOT_OPEN, NOT_UTF8, OK, OTHER_KIND, OUT_OF_MEMORY, REFUSED, REPLIED, REVERSED_RANGE, STALE_VERSION, TOO_LONG, TOO_MANY_CHANGES, TOO_MANY_DOCUMENTS}
 use Rattle.laspidru.specs.declared.object.Object.{Object}
-use Rattle.laspidru.specs.declared.object.Object.TheVariants.{Document, Batch, Server, Output}
+use Rattle.laspidru.specs.declared.object.Object.TheVariants.{Document, Batch, Server, Output, Framer, Client}
 use Rattle.laspidru.specs.Codes.{and_then, unless}
 use Rattle.laspidru.specs.Objects.{encoding_at}
 use Rattle.laspidru.specs.Sessions.{SessionData}
@@ -122,6 +122,8 @@ server_of (Document text) = Err OTHER_KIND
 server_of (Batch changes) = Err OTHER_KIND
 server_of (Server session) = Ok session
 server_of (Output bytes) = Err OTHER_KIND
+server_of (Framer framing) = Err OTHER_KIND
+server_of (Client editor) = Err OTHER_KIND
 
 -- The server in a handle.
 abbrev pub server_in : Option Object → Result SessionData ℕ

@@ -118,7 +118,7 @@ fn error_of(code: Option<ErrorCode>) -> i32
 }
 
 /// The code for why the store refuses a command.
-fn store_code_of(fault: StoreFault) -> u32
+pub(crate) fn store_code_of(fault: StoreFault) -> u32
     ensures { result ≡ store_code fault }
 {
     match fault {
@@ -145,7 +145,7 @@ fn reason_of(refusal: Refusal) -> u32
 }
 
 /// An answer with only a kind.
-fn plain(kind: u32) -> Answer
+pub(crate) fn plain(kind: u32) -> Answer
     ensures { result ≡ plain_out kind }
 {
     Answer {

@@ -52,6 +52,18 @@ pub const BAD_LOG: u32 = 23;
 pub const TOO_MANY_TURNS: u32 = 24;
 /// Two text edits overlap.
 pub const OVERLAP: u32 = 25;
+/// A fault of this stream was found before.
+pub const FAILED: u32 = 26;
+/// No whole message is buffered.
+pub const NO_MESSAGE: u32 = 27;
+/// The call isn't allowed in this phase of the session.
+pub const WRONG_PHASE: u32 = 28;
+/// The server sent no message, or a response that answers no request.
+pub const NOT_AN_ANSWER: u32 = 29;
+/// The server answered a request of the client by an error.
+pub const ERROR_ANSWER: u32 = 30;
+/// The server doesn't want to be notified of documents, or of their changes.
+pub const NO_SYNC: u32 = 31;
 
 /// The server replies.
 pub const REPLIED: u32 = 0;
@@ -65,3 +77,7 @@ pub const IGNORED: u32 = 3;
 pub const REFUSED: u32 = 4;
 /// The session ends.
 pub const EXITED: u32 = 5;
+/// The response to `shutdown` came.
+pub const NOTED: u32 = 6;
+/// The client can't continue with this server.
+pub const BAD_SERVER: u32 = 7;

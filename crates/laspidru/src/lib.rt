@@ -1,19 +1,21 @@
-//! Laspidru for C: documents, canonical batches, servers and the output of commands on logs in
-//! handles, with `include/laspidru.h`.
+//! Laspidru for C: documents, canonical batches, framers, servers, clients and the output of
+//! commands on logs in handles, with `include/laspidru.h`.
 //!
 //! Each function checks all that C passes and returns a code. If the code isn't [`OK`], nothing has
 //! changed. Only after the four faults of a log, [`CUT`] to [`BAD_LOG`], the output up to the fault
-//! is kept.
+//! is kept; and after [`BAD_FRAME`] a framer takes no more of its stream.
 //!
 //! - `document`: the functions on documents; `batch`: those on canonical batches; `edits`: those
-//!   on text edits; `server`: those on servers; `log`: those on logs.
+//!   on text edits; `server`: those on servers; `client`: those on clients; `framer`: those on
+//!   framers; `log`: those on logs.
 //! - `handle`: a handle that C holds; `object`: the object in it; `session`: a server with its last
-//!   reply.
+//!   reply; `editor`: a client with its last frame.
 //! - `codes`: the codes that the functions return; `place`: the plain structs that C passes and
 //!   gets.
 //! - `changes`: a batch as C passes it, and the report of its fault; `bytes`: bytes that C passes
 //!   or gets.
-//! - `answers`: a server's settings and its answers; `endings`: the settings of a command on a log,
+//! - `answers`: a server's settings and its answers; `reports`: a client's; `taken`: what is taken
+//!   of a stream; `endings`: the settings of a command on a log,
 //!   and its ending.
 //! - `command`: the commands over bytes; `log_reader`: a log in memory, as a command reads it.
 #![tactic(auto)]
@@ -22,29 +24,39 @@ mod answers;
 mod batch;
 mod bytes;
 mod changes;
+mod client;
 mod codes;
 mod command;
 mod document;
+mod editor;
 mod edits;
 mod endings;
+mod framer;
 mod handle;
 mod log;
 mod log_reader;
 mod object;
 mod place;
+mod reports;
 mod server;
 mod session;
+mod taken;
 
 pub use answers::{Answer, Opened, Settings};
 pub use codes::{
-    ALREADY_OPEN, BAD_ENCODING, BAD_FRAME, BAD_LENGTH, BAD_LIMIT, BAD_LOG, BODY_TOO_LONG, CHANGED,
-    CUT, DROPPED, EMPTY, ENDED, EXITED, IGNORED, IN_USE, INSIDE_CHARACTER, INVALID_PARAMS,
-    NOT_OPEN, NOT_UTF8, OK, OTHER_KIND, OUT_OF_MEMORY, OUT_OF_RANGE, OVERLAP, REFUSED, REPLIED,
+    ALREADY_OPEN, BAD_ENCODING, BAD_FRAME, BAD_LENGTH, BAD_LIMIT, BAD_LOG, BAD_SERVER,
+    BODY_TOO_LONG, CHANGED, CUT, DROPPED, EMPTY, ENDED, ERROR_ANSWER, EXITED, FAILED, IGNORED,
+    IN_USE, INSIDE_CHARACTER, INVALID_PARAMS, NO_MESSAGE, NO_SYNC, NOT_AN_ANSWER, NOT_OPEN,
+    NOT_UTF8, NOTED, OK, OTHER_KIND, OUT_OF_MEMORY, OUT_OF_RANGE, OVERLAP, REFUSED, REPLIED,
     REVERSED_RANGE, STALE_VERSION, TOO_LONG, TOO_MANY_CHANGES, TOO_MANY_DOCUMENTS, TOO_MANY_TURNS,
+    WRONG_PHASE,
 };
 pub use command::{Command, Run};
+pub use editor::Editor;
 pub use endings::{Ending, LogSettings};
 pub use handle::Handle;
 pub use object::Object;
 pub use place::{Edit, EditsFault, Fault, Line, Place, Size};
+pub use reports::{Call, ClientSettings, ClientState};
 pub use session::Session;
+pub use taken::Taken;

@@ -1,7 +1,9 @@
 //! The object in a handle.
 
+use crate::editor::Editor;
 use crate::session::Session;
 use lsp_edit::{Change, IndexedText};
+use lsp_frame::Framer;
 
 /// The object in a handle.
 #[derive(Drop)]
@@ -14,4 +16,8 @@ pub enum Object {
     Server(Session),
     /// The output of a command on a log.
     Output(Vec<u8>),
+    /// A framer of a stream.
+    Framer(Framer),
+    /// A client, with its last frame.
+    Client(Editor),
 }

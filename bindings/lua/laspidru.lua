@@ -1,0 +1,400 @@
+-- Texts that are kept as LSP 3.17 says, and a client's end of a session, by a library that is proved (docs/lua.md).
+-- For LuaJIT, as Neovim has it. LASPIDRU_LIBRARY names the shared library, or the loader finds liblaspidru.so.0.
+local ffi = require("ffi")
+
+ffi.cdef([[
+typedef struct { void *pointer; bool is_full; } laspidru_handle;
+typedef struct { uint32_t line, character; } laspidru_place;
+typedef struct { laspidru_place start, end_; size_t len; bool is_whole; } laspidru_edit;
+typedef struct { size_t change; bool at_end; } laspidru_fault;
+typedef struct { size_t edit, other; bool at_end; } laspidru_edits_fault;
+typedef struct { size_t start, end_; } laspidru_line;
+typedef struct { size_t bytes, lines; } laspidru_length;
+typedef struct { size_t bytes, body_len; uint64_t place; uint32_t frame; bool is_whole; } laspidru_taken;
+typedef struct { size_t max_body, max_text, max_docs, max_changes; bool utf8, utf32; } laspidru_client_settings;
+typedef struct { uint32_t phase, reason, encoding; size_t documents; } laspidru_state;
+typedef struct { uint32_t kind, reason, status; int32_t error; size_t reply_len; } laspidru_answer;
+typedef struct { int32_t version; size_t bytes; } laspidru_opened;
+uint32_t laspidru_document_open(laspidru_handle *, const char *, size_t);
+void laspidru_close(laspidru_handle *);
+uint32_t laspidru_document_change(laspidru_handle *, uint32_t, const laspidru_edit *, size_t, const char *, size_t, laspidru_fault *);
+uint32_t laspidru_document_apply_edits(laspidru_handle *, uint32_t, const laspidru_edit *, size_t, const char *, size_t,
+    laspidru_edits_fault *);
+uint32_t laspidru_document_canonical(laspidru_handle *, uint32_t, const laspidru_edit *, size_t, const char *, size_t,
+    laspidru_handle *, laspidru_fault *);
+uint32_t laspidru_document_size(laspidru_handle *, laspidru_length *);
+uint32_t laspidru_document_line(laspidru_handle *, uint32_t, laspidru_line *);
+uint32_t laspidru_document_copy(laspidru_handle *, size_t, char *, size_t, size_t *);
+uint32_t laspidru_document_offset(laspidru_handle *, uint32_t, laspidru_place, size_t *);
+uint32_t laspidru_document_position(laspidru_handle *, uint32_t, size_t, laspidru_place *);
+uint32_t laspidru_batch_len(laspidru_handle *, size_t *);
+uint32_t laspidru_batch_edit(laspidru_handle *, size_t, laspidru_edit *, char *, size_t, size_t *);
+uint32_t laspidru_framer_new(laspidru_handle *, size_t);
+uint32_t laspidru_framer_feed(laspidru_handle *, const char *, size_t, laspidru_taken *);
+uint32_t laspidru_framer_body(laspidru_handle *, size_t, char *, size_t, size_t *);
+uint32_t laspidru_framer_next(laspidru_handle *);
+uint32_t laspidru_client_new(laspidru_handle *, const laspidru_client_settings *);
+uint32_t laspidru_client_start(laspidru_handle *, size_t *);
+uint32_t laspidru_client_open(laspidru_handle *, const char *, size_t, const char *, size_t, int32_t, const char *, size_t, size_t *);
+uint32_t laspidru_client_edit(laspidru_handle *, const char *, size_t, int32_t, const laspidru_edit *, size_t, const char *, size_t,
+    laspidru_fault *, size_t *);
+uint32_t laspidru_client_close(laspidru_handle *, const char *, size_t, size_t *);
+uint32_t laspidru_client_shutdown(laspidru_handle *, size_t *);
+uint32_t laspidru_client_exit(laspidru_handle *, size_t *);
+uint32_t laspidru_client_deliver(laspidru_handle *, const char *, size_t, laspidru_answer *);
+uint32_t laspidru_client_frame(laspidru_handle *, size_t, char *, size_t, size_t *);
+uint32_t laspidru_client_state(laspidru_handle *, laspidru_state *);
+uint32_t laspidru_client_document(laspidru_handle *, const char *, size_t, laspidru_opened *);
+uint32_t laspidru_client_text(laspidru_handle *, const char *, size_t, size_t, char *, size_t, size_t *);
+]])
+
+local C = ffi.load(os.getenv("LASPIDRU_LIBRARY") or "laspidru.so.0")
+local ENCODINGS = { ["utf-8"] = 8, ["utf-16"] = 16, ["utf-32"] = 32 }
+local NAMES = { [8] = "utf-8", [16] = "utf-16", [32] = "utf-32" }
+local PHASES = { [0] = "new", "asked", "ready", "closing", "closed", "done", "failed" }
+local KINDS = { [0] = "send", [3] = "ignored", [6] = "noted", [7] = "bad-server" }
+local CODES = {
+    "NOT_UTF8", "OUT_OF_MEMORY", "IN_USE", "EMPTY", "TOO_LONG", "INSIDE_CHARACTER", "REVERSED_RANGE", "BAD_ENCODING", "BAD_LENGTH",
+    "OTHER_KIND", "OUT_OF_RANGE", "BAD_LIMIT", "ENDED", "NOT_OPEN", "ALREADY_OPEN", "TOO_MANY_DOCUMENTS", "STALE_VERSION",
+    "TOO_MANY_CHANGES", "INVALID_PARAMS", "CUT", "BAD_FRAME", "BODY_TOO_LONG", "BAD_LOG", "TOO_MANY_TURNS", "OVERLAP", "FAILED",
+    "NO_MESSAGE", "WRONG_PHASE", "NOT_AN_ANSWER", "ERROR_ANSWER", "NO_SYNC",
+}
+
+-- What a refused call raises: a table with `code`, and where a change or a text edit is faulty with `change`, `edit`, `other`,
+-- `at_end`; of a faulty frame with `frame` and `place`. It changed nothing.
+local Refusal = {}
+Refusal.__index = Refusal
+function Refusal.__tostring(self)
+    local where = self.change and ("change " .. self.change .. ": ") or self.edit and ("edit " .. self.edit .. ": ") or ""
+    return where .. self.code
+end
+
+local function refuse(code, more)
+    more = more or {}
+    more.code = CODES[code] or tostring(code)
+    error(setmetatable(more, Refusal), 0)
+end
+
+local function demand(code)
+    if code ~= 0 then refuse(code) end
+end
+
+local function text_of(value, what)
+    if type(value) ~= "string" then error(what .. " is no string", 0) end
+    return value
+end
+
+-- A number that has so many values. The FFI would take any, and drop bits.
+local function number(value, low, high)
+    if type(value) ~= "number" then error("a number is no number", 0) end
+    if value < low or value > high or value % 1 ~= 0 then refuse(11) end
+    return value
+end
+
+local function uint(value) return number(value, 0, 4294967295) end
+
+local function encoding_of(name)
+    return ENCODINGS[name] or refuse(8)
+end
+
+-- A handle, which the collector closes.
+local function new_handle()
+    return ffi.gc(ffi.new("laspidru_handle"), C.laspidru_close)
+end
+
+-- So many bytes that a call copies.
+local function copied(call, len)
+    local out, count = ffi.new("char[?]", math.max(len, 1)), ffi.new("size_t[1]")
+    demand(call(out, len, count))
+    return ffi.string(out, count[0])
+end
+
+-- Changes or text edits as the library takes them. Each edit counts bytes of `texts`, one after the other.
+local function batch(changes, key)
+    local edits, texts = ffi.new("laspidru_edit[?]", math.max(#changes, 1)), {}
+    for index, change in ipairs(changes) do
+        local edit, range = edits[index - 1], change.range
+        texts[index] = text_of(change[key], "a text")
+        edit.len, edit.is_whole = #texts[index], range == nil
+        if range then
+            edit.start.line, edit.start.character = uint(range.start.line), uint(range.start.character)
+            edit.end_.line, edit.end_.character = uint(range["end"].line), uint(range["end"].character)
+        end
+    end
+    return edits, #changes, table.concat(texts)
+end
+
+local function demand_change(code, fault)
+    if code == 6 or code == 7 then refuse(code, { change = tonumber(fault.change), at_end = fault.at_end }) end
+    demand(code)
+end
+
+local function written(edit, text)
+    if edit.is_whole then return { text = text } end
+    return {
+        range = {
+            start = { line = edit.start.line, character = edit.start.character },
+            ["end"] = { line = edit.end_.line, character = edit.end_.character },
+        },
+        text = text,
+    }
+end
+
+local function changes_of(found)
+    local count, out = ffi.new("size_t[1]"), {}
+    demand(C.laspidru_batch_len(found, count))
+    for index = 1, tonumber(count[0]) do
+        local edit = ffi.new("laspidru_edit")
+        demand(C.laspidru_batch_edit(found, index - 1, edit, ffi.new("char[1]"), 0, ffi.new("size_t[1]")))
+        local text = copied(function(...) return C.laspidru_batch_edit(found, index - 1, edit, ...) end, tonumber(edit.len))
+        out[index] = written(edit, text)
+    end
+    return out
+end
+
+-- A text with its lines. Positions are LSP's: tables with `line` and `character`, counted from 0.
+local Document = {}
+Document.__index = Document
+
+-- A document of a text; positions count units of `encoding`, "utf-16" if none is given.
+function Document.new(text, encoding)
+    local self = setmetatable({ handle = new_handle(), encoding = encoding_of(encoding or "utf-16") }, Document)
+    demand(C.laspidru_document_open(self.handle, text_of(text, "a text"), #text))
+    return self
+end
+
+local function length_of(self)
+    local length = ffi.new("laspidru_length")
+    demand(C.laspidru_document_size(self.handle, length))
+    return length
+end
+
+function Document:text()
+    local handle = self.handle
+    return copied(function(...) return C.laspidru_document_copy(handle, 0, ...) end, tonumber(length_of(self).bytes))
+end
+
+function Document:line_count()
+    return tonumber(length_of(self).lines)
+end
+
+-- A line, counted from 0, without its line end. The rest of the text is not read.
+function Document:line(line)
+    local handle, range = self.handle, ffi.new("laspidru_line")
+    demand(C.laspidru_document_line(handle, uint(line), range))
+    local len = tonumber(range.end_ - range.start)
+    return copied(function(...) return C.laspidru_document_copy(handle, range.start, ...) end, len)
+end
+
+-- Makes the changes of a didChange, in order, or raises and makes none of them.
+function Document:change(changes)
+    local edits, count, texts = batch(changes, "text")
+    local fault = ffi.new("laspidru_fault")
+    demand_change(C.laspidru_document_change(self.handle, self.encoding, edits, count, texts, #texts, fault), fault)
+end
+
+-- Makes text edits, as a formatter returns them, or none of them. All count in the text as it is.
+function Document:apply_edits(edits_)
+    for _, edit in ipairs(edits_) do
+        if not edit.range then error("a text edit has no range", 0) end
+    end
+    local edits, count, texts = batch(edits_, "newText")
+    local fault = ffi.new("laspidru_edits_fault")
+    local code = C.laspidru_document_apply_edits(self.handle, self.encoding, edits, count, texts, #texts, fault)
+    if code == 6 or code == 7 or code == 25 then
+        local other = code == 25 and tonumber(fault.other) or nil
+        refuse(code, { edit = tonumber(fault.edit), other = other, at_end = fault.at_end })
+    end
+    demand(code)
+end
+
+-- The one canonical batch that means the same on the text.
+function Document:canonical(changes)
+    local edits, count, texts = batch(changes, "text")
+    local found, fault = new_handle(), ffi.new("laspidru_fault")
+    demand_change(C.laspidru_document_canonical(self.handle, self.encoding, edits, count, texts, #texts, found, fault), fault)
+    return changes_of(found)
+end
+
+-- The byte offset, counted from 0, of a position. One after the line's end is the line's end.
+function Document:offset(position)
+    local place, offset = ffi.new("laspidru_place", uint(position.line), uint(position.character)), ffi.new("size_t[1]")
+    demand(C.laspidru_document_offset(self.handle, self.encoding, place, offset))
+    return tonumber(offset[0])
+end
+
+-- The exact position of a byte offset.
+function Document:position(offset)
+    local place = ffi.new("laspidru_place")
+    demand(C.laspidru_document_position(self.handle, self.encoding, number(offset, 0, 2 ^ 53), place))
+    return { line = place.line, character = place.character }
+end
+
+-- Frees the text at once; else the collector does. Each later call raises EMPTY.
+function Document:close()
+    C.laspidru_close(self.handle)
+end
+
+-- A client's end of a session, without input and output of its own: each call returns the bytes to send.
+local Client = {}
+Client.__index = Client
+
+-- Options are `utf8`, `utf32` (what it offers beside UTF-16), `max_body`, `max_text`, `max_docs`, `max_changes`.
+function Client.new(options)
+    options = options or {}
+    local self = setmetatable({ handle = new_handle(), framer = new_handle(), rest = "" }, Client)
+    local settings = ffi.new("laspidru_client_settings", {
+        max_body = number(options.max_body or 16777216, 0, 2 ^ 53),
+        max_text = number(options.max_text or 16777216, 0, 2 ^ 53),
+        max_docs = number(options.max_docs or 1024, 0, 2 ^ 53),
+        max_changes = number(options.max_changes or 65536, 0, 2 ^ 53),
+        utf8 = options.utf8 and true or false,
+        utf32 = options.utf32 and true or false,
+    })
+    demand(C.laspidru_client_new(self.handle, settings))
+    demand(C.laspidru_framer_new(self.framer, settings.max_body))
+    return self
+end
+
+local function frame_of(self, len)
+    local handle = self.handle
+    return copied(function(...) return C.laspidru_client_frame(handle, 0, ...) end, tonumber(len))
+end
+
+local function call(self, code, len)
+    demand(code)
+    return frame_of(self, len[0])
+end
+
+-- Begins the session: `initialize`.
+function Client:start()
+    local len = ffi.new("size_t[1]")
+    return call(self, C.laspidru_client_start(self.handle, len), len)
+end
+
+-- Opens a document: `textDocument/didOpen`.
+function Client:open(uri, language, version, text)
+    local len = ffi.new("size_t[1]")
+    text_of(uri, "a URI")
+    text_of(language, "a language")
+    text_of(text, "a text")
+    number(version, -2147483648, 2147483647)
+    return call(self, C.laspidru_client_open(self.handle, uri, #uri, language, #language, version, text, #text, len), len)
+end
+
+-- Changes a document: one `textDocument/didChange`, with the canonical batch, or where the server asked for it with the whole text.
+function Client:edit(uri, version, changes)
+    local edits, count, texts = batch(changes, "text")
+    local fault, len = ffi.new("laspidru_fault"), ffi.new("size_t[1]")
+    text_of(uri, "a URI")
+    number(version, -2147483648, 2147483647)
+    demand_change(C.laspidru_client_edit(self.handle, uri, #uri, version, edits, count, texts, #texts, fault, len), fault)
+    return frame_of(self, len[0])
+end
+
+-- Closes a document: `textDocument/didClose`.
+function Client:close(uri)
+    local len = ffi.new("size_t[1]")
+    return call(self, C.laspidru_client_close(self.handle, text_of(uri, "a URI"), #uri, len), len)
+end
+
+-- Asks the server to shut down.
+function Client:shutdown()
+    local len = ffi.new("size_t[1]")
+    return call(self, C.laspidru_client_shutdown(self.handle, len), len)
+end
+
+-- Ends the session, once `shutdown` was answered.
+function Client:exit()
+    local len = ffi.new("size_t[1]")
+    return call(self, C.laspidru_client_exit(self.handle, len), len)
+end
+
+-- What the client does with the body of a message of the server: {kind, body}, with `frame` where kind is "send", and with `reason`
+-- where it is "bad-server". The others are "noted" and "ignored".
+function Client:deliver(body)
+    local answer = ffi.new("laspidru_answer")
+    demand(C.laspidru_client_deliver(self.handle, text_of(body, "a body"), #body, answer))
+    local event = { kind = KINDS[answer.kind], body = body }
+    if event.kind == "send" then event.frame = frame_of(self, answer.reply_len) end
+    if event.kind == "bad-server" then event.reason = CODES[answer.reason] end
+    return event
+end
+
+-- The next body of what was received, or nil. One that waits, since it couldn't be handled yet, comes first.
+local function next_body(self)
+    if self.waiting then return self.waiting end
+    local framer, taken = self.framer, ffi.new("laspidru_taken")
+    local code = C.laspidru_framer_feed(framer, self.rest, #self.rest, taken)
+    if code == 21 then refuse(code, { frame = taken.frame, place = tonumber(taken.place) }) end
+    demand(code)
+    self.rest = self.rest:sub(tonumber(taken.bytes) + 1)
+    if not taken.is_whole then return nil end
+    local body = copied(function(...) return C.laspidru_framer_body(framer, 0, ...) end, tonumber(taken.body_len))
+    demand(C.laspidru_framer_next(framer))
+    return body
+end
+
+-- What the client does with each message that ends in these bytes, as `deliver` says it: a list of events. Of a faulty frame the
+-- error's `events` came before it.
+function Client:receive(bytes)
+    local events = {}
+    self.rest = self.rest .. text_of(bytes, "what is received")
+    local is_done, problem = pcall(function()
+        for body in next_body, self do
+            self.waiting = body
+            events[#events + 1] = self:deliver(body)
+            self.waiting = nil
+        end
+    end)
+    if not is_done then
+        local code = type(problem) == "table" and problem.code
+        if code ~= "OUT_OF_MEMORY" then self.waiting = nil end
+        if code then problem.events = events end
+        error(problem, 0)
+    end
+    return events
+end
+
+local function state_of(self)
+    local state = ffi.new("laspidru_state")
+    demand(C.laspidru_client_state(self.handle, state))
+    return state
+end
+
+-- "new", "asked", "ready", "closing", "closed", "done" or "failed".
+function Client:phase()
+    return PHASES[state_of(self).phase]
+end
+
+-- The encoding that was agreed on, or nil.
+function Client:encoding()
+    return NAMES[state_of(self).encoding]
+end
+
+function Client:document_count()
+    return tonumber(state_of(self).documents)
+end
+
+local function opened_at(self, uri)
+    local opened = ffi.new("laspidru_opened")
+    local code = C.laspidru_client_document(self.handle, text_of(uri, "a URI"), #uri, opened)
+    if code == 14 then return nil end
+    demand(code)
+    return opened
+end
+
+-- The version of the open document of a URI, or nil.
+function Client:version(uri)
+    local opened = opened_at(self, uri)
+    return opened and opened.version
+end
+
+-- The text of the open document of a URI, or nil.
+function Client:text(uri)
+    local opened, handle = opened_at(self, uri), self.handle
+    if not opened then return nil end
+    return copied(function(...) return C.laspidru_client_text(handle, uri, #uri, 0, ...) end, tonumber(opened.bytes))
+end
+
+return { Document = Document, Client = Client }

@@ -1,0 +1,188 @@
+"""The test of both ends in Python."""
+import os
+import random
+import threading
+import unittest
+
+import laspidru
+from laspidru import Client, FrameFault, Framer, LaspidruError, Server
+from test_laspidru import at, change
+
+URIS = ["file:///a", "file:///b", ""]
+LETTERS = ["a", "\r", "\n", "\r\n", "\u00e9", "\u2028", "\U0001F600"]
+
+
+def frame(body):
+    return b"Content-Length: %d\r\n\r\n%s" % (len(body), body)
+
+
+class Pair:
+    """Both ends, and the bytes between them."""
+
+    def __init__(self, chance):
+        self.chance = chance
+        self.server = Server(chance.choice(["utf-8", "utf-16", "utf-32"]), is_full=chance.random() < 0.2)
+        self.client = Client(utf8=chance.random() < 0.5, utf32=chance.random() < 0.5)
+        self.to_server, self.to_client, self.kinds = b"", b"", []
+
+    def serve(self, count):
+        piece, self.to_server = self.to_server[:count], self.to_server[count:]
+        for event in self.server.receive(piece):
+            self.kinds.append(event.kind)
+            self.to_client += event.frame
+
+    def hear(self, count):
+        piece, self.to_client = self.to_client[:count], self.to_client[count:]
+        for event in self.client.receive(piece):
+            self.kinds.append(event.kind)
+            self.to_server += event.frame
+
+    def carry_all(self):
+        while self.to_server or self.to_client:
+            self.serve(len(self.to_server))
+            self.hear(len(self.to_client))
+
+    def text(self, most):
+        return "".join(self.chance.choice(LETTERS) for _ in range(self.chance.randrange(most)))
+
+    def change(self):
+        def place():
+            return at(self.chance.randrange(4), self.chance.randrange(6))
+        return {"text": self.text(4)} if self.chance.random() < 0.1 else change(place(), place(), self.text(4))
+
+    def documents(self, end):
+        return [(end.version(uri), end.text(uri)) for uri in URIS] + [end.document_count]
+
+    def call(self):
+        """A call of an editor; a refused one leaves all as it was."""
+        uri, before = self.chance.choice(URIS), self.documents(self.client)
+        version = (self.client.version(uri) or 0) + self.chance.randrange(4)
+        kind = self.chance.randrange(8)
+        try:
+            if kind == 0:
+                self.to_server += self.client.open(uri, "c", version, self.text(12))
+            elif kind == 1:
+                self.to_server += self.client.close(uri)
+            else:
+                self.to_server += self.client.edit(uri, version, [self.change() for _ in range(self.chance.randrange(4))])
+        except LaspidruError:
+            assert self.documents(self.client) == before
+
+
+class Tests(unittest.TestCase):
+    def refuses(self, code, call, *arguments):
+        with self.assertRaises(LaspidruError) as raised:
+            call(*arguments)
+        self.assertEqual(raised.exception.code, code)
+        return raised.exception
+
+    def test_random_sessions(self):
+        """Sessions with late deliveries, in three encodings; as many as LASPIDRU_SESSIONS says."""
+        chance = random.Random(3)
+        for _ in range(int(os.environ.get("LASPIDRU_SESSIONS", "200"))):
+            pair = Pair(chance)
+            pair.to_server += pair.client.start()
+            while pair.client.phase != "ready":
+                pair.serve(chance.randrange(40))
+                pair.hear(chance.randrange(40))
+            for _ in range(chance.randrange(30)):
+                step = chance.randrange(4)
+                if step == 0:
+                    pair.serve(chance.randrange(300))
+                elif step == 1:
+                    pair.hear(chance.randrange(300))
+                else:
+                    pair.call()
+            pair.carry_all()
+            self.assertEqual(pair.documents(pair.client), pair.documents(pair.server))
+            pair.to_server += pair.client.shutdown()
+            pair.carry_all()
+            pair.to_server += pair.client.exit()
+            pair.carry_all()
+            self.assertEqual((pair.client.phase, pair.kinds[-1]), ("done", "exited"))
+            self.assertFalse({"refused", "dropped", "bad-server"} & set(pair.kinds))
+
+    def ready(self):
+        client = Client(utf8=True)
+        client.start()
+        body = b'{"jsonrpc":"2.0","id":1,"result":{"capabilities":{"positionEncoding":"utf-8","textDocumentSync":2}}}'
+        event = client.deliver(body)
+        self.assertEqual((event.kind, event.frame), ("send", frame(b'{"jsonrpc":"2.0","method":"initialized","params":{}}')))
+        return client
+
+    def test_client(self):
+        client = Client()
+        self.assertEqual((client.phase, client.encoding), ("new", None))
+        self.refuses(laspidru.WRONG_PHASE, client.open, "a", "c", 1, "")
+        client = self.ready()
+        self.assertEqual((client.phase, client.encoding), ("ready", "utf-8"))
+        self.refuses(laspidru.NOT_OPEN, client.edit, "a", 1, [])
+        client.open("a", "c", 1, "\u00e9")
+        self.refuses(laspidru.ALREADY_OPEN, client.open, "a", "c", 1, "")
+        self.refuses(laspidru.STALE_VERSION, client.edit, "a", 1, [])
+        fault = self.refuses(laspidru.INSIDE_CHARACTER, client.edit, "a", 2, [change(at(0, 0), at(0, 1), "")])
+        self.assertEqual((fault.change, fault.at_end), (0, True))
+        self.refuses(laspidru.OUT_OF_RANGE, client.open, "b", "c", 2 ** 31, "")
+        self.refuses(laspidru.NOT_UTF8, client.open, "b", "c", 1, "\ud800")
+        self.assertRaises(TypeError, client.open, b"b", "c", 1, "")
+        self.assertRaises(TypeError, client.deliver, "text")
+        self.assertEqual((client.version("a"), client.text("a"), client.version("b")), (1, "\u00e9", None))
+        event = client.deliver(b"{")
+        self.assertEqual((event.kind, event.reason, client.phase), ("bad-server", laspidru.NOT_AN_ANSWER, "failed"))
+        self.refuses(laspidru.WRONG_PHASE, client.deliver, b"{}")
+        self.assertEqual(client.text("a"), "\u00e9")
+        self.assertRaises(LaspidruError, Client, max_body=1)
+
+    def test_server(self):
+        server = Server()
+        event, = server.receive(frame(b'{"jsonrpc":"2.0","id":1,"method":"initialize","params":{"capabilities":{}}}'))
+        self.assertEqual((event.kind, event.error), ("replied", 0))
+        event, other = server.receive(frame(b'{"jsonrpc":"2.0","id":2,"method":"a/b"}') + frame(b'{"jsonrpc":"2.0","method":"c"}'))
+        self.assertEqual((event.kind, event.error, event.body), ("replied", -32601, b'{"jsonrpc":"2.0","id":2,"method":"a/b"}'))
+        self.assertEqual((other.kind, other.body, other.frame), ("ignored", b'{"jsonrpc":"2.0","method":"c"}', b""))
+        refused = server.handle(b'{"jsonrpc":"2.0","method":"textDocument/didClose","params":{"textDocument":{"uri":"a"}}}')
+        self.assertEqual((refused.kind, refused.reason), ("refused", laspidru.NOT_OPEN))
+        exits = frame(b'{"jsonrpc":"2.0","method":"exit"}')
+        event, = server.receive(exits + exits)
+        self.assertEqual((event.kind, event.status), ("exited", 1))
+        self.refuses(laspidru.ENDED, server.receive, exits)
+        self.assertRaises(TypeError, server.receive, "text")
+        self.refuses(laspidru.BAD_ENCODING, Server, "utf-7")
+
+    def test_framer(self):
+        framer = Framer(4096)
+        self.assertEqual((framer.receive(frame(b"x") + frame(b"") + b"Content-Le"), framer.at_rest), ([b"x", b""], False))
+        with self.assertRaises(FrameFault) as raised:
+            framer.receive(memoryview(b"ngth: 1\r\n\r\nyContent-Length 2"))
+        fault = raised.exception
+        self.assertEqual((fault.events, fault.frame, fault.place), ([b"y"], 1, 43 + 22 + 14))
+        self.assertEqual(str(fault), "the header of a frame is faulty: F1 at 79")
+        self.refuses(laspidru.FAILED, framer.receive, b"")
+        self.refuses(laspidru.BAD_LIMIT, Framer, 1)
+        self.assertTrue(Framer().at_rest)
+
+    def test_threads(self):
+        """One end in many threads at once: each call is made alone."""
+        client, errors = self.ready(), []
+
+        def run(number):
+            try:
+                uri = f"file:///{number}"
+                client.open(uri, "c", 0, "")
+                for version in range(1, 100):
+                    client.edit(uri, version, [change(at(0, 0), at(0, 0), "x")])
+                if client.text(uri) != "x" * 99:
+                    errors.append(uri)
+            except Exception as error:
+                errors.append(error)
+
+        threads = [threading.Thread(target=run, args=(number,)) for number in range(8)]
+        for thread in threads:
+            thread.start()
+        for thread in threads:
+            thread.join()
+        self.assertEqual((errors, client.document_count), ([], 8))
+
+
+if __name__ == "__main__":
+    unittest.main()

@@ -1,0 +1,318 @@
+//! A client's end of a session: it keeps an editor's documents, and each call returns the frame to send.
+
+use crate::framer::{FrameError, Framer};
+use crate::server::{refusal, Refusal};
+use crate::{batch, ffi, Change, Encoding, DEFAULT_LIMITS};
+use std::fmt;
+
+/// How a client is set up. UTF-16 is always offered.
+#[derive(Clone, Copy, Debug, PartialEq, Eq)]
+pub struct Settings {
+    /// 4,096 to 1,073,741,824 bytes of a message, of the client's and of the server's.
+    pub max_body: usize,
+    /// Up to 1,073,741,824 bytes of a document.
+    pub max_text: usize,
+    /// 1 to 65,536 open documents.
+    pub max_docs: usize,
+    /// 1 to 1,048,576 changes in one message.
+    pub max_changes: usize,
+    /// Does the client offer UTF-8?
+    pub utf8: bool,
+    /// Does the client offer UTF-32?
+    pub utf32: bool,
+}
+
+impl Default for Settings {
+    fn default() -> Self {
+        let [max_body, max_text, max_docs, max_changes] = DEFAULT_LIMITS;
+        Settings { max_body, max_text, max_docs, max_changes, utf8: false, utf32: false }
+    }
+}
+
+/// The phase of a session.
+#[derive(Clone, Copy, Debug, PartialEq, Eq)]
+pub enum Phase {
+    /// Nothing was sent.
+    New,
+    /// `initialize` was sent.
+    Asked,
+    /// Documents are opened, edited and closed.
+    Ready,
+    /// `shutdown` was sent.
+    Closing,
+    /// `shutdown` was answered; only `exit` is left.
+    Closed,
+    /// `exit` was sent.
+    Done,
+    /// The server sent what no session can continue with.
+    Failed(Reason),
+}
+
+/// Why a session can't continue.
+#[derive(Clone, Copy, Debug, PartialEq, Eq)]
+pub enum Reason {
+    /// No message, a response to no request of the client, or one that can't be read.
+    NotAnAnswer,
+    /// An error response to `initialize` or `shutdown`.
+    ErrorAnswer,
+    /// The server doesn't want to be notified of documents, or of changes.
+    NoSync,
+    /// The server announces an encoding that wasn't offered.
+    BadEncoding,
+}
+
+/// What a client did with a message of the server.
+#[derive(Clone, Debug, PartialEq, Eq)]
+pub enum Delivered {
+    /// A frame to send: `initialized`, or an error response to a request.
+    Send(Vec<u8>),
+    /// The response to `shutdown`.
+    Noted,
+    /// A notification.
+    Ignored,
+    /// The session can't continue; the documents stay.
+    BadServer(Reason),
+}
+
+/// Why a call was refused. Then nothing changed.
+#[derive(Clone, Copy, Debug, PartialEq, Eq)]
+pub enum ClientError {
+    /// The call isn't allowed in this phase.
+    WrongPhase,
+    /// The documents refuse it, or its message would be too long.
+    Refused(Refusal),
+    /// An end of a change's range lies inside a character.
+    InsideCharacter { change: usize, at_end: bool },
+    /// A change's range starts after its end.
+    ReversedRange { change: usize },
+    /// The same call can be made again.
+    OutOfMemory,
+    /// A limit is out of its range.
+    BadLimit,
+    /// The stream is faulty, and no more of it is taken.
+    Frame(FrameError),
+}
+
+impl fmt::Display for ClientError {
+    fn fmt(&self, f: &mut fmt::Formatter<'_>) -> fmt::Result {
+        match self {
+            ClientError::WrongPhase => write!(f, "not in this phase of the session"),
+            ClientError::Refused(refusal) => write!(f, "refused: {refusal:?}"),
+            ClientError::InsideCharacter { change, at_end } => {
+                let side = if *at_end { "end" } else { "start" };
+                write!(f, "change {change}: the {side} of its range lies inside a character")
+            }
+            ClientError::ReversedRange { change } => write!(f, "change {change}: the range is reversed"),
+            ClientError::OutOfMemory => write!(f, "out of memory"),
+            ClientError::BadLimit => write!(f, "a limit is out of its range"),
+            ClientError::Frame(error) => write!(f, "{error}"),
+        }
+    }
+}
+
+impl std::error::Error for ClientError {}
+
+impl From<FrameError> for ClientError {
+    fn from(error: FrameError) -> Self {
+        match error {
+            FrameError::OutOfMemory => ClientError::OutOfMemory,
+            FrameError::BadLimit => ClientError::BadLimit,
+            error => ClientError::Frame(error),
+        }
+    }
+}
+
+/// A client's end of a session, without input and output of its own: each call returns the frame to send, and bytes that
+/// were read go in by [`Client::receive`].
+///
+/// ```
+/// use laspidru::client::{Client, Phase, Settings};
+///
+/// let mut client = Client::new(&Settings::default())?;
+/// assert!(client.start()?.starts_with(b"Content-Length: "));
+/// assert_eq!(client.phase(), Phase::Asked);
+/// # Ok::<(), laspidru::client::ClientError>(())
+/// ```
+pub struct Client {
+    handle: ffi::Handle,
+    framer: Framer,
+    // A body that wasn't handled yet, since the client was out of memory.
+    waiting: Option<Vec<u8>>,
+}
+
+impl Client {
+    /// A client at the start of a session.
+    pub fn new(settings: &Settings) -> Result<Self, ClientError> {
+        let framer = Framer::new(settings.max_body)?;
+        let settings = ffi::ClientSettings {
+            max_body: settings.max_body,
+            max_text: settings.max_text,
+            max_docs: settings.max_docs,
+            max_changes: settings.max_changes,
+            utf8: settings.utf8,
+            utf32: settings.utf32,
+        };
+        let handle = ffi::Handle::empty();
+        demand(handle.client_new(&settings), &ffi::Fault::default())?;
+        Ok(Client { handle, framer, waiting: None })
+    }
+
+    /// Begins the session: the frame of `initialize`.
+    pub fn start(&mut self) -> Result<Vec<u8>, ClientError> {
+        self.call(ffi::Lifecycle::Start)
+    }
+
+    /// Opens a document: the frame of `textDocument/didOpen`.
+    pub fn open(&mut self, uri: &str, language: &str, version: i32, text: &str) -> Result<Vec<u8>, ClientError> {
+        let mut len = 0;
+        self.frame(self.handle.client_open(uri, language, version, text, &mut len), len)
+    }
+
+    /// Changes a document: the frame of one `textDocument/didChange`, with the canonical batch, or where the server asked
+    /// for it with the whole text. Positions count units of [`Client::encoding`].
+    pub fn edit(&mut self, uri: &str, version: i32, changes: &[Change]) -> Result<Vec<u8>, ClientError> {
+        let (edits, texts) = batch(changes);
+        let (mut fault, mut len) = (ffi::Fault::default(), 0);
+        demand(self.handle.client_edit(uri, version, &edits, &texts, &mut fault, &mut len), &fault)?;
+        Ok(self.handle.client_frame(len))
+    }
+
+    /// Closes a document: the frame of `textDocument/didClose`.
+    pub fn close(&mut self, uri: &str) -> Result<Vec<u8>, ClientError> {
+        let mut len = 0;
+        self.frame(self.handle.client_close(uri, &mut len), len)
+    }
+
+    /// Asks the server to shut down: the frame of `shutdown`.
+    pub fn shutdown(&mut self) -> Result<Vec<u8>, ClientError> {
+        self.call(ffi::Lifecycle::Shutdown)
+    }
+
+    /// Ends the session, once `shutdown` was answered: the frame of `exit`.
+    pub fn exit(&mut self) -> Result<Vec<u8>, ClientError> {
+        self.call(ffi::Lifecycle::Exit)
+    }
+
+    /// Takes bytes that were read. [`Client::next_message`] then has the messages that end in them.
+    pub fn receive(&mut self, bytes: &[u8]) {
+        self.framer.receive(bytes);
+    }
+
+    /// The next message that is whole, and what the client did with it; none where the rest of it is to come. After
+    /// [`ClientError::OutOfMemory`] the same call continues.
+    pub fn next_message(&mut self) -> Result<Option<(Vec<u8>, Delivered)>, ClientError> {
+        let body = match self.waiting.take() {
+            Some(body) => body,
+            None => match self.framer.next_body()? {
+                Some(body) => body,
+                None => return Ok(None),
+            },
+        };
+        match self.deliver(&body) {
+            Ok(delivered) => Ok(Some((body, delivered))),
+            Err(error) => {
+                if error == ClientError::OutOfMemory {
+                    self.waiting = Some(body);
+                }
+                Err(error)
+            }
+        }
+    }
+
+    /// Handles the body of a message of the server.
+    pub fn deliver(&mut self, body: &[u8]) -> Result<Delivered, ClientError> {
+        let mut answer = ffi::Answer::default();
+        demand(self.handle.client_deliver(body, &mut answer), &ffi::Fault::default())?;
+        Ok(match answer.kind {
+            ffi::REPLIED => Delivered::Send(self.handle.client_frame(answer.reply_len)),
+            ffi::NOTED => Delivered::Noted,
+            ffi::IGNORED => Delivered::Ignored,
+            ffi::BAD_SERVER => Delivered::BadServer(reason(answer.reason)),
+            kind => unreachable!("a delivery of kind {kind}"),
+        })
+    }
+
+    /// The phase of the session.
+    pub fn phase(&self) -> Phase {
+        let state = self.state();
+        match state.phase {
+            0 => Phase::New,
+            1 => Phase::Asked,
+            2 => Phase::Ready,
+            3 => Phase::Closing,
+            4 => Phase::Closed,
+            5 => Phase::Done,
+            _ => Phase::Failed(reason(state.reason)),
+        }
+    }
+
+    /// The encoding that was agreed on.
+    pub fn encoding(&self) -> Option<Encoding> {
+        match self.state().encoding {
+            8 => Some(Encoding::Utf8),
+            16 => Some(Encoding::Utf16),
+            32 => Some(Encoding::Utf32),
+            _ => None,
+        }
+    }
+
+    /// How many documents are open.
+    pub fn document_count(&self) -> usize {
+        self.state().documents
+    }
+
+    /// The version of the open document of a URI, which is compared byte for byte.
+    pub fn version(&self, uri: &str) -> Option<i32> {
+        self.handle.opened(ffi::End::Client, uri).map(|opened| opened.version)
+    }
+
+    /// A copy of the text of the open document of a URI, which is compared byte for byte.
+    pub fn text(&self, uri: &str) -> Option<String> {
+        self.handle.text(ffi::End::Client, uri)
+    }
+
+    fn call(&mut self, call: ffi::Lifecycle) -> Result<Vec<u8>, ClientError> {
+        let mut len = 0;
+        self.frame(self.handle.client_call(call, &mut len), len)
+    }
+
+    fn frame(&self, code: u32, len: usize) -> Result<Vec<u8>, ClientError> {
+        demand(code, &ffi::Fault::default())?;
+        Ok(self.handle.client_frame(len))
+    }
+
+    fn state(&self) -> ffi::State {
+        let mut state = ffi::State::default();
+        assert_eq!(self.handle.client_state(&mut state), ffi::OK, "the handle of a client is full");
+        state
+    }
+}
+
+impl fmt::Debug for Client {
+    fn fmt(&self, f: &mut fmt::Formatter<'_>) -> fmt::Result {
+        let (phase, documents) = (self.phase(), self.document_count());
+        f.debug_struct("Client").field("phase", &phase).field("document_count", &documents).finish()
+    }
+}
+
+fn reason(code: u32) -> Reason {
+    match code {
+        ffi::NOT_AN_ANSWER => Reason::NotAnAnswer,
+        ffi::ERROR_ANSWER => Reason::ErrorAnswer,
+        ffi::NO_SYNC => Reason::NoSync,
+        ffi::BAD_ENCODING => Reason::BadEncoding,
+        code => unreachable!("a bad server by the reason {code}"),
+    }
+}
+
+fn demand(code: u32, fault: &ffi::Fault) -> Result<(), ClientError> {
+    match code {
+        ffi::OK => Ok(()),
+        ffi::OUT_OF_MEMORY => Err(ClientError::OutOfMemory),
+        ffi::BAD_LIMIT => Err(ClientError::BadLimit),
+        ffi::WRONG_PHASE => Err(ClientError::WrongPhase),
+        ffi::INSIDE_CHARACTER => Err(ClientError::InsideCharacter { change: fault.change, at_end: fault.at_end }),
+        ffi::REVERSED_RANGE => Err(ClientError::ReversedRange { change: fault.change }),
+        code => Err(ClientError::Refused(refusal(code))),
+    }
+}

@@ -1,0 +1,108 @@
+//! A stream that is taken apart into its messages.
+
+use crate::ffi;
+use std::fmt;
+
+/// Takes a stream apart into the bodies of its messages, in whatever pieces it comes (LSP 3.17, Base Protocol).
+///
+/// ```
+/// let mut framer = laspidru::Framer::new(16_777_216)?;
+/// framer.receive(b"Content-Length: 2\r\n\r\n{}Content-Le");
+/// assert_eq!(framer.next_body()?, Some(b"{}".to_vec()));
+/// assert_eq!(framer.next_body()?, None);
+/// # Ok::<(), laspidru::framer::FrameError>(())
+/// ```
+pub struct Framer {
+    handle: ffi::Handle,
+    // What was received and isn't taken yet, from `at` on.
+    rest: Vec<u8>,
+    at: usize,
+}
+
+/// Why there is no framer, or no message.
+#[derive(Clone, Copy, Debug, PartialEq, Eq)]
+pub enum FrameError {
+    /// The same call can be made again.
+    OutOfMemory,
+    /// The limit is out of its range.
+    BadLimit,
+    /// The stream is faulty: the number of F1 to F7, and the byte offset on which it was decided. No more is taken.
+    Fault { number: u32, place: u64 },
+    /// There was such a fault before.
+    Failed,
+}
+
+impl fmt::Display for FrameError {
+    fn fmt(&self, f: &mut fmt::Formatter<'_>) -> fmt::Result {
+        match self {
+            FrameError::OutOfMemory => write!(f, "out of memory"),
+            FrameError::BadLimit => write!(f, "a limit is out of its range"),
+            FrameError::Fault { number, place } => write!(f, "frame fault F{number} at {place}"),
+            FrameError::Failed => write!(f, "the stream was faulty before"),
+        }
+    }
+}
+
+impl std::error::Error for FrameError {}
+
+impl Framer {
+    /// A framer at the start of a stream, for bodies of at most so many bytes: 4,096 to 1,073,741,824.
+    pub fn new(max_body: usize) -> Result<Self, FrameError> {
+        let handle = ffi::Handle::empty();
+        match handle.framer_new(max_body) {
+            ffi::OK => Ok(Framer { handle, rest: Vec::new(), at: 0 }),
+            ffi::BAD_LIMIT => Err(FrameError::BadLimit),
+            _ => Err(FrameError::OutOfMemory),
+        }
+    }
+
+    /// Takes bytes that were read.
+    pub fn receive(&mut self, bytes: &[u8]) {
+        self.rest.drain(..self.at);
+        self.at = 0;
+        self.rest.extend_from_slice(bytes);
+    }
+
+    /// The body of the next message that is whole; none where the rest of it is to come.
+    pub fn next_body(&mut self) -> Result<Option<Vec<u8>>, FrameError> {
+        let mut taken = ffi::Taken::default();
+        match self.handle.framer_feed(&self.rest[self.at..], &mut taken) {
+            ffi::OK => {}
+            ffi::BAD_FRAME => return Err(FrameError::Fault { number: taken.frame, place: taken.place }),
+            ffi::FAILED => return Err(FrameError::Failed),
+            _ => return Err(FrameError::OutOfMemory),
+        }
+        self.at += taken.bytes;
+        if !taken.is_whole {
+            return Ok(None);
+        }
+        let body = self.handle.framer_body(taken.body_len);
+        assert_eq!(self.handle.framer_next(), ffi::OK, "the handle of a framer is full");
+        Ok(Some(body))
+    }
+
+    /// Whether the stream may end here: no byte of a message is left, and there was no fault.
+    pub fn is_at_rest(&self) -> bool {
+        let mut at_rest = false;
+        assert_eq!(self.handle.framer_at_rest(&mut at_rest), ffi::OK, "the handle of a framer is full");
+        at_rest && self.at == self.rest.len()
+    }
+}
+
+/// The bodies of the messages that are whole, up to a fault.
+impl Iterator for Framer {
+    type Item = Result<Vec<u8>, FrameError>;
+
+    fn next(&mut self) -> Option<Self::Item> {
+        match self.next_body() {
+            Err(FrameError::Failed) => None,
+            found => found.transpose(),
+        }
+    }
+}
+
+impl fmt::Debug for Framer {
+    fn fmt(&self, f: &mut fmt::Formatter<'_>) -> fmt::Result {
+        f.debug_struct("Framer").field("is_at_rest", &self.is_at_rest()).finish()
+    }
+}

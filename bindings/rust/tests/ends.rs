@@ -1,0 +1,203 @@
+//! A client and a server that talk.
+
+use laspidru::client::{Client, ClientError, Delivered, Phase, Reason};
+use laspidru::framer::{FrameError, Framer};
+use laspidru::server::{Answer, Refusal, Server, ServerError};
+use laspidru::{client, server, Change, Encoding, Position, Range};
+use std::collections::VecDeque;
+
+/// Numbers that look random.
+struct Chance(u64);
+
+impl Chance {
+    fn below(&mut self, bound: u64) -> u64 {
+        self.0 ^= self.0 << 13;
+        self.0 ^= self.0 >> 7;
+        self.0 ^= self.0 << 17;
+        (self.0 >> 11) % bound
+    }
+
+    fn text(&mut self, most: u64) -> String {
+        let letters = ["a", "\r", "\n", "\r\n", "\u{e9}", "\u{2028}", "\u{1F600}"];
+        (0..self.below(most)).map(|_| letters[self.below(7) as usize]).collect()
+    }
+
+    fn position(&mut self) -> Position {
+        Position { line: self.below(4) as u32, character: self.below(6) as u32 }
+    }
+
+    fn change(&mut self) -> Change {
+        let range = Range { start: self.position(), end: self.position() };
+        Change { range: (self.below(8) > 0).then_some(range), text: self.text(4) }
+    }
+}
+
+/// Both ends, and the bytes between them.
+struct Pair {
+    client: Client,
+    server: Server,
+    to_server: VecDeque<u8>,
+    to_client: VecDeque<u8>,
+}
+
+impl Pair {
+    fn new(chance: &mut Chance) -> Self {
+        let encoding = [Encoding::Utf8, Encoding::Utf16, Encoding::Utf32][chance.below(3) as usize];
+        let server = server::Settings { encoding, is_full: chance.below(4) == 0, ..Default::default() };
+        let client = client::Settings { utf8: chance.below(2) == 0, utf32: chance.below(2) == 0, ..Default::default() };
+        let (client, server) = (Client::new(&client).unwrap(), Server::new(&server).unwrap());
+        Pair { client, server, to_server: VecDeque::new(), to_client: VecDeque::new() }
+    }
+
+    fn send(&mut self, frame: Vec<u8>) {
+        self.to_server.extend(frame);
+    }
+
+    /// The server reads so many bytes.
+    fn serve(&mut self, count: usize) {
+        let piece: Vec<u8> = self.to_server.drain(..count.min(self.to_server.len())).collect();
+        self.server.receive(&piece);
+        while let Some((_, answer)) = self.server.next_message().unwrap() {
+            match answer {
+                Answer::Reply { frame, code: None } => self.to_client.extend(frame),
+                Answer::Changed | Answer::Ignored | Answer::Exit(0) => {}
+                answer => panic!("the server answers {answer:?}"),
+            }
+        }
+    }
+
+    /// The client reads so many bytes.
+    fn hear(&mut self, count: usize) {
+        let piece: Vec<u8> = self.to_client.drain(..count.min(self.to_client.len())).collect();
+        self.client.receive(&piece);
+        while let Some((_, delivered)) = self.client.next_message().unwrap() {
+            match delivered {
+                Delivered::Send(frame) => self.to_server.extend(frame),
+                Delivered::Noted => {}
+                delivered => panic!("the client has {delivered:?}"),
+            }
+        }
+    }
+
+    fn carry_all(&mut self) {
+        while !(self.to_server.is_empty() && self.to_client.is_empty()) {
+            self.serve(self.to_server.len());
+            self.hear(self.to_client.len());
+        }
+    }
+}
+
+const URIS: [&str; 3] = ["file:///a", "file:///b", ""];
+
+/// A call of an editor; refused calls leave all as it was.
+fn call(pair: &mut Pair, chance: &mut Chance) {
+    let uri = URIS[chance.below(3) as usize];
+    let before = (pair.client.version(uri), pair.client.text(uri));
+    let version = before.0.unwrap_or(0) + chance.below(4) as i32;
+    let found = match chance.below(8) {
+        0 => pair.client.open(uri, "c", version, &chance.text(12)),
+        1 => pair.client.close(uri),
+        _ => {
+            let changes: Vec<Change> = (0..chance.below(4)).map(|_| chance.change()).collect();
+            pair.client.edit(uri, version, &changes)
+        }
+    };
+    match found {
+        Ok(frame) => pair.send(frame),
+        Err(_) => assert_eq!((pair.client.version(uri), pair.client.text(uri)), before),
+    }
+}
+
+#[test]
+fn random_sessions_agree() {
+    let sessions = std::env::var("LASPIDRU_SESSIONS").map_or(300, |count| count.parse().unwrap());
+    let mut chance = Chance(0x9E37_79B9_7F4A_7C15);
+    for _ in 0..sessions {
+        let mut pair = Pair::new(&mut chance);
+        let start = pair.client.start().unwrap();
+        pair.send(start);
+        while pair.client.phase() != Phase::Ready {
+            pair.serve(chance.below(40) as usize);
+            pair.hear(chance.below(40) as usize);
+        }
+        for _ in 0..chance.below(30) {
+            match chance.below(4) {
+                0 => pair.serve(chance.below(300) as usize),
+                1 => pair.hear(chance.below(300) as usize),
+                _ => call(&mut pair, &mut chance),
+            }
+        }
+        pair.carry_all();
+        for uri in URIS {
+            assert_eq!(pair.client.version(uri), pair.server.version(uri));
+            assert_eq!(pair.client.text(uri), pair.server.text(uri));
+        }
+        assert_eq!(pair.client.document_count(), pair.server.document_count());
+        let shutdown = pair.client.shutdown().unwrap();
+        pair.send(shutdown);
+        pair.carry_all();
+        let exit = pair.client.exit().unwrap();
+        pair.send(exit);
+        pair.carry_all();
+        assert!(pair.client.phase() == Phase::Done && pair.server.is_at_rest());
+    }
+}
+
+fn ready() -> Client {
+    let mut client = Client::new(&client::Settings { utf8: true, ..Default::default() }).unwrap();
+    client.start().unwrap();
+    let body = br#"{"jsonrpc":"2.0","id":1,"result":{"capabilities":{"positionEncoding":"utf-8","textDocumentSync":2}}}"#;
+    assert!(matches!(client.deliver(body), Ok(Delivered::Send(_))));
+    client
+}
+
+#[test]
+fn refused_calls_say_why() {
+    let mut client = Client::new(&client::Settings::default()).unwrap();
+    assert_eq!(client.open("a", "c", 1, ""), Err(ClientError::WrongPhase));
+    assert_eq!((client.phase(), client.encoding()), (Phase::New, None));
+    let mut client = ready();
+    assert_eq!((client.phase(), client.encoding()), (Phase::Ready, Some(Encoding::Utf8)));
+    assert_eq!(client.edit("a", 1, &[]), Err(ClientError::Refused(Refusal::NotOpen)));
+    client.open("a", "c", 1, "\u{e9}").unwrap();
+    assert_eq!(client.open("a", "c", 1, ""), Err(ClientError::Refused(Refusal::AlreadyOpen)));
+    assert_eq!(client.edit("a", 1, &[]), Err(ClientError::Refused(Refusal::StaleVersion)));
+    let range = |start, end| Range { start: Position { line: 0, character: start }, end: Position { line: 0, character: end } };
+    let inside = Change { range: Some(range(0, 1)), text: String::new() };
+    let reversed = Change { range: Some(range(2, 0)), text: String::new() };
+    assert_eq!(client.edit("a", 2, &[inside]), Err(ClientError::InsideCharacter { change: 0, at_end: true }));
+    assert_eq!(client.edit("a", 2, &[reversed]), Err(ClientError::ReversedRange { change: 0 }));
+    assert_eq!((client.version("a"), client.text("a").as_deref()), (Some(1), Some("\u{e9}")));
+    assert_eq!(client.deliver(b"{"), Ok(Delivered::BadServer(Reason::NotAnAnswer)));
+    assert_eq!(client.phase(), Phase::Failed(Reason::NotAnAnswer));
+    assert_eq!(client.deliver(b"{}"), Err(ClientError::WrongPhase));
+    assert_eq!(client.text("a").as_deref(), Some("\u{e9}"));
+    let bad = client::Settings { max_body: 1, ..Default::default() };
+    assert_eq!(Client::new(&bad).err(), Some(ClientError::BadLimit));
+}
+
+#[test]
+fn streams() {
+    let mut framer = Framer::new(4096).unwrap();
+    framer.receive(b"Content-Length: 1\r\n\r\nxContent-Length: 0\r\n\r\nContent-Le");
+    assert_eq!((&mut framer).collect::<Result<Vec<_>, _>>(), Ok(vec![b"x".to_vec(), vec![]]));
+    assert!(!framer.is_at_rest());
+    framer.receive(b"ngth 2");
+    let fault = FrameError::Fault { number: 1, place: 43 + 14 };
+    assert_eq!((framer.next_body(), framer.next_body()), (Err(fault), Err(FrameError::Failed)));
+    assert!(framer.next().is_none());
+    assert_eq!(Framer::new(4095).err(), Some(FrameError::BadLimit));
+    let mut server = Server::new(&server::Settings::default()).unwrap();
+    server.receive(b"Content-Length: x\r\n\r\n");
+    assert_eq!(server.next_message(), Err(ServerError::Frame(FrameError::Fault { number: 5, place: 20 })));
+}
+
+#[test]
+fn ends_may_go_to_another_thread() {
+    fn is_send<T: Send>(_: &T) {}
+    let (client, server) = (ready(), Server::new(&server::Settings::default()).unwrap());
+    is_send(&Framer::new(4096).unwrap());
+    is_send(&client);
+    is_send(&server);
+    assert_eq!(std::thread::spawn(move || client.document_count()).join().unwrap(), 0);
+}

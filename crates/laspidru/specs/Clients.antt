@@ -1,0 +1,245 @@
+-- A client that C asks for, the calls on it, and what C gets of them.
+use Rattle.std.specs.Prelude.{ℕ, ℤ, ◌≡◌, ◌⊎◌, if◌then◌else◌, false, List, [], length, option_map, Option, Some, None, Result, Ok, Err}
+use Rattle.std.specs.Option.{ok_or}
+use Rattle.std.specs.Str.{is_utf8}
+use Rattle.lsp_frame.specs.Frame.{frame}
+use Rattle.lsp_frame.specs.Limits.{Bounds}
+use Rattle.lsp_text.specs.declared.encoding.Encoding.{Encoding}
+use Rattle.lsp_text.specs.declared.encoding.Encoding.TheVariants.{Utf8, Utf16, Utf32}
+use Rattle.lsp_edit.specs.declared.fault.EditFault.TheVariants as edit
+use Rattle.lsp_message.specs.Message.{reading}
+use Rattle.lsp_message.specs.Outgoing.{OutgoingData, body_of}
+use Rattle.lsp_message.specs.Params.{DocumentItem}
+use Rattle.lsp_store.specs.declared.fault.StoreFault.{StoreFault}
+use Rattle.lsp_store.specs.declared.fault.StoreFault.TheVariants as faults
+use Rattle.lsp_store.specs.Faults as documents
+use Rattle.lsp_store.specs.Table.{entry_at}
+use Rattle.lsp_client.specs.declared.fault.ClientFault.{ClientFault}
+use Rattle.lsp_client.specs.declared.fault.ClientFault.TheVariants as client
+use Rattle.lsp_client.specs.declared.phase.Phase.{Phase}
+use Rattle.lsp_client.specs.declared.phase.Phase.TheVariants.{New, Asked, Ready, Closing, Closed, Done, Failed}
+use Rattle.lsp_client.specs.declared.phase.Reason.{Reason}
+use Rattle.lsp_client.specs.declared.phase.Reason.TheVariants.{NotAnAnswer, ErrorAnswer, NoSync, BadEncoding}
+use Rattle.lsp_client.specs.Seen.{as_sent}
+use Rattle.lsp_client.specs.Step.{State, Call, starts, shuts_down, exits, orders, opens, edits, closes, Order, Sending, Refusal, wrong_phase, store, Delivery, DeliveredData, sends, noted, ignored, bad_server, start, call_result, delivery_result}
+use Rattle.laspidru.specs.declared.answers.Answer.{Answer}
+use Rattle.laspidru.specs.declared.reports.Call.{Call as Lifecycle}
+use Rattle.laspidru.specs.declared.reports.Call.TheVariants.{Start, Shutdown, Exit}
+use Rattle.laspidru.specs.declared.reports.ClientSettings.{ClientSettings}
+use Rattle.laspidru.specs.declared.reports.ClientState.{ClientState}
+use Rattle.laspidru.specs.declared.codes.TheConstants.{BAD_ENCODING, BAD_SERVER, EMPTY, ERROR_ANSWER, IGNORED, NO_SYNC, NOT_AN_ANSWER, NOT_OPEN, NOT_UTF8, NOTED, OK, OTHER_KIND, OUT_OF_MEMORY, REPLIED, WRONG_PHASE}
+use Rattle.laspidru.specs.declared.object.Object.{Object}
+use Rattle.laspidru.specs.declared.object.Object.TheVariants.{Document, Batch, Server, Output, Framer, Client}
+use Rattle.laspidru.specs.declared.place.Edit.{Edit}
+use Rattle.laspidru.specs.declared.place.Fault.{Fault}
+use Rattle.laspidru.specs.Codes.{and_then, unless}
+use Rattle.laspidru.specs.Batches.{edits_of, refused_edit, side_at}
+use Rattle.laspidru.specs.Editors.{EditorData}
+use Rattle.laspidru.specs.Servers.{limits_asked, plain_out, store_code, uri_asked}
+
+-- ---- how a client is set up
+
+-- The limits in the settings of a client.
+abbrev pub client_bounds : ClientSettings → Bounds
+client_bounds settings = record {
+  max_body = settings.max_body;
+  max_text = settings.max_text;
+  max_docs = settings.max_docs;
+  max_changes = settings.max_changes;
+}
+
+-- A client at the start of a session, if each limit is in its range. It has sent nothing.
+abbrev pub client_asked : ClientSettings → Result EditorData ℕ
+client_asked settings = and_then (limits_asked (client_bounds settings)) (λ limits. Ok (record {
+  client = start limits (record { utf8 = settings.utf8; utf32 = settings.utf32 });
+  frame = [];
+}))
+
+-- The client of an object, with its last frame.
+abbrev pub client_of : Object → Result EditorData ℕ
+client_of (Document text) = Err OTHER_KIND
+client_of (Batch changes) = Err OTHER_KIND
+client_of (Server session) = Err OTHER_KIND
+client_of (Output bytes) = Err OTHER_KIND
+client_of (Framer framing) = Err OTHER_KIND
+client_of (Client editor) = Ok editor
+
+-- The client in a handle.
+abbrev pub client_in : Option Object → Result EditorData ℕ
+client_in (Some object) = client_of object
+client_in None = Err EMPTY
+
+-- ---- calls
+
+-- A call of the session's lifecycle.
+abbrev pub lifecycle_call : Lifecycle → Call
+lifecycle_call Start = starts
+lifecycle_call Shutdown = shuts_down
+lifecycle_call Exit = exits
+
+-- The order that opens a document.
+abbrev pub open_asked : List ℕ → List ℕ → ℤ → List ℕ → Order
+open_asked uri language version text =
+    opens (record { uri = uri; language = language; version = version; text = text })
+
+-- The order that changes a document by the edits that C passes.
+abbrev pub edit_asked : List ℕ → ℤ → List Edit → List ℕ → Order
+edit_asked uri version batch texts = edits uri version (edits_of batch texts)
+
+-- The code of a refused call.
+abbrev pub call_code : ClientFault → ℕ
+call_code (client.WrongPhase phase) = WRONG_PHASE
+call_code (client.Store fault) = store_code fault
+call_code client.NoMemory = OUT_OF_MEMORY
+
+-- A faulty change is written, with the end of its range.
+abbrev pub IsStoreReport : StoreFault → Fault → Type 0
+IsStoreReport (faults.Edit (edit.InsideCharacter change side)) out =
+    (out.change ≡ change) × (side_at out.at_end ≡ side)
+IsStoreReport (faults.Edit (edit.ReversedRange change)) out =
+    (out.change ≡ change) × (out.at_end ≡ false)
+IsStoreReport (faults.Edit edit.NoMemory) out = Unit {0}
+IsStoreReport faults.AlreadyOpen out = Unit {0}
+IsStoreReport faults.TooManyDocuments out = Unit {0}
+IsStoreReport faults.TextTooLong out = Unit {0}
+IsStoreReport faults.NotOpen out = Unit {0}
+IsStoreReport (faults.StaleVersion current) out = Unit {0}
+IsStoreReport faults.TooManyChanges out = Unit {0}
+IsStoreReport (faults.BodyTooLong len) out = Unit {0}
+IsStoreReport faults.NoMemory out = Unit {0}
+
+-- The same of a refused call.
+abbrev pub IsCallReport : ClientFault → Fault → Type 0
+IsCallReport (client.WrongPhase phase) out = Unit {0}
+IsCallReport (client.Store fault) out = IsStoreReport fault out
+IsCallReport client.NoMemory out = Unit {0}
+
+-- A call is refused with this code. One in a wrong phase takes no memory.
+abbrev pub IsRefusedCall : Refusal → ℕ → Type 0
+IsRefusedCall (wrong_phase phase) code = code ≡ WRONG_PHASE
+IsRefusedCall (store refusal) code =
+    (code ≡ OUT_OF_MEMORY) ⊎ (code ≡ store_code (documents.fault_of refusal))
+
+-- A call is accepted: the client is in its new state, and has the frame to send.
+pub record IsAccepted (sending : Sending) (code : ℕ) (stored : Option Object)
+    (len : ℕ) : Type 0 where
+  pub done : code ≡ OK
+  pub client : stored
+      ≡ Some (Client (record { client = sending.state; frame = frame (body_of sending.message) }))
+  pub frame_len : len ≡ length (frame (body_of sending.message))
+
+-- A call is accepted or out of memory, or refused.
+abbrev pub IsCalled : Result Sending Refusal → ℕ → Option Object → ℕ → Type 0
+IsCalled (Ok sending) code stored len =
+    (code ≡ OUT_OF_MEMORY) ⊎ IsAccepted sending code stored len
+IsCalled (Err refusal) code stored len = IsRefusedCall refusal code
+
+-- What a refusal writes of a faulty change.
+abbrev pub IsWritten : Result Sending Refusal → ℕ → Fault → Type 0
+IsWritten (Ok sending) code out = Unit {0}
+IsWritten (Err (wrong_phase phase)) code out = Unit {0}
+IsWritten (Err (store refusal)) code out =
+    (code ≡ OUT_OF_MEMORY) ⊎ IsStoreReport (documents.fault_of refusal) out
+
+-- Three texts that are UTF-8.
+pub record Opening : Type 0 where
+  pub uri : List ℕ
+  pub language : List ℕ
+  pub text : List ℕ
+
+-- The texts of a document to be opened, if each is UTF-8.
+abbrev pub opening_asked : List ℕ → List ℕ → List ℕ → Result Opening ℕ
+opening_asked uri language text =
+    and_then (uri_asked uri) (λ uri. and_then (uri_asked language) (λ language.
+    and_then (uri_asked text) (λ text.
+    Ok (record { uri = uri; language = language; text = text }))))
+
+-- ---- deliveries
+
+-- The reason why a session can't continue, as a code.
+abbrev pub reason_number : Reason → ℕ
+reason_number NotAnAnswer = NOT_AN_ANSWER
+reason_number ErrorAnswer = ERROR_ANSWER
+reason_number NoSync = NO_SYNC
+reason_number BadEncoding = BAD_ENCODING
+
+-- The result of a delivery as C gets it.
+abbrev pub delivered_out : DeliveredData (List ℕ) → Answer
+delivered_out (sends frame) = record (plain_out REPLIED) { reply_len = length frame }
+delivered_out noted = plain_out NOTED
+delivered_out ignored = plain_out IGNORED
+delivered_out (bad_server reason)
+    = record (plain_out BAD_SERVER) { reason = reason_number reason }
+
+-- The frame that a delivery sends; no bytes if it sends none.
+abbrev pub frame_out : DeliveredData (List ℕ) → List ℕ
+frame_out (sends frame) = frame
+frame_out noted = []
+frame_out ignored = []
+frame_out (bad_server reason) = []
+
+-- The handle has the client after a delivery, and C gets its result.
+pub record IsTakenIn (delivery : Delivery) (code : ℕ) (stored : Option Object)
+    (out : Answer) : Type 0 where
+  pub done : code ≡ OK
+  pub client : stored ≡ Some (Client (record {
+    client = delivery.state;
+    frame = frame_out (as_sent delivery.delivered);
+  }))
+  pub answer : out ≡ delivered_out (as_sent delivery.delivered)
+
+-- A body is handled or out of memory, or refused.
+abbrev pub IsDeliveredTo : Result Delivery Refusal → ℕ → Option Object → Answer → Type 0
+IsDeliveredTo (Ok delivery) code stored out =
+    (code ≡ OUT_OF_MEMORY) ⊎ IsTakenIn delivery code stored out
+IsDeliveredTo (Err refusal) code stored out = IsRefusedCall refusal code
+
+-- ---- what is asked of a client
+
+-- The number of a phase.
+abbrev pub phase_number : Phase → ℕ
+phase_number New = 0
+phase_number Asked = 1
+phase_number Ready = 2
+phase_number Closing = 3
+phase_number Closed = 4
+phase_number Done = 5
+phase_number (Failed reason) = 6
+
+-- Why a session failed; 0 if it didn't.
+abbrev pub phase_reason : Phase → ℕ
+phase_reason New = 0
+phase_reason Asked = 0
+phase_reason Ready = 0
+phase_reason Closing = 0
+phase_reason Closed = 0
+phase_reason Done = 0
+phase_reason (Failed reason) = reason_number reason
+
+-- The number of an encoding; 0 of none.
+abbrev pub encoding_number : Option Encoding → ℕ
+encoding_number None = 0
+encoding_number (Some Utf8) = 8
+encoding_number (Some Utf16) = 16
+encoding_number (Some Utf32) = 32
+
+-- The state of a client.
+pub record IsState (out : ClientState) (editor : EditorData) : Type 0 where
+  pub phase : out.phase ≡ phase_number editor.client.phase
+  pub reason : out.reason ≡ phase_reason editor.client.phase
+  pub encoding : out.encoding
+      ≡ encoding_number (option_map (λ agreed. agreed.encoding) editor.client.agreed)
+  pub documents : out.documents ≡ length editor.client.table
+
+-- The last frame of a client.
+abbrev pub frame_asked : Result EditorData ℕ → Result (List ℕ) ℕ
+frame_asked client = and_then client (λ editor. Ok editor.frame)
+
+-- The open document of a URI.
+abbrev pub document_at : List ℕ → EditorData → Result DocumentItem ℕ
+document_at uri editor = ok_or (entry_at editor.client.table uri) NOT_OPEN
+
+-- The same, with the codes of the URI and of the handle before it.
+abbrev pub document_asked : List ℕ → Result EditorData ℕ → Result DocumentItem ℕ
+document_asked uri client =
+    and_then (uri_asked uri) (λ named. and_then client (λ editor. document_at named editor))

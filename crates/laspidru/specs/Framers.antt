@@ -1,0 +1,150 @@
+-- A framer that C asks for, and what it takes of a stream (LSP 3.17, Base Protocol).
+use Rattle.std.specs.Prelude.{ℕ, ◌≡◌, ◌≤◌, ◌<◌, ◌++◌, ◌⊎◌, Bool, true, false, List, [], length, take, Option, Some, None, Result, Ok, Err}
+use Rattle.lsp_frame.specs.Limits.{Bounds, default_limits}
+use Rattle.lsp_frame.specs.Frame.{IsFrameOf}
+use Rattle.lsp_frame.specs.Stream.{Framing, IsFrame, HoldsOne, IsFeedFault, released}
+use Rattle.lsp_frame.specs.declared.fault.FrameFault.{FrameFault}
+use Rattle.lsp_frame.specs.declared.fault.FrameFault.TheVariants as frame
+use Rattle.laspidru.specs.declared.codes.TheConstants.{BAD_FRAME, EMPTY, FAILED, NO_MESSAGE, OK, OTHER_KIND, OUT_OF_MEMORY}
+use Rattle.laspidru.specs.declared.object.Object.{Object}
+use Rattle.laspidru.specs.declared.object.Object.TheVariants.{Document, Batch, Server, Output, Framer, Client}
+use Rattle.laspidru.specs.declared.taken.Taken.{Taken}
+use Rattle.laspidru.specs.Codes.{IsAnswer}
+use Rattle.laspidru.specs.Objects.{IsCopy, rest_asked}
+use Rattle.laspidru.specs.Servers.{limits_asked}
+
+-- ---- the framer of a handle
+
+-- A framer at the start of a stream.
+abbrev pub framing_of : Bounds → Framing
+framing_of limits = record { place = 0; buffered = []; failed = false; limits = limits }
+
+-- The limits of a framer, if the greatest length of a body is in its range. The others are ignored.
+abbrev pub framer_limits : ℕ → Result Bounds ℕ
+framer_limits max_body = limits_asked (record default_limits { max_body = max_body })
+
+-- The framer of an object.
+abbrev pub framer_of : Object → Result Framing ℕ
+framer_of (Document text) = Err OTHER_KIND
+framer_of (Batch changes) = Err OTHER_KIND
+framer_of (Server session) = Err OTHER_KIND
+framer_of (Output bytes) = Err OTHER_KIND
+framer_of (Framer framing) = Ok framing
+framer_of (Client editor) = Err OTHER_KIND
+
+-- The framer in a handle.
+abbrev pub framer_in : Option Object → Result Framing ℕ
+framer_in (Some object) = framer_of object
+framer_in None = Err EMPTY
+
+-- ---- what it takes
+
+-- A whole message is buffered, whose body has so many bytes; or none is.
+abbrev pub HasBody : Framing → Bool → ℕ → Type 0
+HasBody framing true len = (framing.failed ≡ false)
+    × (body : List ℕ) × IsFrameOf framing.limits.max_body framing.buffered body
+    × (len ≡ length body)
+HasBody framing false len = (len ≡ 0) × (framing.failed ≡ false → (body : List ℕ) →
+    IsFrameOf framing.limits.max_body framing.buffered body → ⊥)
+
+-- Bytes of a piece were taken: all of them, or those up to the end of one message.
+pub record HasTaken (old new : Framing) (piece : List ℕ) (out : Taken) : Type 0 where
+  pub within : out.bytes ≤ length piece
+  pub buffered : new ≡ record old { buffered = old.buffered ++ take out.bytes piece }
+  pub stops : out.bytes < length piece → IsFrame new.limits.max_body new.buffered
+  pub one : HoldsOne new.limits.max_body new.buffered
+  pub body : HasBody new out.is_whole out.body_len
+  pub none : (out.place ≡ 0) × (out.frame ≡ 0)
+
+-- The code of a fault of a stream.
+abbrev pub frame_code : FrameFault → ℕ
+frame_code (frame.BadHeader place) = BAD_FRAME
+frame_code (frame.HeaderTooLong place) = BAD_FRAME
+frame_code (frame.MissingLength place) = BAD_FRAME
+frame_code (frame.RepeatedHeader place) = BAD_FRAME
+frame_code (frame.BadLength place) = BAD_FRAME
+frame_code (frame.BodyTooLong place) = BAD_FRAME
+frame_code (frame.BadCharset place) = BAD_FRAME
+frame_code frame.Failed = FAILED
+frame_code frame.NoMemory = OUT_OF_MEMORY
+
+-- What is written of a fault: its number and its byte offset in the stream.
+abbrev pub taken_fault : ℕ → ℕ → Taken
+taken_fault number place =
+    record { bytes = 0; body_len = 0; place = place; frame = number; is_whole = false }
+
+-- A fault is written, if it is one of F1 to F7.
+abbrev pub IsFrameReport : FrameFault → Taken → Type 0
+IsFrameReport (frame.BadHeader place) out = out ≡ taken_fault 1 place
+IsFrameReport (frame.HeaderTooLong place) out = out ≡ taken_fault 2 place
+IsFrameReport (frame.MissingLength place) out = out ≡ taken_fault 3 place
+IsFrameReport (frame.RepeatedHeader place) out = out ≡ taken_fault 4 place
+IsFrameReport (frame.BadLength place) out = out ≡ taken_fault 5 place
+IsFrameReport (frame.BodyTooLong place) out = out ≡ taken_fault 6 place
+IsFrameReport (frame.BadCharset place) out = out ≡ taken_fault 7 place
+IsFrameReport frame.Failed out = Unit {0}
+IsFrameReport frame.NoMemory out = Unit {0}
+
+-- A piece was not taken, by this fault of the framer.
+pub record IsNotTaken (old new : Framing) (piece : List ℕ) (code : ℕ) (out : Taken) : Type 0 where
+  pub fault : FrameFault
+  pub why : IsFeedFault old new piece fault
+  pub is : code ≡ frame_code fault
+  pub report : IsFrameReport fault out
+
+-- A piece was fed to a framer: bytes were taken, or there is a fault.
+abbrev pub IsFed : Framing → List ℕ → ℕ → Framing → Taken → Type 0
+IsFed old piece code new out =
+    ((code ≡ OK) × HasTaken old new piece out) ⊎ IsNotTaken old new piece code out
+
+-- The same of the framer that an object has.
+abbrev pub IsFedObject : Framing → List ℕ → ℕ → Object → Taken → Type 0
+IsFedObject old piece code (Framer new) out = IsFed old piece code new out
+IsFedObject old piece code (Document text) out = ⊥
+IsFedObject old piece code (Batch changes) out = ⊥
+IsFedObject old piece code (Server session) out = ⊥
+IsFedObject old piece code (Output bytes) out = ⊥
+IsFedObject old piece code (Client editor) out = ⊥
+
+-- The same of what a handle has.
+abbrev pub IsFedStored : Framing → List ℕ → ℕ → Option Object → Taken → Type 0
+IsFedStored old piece code (Some object) out = IsFedObject old piece code object out
+IsFedStored old piece code None out = ⊥
+
+-- ---- the message that is buffered
+
+-- No whole message is buffered.
+abbrev pub HasNoBody : Framing → Type 0
+HasNoBody framing = framing.failed ≡ false → (body : List ℕ) →
+    IsFrameOf framing.limits.max_body framing.buffered body → ⊥
+
+-- The bytes of the body are copied from `start` on.
+pub record IsBodyCopy (framing : Framing) (start code : ℕ) (old new : List ℕ)
+    (copied : ℕ) : Type 0 where
+  pub sound : framing.failed ≡ false
+  pub body : List ℕ
+  pub is : IsFrameOf framing.limits.max_body framing.buffered body
+  pub answer : IsAnswer (rest_asked start (Ok body)) code (IsCopy old new copied)
+
+-- They are, or there is no whole message.
+abbrev pub IsBodyAnswer : Framing → ℕ → ℕ → List ℕ → List ℕ → ℕ → Type 0
+IsBodyAnswer framing start code old new copied =
+    ((code ≡ NO_MESSAGE) × HasNoBody framing) ⊎ IsBodyCopy framing start code old new copied
+
+-- The message is released, if one is whole; else nothing changes.
+pub record IsReleased (old new : Framing) : Type 0 where
+  pub whole : old.failed ≡ false → IsFrame old.limits.max_body old.buffered → new ≡ released old
+  pub none : (old.failed ≡ false → IsFrame old.limits.max_body old.buffered → ⊥) → new ≡ old
+
+-- The same of what a handle has.
+abbrev pub IsReleasedIn : Framing → Object → Type 0
+IsReleasedIn old (Framer new) = IsReleased old new
+IsReleasedIn old (Document text) = ⊥
+IsReleasedIn old (Batch changes) = ⊥
+IsReleasedIn old (Server session) = ⊥
+IsReleasedIn old (Output bytes) = ⊥
+IsReleasedIn old (Client editor) = ⊥
+
+abbrev pub IsReleasedStored : Framing → Option Object → Type 0
+IsReleasedStored old (Some object) = IsReleasedIn old object
+IsReleasedStored old None = ⊥

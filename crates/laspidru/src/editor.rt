@@ -1,0 +1,19 @@
+//! A client in a handle.
+
+use lsp_client::Client;
+use std::marker::Model;
+
+/// A client, and the frame that its last accepted call or delivery sends; no bytes if none.
+#[derive(Drop)]
+pub struct Editor {
+    pub(crate) client: Client,
+    pub(crate) frame: Vec<u8>,
+}
+
+impl Model for Editor {
+    ghost use Rattle.laspidru.specs.Editors.{EditorData};
+
+    ghost Value = { EditorData };
+
+    ghost view = { λ it. record { client = it.client; frame = it.frame.items } };
+}

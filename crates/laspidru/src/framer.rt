@@ -1,0 +1,189 @@
+//! The functions on framers.
+
+ghost use Rattle.std.specs.Prelude.{◌≡◌, ◌≢◌, ◌↔◌, IsTrue, Some, true, false, []};
+ghost use Rattle.laspidru.specs.declared.object.Object.TheVariants.{Framer as FramerOf};
+ghost use Rattle.laspidru.specs.Codes.{IsAnswer, IsAnswerOrNoMemory, IsRefusedOr, unless};
+ghost use Rattle.laspidru.specs.Framers.{IsBodyAnswer, IsFedObject, IsFedStored, IsReleasedIn, IsReleasedStored, framer_in, framer_limits, framer_of, framing_of};
+ghost use Rattle.laspidru.specs.Objects.{in_use};
+
+use crate::answers::limits_of;
+use crate::bytes::copy_from;
+use crate::codes::{BAD_FRAME, EMPTY, IN_USE, NO_MESSAGE, OK, OTHER_KIND, OUT_OF_MEMORY};
+use crate::handle::Handle;
+use crate::object::Object;
+use crate::taken::{Taken, feed};
+use lsp_frame::{Framer, Limits};
+use std::alloc::Global;
+
+/// Makes a framer in an empty handle, at the start of a stream. `max_body` is the greatest length
+/// of a body, in bytes. Codes, in this order: IN_USE, BAD_LIMIT; OUT_OF_MEMORY.
+#[unsafe(no_mangle)]
+pub extern "C" fn laspidru_framer_new(alloc: Global, handle: &mut Handle, max_body: usize) -> u32
+    ensures answer { let asked = unless (in_use handle.old.value) (framer_limits max_body) in
+        IsAnswerOrNoMemory asked result (λ limits.
+        (result ≡ OK) × (handle.new.value ≡ Some (FramerOf (framing_of limits)))) }
+    ensures unchanged { result ≢ OK → handle.new.value ≡ handle.old.value }
+{
+    if let Some(stored) = handle.take(alloc) {
+        handle.put(stored);
+        return IN_USE;
+    }
+    let limits = match limits_of(
+        max_body,
+        Limits::DEFAULT_TEXT,
+        Limits::DEFAULT_DOCS,
+        Limits::DEFAULT_CHANGES,
+    ) {
+        Ok(limits) => limits,
+        Err(code) => return code,
+    };
+    let Ok(object) = Box::new(alloc, Object::Framer(Framer::new(alloc, limits))) else {
+        return OUT_OF_MEMORY;
+    };
+    handle.put(object);
+    OK
+}
+
+/// Feeds a piece of a stream to an object's framer.
+fn object_feed(object: &mut Object, piece: &[u8], out: &mut Taken) -> u32
+    ensures answer { IsRefusedOr (framer_of object.old) result
+        (λ framing. IsFedObject framing piece.now result object.new out.new) }
+    ensures unchanged { result ≢ OK → result ≢ BAD_FRAME
+        → (object.new ≡ object.old) × (out.new ≡ out.old) }
+{
+    let Object::Framer(framer) = object else {
+        return OTHER_KIND;
+    };
+    feed(framer, piece, out)
+}
+
+/// Takes bytes of the next piece of a stream: all of them, or those up to the end of one message
+/// (LSP 3.17, Base Protocol, Header Part). While a whole message is buffered it takes none. Codes,
+/// in this order: EMPTY, OTHER_KIND, FAILED; OUT_OF_MEMORY, or BAD_FRAME. After BAD_FRAME, which
+/// `out` describes, no more of the stream is taken. Costs a pass over the bytes taken, and their
+/// copy.
+#[unsafe(no_mangle)]
+pub extern "C" fn laspidru_framer_feed(
+    alloc: Global,
+    handle: &mut Handle,
+    piece: &[u8],
+    out: &mut Taken,
+) -> u32
+    ensures answer { IsRefusedOr (framer_in handle.old.value) result
+        (λ framing. IsFedStored framing piece.now result handle.new.value out.new) }
+    ensures unchanged { result ≢ OK → result ≢ BAD_FRAME
+        → (handle.new.value ≡ handle.old.value) × (out.new ≡ out.old) }
+{
+    let Some(mut object) = handle.take(alloc) else {
+        return EMPTY;
+    };
+    let code = object_feed(&mut object, piece, out);
+    handle.put(object);
+    code
+}
+
+/// Copies the body that a framer has buffered.
+pub(crate) fn copy_body(framer: &Framer, start: usize, out: &mut [u8], copied: &mut usize) -> u32
+    ensures answer { IsBodyAnswer framer.now start result out.old out.new copied.new }
+    ensures unchanged { result ≢ OK → (out.new ≡ out.old) × (copied.new ≡ copied.old) }
+{
+    let Some(body) = framer.body() else {
+        return NO_MESSAGE;
+    };
+    copy_from(body, start, out, copied)
+}
+
+/// Copies the body that an object's framer has buffered.
+fn object_body(object: &Object, start: usize, out: &mut [u8], copied: &mut usize) -> u32
+    ensures answer { IsRefusedOr (framer_of object.now) result
+        (λ framing. IsBodyAnswer framing start result out.old out.new copied.new) }
+    ensures unchanged { result ≢ OK → (out.new ≡ out.old) × (copied.new ≡ copied.old) }
+{
+    let Object::Framer(framer) = object else {
+        return OTHER_KIND;
+    };
+    copy_body(framer, start, out, copied)
+}
+
+/// Copies the bytes of the body of the buffered message from `start` on, as many as `out` has room
+/// for, and returns how many. Codes, in this order: EMPTY, OTHER_KIND, NO_MESSAGE, OUT_OF_RANGE.
+/// Costs the copy.
+#[unsafe(no_mangle)]
+pub extern "C" fn laspidru_framer_body(
+    alloc: Global,
+    handle: &mut Handle,
+    start: usize,
+    out: &mut [u8],
+    copied: &mut usize,
+) -> u32
+    ensures answer { IsRefusedOr (framer_in handle.old.value) result
+        (λ framing. IsBodyAnswer framing start result out.old out.new copied.new) }
+    ensures handle { handle.new.value ≡ handle.old.value }
+    ensures unchanged { result ≢ OK → (out.new ≡ out.old) × (copied.new ≡ copied.old) }
+{
+    let Some(object) = handle.take(alloc) else {
+        return EMPTY;
+    };
+    let code = object_body(&object, start, out, copied);
+    handle.put(object);
+    code
+}
+
+/// Releases the message that an object's framer has buffered.
+fn object_next(object: &mut Object) -> u32
+    ensures answer { IsAnswer (framer_of object.old) result
+        (λ framing. IsReleasedIn framing object.new) }
+    ensures unchanged { result ≢ OK → object.new ≡ object.old }
+{
+    let Object::Framer(framer) = object else {
+        return OTHER_KIND;
+    };
+    framer.next();
+    OK
+}
+
+/// Releases the buffered message, so that the next one is taken. Does nothing if no whole message
+/// is buffered. Codes, in this order: EMPTY, OTHER_KIND. Takes no memory.
+#[unsafe(no_mangle)]
+pub extern "C" fn laspidru_framer_next(alloc: Global, handle: &mut Handle) -> u32
+    ensures answer { IsAnswer (framer_in handle.old.value) result
+        (λ framing. IsReleasedStored framing handle.new.value) }
+    ensures unchanged { result ≢ OK → handle.new.value ≡ handle.old.value }
+{
+    let Some(mut object) = handle.take(alloc) else {
+        return EMPTY;
+    };
+    let code = object_next(&mut object);
+    handle.put(object);
+    code
+}
+
+/// Returns whether an object's framer has no byte buffered and found no fault.
+fn object_at_rest(object: &Object, out: &mut bool) -> u32
+    ensures answer { IsAnswer (framer_of object.now) result
+        (λ framing. IsTrue out.new ↔ ((framing.buffered ≡ []) × (framing.failed ≡ false))) }
+    ensures unchanged { result ≢ OK → out.new ≡ out.old }
+{
+    let Object::Framer(framer) = object else {
+        return OTHER_KIND;
+    };
+    *out = framer.at_rest();
+    OK
+}
+
+/// Returns whether no byte of a message is buffered and no fault was found, so that the stream may
+/// end here. Codes, in this order: EMPTY, OTHER_KIND.
+#[unsafe(no_mangle)]
+pub extern "C" fn laspidru_framer_at_rest(alloc: Global, handle: &mut Handle, out: &mut bool) -> u32
+    ensures answer { IsAnswer (framer_in handle.old.value) result
+        (λ framing. IsTrue out.new ↔ ((framing.buffered ≡ []) × (framing.failed ≡ false))) }
+    ensures handle { handle.new.value ≡ handle.old.value }
+    ensures unchanged { result ≢ OK → out.new ≡ out.old }
+{
+    let Some(object) = handle.take(alloc) else {
+        return EMPTY;
+    };
+    let code = object_at_rest(&object, out);
+    handle.put(object);
+    code
+}

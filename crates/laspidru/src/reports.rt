@@ -1,0 +1,177 @@
+//! The settings that C passes to a client, and what it gets of one.
+
+ghost use Rattle.std.specs.Prelude.{◌≡◌, ◌≢◌, Err, IfErr, IfOk, Ok, OnErr, length};
+ghost use Rattle.lsp_client.specs.Seen.{delivered_view};
+ghost use Rattle.laspidru.specs.Clients.{IsCallReport, IsStoreReport, call_code, delivered_out, encoding_number, frame_out, phase_number, phase_reason, reason_number};
+
+use crate::answers::{Answer, plain, store_code_of};
+use crate::codes::{
+    BAD_ENCODING, BAD_SERVER, ERROR_ANSWER, IGNORED, INSIDE_CHARACTER, NO_SYNC, NOT_AN_ANSWER,
+    NOTED, OK, OUT_OF_MEMORY, REPLIED, REVERSED_RANGE, WRONG_PHASE,
+};
+use crate::place::Fault;
+use lsp_client::{ClientFault, Delivered, Phase, Reason};
+use lsp_edit::{EditFault, Side};
+use lsp_store::StoreFault;
+use lsp_text::Encoding;
+use std::alloc::Global;
+
+/// The set-up of a client: its limits, and the encodings that it offers beside UTF-16.
+#[repr(C)]
+#[derive(Clone, Copy, Debug, PartialEq, Eq)]
+pub struct ClientSettings {
+    pub max_body: usize,
+    pub max_text: usize,
+    pub max_docs: usize,
+    pub max_changes: usize,
+    pub utf8: bool,
+    pub utf32: bool,
+}
+
+/// The state of a client's session.
+#[repr(C)]
+#[derive(Clone, Copy, Debug, PartialEq, Eq)]
+pub struct ClientState {
+    /// The number of the phase, from 0 for New to 6 for Failed.
+    pub phase: u32,
+    /// The code for why the session failed; 0 if it didn't.
+    pub reason: u32,
+    /// The number of the encoding that was agreed on; 0 before.
+    pub encoding: u32,
+    /// How many documents are open.
+    pub documents: usize,
+}
+
+/// A call of the session's lifecycle.
+#[derive(Clone, Copy, Debug, PartialEq, Eq)]
+pub enum Call {
+    Start,
+    Shutdown,
+    Exit,
+}
+
+/// The code of a refused call.
+pub(crate) fn call_code_of(fault: ClientFault) -> u32
+    ensures { result ≡ call_code fault }
+{
+    match fault {
+        ClientFault::WrongPhase { .. } => WRONG_PHASE,
+        ClientFault::Store(fault) => store_code_of(fault),
+        ClientFault::NoMemory => OUT_OF_MEMORY,
+    }
+}
+
+/// The code of a refused call. A faulty change is written to `out`; else it stays as it is.
+pub(crate) fn report_call(fault: ClientFault, out: &mut Fault) -> u32
+    ensures code { result ≡ call_code fault }
+    ensures report { IsCallReport fault out.new }
+    ensures unchanged { result ≢ INSIDE_CHARACTER → result ≢ REVERSED_RANGE → out.new ≡ out.old }
+{
+    let code = call_code_of(fault);
+    match fault {
+        ClientFault::Store(StoreFault::Edit(EditFault::InsideCharacter { change, side })) => {
+            *out = Fault {
+                change,
+                at_end: side == Side::Stop,
+            };
+            code
+        }
+        ClientFault::Store(StoreFault::Edit(EditFault::ReversedRange { change })) => {
+            *out = Fault {
+                change,
+                at_end: false,
+            };
+            code
+        }
+        ClientFault::Store(_) | ClientFault::WrongPhase { .. } | ClientFault::NoMemory => code,
+    }
+}
+
+/// Keeps the frame of an accepted call, or returns the code of a refused one.
+pub(crate) fn keep_frame(
+    kept: &mut Vec<u8>,
+    answer: Result<Vec<u8>, ClientFault>,
+    len: &mut usize,
+) -> u32
+    ensures ok { IfOk answer (λ frame. (result ≡ OK) × (kept.new.items ≡ frame.items)
+        × (len.new ≡ length frame.items)) }
+    ensures error { IfErr answer (λ fault. result ≡ call_code fault) }
+    ensures unchanged { OnErr answer ((kept.new ≡ kept.old) × (len.new ≡ len.old)) }
+{
+    match answer {
+        Ok(frame) => {
+            *len = frame.len();
+            *kept = frame;
+            OK
+        }
+        Err(fault) => call_code_of(fault),
+    }
+}
+
+/// The reason why a session can't continue, as a code.
+fn reason_code(reason: Reason) -> u32
+    ensures { result ≡ reason_number reason }
+{
+    match reason {
+        Reason::NotAnAnswer => NOT_AN_ANSWER,
+        Reason::ErrorAnswer => ERROR_ANSWER,
+        Reason::NoSync => NO_SYNC,
+        Reason::BadEncoding => BAD_ENCODING,
+    }
+}
+
+/// The result of a delivery for C.
+pub(crate) fn delivered_answer(delivered: &Delivered) -> Answer
+    ensures { result ≡ delivered_out (delivered_view delivered.now) }
+{
+    match delivered {
+        Delivered::Send(frame) => Answer {
+            reply_len: frame.len(),
+            ..plain(REPLIED)
+        },
+        Delivered::Noted => plain(NOTED),
+        Delivered::Ignored => plain(IGNORED),
+        Delivered::BadServer(reason) => Answer {
+            reason: reason_code(*reason),
+            ..plain(BAD_SERVER)
+        },
+    }
+}
+
+/// The frame that a delivery sends; no bytes if it sends none.
+pub(crate) fn frame_of(alloc: Global, delivered: Delivered) -> Vec<u8>
+    ensures { result.items ≡ frame_out (delivered_view delivered) }
+{
+    match delivered {
+        Delivered::Send(frame) => frame,
+        Delivered::Noted | Delivered::Ignored | Delivered::BadServer(_) => Vec::new(alloc),
+    }
+}
+
+/// The number of a phase, and the code for why the session failed.
+pub(crate) fn phase_of(phase: Phase) -> (u32, u32)
+    ensures phase { result.0 ≡ phase_number phase }
+    ensures reason { result.1 ≡ phase_reason phase }
+{
+    match phase {
+        Phase::New => (0, 0),
+        Phase::Asked => (1, 0),
+        Phase::Ready => (2, 0),
+        Phase::Closing => (3, 0),
+        Phase::Closed => (4, 0),
+        Phase::Done => (5, 0),
+        Phase::Failed(reason) => (6, reason_code(reason)),
+    }
+}
+
+/// The number of an encoding; 0 of none.
+pub(crate) fn number_of(encoding: Option<Encoding>) -> u32
+    ensures { result ≡ encoding_number encoding }
+{
+    match encoding {
+        None => 0,
+        Some(Encoding::Utf8) => 8,
+        Some(Encoding::Utf16) => 16,
+        Some(Encoding::Utf32) => 32,
+    }
+}
