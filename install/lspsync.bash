@@ -14,12 +14,14 @@ _lspsync() {
         --max-body | --max-text) words=16777216 ;;
         --max-docs) words=1024 ;;
         --max-changes) words=65536 ;;
+        --at | --uri) words= ;;
         *)
             words="--encoding --max-body --max-text --max-docs --max-changes --help"
             case $command in
                 serve) words="$words --sync" ;;
                 normalise) words="$words --squash" ;;
-                check | replay | convert) ;;
+                replay) words="$words --at --uri" ;;
+                check | convert) ;;
                 help) words=$commands ;;
                 *) words="$commands --help" ;;
             esac

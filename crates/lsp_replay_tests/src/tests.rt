@@ -13,8 +13,8 @@ mod words;
 
 use lsp_frame::{Limits, frame};
 use lsp_replay::{
-    Call, EngineFault, Outcome, Settings, Sink, Source, StopReader, StopWriter, Told, check,
-    convert, normalise, replay, serve,
+    Call, EngineFault, Outcome, Part, Settings, Sink, Source, StopReader, StopWriter, Told, check,
+    convert, normalise, replay, replay_part, serve,
 };
 use lsp_server::{Config, EncodingChoice, Sync};
 use lsp_text::Encoding;
@@ -104,6 +104,8 @@ enum Command {
     /// `normalise` with squash.
     Squash,
     Convert,
+    /// `replay` of the last text of `file:///a`, up to a record or to the end.
+    Text(Option<u64>),
 }
 
 /// Some bytes of a row.
@@ -220,6 +222,10 @@ fn call<R: Source, W: Sink>(
             normalise(alloc, from, to, settings, turns)
         }
         Command::Convert => convert(alloc, from, to, settings, turns),
+        Command::Text(at) => {
+            let uri = Some(String::from_str(alloc, "file:///a")?);
+            replay_part(alloc, from, to, settings, Part { at, uri }, turns)
+        }
     }
 }
 

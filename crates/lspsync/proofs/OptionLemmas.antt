@@ -1,10 +1,14 @@
 -- What is read of an option.
-use Rattle.std.proofs.Common.{◌≡◌, ◌<◌, ◌^◌, ℕ, List, refl, false, true}
-use Rattle.std.specs.Prelude.{Option, Some, None, IfSome, IsSome, Result, Ok, Err}
+use Rattle.std.proofs.Common.{◌≡◌, ◌<◌, ◌^◌, ◌&&◌, ◌∙◌, not, is_some, ℕ, Bool, List, refl, sym, ap, subst, option_map, string_bytes, String, Global, false, true}
+use Rattle.std.specs.Prelude.{codes, Option, Some, None, IfSome, IsSome, Result, Ok, Err}
 use Rattle.std.specs.Str.Parse.{IsNumeral, digits_value, without_leading_plus}
 use Rattle.clap.specs.Matches.{ReadsOne, found_of, one_text}
 use Rattle.clap.specs.declared.parser.matches.ArgMatches.{ArgMatches}
-use Rattle.lspsync.specs.Call.{HasNumber}
+use Rattle.lsp_replay.specs.declared.engines.Settings.{Settings}
+use Rattle.lsp_replay.specs.declared.engines.parts.Part.{Part}
+use Rattle.lspsync.specs.Call.{AreSettings, HasNumber, HasNumberOrNone, IsCallNamed, IsLogPart, is_whole, whole}
+use Rattle.lspsync.specs.declared.command_line.Call.{Call}
+use Rattle.lspsync.specs.declared.command_line.Call.TheVariants as call
 
 -- The text is a numeral of 64 bits.
 abbrev pub IsSmall : List ℕ → Type 0
@@ -39,3 +43,26 @@ module _ {E : Type 0} (gives : List ℕ → Result ℕ E → Type 0) (options : 
 pub no_some : {A B : Type 0} (r : Option A) (s : Option B) → r ≡ None → IsSome r → IsSome s
 no_some (Some x) s is some = let bad : Some x ≡ None = is in cc
 no_some None s is some = let bad : false ≡ true = some in cc
+
+-- ---- the part of a log
+
+none_of : (at : Option ℕ) (uri : Option (String Global)) → (not (is_some at) && not (is_some uri)) ≡ true → (at ≡ None) × (uri ≡ None)
+none_of None None e = (refl, refl)
+none_of None (Some uri) e = absurd (let wrong : false ≡ true = e in cc)
+none_of (Some at) uri e = absurd (let wrong : false ≡ true = e in cc)
+
+whole_part : (options : ArgMatches) (part : Part) → is_whole part ≡ true → IsLogPart options part → IsLogPart options whole
+whole_part options part is given =
+    let none = none_of part.at part.uri is in
+    record {
+      at = subst (HasNumberOrNone options (codes "at")) none.0 given.at;
+      uri = sym (ap (option_map string_bytes) none.1) ∙ given.uri;
+    }
+
+pub named_part : (options : ArgMatches) (settings : Settings) (part : Part) (asked : Call) → AreSettings options settings → IsLogPart options part
+    → (is_whole part ≡ true → asked ≡ call.Replay settings) → (is_whole part ≡ false → asked ≡ call.ReplayPart settings part) → IsCallNamed (codes "replay") options asked
+named_part options settings part asked are given all some = by (is_whole part) refl
+  where
+    by : (b : Bool) → is_whole part ≡ b → IsCallNamed (codes "replay") options asked
+    by true is = subst (IsCallNamed (codes "replay") options) (sym (all is)) (refl, are, whole_part options part is given)
+    by false is = subst (IsCallNamed (codes "replay") options) (sym (some is)) (refl, are, given, is)

@@ -1,7 +1,7 @@
 -- What the words are read as.
-use Rattle.std.proofs.Common.{◌≡◌, ◌∙◌, ◌⊎◌, ap, refl, true, inl, inr, List, ℕ, []}
-use Rattle.std.specs.Prelude.{Option, Result, Ok, Err}
-use Rattle.clap.specs.Words.{App, is_simple, subcommand_of, subcommand_rows_of, fault_of, is_simple_and_free, kind_of, HasKind}
+use Rattle.std.proofs.Common.{◌≡◌, ◌∙◌, ap, refl, true, inl, inr, List, ℕ, []}
+use Rattle.std.specs.Prelude.{Option, Ok, Err}
+use Rattle.clap.specs.Words.{App, is_simple, subcommand_of, subcommand_rows_of, fault_of, is_simple_and_free, HasKind}
 use Rattle.clap.specs.declared.error.Error.{Error}
 use Rattle.clap.specs.declared.parser.matches.ArgMatches.{ArgMatches}
 use Rattle.clap.proofs.OnLiterals.{clap_on_literals}

@@ -1,6 +1,7 @@
 -- The call of the program, by what `clap` finds in its words.
-use Rattle.std.specs.Prelude.{ℕ, ◌≡◌, ◌<◌, ◌^◌, ◌⊎◌, [], Result, Ok, Err, Bool, true, false, List, Option, Some, None, codes, option_map, option_and_then, if◌then◌else◌}
+use Rattle.std.specs.Prelude.{ℕ, ◌≡◌, ◌<◌, ◌^◌, ◌⊎◌, ◌&&◌, not, is_some, [], Result, Ok, Err, Bool, true, false, List, Option, Some, None, codes, option_map, option_and_then, if◌then◌else◌}
 use Rattle.std.specs.Str.{bytes_eq}
+use Rattle.std.specs.String.{string_bytes}
 use Rattle.std.specs.Str.Parse.{IsNumeral, digits_value, without_leading_plus}
 use Rattle.clap.specs.Matches.{found_of, first_value, one_text, subcommand_name_of}
 use Rattle.clap.specs.Simple.{App, subcommand_of, subcommand_rows_of}
@@ -19,6 +20,7 @@ use Rattle.lsp_server.specs.declared.config.EncodingChoice.TheVariants.{Negotiat
 use Rattle.lsp_server.specs.declared.config.Sync.{Sync}
 use Rattle.lsp_server.specs.declared.config.Sync.TheVariants.{Incremental, Full}
 use Rattle.lsp_replay.specs.declared.engines.Settings.{Settings}
+use Rattle.lsp_replay.specs.declared.engines.parts.Part.{Part}
 use Rattle.lspsync.specs.CommandLine.{IsProgram}
 use Rattle.lspsync.specs.declared.command_line.Call.{Call}
 use Rattle.lspsync.specs.declared.command_line.Call.TheVariants as call
@@ -69,13 +71,32 @@ pub record IsConfig (options : ArgMatches) (config : Config) : Type 0 where
   pub choice : option_map Negotiated (encoding_given options) ≡ Some config.choice
   pub sync : sync_given options ≡ Some config.sync
 
+-- An option has this number, or none.
+abbrev pub HasNumberOrNone : ArgMatches → List ℕ → Option ℕ → Type 0
+HasNumberOrNone options id (Some n) = HasNumber options id n
+HasNumberOrNone options id None = (n : ℕ) → HasNumber options id n → ⊥
+
+-- The part of a log that the options name.
+pub record IsLogPart (options : ArgMatches) (part : Part) : Type 0 where
+  pub at : HasNumberOrNone options (codes "at") part.at
+  pub uri : option_map string_bytes part.uri ≡ first_value (found_of options) (codes "uri")
+
+-- The part is the whole log, and all its documents.
+abbrev pub is_whole : Part → Bool
+is_whole part = not (is_some part.at) && not (is_some part.uri)
+
+abbrev pub whole : Part
+whole = record { at = None; uri = None }
+
 -- The call of a subcommand with this name and these options.
 abbrev pub IsCallNamed : List ℕ → ArgMatches → Call → Type 0
 IsCallNamed name options (call.Serve config) = (name ≡ codes "serve") × IsConfig options config
 IsCallNamed name options (call.Check settings) = (name ≡ codes "check")
     × AreSettings options settings
 IsCallNamed name options (call.Replay settings) = (name ≡ codes "replay")
-    × AreSettings options settings
+    × AreSettings options settings × IsLogPart options whole
+IsCallNamed name options (call.ReplayPart settings part) = (name ≡ codes "replay")
+    × AreSettings options settings × IsLogPart options part × (is_whole part ≡ false)
 IsCallNamed name options (call.Normalise settings) = (name ≡ codes "normalise")
     × AreSettings options settings × IsFlag options (codes "squash") settings.squash
 IsCallNamed name options (call.Convert settings) = (name ≡ codes "convert")

@@ -1,5 +1,5 @@
 -- The command line: the options of the program, as `clap` gets them.
-use Rattle.std.specs.Prelude.{ℕ, ◌≡◌, ◌++◌, ◌∷◌, [], Bool, true, false, List, Some, codes, decimal, map}
+use Rattle.std.specs.Prelude.{ℕ, ◌≡◌, ◌++◌, ◌∷◌, [], true, false, List, Some, codes, decimal, map}
 use Rattle.std.specs.Borrow.{Bor}
 use Rattle.clap.specs.Words.{App, Rule, Shape, Text, new_rule}
 use Rattle.clap.specs.Simple.{new_shape}
@@ -36,6 +36,16 @@ limit_rules = limit_rule (codes "max-body") 4096 1073741824 16777216
     ∷ limit_rule (codes "max-docs") 1 65536 1024
     ∷ limit_rule (codes "max-changes") 1 1048576 65536 ∷ []
 
+-- An option with one value, any text, and no default.
+abbrev pub text_rule : Text → Rule
+text_rule name = record (new_rule name) { long = Some name; value_names = 1 }
+
+-- An option with a number from `least` to `greatest`, and no default.
+abbrev pub number_rule : Text → ℕ → ℕ → Rule
+number_rule name least greatest = record (text_rule name) {
+  parser = Some (Unsigned least greatest);
+}
+
 -- A command with its own options, and those of all.
 abbrev pub command_shape : Text → List Rule → Shape
 command_shape name own = record (new_shape name) { rules = own ++ limit_rules }
@@ -49,13 +59,24 @@ sync_rule kinds = option_rule (codes "sync") (Names kinds) (codes "incremental")
 abbrev pub squash_rule : Rule
 squash_rule = flag_rule (codes "squash")
 
+-- `--at` is a record's number, from 1.
+abbrev pub at_rule : Rule
+at_rule = number_rule (codes "at") 1 18446744073709551615
+
+abbrev pub uri_rule : Rule
+uri_rule = text_rule (codes "uri")
+
+-- The options of `replay` that name a part of a log.
+abbrev pub part_rules : List Rule
+part_rules = at_rule ∷ uri_rule ∷ []
+
 -- The program: its commands, with their options.
 abbrev pub program_app : Choices → Choices → App
 program_app encodings kinds = record {
   top = record (new_shape (codes "lspsync")) { is_leaf = false; subcommand_required = true };
   subs = command_shape (codes "serve") (encoding_rule encodings ∷ sync_rule kinds ∷ [])
       ∷ command_shape (codes "check") (encoding_rule encodings ∷ [])
-      ∷ command_shape (codes "replay") (encoding_rule encodings ∷ [])
+      ∷ command_shape (codes "replay") (encoding_rule encodings ∷ part_rules)
       ∷ command_shape (codes "normalise") (encoding_rule encodings ∷ squash_rule ∷ [])
       ∷ command_shape (codes "convert") (encoding_rule encodings ∷ []) ∷ [];
 }

@@ -1,5 +1,5 @@
 -- What the program writes, and the status that it ends with.
-use Rattle.std.specs.Prelude.{ℕ, ◌≡◌, ◌⊎◌, ◌++◌, ◌∷◌, [], true, false, List, codes, Option, Some, None, Result, Ok, Err, OnOk}
+use Rattle.std.specs.Prelude.{ℕ, ◌≡◌, ◌⊎◌, ◌==◌, if◌then◌else◌, ◌++◌, ◌∷◌, [], true, false, List, codes, Option, Some, None, Result, Ok, Err, OnOk}
 use Rattle.std.specs.Io.KnownBytes.{Keeps, Appends}
 use Rattle.clap.specs.Values.{kind_of}
 use Rattle.clap.specs.declared.error.Error.{Error}
@@ -10,6 +10,8 @@ use Rattle.lsp_stream.specs.declared.fault.EngineFault.TheVariants.{Read, Write,
 use Rattle.lsp_stream.specs.Ports.{Ports, Rose, WriterState, ports}
 use Rattle.lsp_stream.specs.Turns.{Spends}
 use Rattle.lsp_replay.specs.declared.outcome.Outcome.{Outcome}
+use Rattle.lsp_replay.specs.declared.outcome.TheConstants.{NEVER_OPEN, NO_RECORD}
+use Rattle.lsp_replay.specs.Parts.{part_engine}
 use Rattle.lsp_replay.specs.Run.{Engine, IsEngineRun, check_engine, convert_engine, normalise_engine, replay_engine, serve_engine}
 use Rattle.lspsync.specs.declared.command_line.Call.{Call}
 use Rattle.lspsync.specs.declared.command_line.Call.TheVariants as call
@@ -33,6 +35,7 @@ abbrev pub engine_of : Call → Engine
 engine_of (call.Serve config) = serve_engine config
 engine_of (call.Check settings) = check_engine settings
 engine_of (call.Replay settings) = replay_engine settings
+engine_of (call.ReplayPart settings part) = part_engine settings part
 engine_of (call.Normalise settings) = normalise_engine settings
 engine_of (call.Convert settings) = convert_engine settings
 
@@ -79,9 +82,25 @@ abbrev pub IsReported : EngineFault → Option (List ℕ) → Option (List ℕ) 
 IsReported fault before after ending = (ending.status ≡ status_of fault)
     × OnOk ending.printed (Appends before after (fault_line fault))
 
--- A status ends the program, with nothing on standard error. A fault is reported.
+-- What a part of a log has not, by the status of `replay`: a record of this number, or a document
+-- that was open. The line that says so.
+abbrev pub missing_line : ℕ → Option (List ℕ)
+missing_line status =
+    if status == NO_RECORD then Some (codes "lspsync: the log has no message of this number\n")
+    else if status == NEVER_OPEN then Some (codes "lspsync: the document was never open\n")
+    else None
+
+-- A status ends the program, with nothing on standard error. Where something is missing its line is
+-- printed, and the status is 1.
+abbrev pub IsStatus : Option (List ℕ) → ℕ → Option (List ℕ) → Option (List ℕ) → Ending → Type 0
+IsStatus None status before after ending = (ending.status ≡ status) × (after ≡ before)
+IsStatus (Some line) status before after ending = (ending.status ≡ 1)
+    × OnOk ending.printed (Appends before after line)
+
+-- A status ends the program. A fault is reported.
 abbrev pub IsEnding : Result ℕ EngineFault → Option (List ℕ) → Option (List ℕ) → Ending → Type 0
-IsEnding (Ok status) before after ending = (ending.status ≡ status) × (after ≡ before)
+IsEnding (Ok status) before after ending
+    = IsStatus (missing_line status) status before after ending
 IsEnding (Err fault) before after ending = IsReported fault before after ending
 
 -- What is known of the program's streams before and after a run.

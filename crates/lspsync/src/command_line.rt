@@ -1,30 +1,31 @@
 //! The program's command line.
 
-ghost use Rattle.std.specs.Prelude.{◌≡◌, ◌∷◌, [], codes, false, if◌then◌else◌, is_some};
+ghost use Rattle.std.specs.Prelude.{◌≡◌, ◌≢◌, ◌∷◌, [], codes, true, false, if◌then◌else◌, is_some};
 ghost use Rattle.std.specs.Prelude.{IfOk, IfSome, IsSome, ℕ, map};
 ghost use Rattle.clap.specs.Words.{app_of, rule_of, with_subcommand};
 ghost use Rattle.clap.specs.declared.builder.value_parser.ValueParser.TheVariants.{Names};
 ghost use Rattle.lspsync.specs.CommandLine.{IsProgram, encoding_rule, flag_rule, limit_rules};
-ghost use Rattle.lspsync.specs.CommandLine.{option_rule, squash_rule, sync_rule};
+ghost use Rattle.lspsync.specs.CommandLine.{option_rule, part_rules, squash_rule, sync_rule};
+ghost use Rattle.lspsync.specs.CommandLine.{at_rule, uri_rule};
 ghost use Rattle.lspsync.specs.Help.{rule_of_limit, rules_of_limits};
 ghost use Rattle.lspsync.specs.inside.Options.{AddsRules, IsCommand, shape_by, top_app};
-ghost use Rattle.lspsync.specs.Call.{AreLimits, AreSettings, HasNumber, IsCallNamed, IsConfig};
+ghost use Rattle.lspsync.specs.Call.{AreLimits, AreSettings, HasNumber, IsCallNamed, IsConfig, IsLogPart, is_whole};
 ghost use Rattle.lspsync.specs.Call.{IsFound, IsRead, encoding_given, sync_given};
 ghost use Rattle.lsp_frame.specs.Limits.{Bounds};
 
 mod help;
 
-use crate::command_line::help::{Limit, LimitOptions, Page};
+use crate::command_line::help::{Limit, LimitOptions, Page, PartHelp};
 use clap::builder::ValueParser;
 use clap::{Arg, ArgAction, ArgMatches, Command, Error};
 use lsp_frame::Limits;
-use lsp_replay::Settings;
+use lsp_replay::{Part, Settings};
 use lsp_server::{Config, EncodingChoice, Sync};
 use lsp_text::Encoding;
 use std::alloc::{AllocError, Global};
 
 /// A call of the program.
-#[derive(Clone, Copy, Debug, PartialEq, Eq)]
+#[derive(Debug, PartialEq, Eq, Drop)]
 pub enum Call {
     /// `serve`: run a server's end of a session.
     Serve(Config),
@@ -32,6 +33,8 @@ pub enum Call {
     Check(Settings),
     /// `replay`: print the documents that are open at the end of a log.
     Replay(Settings),
+    /// `replay --at N --uri URI`: print the documents after a record, or a document's last text.
+    ReplayPart(Settings, Part),
     /// `normalise`: write a log with each accepted change as its canonical message.
     Normalise(Settings),
     /// `convert`: write a log of version 1 in version 2.
@@ -44,28 +47,46 @@ pub enum Call {
 pub fn parse<'a>(alloc: Global, words: &'a [&'a str]) -> Result<Option<Call>, Error>
     ensures { IsRead (map (λ word. word.now) words.entry.now) result }
 {
-    let limits = help::limits(alloc)?;
-    let matches = program(alloc, &limits)?.try_get_matches_from(words)?;
-    Ok(call_of(&matches))
+    let matches = program(alloc, help::limits())?.try_get_matches_from(words)?;
+    let call = call_of(alloc, &matches)?;
+    Ok(call)
 }
 
 /// The call that `clap` found.
-fn call_of(matches: &ArgMatches<'_>) -> Option<Call>
-    ensures { IsFound matches.now result }
+fn call_of(alloc: Global, matches: &ArgMatches<'_>) -> Result<Option<Call>, AllocError>
+    ensures { IfOk result (IsFound matches.now) }
 {
-    let (name, options) = matches.subcommand()?;
-    call_named(name, options)
+    let Some((name, options)) = matches.subcommand() else {
+        return Ok(None);
+    };
+    call_named(alloc, name, options)
 }
 
 /// The call of a subcommand with these options.
-fn call_named(name: &str, options: &ArgMatches<'_>) -> Option<Call>
+fn call_named(
+    alloc: Global,
+    name: &str,
+    options: &ArgMatches<'_>,
+) -> Result<Option<Call>, AllocError>
+    ensures some { IfOk result (λ found. IfSome found (IsCallNamed name.now options.now)) }
+    ensures none { IfOk result (λ found. (call : Call) → IsCallNamed name.now options.now call →
+        IsSome found) }
+{
+    match name {
+        "replay" => replay_call(alloc, options),
+        _ => Ok(other_call(name, options)),
+    }
+}
+
+/// The call of another subcommand than `replay`.
+fn other_call(name: &str, options: &ArgMatches<'_>) -> Option<Call>
     ensures some { IfSome result (IsCallNamed name.now options.now) }
-    ensures none { (call : Call) → IsCallNamed name.now options.now call → IsSome result }
+    ensures none { (call : Call) → name.now ≢ codes "replay" →
+        IsCallNamed name.now options.now call → IsSome result }
 {
     match name {
         "serve" => Some(Call::Serve(config_of(options)?)),
         "check" => Some(Call::Check(settings_of(options, false)?)),
-        "replay" => Some(Call::Replay(settings_of(options, false)?)),
         "normalise" => {
             let squash = options.get_flag("squash");
             Some(Call::Normalise(settings_of(options, squash)?))
@@ -73,6 +94,45 @@ fn call_named(name: &str, options: &ArgMatches<'_>) -> Option<Call>
         "convert" => Some(Call::Convert(settings_of(options, false)?)),
         _ => None,
     }
+}
+
+/// The call of `replay`, of a part of a log or of the whole.
+fn replay_call(alloc: Global, options: &ArgMatches<'_>) -> Result<Option<Call>, AllocError>
+    ensures some { IfOk result (λ found. IfSome found (IsCallNamed (codes "replay") options.now)) }
+    ensures none { IfOk result (λ found. (call : Call) →
+        IsCallNamed (codes "replay") options.now call → IsSome found) }
+{
+    let Some(settings) = settings_of(options, false) else {
+        return Ok(None);
+    };
+    let part = part_of(alloc, options)?;
+    Ok(Some(replaying(settings, part)))
+}
+
+/// The call of `replay` with these settings.
+fn replaying(settings: Settings, part: Part) -> Call
+    ensures whole { is_whole part ≡ true → result ≡ Call.Replay settings }
+    ensures part { is_whole part ≡ false → result ≡ Call.ReplayPart settings part }
+{
+    if part.at.is_none() && part.uri.is_none() {
+        return Call::Replay(settings);
+    }
+    Call::ReplayPart(settings, part)
+}
+
+/// The part of a log that the options name.
+fn part_of(alloc: Global, options: &ArgMatches<'_>) -> Result<Part, AllocError>
+    ensures { IfOk result (IsLogPart options.now) }
+{
+    let at = match number_of(options, "at") {
+        Some(at) => Some(at as u64),
+        None => None,
+    };
+    let uri = match options.get_str("uri") {
+        Some(uri) => Some(String::from_str(alloc, uri)?),
+        None => None,
+    };
+    Ok(Part { at, uri })
 }
 
 fn config_of(options: &ArgMatches<'_>) -> Option<Config>
@@ -212,6 +272,7 @@ fn command<'a>(alloc: Global, page: Page, values: Values<'a>) -> Result<Command<
     let command = with_encoding(alloc, command, page.encoding, values.encodings)?;
     let command = with_sync(alloc, command, page.sync, values.kinds)?;
     let command = with_squash(alloc, command, page.squash)?;
+    let command = with_part(alloc, command, page.part)?;
     with_limits(alloc, command, values.limits)
 }
 
@@ -257,6 +318,22 @@ fn with_squash<'a>(
     }
 }
 
+/// Adds `--at` and `--uri`, if there is help for them.
+fn with_part<'a>(
+    alloc: Global,
+    command: Command<'a>,
+    help: Option<PartHelp>,
+) -> Result<Command<'a>, AllocError>
+    ensures { IfOk result (AddsRules command.entry (if is_some help then part_rules else [])) }
+{
+    let Some(help) = help else {
+        return Ok(command);
+    };
+    command
+        .arg(at_option(alloc, help.at))?
+        .arg(uri_option(alloc, help.uri))
+}
+
 /// Adds the options that set limits.
 fn with_limits<'a>(
     alloc: Global,
@@ -285,6 +362,29 @@ fn choice<'a>(alloc: Global, name: &'a str, names: &'a [&'a str], default: &'a s
         .default_value(default)
 }
 
+/// `--at`: a record's number, from 1.
+fn at_option<'a>(alloc: Global, help: &'a str) -> Arg<'a>
+    ensures rule { rule_of result ≡ at_rule }
+    ensures global { result.global ≡ false }
+{
+    Arg::new(alloc, "at")
+        .long("at")
+        .value_name("N")
+        .value_parser(ValueParser::unsigned(1, u64::MAX))
+        .help(help)
+}
+
+/// `--uri`: any text.
+fn uri_option<'a>(alloc: Global, help: &'a str) -> Arg<'a>
+    ensures rule { rule_of result ≡ uri_rule }
+    ensures global { result.global ≡ false }
+{
+    Arg::new(alloc, "uri")
+        .long("uri")
+        .value_name("URI")
+        .help(help)
+}
+
 /// An option without a value.
 fn flag<'a>(alloc: Global, name: &'a str) -> Arg<'a>
     ensures rule { rule_of result ≡ flag_rule name.entry.now }
@@ -302,6 +402,6 @@ fn number<'a>(alloc: Global, limit: &'a Limit) -> Arg<'a>
         .long(limit.name)
         .value_name("N")
         .value_parser(ValueParser::unsigned(limit.least as u64, limit.greatest as u64))
-        .default_value(&limit.default)
+        .default_value(limit.default)
         .help(limit.help)
 }

@@ -1,25 +1,32 @@
 //! The program over any reader and writers.
 
-ghost use Rattle.std.specs.Prelude.{◌≡◌, ◌≢◌, ◌⊎◌, OnOk, true, codes, List, ℕ, Result, Err, map};
+ghost use Rattle.std.specs.Prelude.{◌≡◌, ◌≢◌, ◌⊎◌, ◌++◌, OnOk, true, codes, List, ℕ, Result, Err, map};
 ghost use Rattle.std.specs.Io.KnownBytes.{Appends, Keeps};
 ghost use Rattle.clap.specs.Values.{kind_of};
 ghost use Rattle.clap.specs.declared.error.kind.ErrorKind.TheVariants.{OutOfMemory};
 ghost use Rattle.clap.specs.declared.error.kind.ErrorKind.TheVariants.{DisplayHelp, DisplayVersion};
 ghost use Rattle.lsp_stream.specs.Ports.{ports};
 ghost use Rattle.lsp_replay.specs.Run.{IsEngineRun};
+ghost use Rattle.lspsync.specs.Run.{IsStatus, missing_line};
 ghost use Rattle.lspsync.specs.Run.{IsEnding, IsFlushed, IsHelp, IsPerformed, IsReported};
 ghost use Rattle.lspsync.specs.Run.{IsRun, Streams, allowed_turns, answer_of, engine_of, status_of};
 
 use crate::command_line::{Call, parse};
 use crate::fault_text::FaultText;
 use clap::error as clap_error;
-use lsp_replay::{EngineFault, Outcome, Sink, Source, check, convert, normalise, replay, serve};
+use lsp_replay::{
+    EngineFault, NEVER_OPEN, NO_RECORD, Outcome, Sink, Source, check, convert, normalise, replay,
+    replay_part, serve,
+};
 use lsp_stream::{Turns, flush_out, write_given};
 use std::alloc::Global;
 use std::io::{self, ErrorKind, Write};
 
 /// How many reads, writes and flushes an engine may make. The last flush may be tried as often.
 const MAX_TURNS: u64 = 1_099_511_627_776;
+
+/// The status of a call that asked for something that isn't in the log.
+const MISSING: u8 = 1;
 
 /// The status of a call that is none, or can't be done.
 const USAGE: u8 = 2;
@@ -73,11 +80,36 @@ fn end_with<E: Write>(answer: Result<u8, EngineFault>, errors: &mut E) -> Ending
     ensures { IsEnding answer (E.contents errors.old) (E.contents errors.new) result }
 {
     match answer {
-        Ok(status) => Ending {
+        Ok(status) => end_well(status, errors),
+        Err(fault) => report(fault, errors),
+    }
+}
+
+/// Ends with a status. If something is missing that was asked for, a line says what.
+fn end_well<E: Write>(status: u8, errors: &mut E) -> Ending
+    ensures { IsStatus (missing_line status) status
+        (E.contents errors.old) (E.contents errors.new) result }
+{
+    match status {
+        NO_RECORD => missing("the log has no message of this number", errors),
+        NEVER_OPEN => missing("the document was never open", errors),
+        _ => Ending {
             status,
             printed: Ok(()),
         },
-        Err(fault) => report(fault, errors),
+    }
+}
+
+/// Prints what is missing.
+fn missing<E: Write>(what: &str, errors: &mut E) -> Ending
+    ensures status { result.status ≡ 1 }
+    ensures line { OnOk result.printed (Appends (E.contents errors.old) (E.contents errors.new)
+        ((codes "lspsync: " ++ what.now) ++ codes "\n")) }
+{
+    let printed = writeln!(errors, "lspsync: {what}");
+    Ending {
+        status: MISSING,
+        printed,
     }
 }
 
@@ -132,6 +164,9 @@ fn obey<R: Source, W: Sink>(
         Call::Serve(config) => serve(alloc, input, output, config, MAX_TURNS),
         Call::Check(settings) => check(alloc, input, output, settings, MAX_TURNS),
         Call::Replay(settings) => replay(alloc, input, output, settings, MAX_TURNS),
+        Call::ReplayPart(settings, part) => {
+            replay_part(alloc, input, output, settings, part, MAX_TURNS)
+        }
         Call::Normalise(settings) => normalise(alloc, input, output, settings, MAX_TURNS),
         Call::Convert(settings) => convert(alloc, input, output, settings, MAX_TURNS),
     }

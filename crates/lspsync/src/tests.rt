@@ -4,6 +4,7 @@ mod command_line;
 mod converted;
 mod faults;
 mod logs;
+mod parts;
 mod sessions;
 mod streams;
 

@@ -156,6 +156,23 @@ fn refused_replay(rt: HostRuntime) -> Result<(), Fail> {
     Ok(())
 }
 
+/// The document is closed, and its text is kept until then.
+static CLOSED: Wanted = Wanted {
+    command: Command::Text(None),
+    input: Bytes::Frames(&[SHORT, OPEN, CLOSE]),
+    parts: &["abc"],
+    lengths: &[3],
+    end: Ended(0, 3, 0),
+};
+
+#[test]
+fn refused_replay_part(rt: HostRuntime) -> Result<(), Fail> {
+    let refused = CLOSED.runs_again(rt.alloc())?;
+    assert!(rt; refused.is_some());
+    println!(rt; "refused {}", refused.unwrap_or(0))?;
+    Ok(())
+}
+
 /// The whole of an empty text is replaced by nothing, which is no change.
 static NORMALISED: Wanted = Wanted {
     command: Command::Normalise,

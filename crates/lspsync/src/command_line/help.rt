@@ -1,12 +1,10 @@
 //! The texts of help. They are in functions, so that proofs don't unfold them.
 
-ghost use Rattle.std.specs.Prelude.{◌≡◌, IfOk, codes, decimal, true, false};
-ghost use Rattle.std.specs.String.{string_bytes};
+ghost use Rattle.std.specs.Prelude.{◌≡◌, codes, true, false};
 ghost use Rattle.lspsync.specs.CommandLine.{limit_rules};
 ghost use Rattle.lspsync.specs.Help.{IsPage, rules_of_limits};
 
 use lsp_frame::Limits;
-use std::alloc::{AllocError, Global};
 
 /// The help of a command.
 #[derive(Clone, Copy, Debug)]
@@ -21,16 +19,25 @@ pub struct Page {
     pub sync: Option<&'static str>,
     /// The meaning of `--squash`, if the command has it.
     pub squash: Option<&'static str>,
+    /// The meaning of `--at` and `--uri`, if the command has them.
+    pub part: Option<PartHelp>,
+}
+
+/// The help of the options that name a part of a log.
+#[derive(Clone, Copy, Debug)]
+pub struct PartHelp {
+    pub at: &'static str,
+    pub uri: &'static str,
 }
 
 /// An option that sets a limit.
-#[derive(Debug, Drop)]
+#[derive(Clone, Copy, Debug)]
 pub struct Limit {
     pub name: &'static str,
     pub least: usize,
     pub greatest: usize,
     /// The default, in decimal digits.
-    pub default: String,
+    pub default: &'static str,
     pub help: &'static str,
 }
 
@@ -45,7 +52,7 @@ pub fn notes() -> &'static str {
 }
 
 pub fn serve() -> Page
-    ensures { IsPage result (codes "serve") true false }
+    ensures { IsPage result (codes "serve") true false false }
 {
     Page {
         name: "serve",
@@ -54,23 +61,27 @@ pub fn serve() -> Page
         encoding: PREFERRED_ENCODING,
         sync: Some(SYNC),
         squash: None,
+        part: None,
     }
 }
 
 pub fn check() -> Page
-    ensures { IsPage result (codes "check") false false }
+    ensures { IsPage result (codes "check") false false false }
 {
     log_page("check", CHECK, CHECK_EXAMPLE)
 }
 
 pub fn replay() -> Page
-    ensures { IsPage result (codes "replay") false false }
+    ensures { IsPage result (codes "replay") false false true }
 {
-    log_page("replay", REPLAY, REPLAY_EXAMPLE)
+    Page {
+        part: Some(PartHelp { at: AT, uri: URI }),
+        ..log_page("replay", REPLAY, REPLAY_EXAMPLE)
+    }
 }
 
 pub fn normalise() -> Page
-    ensures { IsPage result (codes "normalise") false true }
+    ensures { IsPage result (codes "normalise") false true false }
 {
     Page {
         squash: Some(SQUASH),
@@ -79,14 +90,14 @@ pub fn normalise() -> Page
 }
 
 pub fn convert() -> Page
-    ensures { IsPage result (codes "convert") false false }
+    ensures { IsPage result (codes "convert") false false false }
 {
     log_page("convert", CONVERT, CONVERT_EXAMPLE)
 }
 
 /// The page of a command that reads a log.
 fn log_page(name: &'static str, about: &'static str, example: &'static str) -> Page
-    ensures { IsPage result name.now false false }
+    ensures { IsPage result name.now false false false }
 {
     Page {
         name,
@@ -95,11 +106,12 @@ fn log_page(name: &'static str, about: &'static str, example: &'static str) -> P
         encoding: ENCODING,
         sync: None,
         squash: None,
+        part: None,
     }
 }
 
 /// The options that all commands have.
-#[derive(Debug, Drop)]
+#[derive(Clone, Copy, Debug)]
 pub struct LimitOptions {
     pub body: Limit,
     pub text: Limit,
@@ -107,48 +119,43 @@ pub struct LimitOptions {
     pub changes: Limit,
 }
 
-/// Makes the options that all commands have.
-pub fn limits(alloc: Global) -> Result<LimitOptions, AllocError>
-    ensures { IfOk result (λ limits. rules_of_limits limits ≡ limit_rules) }
+/// The options that all commands have. Their defaults are those of `Limits::default()`.
+pub fn limits() -> &'static LimitOptions
+    ensures { rules_of_limits result.now ≡ limit_rules }
 {
-    let default = Limits::default();
-    Ok(LimitOptions {
-        body: Limit {
-            name: "max-body",
-            least: Limits::LEAST_BODY,
-            greatest: Limits::GREATEST_BODY,
-            default: digits(alloc, default.max_body())?,
-            help: MAX_BODY,
-        },
-        text: Limit {
-            name: "max-text",
-            least: 0,
-            greatest: Limits::GREATEST_TEXT,
-            default: digits(alloc, default.max_text())?,
-            help: MAX_TEXT,
-        },
-        docs: Limit {
-            name: "max-docs",
-            least: 1,
-            greatest: Limits::GREATEST_DOCS,
-            default: digits(alloc, default.max_docs())?,
-            help: MAX_DOCS,
-        },
-        changes: Limit {
-            name: "max-changes",
-            least: 1,
-            greatest: Limits::GREATEST_CHANGES,
-            default: digits(alloc, default.max_changes())?,
-            help: MAX_CHANGES,
-        },
-    })
+    &LIMITS
 }
 
-fn digits(alloc: Global, number: usize) -> Result<String, AllocError>
-    ensures { IfOk result (λ text. string_bytes text ≡ decimal number) }
-{
-    format!(in alloc; "{number}")
-}
+static LIMITS: LimitOptions = LimitOptions {
+    body: Limit {
+        name: "max-body",
+        least: Limits::LEAST_BODY,
+        greatest: Limits::GREATEST_BODY,
+        default: "16777216",
+        help: MAX_BODY,
+    },
+    text: Limit {
+        name: "max-text",
+        least: 0,
+        greatest: Limits::GREATEST_TEXT,
+        default: "16777216",
+        help: MAX_TEXT,
+    },
+    docs: Limit {
+        name: "max-docs",
+        least: 1,
+        greatest: Limits::GREATEST_DOCS,
+        default: "1024",
+        help: MAX_DOCS,
+    },
+    changes: Limit {
+        name: "max-changes",
+        least: 1,
+        greatest: Limits::GREATEST_CHANGES,
+        default: "65536",
+        help: MAX_CHANGES,
+    },
+};
 
 static PROGRAM: &str =
     "Applies an editor's change messages to a copy of each open text (Language Server Protocol 3.17), and reads recorded sessions";
@@ -195,9 +202,15 @@ static REPLAY_EXAMPLE: &str =
     "A line has the document's `languageId`, `text`, `uri` and `version`, in order of opening. The status
 is 1 where something was refused. Nothing is printed where the log is faulty.
 
-Example, with the text alone where `jq` is there:
+With `--at N` it is the documents after the Nth message, as `check` counts; what comes after it isn't
+read. With `--uri URI` it is that document's text alone, byte for byte, also after its `didClose`:
+the last text that it had. Where there is no such message, or the document was never open, a line on
+standard error says so, and the status is 1.
+
+Example, and a document's text alone, then and after the third message:
   ./lspsync replay < examples/typing.log
-  ./lspsync replay < examples/typing.log | jq -r .text";
+  ./lspsync replay --uri file:///home/ada/hello.py < examples/typing.log
+  ./lspsync replay --uri file:///home/ada/hello.py --at 3 < examples/typing.log";
 
 static NORMALISE: &str =
     "Write a log with each accepted change as the one canonical message that means the same";
@@ -237,10 +250,14 @@ static SYNC: &str = "How the editor is asked to send changes: as whole texts or 
 static SQUASH: &str =
     "Write changes of one document that follow each other as one message, as between two saves";
 
-static MAX_BODY: &str = "Greatest length of a message, in bytes, from 4096 to 1073741824";
+static AT: &str = "Replay up to the Nth message alone, from 1";
 
-static MAX_TEXT: &str = "Greatest length of a document, in bytes, up to 1073741824";
+static URI: &str = "Print this document's last text alone, as it is, also if it was closed";
 
-static MAX_DOCS: &str = "Greatest number of open documents, from 1 to 65536";
+const MAX_BODY: &str = "Greatest length of a message, in bytes, from 4096 to 1073741824";
 
-static MAX_CHANGES: &str = "Greatest number of changes in one message, from 1 to 1048576";
+const MAX_TEXT: &str = "Greatest length of a document, in bytes, up to 1073741824";
+
+const MAX_DOCS: &str = "Greatest number of open documents, from 1 to 65536";
+
+const MAX_CHANGES: &str = "Greatest number of changes in one message, from 1 to 1048576";

@@ -7,7 +7,7 @@ use lsp_server::Config;
 use std::str;
 use std::test::Fail;
 
-static WRONG: [&[&str]; 26] = [
+static WRONG: [&[&str]; 33] = [
     &["lspsync"],
     &["lspsync", "rewrite"],
     &["lspsync", "--max-body", "4096", "check"],
@@ -34,6 +34,20 @@ static WRONG: [&[&str]; 26] = [
     &["lspsync", "check", "--max-changes", "1048577"],
     &["lspsync", "check", "--max-changes", "x"],
     &["lspsync", "check", "--max-text", "1", "--max-text", "1"],
+    &["lspsync", "check", "--at", "1"],
+    &["lspsync", "normalise", "--uri", "file:///a"],
+    &["lspsync", "replay", "--at", "0"],
+    &["lspsync", "replay", "--at=18446744073709551616"],
+    &["lspsync", "replay", "--at", "1", "--at", "1"],
+    &["lspsync", "replay", "--uri"],
+    &[
+        "lspsync",
+        "replay",
+        "--uri",
+        "file:///a",
+        "--uri",
+        "file:///a",
+    ],
 ];
 
 /// Is a call with these words refused, by a text on standard error?
