@@ -76,7 +76,8 @@ pub fn positions_agree(alloc: Global, text: &str, encoding: Encoding) -> Result<
 {
     let characters = characters(alloc, text)?;
     let lines = Lines::new(alloc, text)?;
-    for line in 0..lines.count() as u32 + 1 {
+    for index in 0..lines.count().saturating_add(1) {
+        let line = u32::try_from(index).unwrap_or(u32::MAX);
         for character in 0..WIDTH {
             let position = Position { line, character };
             let offset = lines.resolve(text, encoding, position).ok();
