@@ -17,7 +17,7 @@ use lsp_text::Encoding;
 use std::alloc::Global;
 
 /// The text that a message leaves, and the canonical batch of what it did.
-#[derive(Drop)]
+#[derive(Debug, PartialEq, Eq, Drop)]
 pub struct Left {
     pub text: String,
     pub canonical: Vec<Change>,

@@ -1,12 +1,15 @@
 //! Cases of each kind, and what they mean as a value of JSON.
 
-use crate::answer::{batch_of_edits, left_by_changes};
+ghost use Rattle.std.specs.Prelude.{◌≤◌, length, string_len, sum_by};
+
+use crate::answer::{Left, batch_of_edits, left_by_changes};
+use crate::beside::{agree, left_by_joining, left_by_kept_text, positions_agree};
 use crate::fault::{edits_refused, invalid, refused};
 use crate::frames::frames_expected;
 use crate::session::session_expected;
 use crate::written::left_value;
 use anyhow::{Context, Result, bail};
-use lsp_edit::{Change, MAX_OLD_TEXT, TextEdit, fits};
+use lsp_edit::{Change, EditFault, MAX_NEW_TEXT, MAX_OLD_TEXT, TextEdit, fits};
 use lsp_message::{ParamsFault, params_change};
 use lsp_text::{Encoding, Range};
 use serde_json::{Map, Value, json};
@@ -55,10 +58,35 @@ fn changes_expected(
     if text.len() > MAX_OLD_TEXT || !fits(changes) {
         bail!("a case is too long");
     }
-    match left_by_changes(alloc, text, encoding, changes) {
+    let left = left_by_changes(alloc, text, encoding, changes);
+    compare_programs(alloc, text, encoding, changes, &left)?;
+    match left {
         Ok(left) => left_value(alloc, left),
         Err(fault) => refused(alloc, fault),
     }
+}
+
+/// Fails if a kept text, joined batches or known lines say otherwise than the plain program.
+fn compare_programs(
+    alloc: Global,
+    text: &str,
+    encoding: Encoding,
+    changes: &[Change],
+    left: &Result<Left, EditFault>,
+) -> Result<()>
+    requires size { length text.now ≤ MAX_OLD_TEXT }
+    requires fits { sum_by (λ change. string_len change.text) changes.now ≤ MAX_NEW_TEXT }
+{
+    if !agree(left, &left_by_kept_text(alloc, text, encoding, changes)) {
+        bail!("a kept text differs from the plain program");
+    }
+    if left.is_ok() && !agree(left, &left_by_joining(alloc, text, encoding, changes)) {
+        bail!("joined batches differ from the plain program");
+    }
+    if !positions_agree(alloc, text, encoding)? {
+        bail!("known lines differ from the plain program");
+    }
+    Ok(())
 }
 
 /// Returns what text edits leave of a text.

@@ -1,5 +1,7 @@
 //! Writes conformance vectors: cases of text synchronisation with what they mean by the proved
-//! programs of `lsp_text`, `lsp_edit`, `lsp_store` and `lsp_frame`.
+//! programs of `lsp_text`, `lsp_edit`, `lsp_store` and `lsp_frame`. Changes and text edits are applied
+//! by the plain program of the definitions, then by those that a server uses (`beside`); it stops
+//! where the two differ.
 //!
 //! A case is a line of JSON, an object of one of four kinds. Its member `changes` is the content of
 //! one `textDocument/didChange`, `edits` a list of text edits, `messages` several messages in a row,
@@ -11,6 +13,7 @@
 #![tactic(auto)]
 
 mod answer;
+mod beside;
 mod case;
 mod fault;
 mod frames;

@@ -1,0 +1,107 @@
+//! The same cases by the programs that a server uses: a text that is kept with its lines, batches
+//! that are joined, positions by known lines.
+//!
+//! The plain programs go character by character, as the definitions do. Both are proved to mean the
+//! same; each case shows it.
+
+ghost use Rattle.std.specs.Prelude.{◌≡◌, ◌≤◌, IfOk, length, encode_utf8_all, map, string_len, sum_by};
+ghost use Rattle.lsp_text.specs.Units.{units_in};
+ghost use Rattle.lsp_edit.specs.Edited.{edit_of};
+ghost use Rattle.lsp_vectors.specs.Answer.{IsLeft};
+
+use crate::answer::Left;
+use lsp_edit::{
+    Change, EditFault, IndexedText, Joined, MAX_NEW_TEXT, MAX_OLD_TEXT, TextFault, fits,
+};
+use lsp_text::plain::{exact_position, place_of, resolved};
+use lsp_text::{Encoding, Lines, Position};
+use std::alloc::{AllocError, Global};
+
+/// How many characters of a line are asked for.
+const WIDTH: u32 = 16;
+
+/// Returns whether what the plain program says of a message is what a kept text says.
+pub fn agree(plain: &Result<Left, EditFault>, kept: &Result<Left, TextFault>) -> bool {
+    match (plain, kept) {
+        (Ok(plain), Ok(kept)) => plain == kept,
+        (Err(plain), Err(TextFault::Edit(kept))) => plain == kept,
+        _ => false,
+    }
+}
+
+/// Applies the changes of a message to a text that is kept with its lines.
+pub fn left_by_kept_text(
+    alloc: Global,
+    text: &str,
+    encoding: Encoding,
+    changes: &[Change],
+) -> Result<Left, TextFault>
+    requires size { length text.now ≤ MAX_OLD_TEXT }
+    requires fits { sum_by (λ change. string_len change.text) changes.now ≤ MAX_NEW_TEXT }
+    ensures { IfOk result (IsLeft (units_in encoding) text.now (map edit_of changes.now)) }
+{
+    let mut kept = IndexedText::new(alloc, String::from_str(alloc, text)?)?;
+    let canonical = kept.canonical(encoding, changes, usize::MAX)?;
+    kept.change(encoding, changes, usize::MAX)?;
+    let text = String::from_str(alloc, kept.text())?;
+    Ok(Left { text, canonical })
+}
+
+/// Applies the changes of a message in two batches, which are joined again.
+pub fn left_by_joining(
+    alloc: Global,
+    text: &str,
+    encoding: Encoding,
+    changes: &[Change],
+) -> Result<Left, TextFault>
+    requires { length text.now ≤ MAX_OLD_TEXT }
+{
+    let mut reached = IndexedText::new(alloc, String::from_str(alloc, text)?)?;
+    let mut joined = Joined::new(alloc, String::from_str(alloc, text)?)?;
+    let (first, second) = changes.split_at(changes.len() / 2);
+    if !fits(first) || !fits(second) {
+        return Err(TextFault::TooLong);
+    }
+    joined.change(encoding, &mut reached, first, MAX_OLD_TEXT)?;
+    joined.change(encoding, &mut reached, second, MAX_OLD_TEXT)?;
+    let canonical = joined.canonical(encoding)?;
+    let text = String::from_str(alloc, reached.text())?;
+    Ok(Left { text, canonical })
+}
+
+/// Returns whether known lines and the plain program agree on each position of a text's lines, and
+/// some past their ends, and on the exact position of each of its characters.
+pub fn positions_agree(alloc: Global, text: &str, encoding: Encoding) -> Result<bool, AllocError>
+    requires { length text.now ≤ MAX_OLD_TEXT }
+{
+    let characters = characters(alloc, text)?;
+    let lines = Lines::new(alloc, text)?;
+    for index in 0..lines.count().saturating_add(1) {
+        let line = u32::try_from(index).unwrap_or(u32::MAX);
+        for character in 0..WIDTH {
+            let position = Position { line, character };
+            let offset = lines.resolve(text, encoding, position).ok();
+            if offset != resolved(&characters, encoding, position) {
+                return Ok(false);
+            }
+        }
+    }
+    for index in 0..characters.len() + 1 {
+        let offset = place_of(&characters, index);
+        if lines.is_place(text, offset)
+            && lines.position(text, encoding, offset)
+                != exact_position(&characters, encoding, index)
+        {
+            return Ok(false);
+        }
+    }
+    Ok(true)
+}
+
+/// Returns the characters of a text.
+fn characters(alloc: Global, text: &str) -> Result<Vec<char>, AllocError>
+    ensures { IfOk result
+        (λ characters. length (encode_utf8_all characters.items) ≡ length text.now) }
+{
+    text.chars().collect(alloc)
+}
