@@ -7,7 +7,7 @@ use Rattle.std.proofs.lemmas.List.{length-append, length-drop, get_or_default, a
 use Rattle.std.proofs.lemmas.List.Folds.{concat-append}
 use Rattle.std.proofs.lemmas.List.Sums.{sum_by-append}
 use Rattle.lsp_text.specs.Starts.{IsLineOf}
-use Rattle.lsp_buffer.specs.Blocks.{EndsLine, AreBlocks, IsBuffer, ends_of, sums_from}
+use Rattle.lsp_buffer.specs.Blocks.{EndsClear, AreBlocks, IsBuffer, ends_of, sums_from}
 use Rattle.lsp_buffer.specs.inside.Cuts.{AreFull}
 use Rattle.lsp_buffer.proofs.BlockLemmas.{split, full_length, joined_blocks, blocks_some}
 use Rattle.lsp_buffer.proofs.BufferLemmas.{starts_count, next_start, starts_sum, lines_sum}
@@ -73,7 +73,7 @@ module _ (blocks : List (List ℕ)) (starts lines : List ℕ) (first last : ℕ)
       )
 
   -- The blocks that the text is cut into.
-  module _ (text : List ℕ) (fresh : List (List ℕ)) (text_is : text ≡ take (start - from) block ++ (new ++ drop (stop - from') block')) (fresh_is : concat fresh ≡ text) (fresh_are : AreBlocks fresh) (fresh_full : EndsLine text → AreFull fresh) where
+  module _ (text : List ℕ) (fresh : List (List ℕ)) (text_is : text ≡ take (start - from) block ++ (new ++ drop (stop - from') block')) (fresh_is : concat fresh ≡ text) (fresh_are : AreBlocks fresh) (fresh_full : EndsClear text → AreFull fresh) where
     pub again_text : concat (take first blocks ++ (fresh ++ drop (last + 1) blocks)) ≡ replace_range (concat blocks) start stop new
     again_text =
         concat-append (take first blocks) (fresh ++ drop (last + 1) blocks) ∙
@@ -92,16 +92,16 @@ module _ (blocks : List (List ℕ)) (starts lines : List ℕ) (first last : ℕ)
         let at : slice_index starts last ≡ from' = get_or_default starts last 0 from' again.at_last.within ∙ sym again.from_is' in
         omega (arith, next_is, at, again.at_last.greatest (last + 1) (omega arith) (omega (arith, more, starts_count blocks starts lines again.is)), again.at_last.at_most)
 
-    text_ends : EndsLine block' → AreBlocks (drop (last + 1) blocks) → EndsLine text
+    text_ends : EndsClear block' → AreBlocks (drop (last + 1) blocks) → EndsClear text
     text_ends feed are =
-        subst EndsLine (append_assoc (take (start - from) block) new (drop (stop - from') block') ∙ sym text_is)
+        subst EndsClear (append_assoc (take (start - from) block) new (drop (stop - from') block') ∙ sym text_is)
         (back_ends block' (take (start - from) block ++ new) (stop - from') (inside_stop are) feed)
 
     behind : (drop (last + 1) blocks ≡ []) ⊎ (AreFull fresh × AreBlocks (drop (last + 1) blocks))
     behind =
         ⊎_elim
         (λ (e : drop (last + 1) blocks ≡ []). inl e)
-        (λ (e : EndsLine (get_or blocks last []) × AreBlocks (drop (last + 1) blocks)). inr (fresh_full (text_ends (subst EndsLine same e.0) e.1), e.1))
+        (λ (e : EndsClear (get_or blocks last []) × AreBlocks (drop (last + 1) blocks)). inr (fresh_full (text_ends (subst EndsClear same e.0) e.1), e.1))
         (split blocks last again.is.are last_within).behind
 
     pub again_are : AreBlocks (take first blocks ++ (fresh ++ drop (last + 1) blocks))

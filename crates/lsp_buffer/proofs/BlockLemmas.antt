@@ -10,57 +10,55 @@ use Rattle.std.proofs.lemmas.List.Folds.{concat-append}
 use Rattle.std.proofs.lemmas.List.Sums.{sum_by-cons}
 use Rattle.std.proofs.lemmas.Str.{IsUtf8-from_is_utf8, IsUtf8-append, encodes-chars, encode_ascii, length-encode, len_utf8_bounds, chars-append, chars-nil}
 use Rattle.lsp_text.specs.TextLines.{line_ends}
-use Rattle.lsp_text.proofs.StartLemmas.{AllHigh, encode_high}
-use Rattle.lsp_buffer.specs.Blocks.{EndsLine, AreBlocks, ends_of}
+use Rattle.lsp_buffer.specs.Blocks.{EndsClear, AreBlocks, ends_of}
 use Rattle.lsp_buffer.specs.inside.Cuts.{AreFull}
 use Rattle.lsp_buffer.proofs.SeamLemmas.{seam_count}
 
--- ---- a line feed at the end
+-- ---- no carriage return at the end
 
-pub ends_join : (a b : List ℕ) → EndsLine b → EndsLine (a ++ b)
-ends_join a b feed = record {
-  some = omega (arith, length-append a b, feed.some);
-  feed =
-      let at : length (a ++ b) - 1 ≡ length a + (length b - 1) = omega (arith, length-append a b, feed.some) in
-      ap (slice_index (a ++ b)) at ∙ (get_or-append_right a b (length a) (length a + (length b - 1)) 0 refl (omega arith) ∙ (ap (λ i. get_or b i 0) (omega arith) ∙ feed.feed));
+pub ends_join : (a b : List ℕ) → EndsClear b → EndsClear (a ++ b)
+ends_join a b ends = record {
+  some = omega (arith, length-append a b, ends.some);
+  clear = λ e.
+      let at : length (a ++ b) - 1 ≡ length a + (length b - 1) = omega (arith, length-append a b, ends.some) in
+      ends.clear (ap (λ i. get_or b i 0) (omega arith) ∙ (sym (get_or-append_right a b (length a) (length a + (length b - 1)) 0 refl (omega arith)) ∙ (ap (slice_index (a ++ b)) (sym at) ∙ e)));
 }
 
-pub ends_tail : (a b : List ℕ) → 0 < length b → EndsLine (a ++ b) → EndsLine b
-ends_tail a b some feed = record {
+pub ends_tail : (a b : List ℕ) → 0 < length b → EndsClear (a ++ b) → EndsClear b
+ends_tail a b some ends = record {
   some = some;
-  feed =
+  clear = λ e.
       let at : length a + (length b - 1) ≡ length (a ++ b) - 1 = omega (arith, length-append a b) in
-      ap (λ i. get_or b i 0) (omega arith) ∙ (sym (get_or-append_right a b (length a) (length a + (length b - 1)) 0 refl (omega arith)) ∙ (ap (slice_index (a ++ b)) at ∙ feed.feed));
+      ends.clear (ap (slice_index (a ++ b)) (sym at) ∙ (get_or-append_right a b (length a) (length a + (length b - 1)) 0 refl (omega arith) ∙ (ap (λ i. get_or b i 0) (omega arith) ∙ e)));
 }
 
-high_get : (bytes : List ℕ) (k : ℕ) → AllHigh bytes → k < length bytes → 128 ≤ get_or bytes k 0
-high_get [] k all h = absurd (omega arith)
-high_get (b ∷ bytes) zero all h = all.0
-high_get (b ∷ bytes) (suc k) all h = high_get bytes k all.1 (omega arith)
-
-last_char : (x : ℕ) → EndsLine (encode x) → x ≡ 10
-last_char x feed =
-    ⊎_elim
-    (λ (h : x < 128). let feed_at = rw (encode_ascii x h) at feed in feed_at.feed)
-    (λ (h : 128 ≤ x). absurd (omega (arith, feed.feed, high_get (encode x) (length (encode x) - 1) (encode_high x h) (omega (arith, feed.some)))))
-    (cases_lt x 128)
-
-feed_text : (text : List ℕ) → EndsLine (encode_utf8_all text) → EndsLine text
-feed_text [] feed = absurd (omega (arith, feed.some))
-feed_text (x ∷ []) feed =
-    let here : EndsLine (encode x) = subst EndsLine (append-nil (encode x)) feed in
-    record { some = omega arith; feed = last_char x here }
-feed_text (x ∷ y ∷ text) feed =
+clear_text : (text : List ℕ) → EndsClear (encode_utf8_all text) → EndsClear text
+unfolding encode
+clear_text [] ends = absurd (omega (arith, ends.some))
+clear_text (x ∷ []) ends = record {
+  some = omega arith;
+  clear = λ (e : x ≡ 13).
+      let bytes : encode_utf8_all (x ∷ []) ≡ 13 ∷ [] = ap (λ c. encode_utf8_all (c ∷ [])) e in
+      ends.clear (ap (λ bs. slice_index bs (length bs - 1)) bytes);
+}
+clear_text (x ∷ y ∷ text) ends =
     let some : 0 < length (encode_utf8_all (y ∷ text)) = omega (arith, length-append (encode y) (encode_utf8_all text), length-encode y, (len_utf8_bounds y).0) in
-    ends_join (x ∷ []) (y ∷ text) (feed_text (y ∷ text) (ends_tail (encode x) (encode_utf8_all (y ∷ text)) some feed))
+    ends_join (x ∷ []) (y ∷ text) (clear_text (y ∷ text) (ends_tail (encode x) (encode_utf8_all (y ∷ text)) some ends))
 
--- What ends with the byte of a line feed ends with the character.
-pub feed_chars : (bytes : List ℕ) → IsUtf8 bytes → EndsLine bytes → EndsLine (chars bytes)
-feed_chars bytes utf8 feed = feed_text (chars bytes) (subst EndsLine (sym (encodes-chars bytes utf8)) feed)
+-- What doesn't end with the byte of a carriage return doesn't end with the character.
+pub clear_chars : (bytes : List ℕ) → IsUtf8 bytes → EndsClear bytes → EndsClear (chars bytes)
+clear_chars bytes utf8 ends = clear_text (chars bytes) (subst EndsClear (sym (encodes-chars bytes utf8)) ends)
 
--- Nothing, or it ends with a line feed.
+-- Nothing, or it ends with no carriage return.
 abbrev pub Closes : List ℕ → Type 0
-Closes bytes = (bytes ≡ []) ⊎ EndsLine bytes
+Closes bytes = (bytes ≡ []) ⊎ EndsClear bytes
+
+pub chars_close : (bytes : List ℕ) → IsUtf8 bytes → Closes bytes → Closes (chars bytes)
+chars_close bytes utf8 closes =
+    ⊎_elim
+    (λ (e : bytes ≡ []). inl (ap chars e ∙ chars-nil))
+    (λ (e : EndsClear bytes). inr (clear_chars bytes utf8 e))
+    closes
 
 -- ---- full blocks
 
@@ -74,7 +72,7 @@ full_closes [] full = inl refl
 full_closes (b ∷ blocks) full =
     ⊎_elim
     (λ (e : concat blocks ≡ []). inr (rw e (rw (append-nil b) full.1)))
-    (λ (e : EndsLine (concat blocks)). inr (ends_join b (concat blocks) e))
+    (λ (e : EndsClear (concat blocks)). inr (ends_join b (concat blocks) e))
     (full_closes blocks full.2)
 
 pub full_ends : (blocks : List (List ℕ)) → AreFull blocks → line_ends (chars (concat blocks)) ≡ sum (map ends_of blocks)
@@ -82,7 +80,7 @@ full_ends [] full = ap line_ends chars-nil
 full_ends (b ∷ blocks) full =
     let utf8 : IsUtf8 b = IsUtf8-from_is_utf8 b full.0 in
     ap line_ends (chars-append b (concat blocks) utf8) ∙
-    (seam_count (chars b) (chars (concat blocks)) (feed_chars b utf8 full.1) ∙
+    (seam_count (chars b) (chars (concat blocks)) (clear_chars b utf8 full.1) ∙
     (ap (λ n. ends_of b + n) (full_ends blocks full.2) ∙ sym (sum_by-cons (λ x. x) (ends_of b) (map ends_of blocks))))
 
 pub full_length : (blocks : List (List ℕ)) → length (concat blocks) ≡ sum (map length blocks)
@@ -96,7 +94,7 @@ pub record IsSplit (blocks : List (List ℕ)) (index : ℕ) : Type 0 where
   pub whole : blocks ≡ take index blocks ++ get_or blocks index [] ∷ drop (index + 1) blocks
   pub full : AreFull (take index blocks)
   pub utf8 : is_utf8 (get_or blocks index []) ≡ true
-  pub behind : (drop (index + 1) blocks ≡ []) ⊎ (EndsLine (get_or blocks index []) × AreBlocks (drop (index + 1) blocks))
+  pub behind : (drop (index + 1) blocks ≡ []) ⊎ (EndsClear (get_or blocks index []) × AreBlocks (drop (index + 1) blocks))
 
 pub split : (blocks : List (List ℕ)) (index : ℕ) → AreBlocks blocks → index < length blocks → IsSplit blocks index
 split [] index are h = absurd are
@@ -113,7 +111,7 @@ split (b ∷ c ∷ blocks) (suc index) are h =
       behind = rw at later.behind;
     }
 
-put_first : (b : List ℕ) (blocks : List (List ℕ)) → is_utf8 b ≡ true → EndsLine b → AreBlocks blocks → AreBlocks (b ∷ blocks)
+put_first : (b : List ℕ) (blocks : List (List ℕ)) → is_utf8 b ≡ true → EndsClear b → AreBlocks blocks → AreBlocks (b ∷ blocks)
 put_first b [] utf8 feed are = absurd are
 put_first b (c ∷ blocks) utf8 feed are = (utf8, feed, are)
 
@@ -131,7 +129,7 @@ joined_blocks front fresh rest full are behind =
     behind)
 
 -- The last of some blocks is another one.
-pub full_last : (front : List (List ℕ)) (b : List ℕ) → AreFull front → is_utf8 b ≡ true → EndsLine b → AreFull (front ++ b ∷ [])
+pub full_last : (front : List (List ℕ)) (b : List ℕ) → AreFull front → is_utf8 b ≡ true → EndsClear b → AreFull (front ++ b ∷ [])
 full_last [] b full utf8 feed = (utf8, feed, tt)
 full_last (c ∷ front) b full utf8 feed = (full.0, full.1, full_last front b full.2 utf8 feed)
 

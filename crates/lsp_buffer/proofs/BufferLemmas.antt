@@ -7,7 +7,7 @@ use Rattle.std.proofs.lemmas.List.{length-map, length-append, get_or_default, dr
 use Rattle.std.proofs.lemmas.Str.{IsUtf8-from_is_utf8}
 use Rattle.lsp_text.specs.Starts.{AreStarts, IsLineOf}
 use Rattle.lsp_text.specs.TextLines.{line_ends}
-use Rattle.lsp_buffer.specs.Blocks.{EndsLine, AreBlocks, IsBuffer, ends_of}
+use Rattle.lsp_buffer.specs.Blocks.{EndsClear, AreBlocks, IsBuffer, ends_of}
 use Rattle.lsp_buffer.proofs.SumLemmas.{length-sums, sums_starts, sums_at, row_more}
 use Rattle.lsp_buffer.proofs.BlockLemmas.{IsSplit, split, split_text, full_utf8, full_closes, full_ends, full_length, blocks_some, blocks_utf8}
 use Rattle.lsp_buffer.proofs.PartLemmas.{AreThree}
@@ -43,7 +43,7 @@ module _ (blocks : List (List ℕ)) (starts lines : List ℕ) (is : IsBuffer blo
       (sums_at 0 (map ends_of blocks) index (omega (arith, length-map blocks ends_of, h)) ∙ (ap (λ xs. 0 + sum xs) (take-map ends_of index blocks) ∙ omega arith))
 
   module _ (index : ℕ) (block : List ℕ) (within : index < length blocks) (block_is : block ≡ get_or blocks index block) where
-    parts : IsSplit blocks index
+    pub parts : IsSplit blocks index
     parts = split blocks index is.are within
 
     same : get_or blocks index [] ≡ block
@@ -64,7 +64,7 @@ module _ (blocks : List (List ℕ)) (starts lines : List ℕ) (is : IsBuffer blo
       behind =
           ⊎_elim
           (λ (e : drop (index + 1) blocks ≡ []). inl (ap concat e))
-          (λ (e : EndsLine (get_or blocks index []) × AreBlocks (drop (index + 1) blocks)). inr (subst EndsLine same e.0))
+          (λ (e : EndsClear (get_or blocks index []) × AreBlocks (drop (index + 1) blocks)). inr (subst EndsClear same e.0))
           parts.behind;
     }
 
@@ -79,26 +79,19 @@ module _ (blocks : List (List ℕ)) (starts lines : List ℕ) (is : IsBuffer blo
         starts_sum (index + 1) h ∙
         sym (row_more length 0 (slice_index starts index) (length block) index blocks block within block_is refl (starts_sum index within ∙ omega arith) ∙ omega arith)
 
-    next_line : index + 1 < length blocks → slice_index lines (index + 1) ≡ slice_index lines index + ends_of block
+    pub next_line : index + 1 < length blocks → slice_index lines (index + 1) ≡ slice_index lines index + ends_of block
     next_line h =
         lines_sum (index + 1) h ∙
         sym (row_more ends_of 0 (slice_index lines index) (ends_of block) index blocks block within block_is refl (lines_sum index within ∙ omega arith) ∙ omega arith)
 
-    none_behind : length blocks ≤ index + 1 → concat (drop (index + 1) blocks) ≡ []
+    pub none_behind : length blocks ≤ index + 1 → concat (drop (index + 1) blocks) ≡ []
     none_behind h = ap concat (drop_all (index + 1) blocks h)
 
-    -- What is found for a place, or for a line, is in the block.
+    -- What is found for a place is in the block.
     pub place_inside : (place : ℕ) → IsLineOf starts place index → (concat (drop (index + 1) blocks) ≡ []) ⊎ (place - length (concat (take index blocks)) < length block)
     place_inside place found =
         ⊎_elim
         (λ (h : index + 1 < length blocks). inr (omega (arith, found.greatest (index + 1) (omega arith) (omega (arith, starts_count)), found.at_most, next_start h, start_is)))
-        (λ (h : length blocks ≤ index + 1). inl (none_behind h))
-        (cases_lt (index + 1) (length blocks))
-
-    pub line_inside : (line : ℕ) → IsLineOf lines line index → (concat (drop (index + 1) blocks) ≡ []) ⊎ (line - line_ends (chars (concat (take index blocks))) < line_ends (chars block))
-    line_inside line found =
-        ⊎_elim
-        (λ (h : index + 1 < length blocks). inr (omega (arith, found.greatest (index + 1) (omega arith) (omega (arith, lines_count)), found.at_most, next_line h, line_is)))
         (λ (h : length blocks ≤ index + 1). inl (none_behind h))
         (cases_lt (index + 1) (length blocks))
 

@@ -3,7 +3,7 @@ use Rattle.std.proofs.Common.{ℕ, ◌≡◌, ◌+◌, ◌-◌, ◌<◌, ◌≤�
 use Rattle.std.specs.List.{replace_range}
 use Rattle.std.specs.Str.{IsCharBoundary}
 use Rattle.std.proofs.lemmas.List.{length-drop, length-map, length-take-le, append_assoc, map-append, take_at, take-append-drop}
-use Rattle.lsp_buffer.specs.Blocks.{EndsLine, sums_from}
+use Rattle.lsp_buffer.specs.Blocks.{EndsClear, sums_from}
 use Rattle.lsp_buffer.proofs.SumLemmas.{length-sums, sums_append}
 use Rattle.lsp_buffer.proofs.BlockLemmas.{ends_tail, ends_join}
 use Rattle.lsp_buffer.proofs.PartLemmas.{take_three, drop_three, boundary_in}
@@ -28,11 +28,11 @@ replaced_parts bytes front block rest front' block' rest' new start stop from fr
     (ap (λ k. front ++ ((take n block ++ (new ++ drop (stop - k) block')) ++ rest')) two.from_is ∙
     (regroup ∙ (ap (λ h. h ++ new ++ (drop m block' ++ rest')) (sym head) ∙ ap (λ t. take start bytes ++ new ++ t) (sym tail))))
 
--- The back of a block that isn't the last ends with a line feed, and so does what ends with it.
-pub back_ends : (block front : List ℕ) (n : ℕ) → n < length block → EndsLine block → EndsLine (front ++ drop n block)
+-- The back of a block ends as the block does, and so does what ends with it.
+pub back_ends : (block front : List ℕ) (n : ℕ) → n < length block → EndsClear block → EndsClear (front ++ drop n block)
 back_ends block front n h feed =
     ends_join front (drop n block)
-    (ends_tail (take n block) (drop n block) (omega (arith, length-drop n block)) (subst EndsLine (sym (take-append-drop n block)) feed))
+    (ends_tail (take n block) (drop n block) (omega (arith, length-drop n block)) (subst EndsClear (sym (take-append-drop n block)) feed))
 
 -- The sums of blocks in three parts.
 pub sums_three : (f : List ℕ → ℕ) (sums : List ℕ) (blocks front fresh rest : List (List ℕ)) (first number : ℕ) → sums ≡ sums_from 0 (map f blocks) → front ≡ take first blocks → first ≤ length blocks → number ≡ sum (map f front) →

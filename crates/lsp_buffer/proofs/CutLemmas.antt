@@ -5,7 +5,7 @@ use Rattle.std.specs.Str.{IsUtf8, IsCharBoundary}
 use Rattle.std.proofs.lemmas.List.{take_more, length-drop, length-take-le, get_or-take, append_assoc, append-nil, take-append-drop}
 use Rattle.std.proofs.lemmas.List.Folds.{concat-append}
 use Rattle.std.proofs.lemmas.Str.{is_utf8-from_IsUtf8, IsUtf8-take}
-use Rattle.lsp_buffer.specs.Blocks.{EndsLine, AreBlocks}
+use Rattle.lsp_buffer.specs.Blocks.{EndsClear, AreBlocks}
 use Rattle.lsp_buffer.specs.inside.Cuts.{AreFull, IsCut}
 use Rattle.lsp_buffer.proofs.BlockLemmas.{ends_tail, full_last, full_front}
 
@@ -17,12 +17,12 @@ pub record IsCutSoFar (text rest : List ℕ) (blocks : List (List ℕ)) : Type 0
 pub cut_begun : (text : List ℕ) (blocks : List (List ℕ)) → blocks ≡ [] → IsCutSoFar text text blocks
 cut_begun text blocks none = record { whole = rw none refl; full = rw none tt; some = λ h. h }
 
-cut_ends : (rest : List ℕ) (cut : ℕ) → IsCut rest cut → EndsLine (take cut rest)
+cut_ends : (rest : List ℕ) (cut : ℕ) → IsCut rest cut → EndsClear (take cut rest)
 cut_ends rest cut is =
     let size : length (take cut rest) ≡ cut = length-take-le cut rest (omega (arith, is.within)) in
     record {
       some = omega (arith, is.some);
-      feed = ap (λ n. get_or (take cut rest) (n - 1) 0) size ∙ (get_or-take cut rest (cut - 1) 0 (omega (arith, is.some)) ∙ is.feed);
+      clear = λ e. is.clear (sym (ap (λ n. get_or (take cut rest) (n - 1) 0) size ∙ get_or-take cut rest (cut - 1) 0 (omega (arith, is.some))) ∙ e);
     }
 
 one_block : (blocks : List (List ℕ)) (b : List ℕ) → concat (blocks ++ b ∷ []) ≡ concat blocks ++ b
@@ -44,7 +44,7 @@ cut_more text rest blocks now block cut utf8 is boundary block_is now_is so_far 
 pub record IsCutAll (text : List ℕ) (blocks : List (List ℕ)) : Type 0 where
   pub whole : concat blocks ≡ text
   pub are : AreBlocks blocks
-  pub full : EndsLine text → AreFull blocks
+  pub full : EndsClear text → AreFull blocks
 
 pub cut_all : (text rest : List ℕ) (blocks now : List (List ℕ)) (block : List ℕ) → IsUtf8 rest → block ≡ rest → now ≡ blocks ++ block ∷ [] → IsCutSoFar text rest blocks → IsCutAll text now
 cut_all text rest blocks now block utf8 block_is now_is so_far =
@@ -53,7 +53,7 @@ cut_all text rest blocks now block utf8 block_is now_is so_far =
     (record {
       whole = one_block blocks rest ∙ so_far.whole;
       are = full_front blocks (rest ∷ []) so_far.full (is_utf8-from_IsUtf8 rest utf8);
-      full = λ feed. full_last blocks rest so_far.full (is_utf8-from_IsUtf8 rest utf8) (ends_tail (concat blocks) rest (so_far.some feed.some) (subst EndsLine (sym so_far.whole) feed));
+      full = λ ends. full_last blocks rest so_far.full (is_utf8-from_IsUtf8 rest utf8) (ends_tail (concat blocks) rest (so_far.some ends.some) (subst EndsClear (sym so_far.whole) ends));
     })
 
 -- One block more.

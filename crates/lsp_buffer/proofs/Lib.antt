@@ -1,6 +1,10 @@
 pub mod SeamLemmas
 pub mod SumLemmas
 pub mod BlockLemmas
+pub mod HeadLemmas
+pub mod FeedLemmas
+pub mod MarkLemmas
+pub mod TailLemmas
 pub mod PartLemmas
 pub mod InPlaceLemmas
 pub mod DrainLemmas

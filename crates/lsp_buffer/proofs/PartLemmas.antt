@@ -1,5 +1,5 @@
 -- A text in three parts: what stands before a block, the block, and what stands behind it. Positions, boundaries and changes of the text by those of the block.
-use Rattle.std.proofs.Common.{ℕ, ◌≡◌, ◌+◌, ◌-◌, ◌<◌, ◌≤◌, ◌⊎◌, false, List, [], ◌++◌, length, take, drop, get_or, slice_index, Option, Some, None, option_map, ⊎_elim, inl, inr, refl, sym, ap, ◌∙◌, arith, subst}
+use Rattle.std.proofs.Common.{ℕ, zero, suc, ◌≡◌, ◌+◌, ◌-◌, ◌<◌, ◌≤◌, ◌⊎◌, false, List, [], ◌++◌, length, take, drop, get_or, slice_index, Option, Some, None, option_map, ⊎_elim, inl, inr, refl, sym, ap, ◌∙◌, arith, subst}
 use Rattle.std.specs.Prelude.{encode_utf8_all}
 use Rattle.std.specs.Str.{chars, IsUtf8, IsCharBoundary}
 use Rattle.std.proofs.Math.Seq.{drop-append-add, take-append-add, drop-append_seam}
@@ -14,50 +14,82 @@ use Rattle.lsp_text.proofs.PlaceLemmas.{place_add, place_order, place_end}
 use Rattle.lsp_text.proofs.LineLemmas.{splits_none_past}
 use Rattle.lsp_text.proofs.PositionLemmas.{denoted_whole}
 use Rattle.lsp_text.proofs.NearLemmas.{exact_near}
-use Rattle.lsp_buffer.specs.Blocks.{EndsLine}
-use Rattle.lsp_buffer.proofs.SeamLemmas.{denoted_left, denoted_right, exact_right, seam_splits, beyond_splits, seam_count}
-use Rattle.lsp_buffer.proofs.BlockLemmas.{Closes, feed_chars}
+use Rattle.lsp_buffer.specs.Blocks.{EndsClear, carried}
+use Rattle.lsp_buffer.specs.inside.Seams.{IsBehind, IsBefore, position_after, position_from}
+use Rattle.lsp_buffer.proofs.SeamLemmas.{head, denoted_left, denoted_last, denoted_right, exact_right, head_right, seam_splits, beyond_splits, seam_count}
+use Rattle.lsp_buffer.proofs.BlockLemmas.{Closes, clear_chars, chars_close}
 
--- Characters: the first part is empty or ends with a line feed.
+pub carried_none : (line : ℕ) → carried line 0 ≡ 0
+carried_none zero = refl
+carried_none (suc line) = refl
+
+pub carried_low : (line head : ℕ) (p : Position) → IsBehind line head p → (line ≤ p.line) × (carried (p.line - line) head ≤ p.character)
+carried_low line head p =
+    ⊎_elim
+    (λ (h : line < p.line).
+    let later : p.line - line ≡ suc (p.line - line - 1) = omega arith in
+    (omega arith, omega (arith, ap (λ (n : ℕ). carried n head) later)))
+    (λ (h : (p.line ≡ line) × (head ≤ p.character)).
+    let here : p.line - line ≡ 0 = omega (arith, h.0) in
+    (omega (arith, h.0), omega (arith, h.1, ap (λ (n : ℕ). carried n head) here)))
+
+pub position_back : (line head : ℕ) (p : Position) → IsBehind line head p → ◌≡◌ {A = Position} p (position_from line head (position_after line head p))
+position_back line head p behind =
+    let low = carried_low line head p behind in
+    let l : p.line ≡ line + (p.line - line) = omega (arith, low.0) in
+    let c : p.character ≡ carried (p.line - line) head + (p.character - carried (p.line - line) head) = omega (arith, low.1) in
+    λ i. record { line = l i; character = c i }
+
+-- Characters: the first part is empty or ends with no carriage return.
 module _ (a r : List ℕ) (closes : Closes a) where
-  position_same : (p : Position) (n : ℕ) → n ≤ p.line → ◌≡◌ {A = Position} p (record { line = n + (p.line - n); character = p.character })
-  position_same p n h = let e : p.line ≡ n + (p.line - n) = omega arith in λ i. record { line = e i; character = p.character }
-
-  pub denoted_behind : (units : ℕ → ℕ) (p : Position) → line_ends a ≤ p.line → denoted units (a ++ r) p ≡ option_map (λ k. length a + k) (denoted units r (record { line = p.line - line_ends a; character = p.character }))
-  denoted_behind units p h =
+  pub denoted_behind : (units : ℕ → ℕ) → ((c : ℕ) → 1 ≤ units c) → (p : Position) → IsBehind (line_ends a) (head units a) p → denoted units (a ++ r) p ≡ option_map (λ k. length a + k) (denoted units r (position_after (line_ends a) (head units a) p))
+  denoted_behind units some p behind =
       ⊎_elim
       (λ (e : a ≡ []). at_none e)
-      (λ (e : EndsLine a). ap (denoted units (a ++ r)) (position_same p (line_ends a) h) ∙ denoted_right a r e units (p.line - line_ends a) p.character)
+      (λ (e : EndsClear a).
+      ap (denoted units (a ++ r)) (position_back (line_ends a) (head units a) p behind) ∙
+      denoted_right a r e units some (p.line - line_ends a) (p.character - carried (p.line - line_ends a) (head units a)))
       closes
     where
       same : (o : Option ℕ) → o ≡ option_map (λ k. 0 + k) o
       same None = refl
       same (Some k) = ap Some (omega arith)
 
-      at_none : a ≡ [] → denoted units (a ++ r) p ≡ option_map (λ k. length a + k) (denoted units r (record { line = p.line - line_ends a; character = p.character }))
+      at_none : a ≡ [] → denoted units (a ++ r) p ≡ option_map (λ k. length a + k) (denoted units r (position_after (line_ends a) (head units a) p))
       at_none e =
-          let q : ◌≡◌ {A = Position} (record { line = p.line - 0; character = p.character }) p = let l : p.line - 0 ≡ p.line = omega arith in λ i. record { line = l i; character = p.character } in
-          subst (λ (x : List ℕ). denoted units (x ++ r) p ≡ option_map (λ k. length x + k) (denoted units r (record { line = p.line - line_ends x; character = p.character }))) (sym e)
+          let l : p.line - 0 ≡ p.line = omega arith in
+          let c : p.character - carried (p.line - 0) 0 ≡ p.character = omega (arith, carried_none (p.line - 0)) in
+          let q : ◌≡◌ {A = Position} (position_after 0 0 p) p = λ i. record { line = l i; character = c i } in
+          subst (λ (x : List ℕ). denoted units (x ++ r) p ≡ option_map (λ k. length x + k) (denoted units r (position_after (line_ends x) (head units x) p))) (sym e)
           (same (denoted units r p) ∙ ap (λ (p : Position). option_map (λ k. 0 + k) (denoted units r p)) (sym q))
 
-  pub exact_behind : (units : ℕ → ℕ) (k : ℕ) → k ≤ length r → ◌≡◌ {A = Position} (exact_position units (a ++ r) (length a + k)) (record { line = line_ends a + (exact_position units r k).line; character = (exact_position units r k).character })
+  pub exact_behind : (units : ℕ → ℕ) (k : ℕ) → k ≤ length r → ◌≡◌ {A = Position} (exact_position units (a ++ r) (length a + k)) (position_from (line_ends a) (head units a) (exact_position units r k))
   exact_behind units k h =
       ⊎_elim
       (λ (e : a ≡ []).
       let n : 0 + k ≡ k = omega arith in
       let l : line_at r k ≡ 0 + line_at r k = omega arith in
-      let moved : ◌≡◌ {A = Position} (exact_position units r k) (record { line = 0 + (exact_position units r k).line; character = (exact_position units r k).character }) =
-      λ i. record { line = l i; character = (exact_position units r k).character } in
-      subst (λ (x : List ℕ). ◌≡◌ {A = Position} (exact_position units (x ++ r) (length x + k)) (record { line = line_ends x + (exact_position units r k).line; character = (exact_position units r k).character })) (sym e)
+      let c : (exact_position units r k).character ≡ carried (line_at r k) 0 + (exact_position units r k).character = omega (arith, carried_none (line_at r k)) in
+      let moved : ◌≡◌ {A = Position} (exact_position units r k) (position_from 0 0 (exact_position units r k)) = λ i. record { line = l i; character = c i } in
+      subst (λ (x : List ℕ). ◌≡◌ {A = Position} (exact_position units (x ++ r) (length x + k)) (position_from (line_ends x) (head units x) (exact_position units r k))) (sym e)
       (ap (exact_position units r) n ∙ moved))
-      (λ (e : EndsLine a). exact_right a r e units k h)
+      (λ (e : EndsClear a). exact_right a r e units k h)
+      closes
+
+  pub head_behind : (units : ℕ → ℕ) → head units (a ++ r) ≡ carried (line_ends r) (head units a) + head units r
+  head_behind units =
+      ⊎_elim
+      (λ (e : a ≡ []).
+      subst (λ (x : List ℕ). head units (x ++ r) ≡ carried (line_ends r) (head units x) + head units r) (sym e)
+      (let none : carried (line_ends r) 0 ≡ 0 = carried_none (line_ends r) in omega (arith, none)))
+      (λ (e : EndsClear a). head_right a r e units)
       closes
 
   pub splits_behind : (k : ℕ) → splits_crlf (a ++ r) (length a + k) ≡ splits_crlf r k
   splits_behind k =
       ⊎_elim
       (λ (e : a ≡ []). rw e (let n : 0 + k ≡ k = omega arith in rw n refl))
-      (λ (e : EndsLine a). beyond_splits a r e k)
+      (λ (e : EndsClear a). beyond_splits a r e k)
       closes
 
   place_behind : (k : ℕ) → place_of (a ++ r) (length a + k) ≡ length (encode_utf8_all a) + place_of r k
@@ -66,16 +98,20 @@ module _ (a r : List ℕ) (closes : Closes a) where
       (ap (λ cs. length (encode_utf8_all cs) + place_of (drop (length a) (a ++ r)) k) (take_at a r (length a) refl) ∙
       ap (λ cs. length (encode_utf8_all a) + place_of cs k) (drop-append_seam a r))
 
--- Nothing stands behind, or the part before it ends with a line feed.
+-- Nothing stands behind, or the part before it ends with no carriage return.
 abbrev pub Behind : List ℕ → List ℕ → Type 0
-Behind b c = (c ≡ []) ⊎ EndsLine b
+Behind b c = (c ≡ []) ⊎ EndsClear b
 
 module _ (b c : List ℕ) where
-  pub denoted_before : (units : ℕ → ℕ) (p : Position) → (c ≡ []) ⊎ (EndsLine b × (p.line < line_ends b)) → denoted units (b ++ c) p ≡ denoted units b p
-  denoted_before units p behind =
+  pub denoted_before : (units : ℕ → ℕ) → ((c : ℕ) → 1 ≤ units c) → (p : Position) → (c ≡ []) ⊎ (EndsClear b × IsBefore (line_ends b) (head units b) p) → denoted units (b ++ c) p ≡ denoted units b p
+  denoted_before units some p behind =
       ⊎_elim
       (λ (e : c ≡ []). subst (λ (x : List ℕ). denoted units (b ++ x) p ≡ denoted units b p) (sym e) (ap (λ t. denoted units t p) (append-nil b)))
-      (λ (e : EndsLine b × (p.line < line_ends b)). denoted_left b c e.0 units p e.1)
+      (λ (e : EndsClear b × IsBefore (line_ends b) (head units b) p).
+      ⊎_elim
+      (λ (h : p.line < line_ends b). denoted_left b c e.0 units p h)
+      (λ (h : (p.line ≡ line_ends b) × (p.character < head units b)). denoted_last b c e.0 units some p h.0 h.1)
+      e.1)
       behind
 
   place_before : (k : ℕ) → k ≤ length b → place_of (b ++ c) k ≡ place_of b k
@@ -85,7 +121,7 @@ module _ (b c : List ℕ) where
   splits_before k h behind =
       ⊎_elim
       (λ (e : c ≡ []). rw e (rw (append-nil b) refl))
-      (λ (e : EndsLine b). seam_splits b c e k h)
+      (λ (e : EndsClear b). seam_splits b c e k h)
       behind
 
 -- Bytes in three parts.
@@ -110,17 +146,13 @@ module _ (bytes front block rest : List ℕ) (are : AreThree bytes front block r
   chars_are = ap chars are.whole ∙ (chars-append front (block ++ rest) are.front_utf8 ∙ ap (λ cs. chars front ++ cs) (chars-append block rest are.block_utf8))
 
   closes_chars : Closes (chars front)
-  closes_chars =
-      ⊎_elim
-      (λ (e : front ≡ []). inl (ap chars e ∙ chars-nil))
-      (λ (e : EndsLine front). inr (feed_chars front are.front_utf8 e))
-      are.closes
+  closes_chars = chars_close front are.front_utf8 are.closes
 
   behind_chars : Behind (chars block) (chars rest)
   behind_chars =
       ⊎_elim
       (λ (e : rest ≡ []). inl (ap chars e ∙ chars-nil))
-      (λ (e : EndsLine block). inr (feed_chars block are.block_utf8 e))
+      (λ (e : EndsClear block). inr (clear_chars block are.block_utf8 e))
       are.behind
 
   front_len : length (encode_utf8_all (chars front)) ≡ length front
@@ -130,24 +162,25 @@ module _ (bytes front block rest : List ℕ) (are : AreThree bytes front block r
   block_len = ap length (encodes-chars block are.block_utf8)
 
   -- What a position denotes in all is what it denotes in the block.
-  pub resolved_three : (units : ℕ → ℕ) (p : Position) → line_ends (chars front) ≤ p.line → (rest ≡ []) ⊎ (p.line - line_ends (chars front) < line_ends (chars block)) →
-      option_map (place_of (chars bytes)) (denoted units (chars bytes) p) ≡ option_map (λ n. length front + n) (option_map (place_of (chars block)) (denoted units (chars block) (record { line = p.line - line_ends (chars front); character = p.character })))
-  resolved_three units p low high =
+  pub resolved_three : (units : ℕ → ℕ) → ((c : ℕ) → 1 ≤ units c) → (p : Position) → IsBehind (line_ends (chars front)) (head units (chars front)) p →
+      (rest ≡ []) ⊎ IsBefore (line_ends (chars block)) (head units (chars block)) (position_after (line_ends (chars front)) (head units (chars front)) p) →
+      option_map (place_of (chars bytes)) (denoted units (chars bytes) p) ≡ option_map (λ n. length front + n) (option_map (place_of (chars block)) (denoted units (chars block) (position_after (line_ends (chars front)) (head units (chars front)) p)))
+  resolved_three units some p low high =
       ap (λ cs. option_map (place_of cs) (denoted units cs p)) chars_are ∙
-      (ap (option_map (place_of (chars front ++ (chars block ++ chars rest)))) (denoted_behind (chars front) (chars block ++ chars rest) closes_chars units p low ∙ ap (option_map (λ k. length (chars front) + k)) (denoted_before (chars block) (chars rest) units q inside)) ∙
+      (ap (option_map (place_of (chars front ++ (chars block ++ chars rest)))) (denoted_behind (chars front) (chars block ++ chars rest) closes_chars units some p low ∙ ap (option_map (λ k. length (chars front) + k)) (denoted_before (chars block) (chars rest) units some q inside)) ∙
       placed (denoted units (chars block) q) refl)
     where
       q : Position
-      q = record { line = p.line - line_ends (chars front); character = p.character }
+      q = position_after (line_ends (chars front)) (head units (chars front)) p
 
-      inside : (chars rest ≡ []) ⊎ (EndsLine (chars block) × (p.line - line_ends (chars front) < line_ends (chars block)))
+      inside : (chars rest ≡ []) ⊎ (EndsClear (chars block) × IsBefore (line_ends (chars block)) (head units (chars block)) (position_after (line_ends (chars front)) (head units (chars front)) p))
       inside =
           ⊎_elim
           (λ (e : rest ≡ []). inl (ap chars e ∙ chars-nil))
-          (λ (h : p.line - line_ends (chars front) < line_ends (chars block)).
+          (λ (h : IsBefore (line_ends (chars block)) (head units (chars block)) (position_after (line_ends (chars front)) (head units (chars front)) p)).
           ⊎_elim
           (λ (e : chars rest ≡ []). inl e)
-          (λ (e : EndsLine (chars block)). inr (e, h))
+          (λ (e : EndsClear (chars block)). inr (e, h))
           behind_chars)
           high
 
@@ -167,7 +200,7 @@ module _ (bytes front block rest : List ℕ) (are : AreThree bytes front block r
       rw (chars_are, tail)
       (⊎_elim
       (λ (e : chars front ≡ []). rw e (omega arith))
-      (λ (e : EndsLine (chars front)). seam_count (chars front) (chars block) e)
+      (λ (e : EndsClear (chars front)). seam_count (chars front) (chars block) e)
       closes_chars)
 
   -- An index of all whose byte offset is in the block.
@@ -225,7 +258,7 @@ module _ (bytes front block rest : List ℕ) (are : AreThree bytes front block r
           high
 
   pub exact_three : (units : ℕ → ℕ) (place index : ℕ) (is : IsInner place index) → splits_crlf (chars bytes) index ≡ false →
-      ◌≡◌ {A = Position} (exact_position units (chars bytes) index) (record { line = line_ends (chars front) + (exact_position units (chars block) is.inner).line; character = (exact_position units (chars block) is.inner).character })
+      ◌≡◌ {A = Position} (exact_position units (chars bytes) index) (position_from (line_ends (chars front)) (head units (chars front)) (exact_position units (chars block) is.inner))
   exact_three units place index is whole =
       let tail : length (chars block ++ chars rest) ≡ length (chars block) + length (chars rest) = length-append (chars block) (chars rest) in
       let same : exact_position units (chars block ++ chars rest) is.inner ≡ exact_position units (chars block) is.inner =
@@ -234,10 +267,7 @@ module _ (bytes front block rest : List ℕ) (are : AreThree bytes front block r
       ap (exact_position units (chars bytes)) is.index_is ∙
       (ap (λ cs. exact_position units cs (length (chars front) + is.inner)) chars_are ∙
       (exact_behind (chars front) (chars block ++ chars rest) closes_chars units is.inner (omega (arith, tail, is.within)) ∙
-      ap moved same))
-    where
-      moved : Position → Position
-      moved p = record { line = line_ends (chars front) + p.line; character = p.character }
+      ap (position_from (line_ends (chars front)) (head units (chars front))) same))
 
   -- Boundaries.
   pub byte_in : (i : ℕ) → i < length block → slice_index bytes (length front + i) ≡ slice_index block i

@@ -7,7 +7,7 @@ use Rattle.std.proofs.lemmas.List.Folds.{concat-append}
 use Rattle.std.proofs.lemmas.List.Sums.{sum_by-append, sum_by-cons}
 use Rattle.std.proofs.lemmas.Str.{IsUtf8-from_is_utf8, is_utf8-from_IsUtf8, IsUtf8-append, IsUtf8-take, IsUtf8-drop}
 use Rattle.lsp_text.specs.Starts.{IsLineOf}
-use Rattle.lsp_buffer.specs.Blocks.{EndsLine, AreBlocks, IsBuffer, ends_of, sums_from}
+use Rattle.lsp_buffer.specs.Blocks.{EndsClear, AreBlocks, IsBuffer, ends_of, sums_from}
 use Rattle.lsp_buffer.specs.inside.Cuts.{AreFull}
 use Rattle.lsp_buffer.proofs.SumLemmas.{length-sums, sums_append, sums_put, sums_low}
 use Rattle.lsp_buffer.proofs.BlockLemmas.{IsSplit, split, full_length, joined_blocks, blocks_some}
@@ -153,8 +153,8 @@ module _ (blocks : List (List ℕ)) (starts lines : List ℕ) (index : ℕ) (blo
   behind =
       ⊎_elim
       (λ (e : drop (index + 1) blocks ≡ []). inl e)
-      (λ (e : EndsLine (get_or blocks index []) × AreBlocks (drop (index + 1) blocks)).
-      inr ((fresh_utf8, fresh_ends (subst EndsLine same e.0) e.1, tt), e.1))
+      (λ (e : EndsClear (get_or blocks index []) × AreBlocks (drop (index + 1) blocks)).
+      inr ((fresh_utf8, fresh_ends (subst EndsClear same e.0) e.1, tt), e.1))
       parts.behind
     where
       inside_stop : AreBlocks (drop (index + 1) blocks) → stop - from < length block
@@ -164,7 +164,7 @@ module _ (blocks : List (List ℕ)) (starts lines : List ℕ) (index : ℕ) (blo
           let at : slice_index starts index ≡ from = get_or_default starts index 0 from put.last.within ∙ sym put.from_is in
           omega (arith, next_is, at, put.last.greatest (index + 1) (omega arith) (omega (arith, more, starts_count blocks starts lines put.is)), put.last.at_most)
 
-      fresh_ends : EndsLine block → AreBlocks (drop (index + 1) blocks) → EndsLine (replace_range block (start - from) (stop - from) new)
+      fresh_ends : EndsClear block → AreBlocks (drop (index + 1) blocks) → EndsClear (replace_range block (start - from) (stop - from) new)
       fresh_ends feed are = back_ends block (take (start - from) block ++ new) (stop - from) (inside_stop are) feed
 
   pub next_are : AreBlocks (take index blocks ++ replace_range block (start - from) (stop - from) new ∷ drop (index + 1) blocks)

@@ -1,17 +1,21 @@
--- Two texts, one after the other, the first of which ends with a line feed: the lines and positions of both are those of each.
-use Rattle.std.proofs.Common.{ℕ, zero, suc, ◌≡◌, ◌+◌, ◌-◌, ◌<◌, ◌≤◌, ◌==◌, ◌&&◌, not, Bool, true, false, cond, List, [], ◌∷◌, ◌++◌, length, take, drop, map, get_or, slice_index, filter, find, sum_by, nat_le, Option, Some, option_map, ⊎_elim, refl, sym, ap, ◌∙◌, arith, le-ltb, lt-ltb}
-use Rattle.std.proofs.lemmas.Bool.{cases_Bool, cases_lt}
+-- Two texts, one after the other, the first of which ends with no carriage return: the lines and positions of both by those of each.
+use Rattle.std.proofs.Common.{ℕ, zero, suc, ◌≡◌, ◌+◌, ◌-◌, ◌<◌, ◌≤◌, ◌⊎◌, ◌==◌, ◌&&◌, not, Bool, true, false, cond, List, [], ◌∷◌, ◌++◌, length, take, drop, map, get_or, slice_index, filter, find, sum_by, nat_le, Option, Some, None, option_map, ⊎_elim, refl, sym, ap, ◌∙◌, arith, subst, le-ltb, lt-ltb, eqb-true}
+use Rattle.std.proofs.lemmas.Bool.{cases_Bool, cases_lt, lt-leb, false_from_ne_true}
 use Rattle.std.proofs.lemmas.Bool.Decides.{nat_tests}
-use Rattle.std.proofs.lemmas.List.{length-append, length-drop, get_or-append_right, get_or_append_left, take-append-le, drop-append-le, append-nil}
+use Rattle.std.proofs.lemmas.List.{length-append, length-drop, get_or-append_right, get_or_append_left, take-append-le, drop-append-le, append-nil, take_all}
 use Rattle.std.proofs.lemmas.List.Elements.{filter-append}
-use Rattle.std.proofs.Math.Seq.{drop-append-add}
+use Rattle.std.proofs.lemmas.List.Sums.{sum_by-append}
+use Rattle.std.proofs.Math.Seq.{drop-append-add, take-append-add}
 use Rattle.lsp_text.specs.declared.position.Position.{Position}
 use Rattle.lsp_text.specs.TextLines.{ends_line, splits_crlf, line_at, line_ends, numbers_from, is_in_content, line_content, line_start, line_stop}
 use Rattle.lsp_text.specs.Units.{units_between}
 use Rattle.lsp_text.specs.Positions.{exact_position, denoted}
-use Rattle.lsp_text.proofs.LineLemmas.{line_rises, in_content_line, line_has_start, line_has_stop, IsStart, IsStop}
+use Rattle.lsp_text.proofs.LineLemmas.{line_rises, splits_none_past, in_content_line, line_has_start, line_has_stop, IsStart, IsStop}
+use Rattle.lsp_text.proofs.ContentLemmas.{last_stop}
+use Rattle.lsp_text.proofs.StartRowLemmas.{first_starts}
+use Rattle.lsp_text.proofs.UnitLemmas.{units_rise}
 use Rattle.lsp_text.proofs.SpliceLemmas.{filter_moved}
-use Rattle.lsp_buffer.specs.Blocks.{EndsLine}
+use Rattle.lsp_buffer.specs.Blocks.{EndsClear, carried}
 
 -- Rows of numbers.
 numbers_split : (first m n : ℕ) → numbers_from first (m + n) ≡ numbers_from first m ++ numbers_from (first + m) n
@@ -51,6 +55,28 @@ find_moved by wanted other (x ∷ xs) same = rw (same x) (step (other x) (find_m
     step true ih = refl
     step false ih = ih
 
+-- What isn't in one part of a list is found in the other.
+find_front : (wanted : ℕ → Bool) (xs ys : List ℕ) → find wanted ys ≡ None → find wanted (xs ++ ys) ≡ find wanted xs
+find_front wanted [] ys none = none
+find_front wanted (x ∷ xs) ys none = ap (λ rest. cond (wanted x) (Some x) rest) (find_front wanted xs ys none)
+
+find_behind : (wanted test : ℕ → Bool) (low n : ℕ) (ys : List ℕ) → ((k : ℕ) → low ≤ k → k < low + n → test k ≡ true → wanted k ≡ false) → find wanted (filter test (numbers_from low n) ++ ys) ≡ find wanted ys
+find_behind wanted test low zero ys none = refl
+find_behind wanted test low (suc n) ys none =
+    let later : find wanted (filter test (numbers_from (suc low) n) ++ ys) ≡ find wanted ys = find_behind wanted test (suc low) n ys (λ k o w. none k (omega arith) (omega arith)) in
+    ⊎_elim
+    (λ (e : test low ≡ true). let fails : wanted low ≡ false = none low (omega arith) (omega arith) e in rw (e, fails) later)
+    (λ (e : test low ≡ false). rw e later)
+    (cases_Bool (test low))
+
+find_none_moved : (by : ℕ) (wanted : ℕ → Bool) (xs : List ℕ) → ((k : ℕ) → wanted (by + k) ≡ false) → find wanted (map (λ k. by + k) xs) ≡ None
+find_none_moved by wanted [] none = refl
+find_none_moved by wanted (x ∷ xs) none = rw (none x) (find_none_moved by wanted xs none)
+
+-- The units from the start of a text's last line to its end.
+abbrev pub head : (ℕ → ℕ) → List ℕ → ℕ
+head units text = units_between units text (line_start text (line_ends text)) (length text)
+
 -- The first of a text, the second behind it.
 module _ (a b : List ℕ) where
   pub left_at : (k : ℕ) → k < length a → slice_index (a ++ b) k ≡ slice_index a k
@@ -59,10 +85,12 @@ module _ (a b : List ℕ) where
   pub right_at : (k : ℕ) → slice_index (a ++ b) (length a + k) ≡ slice_index b k
   right_at k = get_or-append_right a b (length a) (length a + k) 0 refl (omega arith) ∙ ap (λ i. get_or b i 0) (omega arith)
 
--- Where the first ends with a line feed.
-module _ (a b : List ℕ) (feed : EndsLine a) where
-  last_at : (k : ℕ) → suc k ≡ length a → slice_index a k ≡ 10
-  last_at k h = ap (slice_index a) (omega arith) ∙ feed.feed
+-- Where the first ends with no carriage return.
+module _ (a b : List ℕ) (clear : EndsClear a) where
+  last_at : (k : ℕ) → suc k ≡ length a → (slice_index a k == 13) ≡ false
+  last_at k h =
+      let at : slice_index a k ≡ slice_index a (length a - 1) = ap (slice_index a) (omega arith) in
+      false_from_ne_true (slice_index a k == 13) (λ e. clear.clear (sym at ∙ eqb-true (slice_index a k) 13 e))
 
   seam_ends : (k : ℕ) → k ≤ length a → ends_line (a ++ b) k ≡ ends_line a k
   seam_ends zero h = refl
@@ -84,25 +112,8 @@ module _ (a b : List ℕ) (feed : EndsLine a) where
   seam_line zero h = refl
   seam_line (suc k) h = rw (seam_ends (suc k) h, seam_line k (omega arith)) refl
 
-  -- The end of the first splits nothing, and ends a line.
-  end_whole : (k : ℕ) → suc k ≡ length a → splits_crlf a (suc k) ≡ false
-  end_whole k h = rw (last_at k h) refl
-
-  end_ends : (k : ℕ) → suc k ≡ length a → ends_line a (suc k) ≡ true
-  end_ends k h = rw (last_at k h) refl
-
-  end_line : (k : ℕ) → suc k ≡ length a → line_at a (suc k) ≡ suc (line_at a k)
-  end_line k h = rw (end_ends k h) refl
-
-  some : suc (length a - 1) ≡ length a
-  some = omega (arith, feed.some)
-
   pub seam_whole : splits_crlf a (length a) ≡ false
-  seam_whole = ap (splits_crlf a) (sym some) ∙ end_whole (length a - 1) some
-
-  -- Each index before the end is of an earlier line.
-  pub line_before : (k : ℕ) → k < length a → line_at a k < line_ends a
-  line_before k h = omega (arith, ap (line_at a) some, end_line (length a - 1) some, line_rises a k (length a - 1) (omega arith))
+  seam_whole = splits_none_past a (length a) (omega arith)
 
   beyond_ends : (k : ℕ) → ends_line (a ++ b) (suc (length a + k)) ≡ ends_line b (suc k)
   beyond_ends k =
@@ -151,14 +162,14 @@ module _ (a b : List ℕ) (feed : EndsLine a) where
       (λ (g : k ≤ length a). g)
       (cases_lt (length a) k)
 
-  outside : (line k : ℕ) → line_ends a ≤ line → is_in_content (a ++ b) line k ≡ true → length a ≤ k
+  outside : (line k : ℕ) → line_ends a < line → is_in_content (a ++ b) line k ≡ true → length a ≤ k
   outside line k there h =
       ⊎_elim
-      (λ (g : k < length a). absurd (omega (arith, in_content_line (a ++ b) line k h, seam_line k (omega arith), line_before k g)))
+      (λ (g : k < length a). absurd (omega (arith, in_content_line (a ++ b) line k h, seam_line k (omega arith), line_rises a k (length a) (omega arith))))
       (λ (g : length a ≤ k). g)
       (cases_lt k (length a))
 
-  pub start_left : (line : ℕ) → line < line_ends a → line_start (a ++ b) line ≡ line_start a line
+  pub start_left : (line : ℕ) → line ≤ line_ends a → line_start (a ++ b) line ≡ line_start a line
   start_left line h =
       let one : IsStart (a ++ b) line (line_start (a ++ b) line) = line_has_start (a ++ b) line (omega (arith, seam_count)) in
       let two : IsStart a line (line_start a line) = line_has_start a line (omega arith) in
@@ -177,9 +188,9 @@ module _ (a b : List ℕ) (feed : EndsLine a) where
       let high : line_stop (a ++ b) line ≤ line_stop a line = two.greatest (line_stop (a ++ b) line) (omega arith) (sym (content_left line (line_stop (a ++ b) line) one_within) ∙ one.passes) in
       omega arith
 
-  -- A line of the second is moved.
-  pub start_right : (line : ℕ) → line ≤ line_ends b → line_start (a ++ b) (line_ends a + line) ≡ length a + line_start b line
-  start_right line h =
+  -- A line of the second is moved, except that its first line goes on with the last of the first.
+  pub start_right : (line : ℕ) → 0 < line → line ≤ line_ends b → line_start (a ++ b) (line_ends a + line) ≡ length a + line_start b line
+  start_right line later h =
       let one : IsStart (a ++ b) (line_ends a + line) (line_start (a ++ b) (line_ends a + line)) = line_has_start (a ++ b) (line_ends a + line) (omega (arith, seam_count)) in
       let two : IsStart b line (line_start b line) = line_has_start b line h in
       let s : ℕ = line_start (a ++ b) (line_ends a + line) in
@@ -195,10 +206,9 @@ module _ (a b : List ℕ) (feed : EndsLine a) where
       let one : IsStop (a ++ b) (line_ends a + line) (line_stop (a ++ b) (line_ends a + line)) = line_has_stop (a ++ b) (line_ends a + line) (omega (arith, seam_count)) in
       let two : IsStop b line (line_stop b line) = line_has_stop b line h in
       let s : ℕ = line_stop (a ++ b) (line_ends a + line) in
-      let beyond : length a ≤ s = outside (line_ends a + line) s (omega arith) one.passes in
+      let low : length a + line_stop b line ≤ s = one.greatest (length a + line_stop b line) (omega (arith, two.in_row, length-append a b)) (content_right line (line_stop b line) ∙ two.passes) in
       let back : length a + (s - length a) ≡ s = omega arith in
       let here : is_in_content b line (s - length a) ≡ true = sym (content_right line (s - length a)) ∙ (ap (is_in_content (a ++ b) (line_ends a + line)) back ∙ one.passes) in
-      let low : length a + line_stop b line ≤ s = one.greatest (length a + line_stop b line) (omega (arith, two.in_row, length-append a b)) (content_right line (line_stop b line) ∙ two.passes) in
       let high : s - length a ≤ line_stop b line = two.greatest (s - length a) (omega (arith, one.in_row, length-append a b)) here in
       omega arith
 
@@ -241,29 +251,29 @@ module _ (a b : List ℕ) (feed : EndsLine a) where
           (λ (e : is_in_content a line k ≡ false). e)
           (cases_Bool (is_in_content a line k))
 
-  row_right : (line : ℕ) → line_content (a ++ b) (line_ends a + line) ≡ map (λ k. length a + k) (line_content b line)
+  -- The row of a line that the second has: first what the first text has of it.
+  row_right : (line : ℕ) → line_content (a ++ b) (line_ends a + line) ≡ filter (is_in_content (a ++ b) (line_ends a + line)) (numbers_from 0 (length a)) ++ map (λ k. length a + k) (line_content b line)
   row_right line =
       let test = is_in_content (a ++ b) (line_ends a + line) in
       let size : suc (length (a ++ b)) ≡ length a + suc (length b) = omega (arith, length-append a b) in
-      let first : filter test (numbers_from 0 (length a)) ≡ [] = none_pass test 0 (length a) (λ k o w. not_there k (omega arith)) in
       let from : 0 + length a ≡ length a = omega arith in
       ap (λ n. filter test (numbers_from 0 n)) size ∙
       (ap (filter test) (numbers_split 0 (length a) (suc (length b))) ∙
       (filter-append test (numbers_from 0 (length a)) (numbers_from (0 + length a) (suc (length b))) ∙
-      (ap (λ xs. xs ++ filter test (numbers_from (0 + length a) (suc (length b)))) first ∙
-      (ap (λ n. filter test (numbers_from n (suc (length b)))) from ∙
-      sym (filter_moved (λ k. length a + k) (is_in_content b line) test 0 (length a) (suc (length b)) moved (λ j h. omega arith))))))
+      (ap (λ n. filter test (numbers_from 0 (length a)) ++ filter test (numbers_from n (suc (length b)))) from ∙
+      ap (λ xs. filter test (numbers_from 0 (length a)) ++ xs)
+      (sym (filter_moved (λ k. length a + k) (is_in_content b line) test 0 (length a) (suc (length b)) moved (λ j h. omega arith))))))
     where
       moved : (j : ℕ) → j < suc (length b) → is_in_content b line (0 + j) ≡ is_in_content (a ++ b) (line_ends a + line) (length a + j)
       moved j h = ap (is_in_content b line) (omega arith) ∙ sym (content_right line j)
 
-      not_there : (k : ℕ) → k < length a → is_in_content (a ++ b) (line_ends a + line) k ≡ false
-      not_there k o =
-          ⊎_elim
-          (λ (e : is_in_content (a ++ b) (line_ends a + line) k ≡ true).
-          absurd (omega (arith, in_content_line (a ++ b) (line_ends a + line) k e, seam_line k (omega arith), line_before k o)))
-          (λ (e : is_in_content (a ++ b) (line_ends a + line) k ≡ false). e)
-          (cases_Bool (is_in_content (a ++ b) (line_ends a + line) k))
+  -- The row of the first text's last line.
+  row_last : line_content a (line_ends a) ≡ filter (is_in_content a (line_ends a)) (numbers_from 0 (length a)) ++ filter (is_in_content a (line_ends a)) (numbers_from (0 + length a) 1)
+  row_last =
+      let size : suc (length a) ≡ length a + 1 = omega arith in
+      ap (λ n. filter (is_in_content a (line_ends a)) (numbers_from 0 n)) size ∙
+      (ap (filter (is_in_content a (line_ends a))) (numbers_split 0 (length a) 1) ∙
+      filter-append (is_in_content a (line_ends a)) (numbers_from 0 (length a)) (numbers_from (0 + length a) 1))
 
   -- Units.
   pub units_left : (units : ℕ → ℕ) (i k : ℕ) → i ≤ length a → k ≤ length a → units_between units (a ++ b) i k ≡ units_between units a i k
@@ -277,6 +287,44 @@ module _ (a b : List ℕ) (feed : EndsLine a) where
       ap (λ n. sum_by units (take n (drop (length a + i) (a ++ b)))) count ∙
       ap (λ xs. sum_by units (take (k - i) xs)) (drop-append-add a b i)
 
+  -- The units of a line that the second has: its first line goes on with the last of the first.
+  pub units_line : (units : ℕ → ℕ) (line k : ℕ) → line ≤ line_ends b → units_between units (a ++ b) (line_start (a ++ b) (line_ends a + line)) (length a + k) ≡ carried line (head units a) + units_between units b (line_start b line) k
+  units_line units zero k h =
+      let start = line_start a (line_ends a) in
+      let within : start ≤ length a = omega (arith, (line_has_start a (line_ends a) (omega arith)).in_row) in
+      let first : line_start (a ++ b) (line_ends a + 0) ≡ start = ap (line_start (a ++ b)) (omega arith) ∙ start_left (line_ends a) (omega arith) in
+      let part : drop start (a ++ b) ≡ drop start a ++ b = drop-append-le start a b within in
+      let count : length a + k - start ≡ length (drop start a) + k = omega (arith, length-drop start a, within) in
+      let all : take (length a - start) (drop start a) ≡ drop start a = take_all (length a - start) (drop start a) (omega (arith, length-drop start a)) in
+      let zero_is : line_start b 0 ≡ 0 = first_starts b in
+      let whole : k - 0 ≡ k = omega arith in
+      ap (λ s. units_between units (a ++ b) s (length a + k)) first ∙
+      (ap (λ xs. sum_by units (take (length a + k - start) xs)) part ∙
+      (ap (λ n. sum_by units (take n (drop start a ++ b))) count ∙
+      (ap (sum_by units) (take-append-add (drop start a) b k) ∙
+      (sum_by-append units (drop start a) (take k b) ∙
+      (ap (λ xs. sum_by units xs + sum_by units (take k b)) (sym all) ∙
+      sym (ap (λ s. head units a + units_between units b s k) zero_is ∙ ap (λ n. head units a + sum_by units (take n b)) whole))))))
+  units_line units (suc line) k h =
+      ap (λ s. units_between units (a ++ b) s (length a + k)) (start_right (suc line) (omega arith) h) ∙
+      (units_right units (line_start b (suc line)) k ∙ omega arith)
+
+  -- An index of the first in its last line has fewer units before it than that line.
+  units_before : (units : ℕ → ℕ) → ((c : ℕ) → 1 ≤ units c) → (line k : ℕ) → k < length a → is_in_content (a ++ b) (line_ends a + line) k ≡ true →
+      units_between units (a ++ b) (line_start (a ++ b) (line_ends a + line)) k < carried line (head units a)
+  units_before units some (suc line) k h there =
+      absurd (omega (arith, in_content_line (a ++ b) (line_ends a + suc line) k there, seam_line k (omega arith), line_rises a k (length a) (omega arith)))
+  units_before units some zero k h there =
+      let start = line_start a (line_ends a) in
+      let zero_is : line_ends a + 0 ≡ line_ends a = omega arith in
+      let here : is_in_content a (line_ends a) k ≡ true = sym (content_left (line_ends a) k (omega arith)) ∙ (ap (λ l. is_in_content (a ++ b) l k) (sym zero_is) ∙ there) in
+      let begins : start ≤ k = (line_has_start a (line_ends a) (omega arith)).least k (omega arith) here in
+      let first : line_start (a ++ b) (line_ends a + 0) ≡ start = ap (line_start (a ++ b)) zero_is ∙ start_left (line_ends a) (omega arith) in
+      let same : units_between units (a ++ b) (line_start (a ++ b) (line_ends a + 0)) k ≡ units_between units a start k =
+      ap (λ s. units_between units (a ++ b) s k) first ∙ units_left units start k (omega arith) (omega arith) in
+      let rise : units_between units a start k < units_between units a start (length a) = units_rise units some a start k (length a) begins h (omega arith) in
+      omega (arith, same, rise)
+
   -- What a position denotes.
   pub denoted_left : (units : ℕ → ℕ) (p : Position) → p.line < line_ends a → denoted units (a ++ b) p ≡ denoted units a p
   denoted_left units p h =
@@ -284,7 +332,7 @@ module _ (a b : List ℕ) (feed : EndsLine a) where
       (rw (start_is, stop_is, units_left units (line_start a p.line) (line_stop a p.line) start_within stop_within, searched) refl)
     where
       start_is : line_start (a ++ b) p.line ≡ line_start a p.line
-      start_is = start_left p.line h
+      start_is = start_left p.line (omega arith)
 
       stop_is : line_stop (a ++ b) p.line ≡ line_stop a p.line
       stop_is = stop_left p.line h
@@ -302,8 +350,70 @@ module _ (a b : List ℕ) (feed : EndsLine a) where
           (λ k o w. ap (λ u. u == p.character) (units_left units (line_start a p.line) k start_within (omega arith))) ∙
           ap (find (λ k. units_between units a (line_start a p.line) k == p.character)) (sym (row_left p.line h)))
 
-  pub denoted_right : (units : ℕ → ℕ) (line character : ℕ) → denoted units (a ++ b) (record { line = line_ends a + line; character = character }) ≡ option_map (λ k. length a + k) (denoted units b (record { line = line; character = character }))
-  denoted_right units line character =
+  -- In the first text's last line.
+  pub denoted_last : (units : ℕ → ℕ) → ((c : ℕ) → 1 ≤ units c) → (p : Position) → p.line ≡ line_ends a → p.character < head units a → denoted units (a ++ b) p ≡ denoted units a p
+  denoted_last units some p there low =
+      rw (le-ltb (line_ends (a ++ b)) p.line (omega (arith, seam_count)), le-ltb (line_ends a) p.line (omega arith))
+      (rw (lt-leb (units_between units (a ++ b) (line_start (a ++ b) p.line) (line_stop (a ++ b) p.line)) p.character more, lt-leb (units_between units a (line_start a p.line) (line_stop a p.line)) p.character few) searched)
+    where
+      zero_is : line_ends a + 0 ≡ p.line
+      zero_is = omega (arith, there)
+
+      few : p.character < units_between units a (line_start a p.line) (line_stop a p.line)
+      few = subst (λ l. p.character < units_between units a (line_start a l) (line_stop a l)) (sym there)
+          (subst (λ s. p.character < units_between units a (line_start a (line_ends a)) s) (sym (last_stop a)) low)
+
+      stop_is : line_stop (a ++ b) p.line ≡ length a + line_stop b 0
+      stop_is = ap (line_stop (a ++ b)) (sym zero_is) ∙ stop_right 0 (omega arith)
+
+      start_is : line_start (a ++ b) p.line ≡ line_start a p.line
+      start_is = start_left p.line (omega (arith, there))
+
+      line_units : (k : ℕ) → units_between units (a ++ b) (line_start (a ++ b) p.line) (length a + k) ≡ head units a + units_between units b (line_start b 0) k
+      line_units k = ap (λ l. units_between units (a ++ b) (line_start (a ++ b) l) (length a + k)) (sym zero_is) ∙ units_line units 0 k (omega arith)
+
+      more : p.character < units_between units (a ++ b) (line_start (a ++ b) p.line) (line_stop (a ++ b) p.line)
+      more = omega (arith, ap (units_between units (a ++ b) (line_start (a ++ b) p.line)) stop_is, line_units (line_stop b 0), low)
+
+      fails_moved : (k : ℕ) → (units_between units (a ++ b) (line_start (a ++ b) p.line) (length a + k) == p.character) ≡ false
+      fails_moved k =
+          false_from_ne_true (units_between units (a ++ b) (line_start (a ++ b) p.line) (length a + k) == p.character)
+          (λ e. omega (arith, eqb-true (units_between units (a ++ b) (line_start (a ++ b) p.line) (length a + k)) p.character e, line_units k, low))
+
+      fails_last : (units_between units a (line_start a p.line) (length a) == p.character) ≡ false
+      fails_last =
+          false_from_ne_true (units_between units a (line_start a p.line) (length a) == p.character)
+          (λ e. omega (arith, eqb-true (units_between units a (line_start a p.line) (length a)) p.character e, ap (λ l. units_between units a (line_start a l) (length a)) there, low))
+
+      within : line_start a p.line ≤ length a
+      within = omega (arith, (line_has_start a p.line (omega (arith, there))).in_row)
+
+      searched : find (λ k. units_between units (a ++ b) (line_start (a ++ b) p.line) k == p.character) (line_content (a ++ b) p.line) ≡ find (λ k. units_between units a (line_start a p.line) k == p.character) (line_content a p.line)
+      searched =
+          let w = λ (k : ℕ). units_between units (a ++ b) (line_start (a ++ b) p.line) k == p.character in
+          let o = λ (k : ℕ). units_between units a (line_start a p.line) k == p.character in
+          let row : line_content (a ++ b) p.line ≡ filter (is_in_content (a ++ b) p.line) (numbers_from 0 (length a)) ++ map (λ k. length a + k) (line_content b 0) =
+          subst (λ l. line_content (a ++ b) l ≡ filter (is_in_content (a ++ b) l) (numbers_from 0 (length a)) ++ map (λ k. length a + k) (line_content b 0)) zero_is (row_right 0) in
+          let own : line_content a p.line ≡ filter (is_in_content a p.line) (numbers_from 0 (length a)) ++ filter (is_in_content a p.line) (numbers_from (0 + length a) 1) =
+          subst (λ l. line_content a l ≡ filter (is_in_content a l) (numbers_from 0 (length a)) ++ filter (is_in_content a l) (numbers_from (0 + length a) 1)) (sym there) row_last in
+          let end_fails : o (0 + length a) ≡ false = ap o (let z : 0 + length a ≡ length a = omega arith in z) ∙ fails_last in
+          let none : find o (filter (is_in_content a p.line) (numbers_from (0 + length a) 1)) ≡ None =
+          ⊎_elim
+          (λ (e : is_in_content a p.line (0 + length a) ≡ true). rw (e, end_fails) refl)
+          (λ (e : is_in_content a p.line (0 + length a) ≡ false). rw e refl)
+          (cases_Bool (is_in_content a p.line (0 + length a))) in
+          ap (find w) row ∙
+          (find_front w (filter (is_in_content (a ++ b) p.line) (numbers_from 0 (length a))) (map (λ k. length a + k) (line_content b 0)) (find_none_moved (length a) w (line_content b 0) fails_moved) ∙
+          (ap (find w) (same_pass (is_in_content (a ++ b) p.line) (is_in_content a p.line) 0 (length a) (λ k l h. content_left p.line k (omega arith))) ∙
+          (find_same w o (is_in_content a p.line) 0 (length a)
+          (λ k l h. ap (λ u. u == p.character) (ap (λ s. units_between units (a ++ b) s k) start_is ∙ units_left units (line_start a p.line) k within (omega arith))) ∙
+          (sym (find_front o (filter (is_in_content a p.line) (numbers_from 0 (length a))) (filter (is_in_content a p.line) (numbers_from (0 + length a) 1)) none) ∙
+          ap (find o) (sym own)))))
+
+  -- A position of the second, moved behind the first.
+  pub denoted_right : (units : ℕ → ℕ) → ((c : ℕ) → 1 ≤ units c) → (line character : ℕ) →
+      denoted units (a ++ b) (record { line = line_ends a + line; character = carried line (head units a) + character }) ≡ option_map (λ k. length a + k) (denoted units b (record { line = line; character = character }))
+  denoted_right units some line character =
       ⊎_elim
       (λ (h : line_ends b < line).
       rw (lt-ltb (line_ends (a ++ b)) (line_ends a + line) (omega (arith, seam_count)), lt-ltb (line_ends b) line h) (ap Some (length-append a b)))
@@ -311,30 +421,53 @@ module _ (a b : List ℕ) (feed : EndsLine a) where
       rw (le-ltb (line_ends (a ++ b)) (line_ends a + line) (omega (arith, seam_count)), le-ltb (line_ends b) line h) (in_line h))
       (cases_lt (line_ends b) line)
     where
-      searched : (s : ℕ) → find (λ k. units_between units (a ++ b) (length a + s) k == character) (line_content (a ++ b) (line_ends a + line)) ≡ option_map (λ k. length a + k) (find (λ k. units_between units b s k == character) (line_content b line))
-      searched s =
-          ap (find (λ k. units_between units (a ++ b) (length a + s) k == character)) (row_right line) ∙
-          find_moved (length a) (λ k. units_between units (a ++ b) (length a + s) k == character) (λ k. units_between units b s k == character) (line_content b line)
-          (λ k. ap (λ u. u == character) (units_right units s k))
+      same_test : (n x y : ℕ) → (n + x == n + y) ≡ (x == y)
+      same_test n x y = grind (arith, nat_tests)
+
+      same_order : (n x y : ℕ) → nat_le (n + x) (n + y) ≡ nat_le x y
+      same_order n x y = grind (arith, nat_tests)
+
+      searched : line ≤ line_ends b →
+          find (λ k. units_between units (a ++ b) (line_start (a ++ b) (line_ends a + line)) k == carried line (head units a) + character) (line_content (a ++ b) (line_ends a + line))
+          ≡ option_map (λ k. length a + k) (find (λ k. units_between units b (line_start b line) k == character) (line_content b line))
+      searched h =
+          let w = λ (k : ℕ). units_between units (a ++ b) (line_start (a ++ b) (line_ends a + line)) k == carried line (head units a) + character in
+          let o = λ (k : ℕ). units_between units b (line_start b line) k == character in
+          ap (find w) (row_right line) ∙
+          (find_behind w (is_in_content (a ++ b) (line_ends a + line)) 0 (length a) (map (λ k. length a + k) (line_content b line))
+          (λ k l g there.
+          false_from_ne_true (units_between units (a ++ b) (line_start (a ++ b) (line_ends a + line)) k == carried line (head units a) + character)
+          (λ e. omega (arith, eqb-true (units_between units (a ++ b) (line_start (a ++ b) (line_ends a + line)) k) (carried line (head units a) + character) e, units_before units some line k (omega arith) there))) ∙
+          find_moved (length a) w o (line_content b line)
+          (λ k. ap (λ u. u == carried line (head units a) + character) (units_line units line k h) ∙ same_test (carried line (head units a)) (units_between units b (line_start b line) k) character))
 
       choose : (t : Bool) (stop : ℕ) (found : Option ℕ) → cond t (Some (length a + stop)) (option_map (λ k. length a + k) found) ≡ option_map (λ k. length a + k) (cond t (Some stop) found)
       choose true stop found = refl
       choose false stop found = refl
 
       in_line : line ≤ line_ends b →
-          cond (nat_le (units_between units (a ++ b) (line_start (a ++ b) (line_ends a + line)) (line_stop (a ++ b) (line_ends a + line))) character) (Some (line_stop (a ++ b) (line_ends a + line)))
-          (find (λ k. units_between units (a ++ b) (line_start (a ++ b) (line_ends a + line)) k == character) (line_content (a ++ b) (line_ends a + line)))
+          cond (nat_le (units_between units (a ++ b) (line_start (a ++ b) (line_ends a + line)) (line_stop (a ++ b) (line_ends a + line))) (carried line (head units a) + character)) (Some (line_stop (a ++ b) (line_ends a + line)))
+          (find (λ k. units_between units (a ++ b) (line_start (a ++ b) (line_ends a + line)) k == carried line (head units a) + character) (line_content (a ++ b) (line_ends a + line)))
           ≡ option_map (λ k. length a + k) (cond (nat_le (units_between units b (line_start b line) (line_stop b line)) character) (Some (line_stop b line)) (find (λ k. units_between units b (line_start b line) k == character) (line_content b line)))
       in_line h =
-          rw (start_right line h, stop_right line h, units_right units (line_start b line) (line_stop b line), searched (line_start b line))
+          let test : nat_le (units_between units (a ++ b) (line_start (a ++ b) (line_ends a + line)) (line_stop (a ++ b) (line_ends a + line))) (carried line (head units a) + character) ≡ nat_le (units_between units b (line_start b line) (line_stop b line)) character =
+          ap (λ s. nat_le (units_between units (a ++ b) (line_start (a ++ b) (line_ends a + line)) s) (carried line (head units a) + character)) (stop_right line h) ∙
+          (ap (λ u. nat_le u (carried line (head units a) + character)) (units_line units line (line_stop b line) h) ∙
+          same_order (carried line (head units a)) (units_between units b (line_start b line) (line_stop b line)) character) in
+          rw (test, stop_right line h, searched h)
           (choose (nat_le (units_between units b (line_start b line) (line_stop b line)) character) (line_stop b line) (find (λ k. units_between units b (line_start b line) k == character) (line_content b line)))
 
   -- The exact position of an index of the second.
-  pub exact_right : (units : ℕ → ℕ) (k : ℕ) → k ≤ length b → exact_position units (a ++ b) (length a + k) ≡ record { line = line_ends a + (exact_position units b k).line; character = (exact_position units b k).character }
+  pub exact_right : (units : ℕ → ℕ) (k : ℕ) → k ≤ length b →
+      exact_position units (a ++ b) (length a + k) ≡ record { line = line_ends a + (exact_position units b k).line; character = carried (exact_position units b k).line (head units a) + (exact_position units b k).character }
   exact_right units k h =
-      let start : line_start (a ++ b) (line_at (a ++ b) (length a + k)) ≡ length a + line_start b (line_at b k) =
-      ap (line_start (a ++ b)) (beyond_line k) ∙ start_right (line_at b k) (line_rises b k (length b) h) in
-      let counted : units_between units (a ++ b) (line_start (a ++ b) (line_at (a ++ b) (length a + k))) (length a + k) ≡ units_between units b (line_start b (line_at b k)) k =
-      ap (λ s. units_between units (a ++ b) s (length a + k)) start ∙ units_right units (line_start b (line_at b k)) k in
+      let counted : units_between units (a ++ b) (line_start (a ++ b) (line_at (a ++ b) (length a + k))) (length a + k) ≡ carried (line_at b k) (head units a) + units_between units b (line_start b (line_at b k)) k =
+      ap (λ l. units_between units (a ++ b) (line_start (a ++ b) l) (length a + k)) (beyond_line k) ∙ units_line units (line_at b k) k (line_rises b k (length b) h) in
       let line_is : line_at (a ++ b) (length a + k) ≡ line_ends a + line_at b k = beyond_line k in
       λ i. record { line = line_is i; character = counted i }
+
+  -- The last line of both.
+  pub head_right : (units : ℕ → ℕ) → head units (a ++ b) ≡ carried (line_ends b) (head units a) + head units b
+  head_right units =
+      ap (λ l. units_between units (a ++ b) (line_start (a ++ b) l) (length (a ++ b))) seam_count ∙
+      (ap (units_between units (a ++ b) (line_start (a ++ b) (line_ends a + line_ends b))) (length-append a b) ∙ units_line units (line_ends b) (length b) (omega arith))

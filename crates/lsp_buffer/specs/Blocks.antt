@@ -1,20 +1,24 @@
--- A text in blocks, each of which ends with a line feed, but the last.
-use Rattle.std.specs.Prelude.{ℕ, ◌≡◌, ◌+◌, ◌-◌, ◌<◌, ◌≤◌, true, List, [], ◌∷◌, length, map, slice_index}
+-- A text in blocks. Each but the last ends with a character that isn't a carriage return, so no CRLF
+-- is in two of them.
+use Rattle.std.specs.Prelude.{ℕ, zero, suc, ◌≡◌, ◌≢◌, ◌+◌, ◌-◌, ◌<◌, ◌≤◌, true, List, [], ◌∷◌, length, map, slice_index}
 use Rattle.std.specs.List.{concat}
 use Rattle.std.specs.Str.{is_utf8, chars}
-use Rattle.lsp_text.specs.TextLines.{line_ends, line_feed}
+use Rattle.lsp_text.specs.declared.encoding.Encoding.{Encoding}
+use Rattle.lsp_text.specs.TextLines.{line_ends, carriage_return}
+use Rattle.lsp_text.specs.Units.{units_in}
+use Rattle.lsp_text.specs.Positions.{exact_position}
 
--- The last byte is a line feed.
-pub record EndsLine (bytes : List ℕ) : Type 0 where
+-- The last byte is no carriage return.
+pub record EndsClear (bytes : List ℕ) : Type 0 where
   pub some : 0 < length bytes
-  pub feed : slice_index bytes (length bytes - 1) ≡ line_feed
+  pub clear : slice_index bytes (length bytes - 1) ≢ carriage_return
 
--- There is at least one block, each is a text, and each but the last ends with a line feed.
+-- There is at least one block, each is a text, and each but the last ends with no carriage return.
 abbrev pub AreBlocks : List (List ℕ) → Type 0
 AreBlocks [] = ⊥
 AreBlocks (block ∷ []) = is_utf8 block ≡ true
 AreBlocks (block ∷ next ∷ blocks) =
-    (is_utf8 block ≡ true) × EndsLine block × AreBlocks (next ∷ blocks)
+    (is_utf8 block ≡ true) × EndsClear block × AreBlocks (next ∷ blocks)
 
 -- How many line ends a block has.
 abbrev pub ends_of : List ℕ → ℕ
@@ -25,9 +29,40 @@ abbrev pub sums_from : ℕ → List ℕ → List ℕ
 sums_from first [] = []
 sums_from first (number ∷ numbers) = first ∷ sums_from (first + number) numbers
 
+-- The units of a block's last line, as far as it is in the block.
+abbrev pub head_of : (ℕ → ℕ) → List ℕ → ℕ
+head_of units block = (exact_position units (chars block) (length (chars block))).character
+
+-- A number for the line that a text begins in, none for its later lines.
+abbrev pub carried : ℕ → ℕ → ℕ
+carried zero head = head
+carried (suc line) head = 0
+
+-- The units from the start of the line that is at the end of a block to that end, if so many are
+-- before the block in its line.
+abbrev pub head_after : (ℕ → ℕ) → ℕ → List ℕ → ℕ
+head_after units head block = carried (ends_of block) head + head_of units block
+
+-- The units before each of these blocks in its line, if so many are before the first.
+abbrev pub heads_from : (ℕ → ℕ) → ℕ → List (List ℕ) → List ℕ
+heads_from units head [] = []
+heads_from units head (block ∷ blocks)
+    = head ∷ heads_from units (head_after units head block) blocks
+
 -- Blocks, with the first byte and the first line of each.
 pub record IsBuffer (blocks : List (List ℕ)) (starts lines : List ℕ) : Type 0 where
   pub are : AreBlocks blocks
   pub starts_are : starts ≡ sums_from 0 (map length blocks)
   pub lines_are : lines ≡ sums_from 0 (map ends_of blocks)
   pub size : length (concat blocks) ≤ 2147483648
+
+-- The units before each block in its line, for each encoding.
+abbrev pub AreHeads : List (List ℕ) → (Encoding → List ℕ) → Type 0
+AreHeads blocks heads =
+    (encoding : Encoding) → heads encoding ≡ heads_from (units_in encoding) 0 blocks
+
+-- Blocks, with all that comes before each.
+pub record IsTextBuffer (blocks : List (List ℕ)) (starts lines : List ℕ)
+    (heads : Encoding → List ℕ) : Type 0 where
+  pub sums : IsBuffer blocks starts lines
+  pub heads_are : AreHeads blocks heads

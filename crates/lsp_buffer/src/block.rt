@@ -8,6 +8,7 @@ ghost use Rattle.lsp_text.specs.TextLines.{line_ends};
 ghost use Rattle.lsp_text.specs.LineStarts.{IsPlace};
 ghost use Rattle.lsp_text.specs.Units.{units_in};
 ghost use Rattle.lsp_text.specs.Positions.{exact_position, denoted};
+ghost use Rattle.lsp_buffer.specs.Blocks.{head_of, head_after};
 
 use crate::in_place::put_in_place;
 use lsp_text::{Encoding, InsideCharacter, Lines, Position};
@@ -97,6 +98,31 @@ impl Block {
             → result ≡ exact_position (units_in encoding) (chars self.now) k }
     {
         self.lines.position(&self.text, encoding, offset)
+    }
+
+    /// Returns the units from the start of its last line to its end.
+    fn head(&self, encoding: Encoding) -> u32
+        ensures head { result ≡ head_of (units_in encoding) self.now }
+        ensures few { result ≤ length self.now }
+    {
+        let bytes = self.text.as_bytes();
+        let end = bytes.len();
+        if end > 0 && bytes[end - 1] == b'\n' {
+            return 0;
+        }
+        self.position(encoding, end).character
+    }
+
+    /// Returns the units from the start of the line at its end to that end, if `first` are before
+    /// it in the line that it begins in. Costs that line's text in the block, at the most; in UTF-8
+    /// a binary search.
+    pub fn head_after(&self, encoding: Encoding, first: u32) -> u32
+        requires { first + length self.now ≤ 2147483648 }
+        ensures head { result ≡ head_after (units_in encoding) first self.now }
+        ensures few { result ≤ first + length self.now }
+    {
+        let head = self.head(encoding);
+        if self.ends() == 0 { first + head } else { head }
     }
 
     /// Returns whether a character begins at a byte offset of the block, or it ends there.

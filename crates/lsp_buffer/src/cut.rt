@@ -1,38 +1,62 @@
-//! A text is cut into blocks, each of which ends with a line feed, but the last.
-ghost use Rattle.std.specs.Prelude.{◌≡◌, ◌≤◌, IfOk, IfSome, length};
+//! A text is cut into blocks, so that no CRLF is in two of them.
+ghost use Rattle.std.specs.Prelude.{◌≡◌, ◌≤◌, ◌<◌, IfOk, IfSome, IsTrue, length};
 ghost use Rattle.std.specs.List.{concat};
 ghost use Rattle.std.specs.Str.{IsCharBoundary};
-ghost use Rattle.lsp_buffer.specs.Blocks.{AreBlocks, EndsLine};
+ghost use Rattle.lsp_buffer.specs.Blocks.{AreBlocks, EndsClear};
 ghost use Rattle.lsp_buffer.specs.inside.Cuts.{AreFull, IsCut, IsFeed};
 
 use crate::block::Block;
-use memchr::{memchr, memrchr};
+use memchr::memrchr;
 use std::alloc::{AllocError, Global};
 
-/// How many bytes a block has at the most where it is cut from a longer text with shorter lines.
-/// The last block may have half as many again, and a change may make a block twice as long.
+/// How many bytes a block has at the most where it is cut from a longer text. It has some more if
+/// the text has a character of several bytes or a run of carriage returns there. The last block may
+/// have half as many again, and a change may make a block twice as long.
 pub const CUT: usize = 4_096;
 
 /// How many bytes may be left in one block at the end of a text.
 pub const LAST: usize = CUT + CUT / 2;
 
-/// Returns the last line feed of the first `CUT` bytes. If they have none, the first after them.
+/// Returns whether a text can be cut at an offset inside it: a character begins there, and the one
+/// before it is no carriage return.
+fn can_cut(text: &str, at: usize) -> bool
+    requires some { 0 < at }
+    requires within { at < length text.now }
+    ensures cut { IsTrue result → IsCut text.now at }
+    ensures boundary { IsTrue result → IsCharBoundary text.now at }
+{
+    text.as_bytes()[at - 1] != b'\r' && text.is_char_boundary(at)
+}
+
+/// Returns where a text can be cut at an offset or after it, in the middle of a line.
+fn cut_from(text: &str, first: usize) -> Option<usize>
+    requires { 0 < first }
+    ensures cut { IfSome result (IsCut text.now) }
+    ensures boundary { IfSome result (IsCharBoundary text.now) }
+{
+    for at in first..text.len() {
+        if can_cut(text, at) {
+            return Some(at);
+        }
+    }
+    None
+}
+
+/// Returns the last line feed of the first `CUT` bytes.
 fn feed_of(bytes: &[u8]) -> Option<usize>
     requires { CUT ≤ length bytes.now }
-    ensures { IfSome result (IsFeed bytes.now) }
+    ensures feed { IfSome result (IsFeed bytes.now) }
+    ensures front { IfSome result (λ at. at < CUT) }
 {
-    let (front, back) = bytes.split_at(CUT);
+    let (front, _) = bytes.split_at(CUT);
     match memrchr(b'\n', front) {
         Some(at) => Some(at),
-        None => match memchr(b'\n', back) {
-            Some(at) => Some(CUT + at),
-            None => None,
-        },
+        None => None,
     }
 }
 
 /// Returns where the first block of a text ends, if it isn't the last: after the last line feed of
-/// its first `CUT` bytes. If they have none, after the first line feed.
+/// its first `CUT` bytes. If they have none, after them.
 fn cut_of(text: &str) -> Option<usize>
     ensures cut { IfSome result (IsCut text.now) }
     ensures boundary { IfSome result (IsCharBoundary text.now) }
@@ -41,11 +65,9 @@ fn cut_of(text: &str) -> Option<usize>
     if bytes.len() <= LAST {
         return None;
     }
-    let at = feed_of(bytes)?;
-    if at + 1 < bytes.len() {
-        Some(at + 1)
-    } else {
-        None
+    match feed_of(bytes) {
+        Some(at) => Some(at + 1),
+        None => cut_from(text, CUT),
     }
 }
 
@@ -54,7 +76,7 @@ pub fn blocks_of(alloc: Global, text: &str) -> Result<Vec<Block>, AllocError>
     requires { length text.now ≤ 2147483648 }
     ensures text { IfOk result (λ blocks. concat blocks.items ≡ text.now) }
     ensures blocks { IfOk result (λ blocks. AreBlocks blocks.items) }
-    ensures full { IfOk result (λ blocks. EndsLine text.now → AreFull blocks.items) }
+    ensures full { IfOk result (λ blocks. EndsClear text.now → AreFull blocks.items) }
 {
     let mut blocks = Vec::new(alloc);
     let mut rest = text;

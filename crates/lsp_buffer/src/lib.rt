@@ -1,16 +1,20 @@
-//! `TextBuffer`, a text in blocks of whole lines, in which a change costs what its block costs.
+//! `TextBuffer`, a text in blocks, in which a change costs what its block costs.
 //!
 //! - `text_buffer`: `TextBuffer`, the blocks and, beside them, the first byte and the first line of
 //!   each. `change` replaces bytes inside a block, or in several, which are cut again.
 //! - `block`: `Block`, a few kilobytes of the text with their lines.
 //! - `in_place`: one change of a text and its lines, without a copy of the rest.
-//! - `cut`: a text is cut into blocks after line feeds.
+//! - `cut`: a text is cut into blocks, after line feeds or inside a long line.
 //! - `sums`: the first bytes and first lines, kept as sums, and the search in them.
+//! - `heads`: the units before each block in its line, in each encoding.
+//! - `seams`: positions as they are counted from a block on, and the search for a position's block.
 #![tactic(auto)]
 
 mod block;
 mod cut;
+mod heads;
 mod in_place;
+mod seams;
 mod sums;
 mod text_buffer;
 

@@ -68,6 +68,29 @@ pub fn move_from(sums: &mut Vec<u32>, first: usize, old: u32, new: u32)
     move_all(&mut sums[first..], old, new);
 }
 
+/// Moves so many sums from index `first` on by as much as `old` moves to `new`.
+pub fn move_part(sums: &mut [u32], first: usize, count: usize, old: u32, new: u32)
+    requires within { first + count ≤ length sums.old }
+    requires after { (k : ℕ) → k < count → old ≤ slice_index (drop first sums.old) k }
+    requires room { (k : ℕ) → k < count →
+        slice_index (drop first sums.old) k - old + new < 2 ^ 32 }
+    ensures { sums.new ≡ take first sums.old
+        ++ (map (λ start. start - old + new) (take count (drop first sums.old))
+        ++ drop count (drop first sums.old)) }
+{
+    move_all(&mut sums[first..first + count], old, new);
+}
+
+/// Returns how many blocks, from one on, begin in the line that it begins in.
+pub fn line_blocks(lines: &[u32], first: usize) -> usize
+    requires starts { AreStarts lines.now }
+    requires within { first < length lines.now }
+    ensures some { 0 < result }
+    ensures last { IsLineOf lines.now (slice_index lines.now first) (first + result - 1) }
+{
+    block_of(lines, lines[first] as usize) + 1 - first
+}
+
 /// Appends the first byte of each of some blocks, the first of which begins at `first`. Returns
 /// where they end.
 pub fn push_starts(starts: &mut Vec<u32>, blocks: &[Block], first: u32) -> Result<u32, AllocError>

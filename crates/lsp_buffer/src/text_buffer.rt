@@ -15,6 +15,8 @@ pub(crate) mod change;
 
 use crate::block::{Block, are_text, copied_blocks};
 use crate::cut::blocks_of;
+use crate::heads::Heads;
+use crate::seams::{block_at, position_after, position_from};
 use crate::sums::{block_of, push_lines, push_starts};
 use crate::text_buffer::change::{fits, joins, replace_across, replace_inside, replace_joined};
 use lsp_text::{Encoding, InsideCharacter, Position};
@@ -23,9 +25,10 @@ use std::fmt;
 use std::marker::Model;
 use std::ops::Range;
 
-/// A text of at most 2,147,483,648 bytes in blocks of whole lines, some kilobytes each. A change
-/// costs its block, and an addition for each later block. A line that is longer than a block is
-/// one block alone, and costs what it costs in a `String`.
+/// A text of at most 2,147,483,648 bytes in blocks of some kilobytes each. A change costs its
+/// block, and an addition for each later block. That is so in long lines too: a line may be in
+/// many blocks, and one of many megabytes costs what many lines cost. (A run of carriage returns
+/// alone is never cut.)
 ///
 /// Clauses see the bytes of the text.
 #[derive(Debug, Drop)]
@@ -33,18 +36,21 @@ pub struct TextBuffer {
     blocks: Vec<Block>,
     starts: Vec<u32>,
     lines: Vec<u32>,
+    heads: Heads,
 }
 
 impl Model for TextBuffer {
     ghost use Rattle.std.specs.Prelude.{ℕ, List};
     ghost use Rattle.std.specs.List.{concat};
-    ghost use Rattle.lsp_buffer.specs.Blocks.{IsBuffer};
+    ghost use Rattle.lsp_buffer.specs.Blocks.{IsTextBuffer};
+    ghost use Rattle.lsp_buffer.specs.inside.Seams.{row_of};
 
     ghost Value = { List ℕ };
 
     ghost view = { λ text. concat text.blocks.items };
 
-    ghost invariant = { λ text. IsBuffer text.blocks.items text.starts.items text.lines.items };
+    ghost invariant = { λ text. IsTextBuffer text.blocks.items text.starts.items text.lines.items
+        (row_of text.heads) };
 }
 
 impl TextBuffer {
@@ -69,7 +75,7 @@ impl TextBuffer {
         TextBuffer::of_blocks(alloc, blocks)
     }
 
-    /// Sums up the first bytes and the first lines of some blocks.
+    /// Sums up what comes before each of some blocks.
     fn of_blocks(alloc: Global, blocks: Vec<Block>) -> Result<Self, AllocError>
         requires are { AreBlocks blocks.items }
         requires size { length (concat blocks.items) ≤ 2147483648 }
@@ -79,10 +85,12 @@ impl TextBuffer {
         let mut lines = Vec::with_capacity(alloc, blocks.len())?;
         let _ = push_starts(&mut starts, &blocks, 0)?;
         let _ = push_lines(&mut lines, &blocks, 0)?;
+        let heads = Heads::new(alloc, &blocks)?;
         Ok(TextBuffer {
             blocks,
             starts,
             lines,
+            heads,
         })
     }
 
@@ -94,10 +102,12 @@ impl TextBuffer {
         let blocks = copied_blocks(alloc, &self.blocks)?;
         let starts = Vec::from_slice(alloc, &self.starts)?;
         let lines = Vec::from_slice(alloc, &self.lines)?;
+        let heads = self.heads.copied(alloc)?;
         Ok(TextBuffer {
             blocks,
             starts,
             lines,
+            heads,
         })
     }
 
@@ -126,7 +136,7 @@ impl TextBuffer {
     ///
     /// A position past the last line denotes the end of the text, one past a line's content the end
     /// of that content. A position inside a character is an error. Costs a binary search over the
-    /// blocks, and the line's text up to the position; in UTF-8 only the search.
+    /// blocks, and the line's text up to the position in its block; in UTF-8 only the search.
     pub fn resolve(&self, encoding: Encoding, position: Position) -> Result<usize, InsideCharacter>
         ensures value { result_ok result
             ≡ option_map (place_of (chars self.now))
@@ -134,12 +144,10 @@ impl TextBuffer {
         ensures place { IfOk result (IsPlace (chars self.now)) }
         ensures boundary { IfOk result (IsCharBoundary self.now) }
     {
-        let index = block_of(&self.lines, position.line as usize);
+        let heads = self.heads.of(encoding);
+        let index = block_at(&self.lines, heads, position);
         let block = &self.blocks[index];
-        let inner = Position {
-            line: position.line - self.lines[index],
-            character: position.character,
-        };
+        let inner = position_after(self.lines[index], heads[index], position);
         match block.resolve(encoding, inner) {
             Ok(offset) => Ok(self.starts[index] as usize + offset),
             Err(fault) => Err(fault),
@@ -147,7 +155,7 @@ impl TextBuffer {
     }
 
     /// Returns the exact position of a byte offset (LSP 3.17, Position). Costs a binary search over
-    /// the blocks, one over a block's lines, and the line's text up to the offset.
+    /// the blocks, one over a block's lines, and the line's text in the block up to the offset.
     pub fn position(&self, encoding: Encoding, offset: usize) -> Position
         requires { IsPlace (chars self.now) offset }
         ensures exact { (k : ℕ) → k ≤ length (chars self.now) → place_of (chars self.now) k ≡ offset
@@ -158,10 +166,7 @@ impl TextBuffer {
         let index = block_of(&self.starts, offset);
         let block = &self.blocks[index];
         let inner = block.position(encoding, offset - self.starts[index] as usize);
-        Position {
-            line: self.lines[index] + inner.line,
-            character: inner.character,
-        }
+        position_from(self.lines[index], self.heads.of(encoding)[index], inner)
     }
 
     /// Returns whether a character begins at this byte offset, or the text ends there. Costs a
@@ -318,12 +323,13 @@ impl TextBuffer {
         let first = block_of(&self.starts, start);
         let last = block_of(&self.starts, end);
         let (blocks, starts, lines) = (&mut self.blocks, &mut self.starts, &mut self.lines);
+        let heads = &mut self.heads;
         if joins(blocks, starts, first, last, start, end, new) {
-            replace_joined(blocks, starts, lines, first, last, start, end, new)
+            replace_joined(blocks, starts, lines, heads, first, last, start, end, new)
         } else if first == last && fits(blocks, first, new) {
-            replace_inside(blocks, starts, lines, first, start, end, new)
+            replace_inside(blocks, starts, lines, heads, first, start, end, new)
         } else {
-            replace_across(blocks, starts, lines, first, last, start, end, new)
+            replace_across(blocks, starts, lines, heads, first, last, start, end, new)
         }
     }
 }

@@ -1,27 +1,25 @@
 //! A change of a text in blocks: inside a block, or across blocks, which are cut again.
-ghost use Rattle.std.specs.Prelude.{◌≡◌, ◌+◌, ◌-◌, ◌≤◌, ◌<◌, ◌++◌, IsTrue, OnOk, OnErr, length, take, drop, vec_len, slice_index, string_bytes, IfOk, map, sum};
+ghost use Rattle.std.specs.Prelude.{◌≡◌, ◌+◌, ◌-◌, ◌≤◌, ◌<◌, ◌++◌, ℕ, List, IsTrue, OnOk, OnErr, length, take, drop, set, vec_len, slice_index, string_bytes, IfOk, map, sum};
 ghost use Rattle.std.specs.List.{concat, replace_range};
 ghost use Rattle.std.specs.Str.{IsCharBoundary};
 ghost use Rattle.lsp_text.specs.Starts.{IsLineOf};
-ghost use Rattle.lsp_buffer.specs.Blocks.{AreBlocks, IsBuffer, ends_of, sums_from};
+ghost use Rattle.lsp_buffer.specs.inside.Seams.{row_of};
+ghost use Rattle.lsp_buffer.specs.Blocks.{AreBlocks, IsBuffer, IsTextBuffer, ends_of, sums_from};
 
 use crate::block::Block;
 use crate::cut::{CUT, LAST, blocks_of};
+use crate::heads::Heads;
 use crate::sums::{block_of, move_from, push_lines, push_starts};
-use memchr::memchr;
 use std::alloc::{AllocError, Global};
 
 /// A block that a change leaves with fewer bytes is joined with the next one.
 const SMALL: usize = CUT / 4;
 
-/// Returns whether a block may take a new text in: it is short enough, or it is one long line that
-/// remains one.
+/// Returns whether a block is short enough to take a new text in.
 pub fn fits(blocks: &[Block], index: usize, new: &str) -> bool
     requires { index < length blocks.now }
 {
-    let block = &blocks[index];
-    block.len().saturating_add(new.len()) <= 2 * CUT
-        || (block.ends() <= 1 && memchr(b'\n', new.as_bytes()).is_none())
+    blocks[index].len().saturating_add(new.len()) <= 2 * CUT
 }
 
 /// Returns whether a change leaves so little of its blocks that it is joined with the next one.
@@ -88,8 +86,9 @@ fn put_in_block(
     })
 }
 
-/// Replaces bytes inside one block. Out of memory changes nothing.
-pub fn replace_inside(
+/// Replaces bytes inside one block, and moves the first bytes and lines of the later ones. Out of
+/// memory changes nothing.
+fn put_inside(
     blocks: &mut Vec<Block>,
     starts: &mut Vec<u32>,
     lines: &mut Vec<u32>,
@@ -109,7 +108,9 @@ pub fn replace_inside(
     ensures are { IsBuffer blocks.new.items starts.new.items lines.new.items }
     ensures changed { OnOk result
         (concat blocks.new.items ≡ replace_range (concat blocks.old.items) start end new.now) }
-    ensures unchanged { OnErr result (concat blocks.new.items ≡ concat blocks.old.items) }
+    ensures unchanged { OnErr result (blocks.new.items ≡ blocks.old.items) }
+    ensures other { OnOk result
+        ((block : List ℕ) × (blocks.new.items ≡ set blocks.old.items index block)) }
 {
     let from = starts[index] as usize;
     let sizes = put_in_block(&mut blocks[index], start - from, end - from, new)?;
@@ -117,6 +118,37 @@ pub fn replace_inside(
     if sizes.ends != sizes.old_ends {
         move_from(lines, index + 1, sizes.old_ends as u32, sizes.ends as u32);
     }
+    Ok(())
+}
+
+/// Replaces bytes inside one block. Out of memory changes nothing.
+pub fn replace_inside(
+    blocks: &mut Vec<Block>,
+    starts: &mut Vec<u32>,
+    lines: &mut Vec<u32>,
+    heads: &mut Heads,
+    index: usize,
+    start: usize,
+    end: usize,
+    new: &str,
+) -> Result<(), AllocError>
+    requires are { IsTextBuffer blocks.old.items starts.old.items lines.old.items
+        (row_of heads.old) }
+    requires first { IsLineOf starts.old.items start index }
+    requires last { IsLineOf starts.old.items end index }
+    requires order { start ≤ end }
+    requires at_start { IsCharBoundary (concat blocks.old.items) start }
+    requires at_end { IsCharBoundary (concat blocks.old.items) end }
+    requires room { length (replace_range (concat blocks.old.items) start end new.now)
+        ≤ 2147483648 }
+    ensures are { IsTextBuffer blocks.new.items starts.new.items lines.new.items
+        (row_of heads.new) }
+    ensures changed { OnOk result
+        (concat blocks.new.items ≡ replace_range (concat blocks.old.items) start end new.now) }
+    ensures unchanged { OnErr result (concat blocks.new.items ≡ concat blocks.old.items) }
+{
+    put_inside(blocks, starts, lines, index, start, end, new)?;
+    heads.put(lines, blocks, index);
     Ok(())
 }
 
@@ -220,13 +252,15 @@ pub fn replace_across(
     blocks: &mut Vec<Block>,
     starts: &mut Vec<u32>,
     lines: &mut Vec<u32>,
+    heads: &mut Heads,
     first: usize,
     last: usize,
     start: usize,
     end: usize,
     new: &str,
 ) -> Result<(), AllocError>
-    requires are { IsBuffer blocks.old.items starts.old.items lines.old.items }
+    requires are { IsTextBuffer blocks.old.items starts.old.items lines.old.items
+        (row_of heads.old) }
     requires first { IsLineOf starts.old.items start first }
     requires last { IsLineOf starts.old.items end last }
     requires order { start ≤ end }
@@ -234,7 +268,8 @@ pub fn replace_across(
     requires at_end { IsCharBoundary (concat blocks.old.items) end }
     requires room { length (replace_range (concat blocks.old.items) start end new.now)
         ≤ 2147483648 }
-    ensures are { IsBuffer blocks.new.items starts.new.items lines.new.items }
+    ensures are { IsTextBuffer blocks.new.items starts.new.items lines.new.items
+        (row_of heads.new) }
     ensures changed { OnOk result
         (concat blocks.new.items ≡ replace_range (concat blocks.old.items) start end new.now) }
     ensures unchanged { OnErr result (concat blocks.new.items ≡ concat blocks.old.items) }
@@ -261,9 +296,18 @@ pub fn replace_across(
         past,
         fresh.as_slice(),
     )?;
+    let next_heads = heads.spliced(
+        alloc,
+        lines.as_slice(),
+        blocks.as_slice(),
+        first,
+        past,
+        fresh.as_slice(),
+    )?;
     replace_blocks(blocks, first, past, fresh)?;
     *starts = next_starts;
     *lines = next_lines;
+    *heads = next_heads;
     Ok(())
 }
 
@@ -273,13 +317,15 @@ pub fn replace_joined(
     blocks: &mut Vec<Block>,
     starts: &mut Vec<u32>,
     lines: &mut Vec<u32>,
+    heads: &mut Heads,
     first: usize,
     last: usize,
     start: usize,
     end: usize,
     new: &str,
 ) -> Result<(), AllocError>
-    requires are { IsBuffer blocks.old.items starts.old.items lines.old.items }
+    requires are { IsTextBuffer blocks.old.items starts.old.items lines.old.items
+        (row_of heads.old) }
     requires first { IsLineOf starts.old.items start first }
     requires last { IsLineOf starts.old.items end last }
     requires next { last + 1 < vec_len blocks.old }
@@ -288,7 +334,8 @@ pub fn replace_joined(
     requires at_end { IsCharBoundary (concat blocks.old.items) end }
     requires room { length (replace_range (concat blocks.old.items) start end new.now)
         ≤ 2147483648 }
-    ensures are { IsBuffer blocks.new.items starts.new.items lines.new.items }
+    ensures are { IsTextBuffer blocks.new.items starts.new.items lines.new.items
+        (row_of heads.new) }
     ensures changed { OnOk result
         (concat blocks.new.items ≡ replace_range (concat blocks.old.items) start end new.now) }
     ensures unchanged { OnErr result (concat blocks.new.items ≡ concat blocks.old.items) }
@@ -300,5 +347,7 @@ pub fn replace_joined(
     text.push_str(back)?;
     let next = starts[last + 1] as usize;
     let last = block_of(starts, next);
-    replace_across(blocks, starts, lines, first, last, start, next, &text)
+    replace_across(
+        blocks, starts, lines, heads, first, last, start, next, &text,
+    )
 }

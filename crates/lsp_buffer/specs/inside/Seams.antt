@@ -1,0 +1,75 @@
+-- Positions at the seams between blocks.
+use Rattle.std.specs.Prelude.{ℕ, ◌≡◌, ◌+◌, ◌-◌, ◌*◌, ◌<◌, ◌≤◌, ◌⊎◌, List, [], ◌∷◌, length, map, set}
+use Rattle.std.specs.List.{concat}
+use Rattle.lsp_text.specs.declared.encoding.Encoding.{Encoding}
+use Rattle.lsp_text.specs.declared.encoding.Encoding.TheVariants.{Utf8, Utf16, Utf32}
+use Rattle.lsp_text.specs.declared.position.Position.{Position}
+use Rattle.lsp_text.specs.Starts.{AreStarts}
+use Rattle.lsp_text.specs.Units.{units_in}
+use Rattle.lsp_buffer.specs.Blocks.{AreBlocks, carried, ends_of, head_after, heads_from, sums_from}
+
+-- A position is at the end of a text or after it, if that is in this line, with so many units.
+abbrev pub IsBehind : ℕ → ℕ → Position → Type 0
+IsBehind line head p = (line < p.line) ⊎ ((p.line ≡ line) × (head ≤ p.character))
+
+-- It is before the end.
+abbrev pub IsBefore : ℕ → ℕ → Position → Type 0
+IsBefore line head p = (p.line < line) ⊎ ((p.line ≡ line) × (p.character < head))
+
+-- A position of a text, as it is counted from such a place on.
+abbrev pub position_after : ℕ → ℕ → Position → Position
+position_after line head p =
+    record { line = p.line - line; character = p.character - carried (p.line - line) head }
+
+-- And back.
+abbrev pub position_from : ℕ → ℕ → Position → Position
+position_from line head p =
+    record { line = line + p.line; character = carried p.line head + p.character }
+
+-- One number for a line and units in it, in the order of positions.
+abbrev pub mark : ℕ → ℕ → ℕ
+mark line units = line * 4294967296 + units
+
+-- Those of the first lines of blocks and the units before them.
+abbrev pub marks_of : List ℕ → List ℕ → List ℕ
+marks_of [] heads = []
+marks_of (line ∷ lines) [] = []
+marks_of (line ∷ lines) (head ∷ heads) = mark line head ∷ marks_of lines heads
+
+-- They can be searched.
+pub record AreMarks (lines heads : List ℕ) : Type 0 where
+  pub counts : length lines ≡ length heads
+  pub starts : AreStarts (marks_of lines heads)
+
+-- A list for each encoding.
+pub record Rows : Type 0 where
+  pub utf8 : List ℕ
+  pub utf16 : List ℕ
+  pub utf32 : List ℕ
+
+-- That of one of them.
+abbrev pub row_of : Rows → Encoding → List ℕ
+row_of rows Utf8 = rows.utf8
+row_of rows Utf16 = rows.utf16
+row_of rows Utf32 = rows.utf32
+
+-- The units of the line at the end of blocks, if so many are before the first.
+abbrev pub heads_end : (ℕ → ℕ) → ℕ → List (List ℕ) → ℕ
+heads_end units head [] = head
+heads_end units head (block ∷ blocks) = heads_end units (head_after units head block) blocks
+
+-- The block with this index was another one before a change. The heads are those of the blocks with
+-- that, the lines those of the blocks as they are.
+pub record WereSums (blocks : List (List ℕ)) (index : ℕ) (lines : List ℕ) (encoding : Encoding)
+    (heads : List ℕ) : Type 0 where
+  pub old : List ℕ
+  pub within : index < length blocks
+  pub are : AreBlocks blocks
+  pub size : length (concat blocks) ≤ 2147483648
+  pub lines_are : lines ≡ sums_from 0 (map ends_of blocks)
+  pub heads_were : heads ≡ heads_from (units_in encoding) 0 (set blocks index old)
+
+-- Those of all encodings.
+abbrev pub WereHeads : List (List ℕ) → ℕ → List ℕ → (Encoding → List ℕ) → Type 0
+WereHeads blocks index lines heads =
+    (encoding : Encoding) → WereSums blocks index lines encoding (heads encoding)
