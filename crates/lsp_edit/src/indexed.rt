@@ -113,8 +113,9 @@ impl IndexedText {
         &self.lines
     }
 
-    /// Copies the text and its lines. Costs the copies.
-    pub(crate) fn copied(&self, alloc: Global) -> Result<Self, AllocError>
+    /// Copies the text and its lines. Fails only if it is out of memory. Costs the copies, and no
+    /// search through the text.
+    pub fn copied(&self, alloc: Global) -> Result<Self, AllocError>
         ensures copy { IfOk result (λ copy. copy ≡ self.now) }
         ensures utf8 { OnOk result (IsUtf8 self.now) }
     {

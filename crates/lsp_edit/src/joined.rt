@@ -78,6 +78,17 @@ impl Joined {
         Ok(Self::begin(alloc, before))
     }
 
+    /// Makes a text before any batch; the text is copied, with its lines. Fails only if it is out
+    /// of memory. Costs the copies, and no search through the text.
+    pub fn over(alloc: Global, text: &IndexedText) -> Result<Self, AllocError>
+        ensures joined { IfOk result (λ joined.
+            joined ≡ record { before = text.now; items = plain (chars text.now) }) }
+        ensures reached { IfOk result (λ joined. IsReached joined text.now) }
+    {
+        let before = text.copied(alloc)?;
+        Ok(Self::begin(alloc, before))
+    }
+
     /// Makes a text before any batch, with its lines.
     fn begin(alloc: Global, before: IndexedText) -> Self
         ensures { result ≡ record { before = before; items = plain (chars before) } }
@@ -106,7 +117,7 @@ impl Joined {
             (map edit_of changes.now)) }
     {
         let mut reached = before.copied(alloc)?;
-        let mut joined = Self::begin(alloc, before.copied(alloc)?);
+        let mut joined = Self::over(alloc, before)?;
         for run in changes.chunks(RUN) {
             joined.change(encoding, &mut reached, run, MAX_OLD_TEXT)?;
         }

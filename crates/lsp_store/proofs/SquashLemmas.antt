@@ -54,12 +54,6 @@ weights edits = sum_by-le-sum_by (λ (e : Edit). length (encode_utf8_all e.text)
 
 -- ---- before any batch
 
-pub start_reached : (joined : JoinedData) (before bytes : List ℕ) → joined ≡ record { before = before; items = plain (chars before) } → bytes ≡ before → IsUtf8 bytes → IsReached joined bytes
-start_reached joined before bytes is same utf8 = record {
-  utf8 = utf8;
-  text_is = ap chars same ∙ (sym (plain_text (chars before)) ∙ sym (ap joined_text is));
-}
-
 pub start_seen : (uri : List ℕ) (limits : Bounds) (encoding : Encoding) (joined : JoinedData) (before : List ℕ) (version : ℤ) (entry : DocumentItem) → joined ≡ record { before = before; items = plain (chars before) } → uri ≡ entry.uri → before ≡ entry.text
     → version ≡ entry.version → seen uri limits encoding joined version ≡ squash_of limits encoding entry
 start_seen uri limits encoding joined before version entry is same_uri same_text same_version =

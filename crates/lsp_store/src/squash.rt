@@ -56,8 +56,8 @@ impl Squash {
     /// Starts at a document before any batch, within limits. Later changes of the document have no
     /// effect on it.
     ///
-    /// Fails only where memory runs out. Costs two copies of the text and two searches through it
-    /// for its lines.
+    /// Fails only where memory runs out. Costs two copies of the text and its lines, and no search
+    /// through it.
     pub fn start(
         alloc: Global,
         limits: Limits,
@@ -68,10 +68,13 @@ impl Squash {
     {
         let stored = document.stored;
         let uri = String::from_str(alloc, document.uri)?;
-        let before = String::from_str(alloc, stored.text.text())?;
-        let joined = Joined::new(alloc, before)?;
-        let text = String::from_str(alloc, stored.text.text())?;
-        let reached = Stored::new(alloc, String::new(alloc), stored.version, text)?;
+        let joined = Joined::over(alloc, &stored.text)?;
+        let text = stored.text.copied(alloc)?;
+        let reached = Stored {
+            language: String::new(alloc),
+            version: stored.version,
+            text,
+        };
         Ok(Squash {
             uri,
             limits,

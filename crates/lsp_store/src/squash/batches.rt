@@ -57,8 +57,8 @@ impl Model for Batches {
 impl Batches {
     /// Starts at a document before any batch, within limits.
     ///
-    /// Fails only where memory runs out. Costs a copy of the text and a search through it for its
-    /// lines.
+    /// Fails only where memory runs out. Costs a copy of the text and its lines, and no search
+    /// through it.
     pub fn start(
         alloc: Global,
         limits: Limits,
@@ -70,8 +70,7 @@ impl Batches {
     {
         let stored = document.stored;
         let uri = String::from_str(alloc, document.uri)?;
-        let before = String::from_str(alloc, stored.text.text())?;
-        let joined = Joined::new(alloc, before)?;
+        let joined = Joined::over(alloc, &stored.text)?;
         Ok(Batches {
             uri,
             limits,

@@ -1,15 +1,12 @@
 use Rattle.std.proofs.Common.{◌≡◌, ◌+◌, ℕ, List, length, map, sum_by, string_len, sym, ap, subst, ◌∙◌, arith, rules}
 use Rattle.std.specs.Slice.Iter.{chunks_rest}
-use Rattle.std.specs.Str.{chars}
 use Rattle.std.proofs.lemmas.List.{map-append, nil_from_length}
 use Rattle.std.proofs.lemmas.List.Sums.{sum_by-append}
 use Rattle.lsp_text.specs.Units.{units_in}
 use Rattle.lsp_edit.specs.declared.change.Change.{Change}
 use Rattle.lsp_edit.specs.Batch.{Edit}
 use Rattle.lsp_edit.specs.Edited.{edit_of}
-use Rattle.lsp_edit.specs.Items.{plain}
 use Rattle.lsp_edit.specs.Joined.{IsReached}
-use Rattle.lsp_edit.proofs.DeltaLemmas.{first_reached}
 use Rattle.lsp_edit.proofs.RunLemmas.{IsRun, run_begins, run_ends, run_next}
 use Rattle.lsp_edit.proofs.joined.Joined.of_batch.Goals as goal
 
@@ -17,14 +14,12 @@ pub loop-run-init : goal.loop-run-init
 loop-run-init c =
     let rest : chunks_rest c.into_iter-run-iterator.result ≡ c.args.changes.now = search rules in
     let batch : List Edit = map edit_of c.args.changes.now in
-    let is : c.begin-joined.result ≡ record { before = c.args.before.now; items = plain (chars c.args.before.now) }
-    = c.begin-joined.ensures ∙ ap (λ (b : List ℕ). record { before = b; items = plain (chars b) }) c.in_ok-copied.ensures.copy in
-    let at : IsReached c.begin-joined.result c.in_ok-reached.reached
-    = subst (IsReached c.begin-joined.result) (sym c.in_ok-reached.ensures.copy) (first_reached c.args.before.now c.begin-joined.result c.in_ok-reached.ensures.utf8 is) in (
+    let at : IsReached c.in_ok-joined.joined c.in_ok-reached.reached
+    = subst (IsReached c.in_ok-joined.joined) (sym c.in_ok-reached.ensures.copy) c.in_ok-joined.ensures.reached in (
       search rules,
       rw rest c.requires.fits,
-      subst (λ (r : List Change). IsRun (units_in c.args.encoding) c.args.before.now batch c.begin-joined.result c.in_ok-reached.reached (map edit_of r)) (sym rest)
-          (run_begins (units_in c.args.encoding) c.args.before.now batch c.begin-joined.result c.in_ok-reached.reached c.in_ok-reached.ensures.utf8 is at
+      subst (λ (r : List Change). IsRun (units_in c.args.encoding) c.args.before.now batch c.in_ok-joined.joined c.in_ok-reached.reached (map edit_of r)) (sym rest)
+          (run_begins (units_in c.args.encoding) c.args.before.now batch c.in_ok-joined.joined c.in_ok-reached.reached c.in_ok-reached.ensures.utf8 c.in_ok-joined.ensures.joined at
           (omega (arith, ap length c.in_ok-reached.ensures.copy, c.requires.size))),
     )
 
