@@ -30,10 +30,11 @@ use Rattle.lsp_message.specs.Sent.{IsProper, IsReadAsSent, IsReadBack}
 use Rattle.lsp_store.specs.declared.fault.StoreFault.{StoreFault}
 use Rattle.lsp_store.specs.declared.fault.StoreFault.TheVariants.{NoMemory}
 use Rattle.lsp_store.specs.Faults.{store_fault_of_encode, IsRefusal}
-use Rattle.lsp_store.specs.Table.{Refusal, stale_version, too_many_changes, text_too_long, edit, batch_bytes, greatest_batch, entry_at, entry_refusal, change_refusal, after_change, changed, meaning_refusal}
+use Rattle.lsp_store.specs.Table.{IsLeftToMeaning, Refusal, stale_version, too_many_changes, text_too_long, edit, batch_bytes, greatest_batch, entry_at, entry_refusal, change_refusal, after_change, changed, meaning_refusal}
 use Rattle.lsp_store.specs.Message.{AreTexts, DoAlike, IsCanonicalOn, IsReadAgain, IsCanonicalOf, body_refusal, canonical_batch, canonical_body, canonical_frame, change_body, change_message, else_refused, message_refusal, written_edit}
 use Rattle.lsp_store.proofs.FrameLemmas.{frame_one}
 use Rattle.lsp_store.proofs.ProperLemmas.{bytes_sum, canonical_proper}
+use Rattle.lsp_store.proofs.RefusalLemmas.{refused_meaning}
 use Rattle.lsp_store.proofs.ScalarLemmas.{canonical_texts}
 
 -- ---- what is written
@@ -142,6 +143,12 @@ accepted_parts limits units entry version batch e =
           short = meant.2;
         })
         (cases_Bool (nat_lt limits.max_changes (length batch) || nat_lt greatest_batch (batch_bytes batch)))
+
+-- Of an accepted batch only its meaning could be refused.
+pub accepted_left : (limits : Bounds) (units : ℕ → ℕ) (entry : DocumentItem) (version : ℤ) (batch : List Edit) → entry_refusal limits units entry version batch ≡ None → IsLeftToMeaning limits entry version batch
+accepted_left limits units entry version batch is = λ u.
+    let a = accepted_parts limits units entry version batch is in
+    refused_meaning limits u entry version batch a.newer (or_from _ _ (le-ltb limits.max_changes (length batch) a.few) (le-ltb greatest_batch (batch_bytes batch) a.fits))
 
 pub accepted_from : (limits : Bounds) (units : ℕ → ℕ) (entry : DocumentItem) (version : ℤ) (batch : List Edit) → Accepts limits units entry version batch → entry_refusal limits units entry version batch ≡ None
 accepted_from limits units entry version batch a =

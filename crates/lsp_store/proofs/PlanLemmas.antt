@@ -25,7 +25,8 @@ use Rattle.lsp_store.specs.Plan.{IsPlanOf, IsPlanOn, after_plan, planned, planne
 use Rattle.lsp_store.specs.declared.fault.StoreFault.{StoreFault}
 use Rattle.lsp_store.specs.Faults.{IsRefusal}
 use Rattle.lsp_store.specs.Message.{body_refusal, canonical_batch, canonical_body, change_body, else_refused, message_refusal}
-use Rattle.lsp_store.specs.Table.{IsLeftToMeaning, Refusal, after_change, changed, changes, entry_at, entry_refusal}
+use Rattle.lsp_store.specs.Table.{Refusal, after_change, changed, changes, entry_at, entry_refusal}
+use Rattle.lsp_store.proofs.MessageLemmas.{accepted_left}
 use Rattle.lsp_store.proofs.RefusalLemmas.{meaning_accepted, meaning_short}
 use Rattle.lsp_store.proofs.StoreLemmas.{get_found, may_take, seen}
 use Rattle.lsp_store.proofs.TableLemmas.{at_uri}
@@ -134,8 +135,8 @@ module _ (limits : Bounds) (es : List (String Global × Stored)) (kept : StoreDa
   module _ (uri : List ℕ) (version given : ℤ) (given_is : given ≡ version) (encoding : Encoding) (batch : List Edit) (index : ℕ) (key : String Global) (stored : Stored) (delta : Delta) where
     pub plan_is : Some index ≡ position (at_uri uri) (map (λ e. e.0) es) → Some key ≡ lookup_key (at_uri uri) es → Some stored ≡ lookup (at_uri uri) es → slice_get es index ≡ Some (key, stored)
         → ((u : List ℕ) → entry_refusal limits (units_in encoding) (entry_under u stored) version batch ≡ None) → IsDeltaOf (units_in encoding) limits.max_text stored.text batch delta → limits.max_text ≤ 1073741824
-        → ((u : List ℕ) → IsLeftToMeaning limits (entry_under u stored) version batch) → IsPlanOf kept uri version encoding batch (record { index = index; version = given; delta = delta })
-    plan_is at_index at_key found at accepted made short left =
+        → IsPlanOf kept uri version encoding batch (record { index = index; version = given; delta = delta })
+    plan_is at_index at_key found at accepted made short =
         subst (λ (d : StoreData). IsPlanOf d uri version encoding batch (record { index = index; version = given; delta = delta })) view (record {
           on = record {
             entry = entry_under (string_bytes key) stored;
@@ -152,7 +153,7 @@ module _ (limits : Bounds) (es : List (String Global × Stored)) (kept : StoreDa
               (after_planned (units_in encoding) uri version batch key stored delta
               (λ u. ap (λ (text : List ℕ). record (entry_under u stored) { version = version; text = text }) (meaning_accepted limits stored.text _ _ made.is).1)
               es index (index_found (at_uri uri) (map (λ e. e.0) es) index at_index) at);
-          left = may_take (seen limits es) uri version batch (entry_under (string_bytes key) stored) there (left (string_bytes key));
+          left = may_take (seen limits es) uri version batch (entry_under (string_bytes key) stored) there (accepted_left limits (units_in encoding) (entry_under (string_bytes key) stored) version batch (accepted (string_bytes key)));
         })
       where
         there : entry_at (map entry_of es) uri ≡ Some (entry_under (string_bytes key) stored)

@@ -64,11 +64,9 @@ impl Stored {
         version: i32,
         changes: &[Change],
     ) -> Result<(), StoreFault>
-        ensures may { OnOk result ((units : ℕ → ℕ) (uri : List ℕ) →
-            entry_refusal limits.now units (entry_under uri self.now) version
-            (map edit_of changes.now)
-            ≡ meaning_refusal limits.now self.now.text
-            (meaning units (chars self.now.text) (map edit_of changes.now))) }
+        ensures may { OnOk result ((uri : List ℕ)
+            → IsLeftToMeaning limits.now (entry_under uri self.now) version
+            (map edit_of changes.now)) }
         ensures error { IfErr result (λ fault. (units : ℕ → ℕ) (uri : List ℕ) →
             option_map fault_of
             (entry_refusal limits.now units (entry_under uri self.now) version
@@ -108,9 +106,6 @@ impl Stored {
         ensures memory { result ≡ Err NoMemory → (uri : List ℕ)
             → IsLeftToMeaning limits.now (entry_under uri self.now) version
             (map edit_of changes.now) }
-        ensures left { OnOk result ((uri : List ℕ)
-            → IsLeftToMeaning limits.now (entry_under uri self.now) version
-            (map edit_of changes.now)) }
     {
         let max_len = limits.max_text();
         self.may_change(limits, version, changes)?;
@@ -156,9 +151,6 @@ impl Stored {
         ensures memory { result ≡ Err NoMemory → (uri : List ℕ)
             → IsLeftToMeaning limits.now (entry_under uri self.now) version
             (map edit_of changes.now) }
-        ensures left { OnOk result ((uri : List ℕ)
-            → IsLeftToMeaning limits.now (entry_under uri self.now) version
-            (map edit_of changes.now)) }
     {
         let max_text = limits.max_text();
         self.may_change(limits, version, changes)?;

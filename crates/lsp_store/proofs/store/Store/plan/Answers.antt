@@ -21,7 +21,6 @@ returns-in-Ok-clause-planned c =
     (rw version at c.in-Ok.ensures.accepted)
     c.in-Ok.ensures.delta
     c.in-Ok.ensures.short
-    (rw version at c.in-Ok.ensures.left)
 
 pub returns-in-Ok-clause-on : goal.returns-in-Ok-clause-on
 returns-in-Ok-clause-on c = (returns-in-Ok-clause-planned c).on

@@ -8,7 +8,7 @@ use Rattle.lsp_store.specs.Opened.{entry_under}
 use Rattle.lsp_store.specs.Table.{IsLeftToMeaning, entry_at, entry_refusal}
 use Rattle.lsp_store.specs.Message.{body_refusal, canonical_batch, canonical_body}
 use Rattle.lsp_store.proofs.StoreLemmas.{change_absent, change_refused, held_at, limits_are, may_take}
-use Rattle.lsp_store.proofs.MessageLemmas.{first_told, message_accepted, message_refused, canonical_is}
+use Rattle.lsp_store.proofs.MessageLemmas.{accepted_left, first_told, message_accepted, message_refused, canonical_is}
 use Rattle.lsp_store.proofs.store.Store.push_canonical_body.Goals as goal
 
 pub returns-in_default-clause-error : goal.returns-in_default-clause-error
@@ -59,7 +59,7 @@ returns-in_err-push_body-clause-memory c = λ e.
     held_at c.self.inside.limits c.self.inside.documents.entries c.args.self.now c.self.view_is c.args.uri.now c.in-Some.stored.now c.in-Some.ensures.value in
     let limits : c.self.inside.limits ≡ c.args.self.now.limits = limits_are c.self.inside.limits c.self.inside.documents.entries c.args.self.now c.self.view_is in
     let left : IsLeftToMeaning c.args.self.now.limits (entry_under c.args.uri.now c.in-Some.stored.now) c.args.version (map edit_of c.args.changes.now) =
-    rw (version, limits) at (c.in_ok-batch.ensures.left c.args.uri.now) in
+    accepted_left c.args.self.now.limits (units_in c.args.encoding) (entry_under c.args.uri.now c.in-Some.stored.now) c.args.version (map edit_of c.args.changes.now) (rw (version, limits) at (c.in_ok-batch.ensures.accepted c.args.uri.now)) in
     may_take c.args.self.now c.args.uri.now c.args.version (map edit_of c.args.changes.now) (entry_under c.args.uri.now c.in-Some.stored.now) is_open left
 
 pub returns-clause-body : goal.returns-clause-body

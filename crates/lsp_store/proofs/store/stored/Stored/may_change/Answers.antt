@@ -13,6 +13,6 @@ returns-then-changes-max_changes-clause-error c units uri =
     ]
 
 pub returns-clause-may : goal.returns-clause-may
-returns-clause-may c units uri =
+returns-clause-may c uri units =
     fit_accepted c.args.limits.now c.args.changes.now units (entry_under uri c.args.self.now) _ _ _ (to_z-of_z w32 c.args.version (search rules)) (to_z-of_z w32 c.args.self.now.version (search rules)) c.if-version-self.false
     (omega (arith, c.if-changes-max_changes.false, c.max_changes.ensures.value)) (c.fits.ensures.0 c.if-not-fits.false)
