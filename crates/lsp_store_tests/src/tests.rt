@@ -65,6 +65,22 @@ pub(super) fn store_of(
     Ok(store)
 }
 
+/// Returns a store with one open document of version 1, of two changes at most. Out of memory is counted, and the call repeated.
+pub(super) fn store_again(
+    alloc: Global,
+    text: &str,
+    refused: &mut usize,
+) -> Result<Store, StoreFault> {
+    let limits = narrow(1, 2)?;
+    match store_of(alloc, limits, 1, text) {
+        Err(StoreFault::NoMemory) => {
+            *refused = refused.saturating_add(1);
+            store_of(alloc, limits, 1, text)
+        }
+        other => other,
+    }
+}
+
 /// The version and the text of the document of [`URI`]; none where it isn't open.
 pub(super) type Open = Option<(i32, &'static str)>;
 

@@ -1,6 +1,6 @@
 //! Calls that run out of memory once, and are repeated.
 
-use super::{URI, change, frame_len, is_current, narrow, open, store_of};
+use super::{URI, change, frame_len, is_current, narrow, open, store_again};
 use lsp_edit::Change;
 use lsp_samples::edits::{ALL, Edit, batch_again};
 use lsp_store::{Store, StoreFault};
@@ -34,18 +34,6 @@ fn refused_open(rt: HostRuntime) -> Result<(), Fail> {
     assert!(rt; new_one_opens_again(rt.alloc(), &mut refused)?);
     println!(rt; "refused {refused}")?;
     Ok(())
-}
-
-/// Returns a store with one open document. Out of memory is counted, and the call repeated.
-fn store_again(alloc: Global, text: &str, refused: &mut usize) -> Result<Store, StoreFault> {
-    let limits = narrow(1, 2)?;
-    match store_of(alloc, limits, 1, text) {
-        Err(StoreFault::NoMemory) => {
-            *refused = refused.saturating_add(1);
-            store_of(alloc, limits, 1, text)
-        }
-        other => other,
-    }
 }
 
 /// Changes the document. Where memory runs out it is unchanged, and the call is repeated.
