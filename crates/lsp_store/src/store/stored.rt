@@ -19,15 +19,13 @@ pub struct Stored {
 
 impl Stored {
     ghost use Rattle.std.specs.Prelude.{◌≡◌, ◌≢◌, ℕ, List, Some, None, Err, IfErr, IfOk, OnErr, OnOk, map, option_map, string_bytes, string_len};
-    ghost use Rattle.std.specs.Str.{chars};
     ghost use Rattle.lsp_text.specs.Units.{units_in};
-    ghost use Rattle.lsp_edit.specs.Batch.{meaning};
     ghost use Rattle.lsp_edit.specs.Edited.{edit_of};
     ghost use Rattle.lsp_edit.specs.Indexed.{IsCanonicalBatch};
     ghost use Rattle.lsp_edit.specs.Once.{IsDeltaOf, IsOn, bytes_after};
     ghost use Rattle.lsp_store.specs.Plan.{planned};
     ghost use Rattle.lsp_store.specs.declared.fault.StoreFault.TheVariants.{NoMemory};
-    ghost use Rattle.lsp_store.specs.Table.{IsLeftToMeaning, changed, entry_refusal, meaning_refusal};
+    ghost use Rattle.lsp_store.specs.Table.{IsLeftToMeaning, entry_refusal};
     ghost use Rattle.lsp_store.specs.Faults.{fault_of, IsRefusal};
     ghost use Rattle.lsp_store.specs.Opened.{entry_under};
 
