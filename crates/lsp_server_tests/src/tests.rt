@@ -3,6 +3,7 @@
 mod agreed;
 mod faults;
 mod front_page;
+mod halves;
 mod made_again;
 mod phases;
 mod refused;
@@ -11,7 +12,7 @@ mod texts;
 
 use lsp_edit::EditFault;
 use lsp_frame::{BadLimits, Limits, frame};
-use lsp_server::{Answer, Config, EncodingChoice, Refusal, Server, ServerFault, Sync};
+use lsp_server::{Answer, Config, EncodingChoice, Phase, Refusal, Server, ServerFault, Sync};
 use lsp_store::StoreFault;
 use lsp_text::Encoding;
 use std::alloc::{AllocError, Global};
@@ -33,6 +34,23 @@ pub(super) fn config_with(choice: EncodingChoice, sync: Sync) -> Result<Config, 
         choice,
         sync,
     })
+}
+
+/// Leads a new server to this phase, by the bodies that lead it from each phase to the next.
+pub(super) fn lead(server: &mut Server, way: &[&[&str]], phase: Phase) -> Result<(), ServerFault> {
+    for bodies in way {
+        if server.phase() != phase {
+            pass(server, bodies)?;
+        }
+    }
+    Ok(())
+}
+
+fn pass(server: &mut Server, bodies: &[&str]) -> Result<(), ServerFault> {
+    for body in bodies {
+        let _answer = server.handle(body.as_bytes())?;
+    }
+    Ok(())
 }
 
 /// A body, and the body of the expected reply, or the word of the answer.

@@ -1,10 +1,10 @@
 //! Every pair of phase and kind of body.
 
-use super::{is_answered, new_server};
+use super::{is_answered, lead, new_server};
 use lsp_samples::bodies::{
     CHANGE, CLOSE, EXIT, INITIALIZE, INITIALIZED, NO_ID, OPEN, PARSE_ERROR, SHUTDOWN,
 };
-use lsp_server::{Phase, Server, ServerFault};
+use lsp_server::Phase;
 use std::alloc::Global;
 use std::test::Fail;
 
@@ -13,23 +13,6 @@ static PHASES: [Phase; 4] = [Phase::New, Phase::Running, Phase::Down, Phase::End
 /// The bodies that lead a server from each phase to the next. In Running one document is open, and
 /// `initialized` didn't come.
 static WAY: [&[&str]; 4] = [&[], &[INITIALIZE, OPEN], &[SHUTDOWN], &[EXIT]];
-
-/// Leads a new server to this phase.
-fn lead(server: &mut Server, phase: Phase) -> Result<(), ServerFault> {
-    for bodies in &WAY {
-        if server.phase() != phase {
-            pass(server, bodies)?;
-        }
-    }
-    Ok(())
-}
-
-fn pass(server: &mut Server, bodies: &[&str]) -> Result<(), ServerFault> {
-    for body in bodies {
-        let _answer = server.handle(body.as_bytes())?;
-    }
-    Ok(())
-}
 
 /// A body, and the expected answers in the phases New, Running, Down and Ended.
 static TABLE: [(&str, [&str; 4]); 26] = [
@@ -141,7 +124,7 @@ const SHUT_DOWN: &str = r#"{"id":7,"jsonrpc":"2.0","result":null}"#;
 /// Returns whether a body has this answer in this phase.
 fn is_answered_in(alloc: Global, phase: Phase, body: &str, wanted: &str) -> Result<bool, Fail> {
     let mut server = new_server(alloc)?;
-    lead(&mut server, phase)?;
+    lead(&mut server, &WAY, phase)?;
     Ok(server.phase() == phase && is_answered(alloc, &mut server, body, wanted)?)
 }
 
