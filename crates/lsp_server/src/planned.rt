@@ -8,7 +8,7 @@ use lsp_store::Plan;
 /// nothing of the server.
 #[derive(Drop)]
 pub enum PlannedChange<'a> {
-    /// The change is accepted, and [`Server::commit_change`](crate::Server::commit_change) makes it.
+    /// The change is accepted. [`Server::commit_change`](crate::Server::commit_change) makes it.
     Accepted(Plan<'a>),
     /// The change is dropped or refused, with this answer. It changes nothing.
     Answered(Answer),

@@ -110,12 +110,14 @@ impl Server {
         }
     }
 
-    /// Resolves a change of a running session.
-    fn plan<'a>(&self, params: &'a ChangeParams) -> Result<PlannedChange<'a>, AllocError>
+    /// Resolves a change as [`plan_change`](Server::plan_change) does, for a caller that knows that
+    /// the session is running. Fails only if it is out of memory, and costs the same.
+    pub fn plan<'a>(&self, params: &'a ChangeParams) -> Result<PlannedChange<'a>, AllocError>
         requires { self.now.phase ≡ Running }
         ensures planned { IfOk result (IsPlannedAs self.now (change_view params.now)) }
         ensures memory { OnErr result (MayTakeMemory (store_of self.now)
-            (string_bytes params.now.uri) params.now.version (map edit_of params.now.changes.items)) }
+            (string_bytes params.now.uri) params.now.version
+            (map edit_of params.now.changes.items)) }
     {
         let encoding = self.encoding.unwrap_or(Encoding::Utf16);
         let (version, changes) = (params.version, &params.changes);
@@ -146,8 +148,8 @@ impl Server {
     /// Makes a change of a running session.
     fn change(&mut self, params: &ChangeParams) -> Result<Answer, AllocError>
         requires { self.old.phase ≡ Running }
-        ensures { IsStepOf (obeys self.old (change_command self.old (change_view params.now))) result
-            self.old self.new }
+        ensures { IsStepOf (obeys self.old (change_command self.old (change_view params.now)))
+            result self.old self.new }
     {
         match self.plan(params)? {
             PlannedChange::Accepted(plan) => self.commit_change(plan),
