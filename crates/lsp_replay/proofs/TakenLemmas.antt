@@ -1,5 +1,5 @@
 -- A change that a running server receives: what becomes of it by its plan, or by why it is refused.
-use Rattle.std.proofs.Common.{arith, ◌≡◌, ◌≢◌, ◌<◌, ◌≤◌, length, inl, inr, ℕ, ℤ, List, map, option_map, Option, Some, None, Result, Ok, Err, IfOk, IfErr, OnErr, OnOk, refl, sym, ap, ◌∙◌, subst}
+use Rattle.std.proofs.Common.{arith, ◌≡◌, ◌≢◌, ◌<◌, ◌≤◌, length, ℕ, ℤ, List, map, Option, Some, None, Result, Ok, Err, IfOk, IfErr, OnErr, OnOk, refl, sym, ap, ◌∙◌, subst}
 use Rattle.std.proofs.lemmas.List.{length-append}
 use Rattle.std.specs.declared.alloc.AllocError.{AllocError}
 use Rattle.lsp_log.specs.declared.record.Version.{Version}
@@ -10,7 +10,7 @@ use Rattle.lsp_store.specs.declared.fault.StoreFault.{StoreFault}
 use Rattle.lsp_store.specs.declared.fault.StoreFault.TheVariants.{NoMemory}
 use Rattle.lsp_store.specs.declared.store.plan.Plan.{Plan}
 use Rattle.lsp_store.specs.Faults.{fault_of}
-use Rattle.lsp_store.specs.Opened.{IsRefused, StoreData}
+use Rattle.lsp_store.specs.Opened.{StoreData}
 use Rattle.lsp_store.specs.Plan.{IsBodyOfPlan, IsMessageFault, IsMessageOfPlan, IsPlanOf, IsPlanOn}
 use Rattle.lsp_store.specs.Message.{canonical_body}
 use Rattle.lsp_edit.specs.Batch.{Edit}
@@ -18,12 +18,17 @@ use Rattle.lsp_store.specs.Squash.{HasReached, IsSquashOfPlan, SquashData, squas
 use Rattle.lsp_store.specs.Table.{Refusal, changed as changed_entry}
 use Rattle.lsp_text.specs.Units.{units_in}
 use Rattle.lsp_text.specs.declared.encoding.Encoding.{Encoding}
+use Rattle.lsp_server.specs.declared.answer.Answer.{Answer}
+use Rattle.lsp_server.specs.declared.answer.Answer.TheVariants.{Changed, Dropped, Exit, Ignored, Refused, Reply}
 use Rattle.lsp_server.specs.declared.answer.Refusal.TheVariants.{Store}
+use Rattle.lsp_server.specs.declared.planned.PlannedChange.{PlannedChange}
+use Rattle.lsp_server.specs.declared.planned.PlannedChange.TheVariants.{Accepted, Answered}
 use Rattle.lsp_server.specs.declared.phase.Phase.TheVariants.{Running}
-use Rattle.lsp_server.specs.Answer.{changed, refused}
+use Rattle.lsp_server.specs.Answer.{as_sent, changed, refused}
 use Rattle.lsp_server.specs.Incoming.{did_change, incoming_of}
-use Rattle.lsp_server.specs.Planned.{IsPlanOfChange, after_commit, store_of}
-use Rattle.lsp_server.specs.Step.{State, change_command, edit_from_data, encoding_of}
+use Rattle.lsp_server.specs.Planned.{IsAnswered, IsPlanOfChange, IsPlannedAs, after_commit, store_of}
+use Rattle.lsp_server.specs.Seen.{answer_view}
+use Rattle.lsp_server.specs.Step.{State, edit_from_data, encoding_of, step_on}
 use Rattle.lsp_stream.specs.Ports.{one_more}
 use Rattle.lsp_replay.specs.declared.session.joining.Writing.{Writing}
 use Rattle.lsp_replay.specs.declared.session.writing.Appended.{Appended}
@@ -37,6 +42,37 @@ use Rattle.lsp_replay.proofs.BodyLemmas.{appended_at, asked_in, judged_at, writi
 use Rattle.lsp_replay.proofs.CanonicalLogLemmas.{over, within}
 use Rattle.lsp_replay.proofs.ChangeLemmas.{done_session}
 use Rattle.lsp_replay.proofs.JoiningLemmas.{begun_open, change_open, change_writing, is_begun, is_longer, longer_open, running_accepted, running_refused, same_entry}
+
+-- ---- what a running server answers to a change
+
+step_accepted : (server : State) (p : ChangeData) → server.phase ≡ Running → refusal_of server p ≡ None → (step_on server (did_change (Some p))).answer ≡ changed
+step_accepted server p running may = rw (running, may) refl
+
+step_refused : (server : State) (p : ChangeData) → server.phase ≡ Running → (refusal : Refusal) → refusal_of server p ≡ Some refusal → (step_on server (did_change (Some p))).answer ≡ refused (Store (fault_of refusal))
+step_refused server p running refusal is = rw (running, is) refl
+
+is_changed : (a : Answer) → answer_view a ≡ changed → a ≡ Changed
+is_changed Changed e = refl
+is_changed (Reply frame code) e = absurd (cc)
+is_changed Dropped e = absurd (cc)
+is_changed Ignored e = absurd (cc)
+is_changed (Refused refusal) e = absurd (cc)
+is_changed (Exit status) e = absurd (cc)
+
+-- An answer in place of a plan is a refusal.
+pub answered_some : (server : State) (p : ChangeData) → server.phase ≡ Running → (a : Answer) → IsAnswered server (step_on server (did_change (Some p))) a → refusal_of server p ≢ None
+answered_some server p running a why = λ (none : refusal_of server p ≡ None). why.not_changed (is_changed a (why.answer ∙ ap as_sent (step_accepted server p running none)))
+
+-- What the server planned, as a session sees its server.
+module _ (inside server : State) (same : inside ≡ server) (p : ChangeData) (planned : PlannedChange) (by : IsPlannedAs inside p planned) where
+  planned_at : (found : PlannedChange) → planned ≡ found → IsPlannedAs server p found
+  planned_at found is = subst (λ (s : State). IsPlannedAs s p found) same (subst (λ (x : PlannedChange). IsPlannedAs inside p x) is by)
+
+  pub accepted_at : (plan : Plan) → planned ≡ Accepted plan → IsPlanOfChange server p plan
+  accepted_at plan is = (planned_at (Accepted plan) is).1
+
+  pub answered_at : (a : Answer) → planned ≡ Answered a → IsAnswered server (step_on server (did_change (Some p))) a
+  answered_at a is = planned_at (Answered a) is
 
 module _ (s : Session) (p : ChangeData) (running : s.server.phase ≡ Running) (known : s.expected ≡ None) where
   -- A plan that was applied is the change.
@@ -60,26 +96,21 @@ module _ (s : Session) (p : ChangeData) (running : s.server.phase ≡ Running) (
       → judge_incoming s version (did_change (Some p)) ≡ judged (answered (refused (Store (fault_of refusal)))) (record s { messages = one_more s.messages; refusals = one_more s.refusals })
   refused_by version refusal is = rw (running, known, is) refl
 
-  refused_for : (fault : StoreFault) (r : Option Refusal) → refusal_of s.server p ≡ r → option_map fault_of r ≡ Some fault → (new : Session)
-      → new ≡ record s { records = one_more s.records; messages = one_more s.messages; refusals = one_more s.refusals } → IsChangeTaken s p (answered (refused (Store fault))) new
-  refused_for fault None is e new new_is = absurd (let wrong : None ≡ Some fault = e in cc)
-  refused_for fault (Some refusal) is e new new_is =
-      let same : fault_of refusal ≡ fault = cc in
+  refused_for : (a : Answer) → IsAnswered s.server (step_on s.server (did_change (Some p))) a → (r : Option Refusal) → refusal_of s.server p ≡ r → (new : Session)
+      → new ≡ record s { records = one_more s.records; messages = one_more s.messages; refusals = one_more s.refusals } → IsChangeTaken s p (answered (answer_view a)) new
+  refused_for a why None is new new_is = absurd (answered_some s.server p running a why is)
+  refused_for a why (Some refusal) is new new_is =
+      let seen : answer_view a ≡ refused (Store (fault_of refusal)) = why.answer ∙ ap as_sent (step_refused s.server p running refusal is) in
       record {
-        judged = λ version. ap (λ (f : StoreFault). answered (refused (Store f))) (sym same) ∙ sym (ap (λ (j : Judged). j.verdict) (refused_by version refusal is));
+        judged = λ version. ap answered seen ∙ sym (ap (λ (j : Judged). j.verdict) (refused_by version refusal is));
         session = λ version. new_is ∙ sym (ap (λ (j : Judged). (counted j).session) (refused_by version refusal is));
       }
 
-  refused_in : (fault : StoreFault) → fault ≢ NoMemory → IsRefused (store_of s.server) (change_command s.server p) fault → (new : Session)
-      → new ≡ record s { records = one_more s.records; messages = one_more s.messages; refusals = one_more s.refusals } → IsChangeTaken s p (answered (refused (Store fault))) new
-  refused_in fault other (inl e) new new_is = absurd (other e)
-  refused_in fault other (inr e) new new_is = refused_for fault (refusal_of s.server p) refl e new new_is
-
-  pub refused_taken : (fault : StoreFault) → fault ≢ NoMemory → IsRefused (store_of s.server) (change_command s.server p) fault → (t : Session) → t ≡ s → (records : ℕ) → records ≡ one_more t.records
+  pub refused_taken : (a : Answer) → IsAnswered s.server (step_on s.server (did_change (Some p))) a → (t : Session) → t ≡ s → (records : ℕ) → records ≡ one_more t.records
       → (messages : ℕ) → messages ≡ one_more t.messages → (refusals : ℕ) → refusals ≡ one_more t.refusals
-      → IsChangeTaken s p (answered (refused (Store fault))) (record t { records = records; messages = messages; refusals = refusals })
-  refused_taken fault other why t same records records_is messages messages_is refusals refusals_is =
-      refused_in fault other why (record t { records = records; messages = messages; refusals = refusals }) (rw (records_is, messages_is, refusals_is, same) refl)
+      → IsChangeTaken s p (answered (answer_view a)) (record t { records = records; messages = messages; refusals = refusals })
+  refused_taken a why t same records records_is messages messages_is refusals refusals_is =
+      refused_for a why (refusal_of s.server p) refl (record t { records = records; messages = messages; refusals = refusals }) (rw (records_is, messages_is, refusals_is, same) refl)
 
   -- Which body it has.
   canonical_by : (version : Version) (r : Option Refusal) → refusal_of s.server p ≡ r
@@ -91,25 +122,13 @@ module _ (s : Session) (p : ChangeData) (running : s.server.phase ≡ Running) (
   change_canonical version = canonical_by version (refusal_of s.server p) refl
 
 -- A change that is refused has no canonical body.
-refused_none : (r : Option Refusal) (body : List ℕ) (fault : StoreFault) → option_map fault_of r ≡ Some fault → body_unless r body ≡ None
-refused_none None body fault e = absurd (let wrong : None ≡ Some fault = e in cc)
-refused_none (Some refusal) body fault e = refl
+refused_none : (r : Option Refusal) (body : List ℕ) → r ≢ None → body_unless r body ≡ None
+refused_none None body some = absurd (some refl)
+refused_none (Some refusal) body some = refl
 
-refused_body : (s : Session) (p : ChangeData) (fault : StoreFault) → fault ≢ NoMemory → IsRefused (store_of s.server) (change_command s.server p) fault → change_body_if s.server p ≡ None
-refused_body s p fault other (inl e) = absurd (other e)
-refused_body s p fault other (inr e) = refused_none (refusal_of s.server p) (canonical_change_body s.server p) fault e
-
-pub refused_written : (s : Session) (p : ChangeData) (fault : StoreFault) → fault ≢ NoMemory → IsRefused (store_of s.server) (change_command s.server p) fault → (old new : List ℕ)
-    → IsAppended s.server.config.limits.max_body (change_body_if s.server p) None old new
-refused_written s p fault other why old new = subst (λ (b : Option (List ℕ)). IsAppended s.server.config.limits.max_body b None old new) (sym (refused_body s p fault other why)) refl
-
-is_some : (r : Option Refusal) (fault : StoreFault) → option_map fault_of r ≡ Some fault → r ≢ None
-is_some None fault e = absurd (let wrong : None ≡ Some fault = e in cc)
-is_some (Some refusal) fault e = λ (none : Some refusal ≡ None). cc
-
-pub refused_some : (s : Session) (p : ChangeData) (fault : StoreFault) → fault ≢ NoMemory → IsRefused (store_of s.server) (change_command s.server p) fault → refusal_of s.server p ≢ None
-refused_some s p fault other (inl e) = absurd (other e)
-refused_some s p fault other (inr e) = is_some (refusal_of s.server p) fault e
+pub refused_written : (server : State) (p : ChangeData) → refusal_of server p ≢ None → (old new : List ℕ) → IsAppended server.config.limits.max_body (change_body_if server p) None old new
+refused_written server p some old new =
+    subst (λ (b : Option (List ℕ)). IsAppended server.config.limits.max_body b None old new) (sym (refused_none (refusal_of server p) (canonical_change_body server p) some)) refl
 
 -- ---- a record that is a change which a running server receives
 

@@ -93,7 +93,8 @@ replayed_in part last s []
       outcome = end_outcome part last s;
     }
 replayed_in part last s (r ∷ rs) =
-    continue_with (part_output part last r (judge s r)).out (part_output part last r (judge s r)).end
+    continue_with (part_output part last r (judge s r)).out
+    (part_output part last r (judge s r)).end
     (replayed_in part (next_text part last (judge s r)) (judge s r).session rs)
 
 -- The output of `replay` for a part of a log.

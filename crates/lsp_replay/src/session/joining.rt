@@ -16,6 +16,7 @@ use crate::session::planning::unless_refused;
 use crate::session::{Session, Verdict};
 use lsp_log::Head;
 use lsp_message::ChangeParams;
+use lsp_server::PlannedChange;
 use lsp_store::{Batches, Plan};
 use lsp_text::Encoding;
 use std::alloc::AllocError;
@@ -75,12 +76,12 @@ impl Session {
         ensures writing { IfOk result
             (λ judged. IsChangeWriting self.old.server run (change_view params.now) judged.1) }
     {
-        match self.plan(params) {
-            Ok(plan) => {
+        match self.server.plan(params)? {
+            PlannedChange::Accepted(plan) => {
                 let writing = self.join(params, &plan, run)?;
                 Ok((self.commit(plan)?, writing))
             }
-            Err(fault) => Ok((self.refuse(fault)?, Writing::AsItIs(run))),
+            PlannedChange::Answered(answer) => Ok((self.refuse(answer), Writing::AsItIs(run))),
         }
     }
 

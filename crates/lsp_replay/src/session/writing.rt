@@ -18,6 +18,7 @@ use crate::session::planning::unless_refused;
 use crate::session::{Session, Verdict};
 use lsp_log::Head;
 use lsp_message::ChangeParams;
+use lsp_server::PlannedChange;
 use lsp_store::{Plan, Store};
 use std::alloc::AllocError;
 
@@ -89,12 +90,12 @@ impl Session {
             judged.1 output.old.items output.new.items) }
         ensures kept { vec_len output.old ≤ vec_len output.new }
     {
-        match self.plan(params) {
-            Ok(plan) => {
+        match self.server.plan(params)? {
+            PlannedChange::Accepted(plan) => {
                 let appended = append_body(self.server.store(), &plan, output)?;
                 Ok((self.commit(plan)?, Some(appended)))
             }
-            Err(fault) => Ok((self.refuse(fault)?, None)),
+            PlannedChange::Answered(answer) => Ok((self.refuse(answer), None)),
         }
     }
 }
