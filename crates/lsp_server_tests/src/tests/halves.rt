@@ -38,7 +38,7 @@ type Asked = (&'static str, i32, &'static [Edit]);
 /// What becomes of a change.
 enum Fate {
     /// It is accepted: the body of its canonical message, and the documents after it.
-    Accepted(&'static str, [Open; 2]),
+    Accepted(&'static str, &'static [Open]),
     Dropped,
     Refused(StoreFault),
     Ended,
@@ -58,14 +58,14 @@ static ROWS: [Row; 24] = [
     (
         Phase::Running,
         (A, 2, &[(0, 1, 0, 2, "X")]),
-        Fate::Accepted(CHANGE, [(A, 2, "aXc"), (B, 5, "x😀y")]),
+        Fate::Accepted(CHANGE, &[(A, 2, "aXc"), (B, 5, "x😀y")]),
     ),
     (
         Phase::Running,
         (B, 2_147_483_647, &[(0, 3, 0, 4, "")]),
         Fate::Accepted(
             r#"{"jsonrpc":"2.0","method":"textDocument/didChange","params":{"contentChanges":[{"range":{"end":{"character":4,"line":0},"start":{"character":3,"line":0}},"text":""}],"textDocument":{"uri":"file:///b","version":2147483647}}}"#,
-            [(A, 1, "abc"), (B, 2_147_483_647, "x😀")],
+            &[(A, 1, "abc"), (B, 2_147_483_647, "x😀")],
         ),
     ),
     // Two ranges. In the second row they do nothing together.
@@ -74,29 +74,29 @@ static ROWS: [Row; 24] = [
         (A, 2, &[(0, 0, 0, 1, "Z"), (0, 3, 0, 3, "Y")]),
         Fate::Accepted(
             r#"{"jsonrpc":"2.0","method":"textDocument/didChange","params":{"contentChanges":[{"range":{"end":{"character":3,"line":0},"start":{"character":3,"line":0}},"text":"Y"},{"range":{"end":{"character":1,"line":0},"start":{"character":0,"line":0}},"text":"Z"}],"textDocument":{"uri":"file:///a","version":2}}}"#,
-            [(A, 2, "ZbcY"), (B, 5, "x😀y")],
+            &[(A, 2, "ZbcY"), (B, 5, "x😀y")],
         ),
     ),
     (
         Phase::Running,
         (A, 2, &[(0, 1, 0, 1, "X"), (0, 1, 0, 2, "")]),
-        Fate::Accepted(NO_CHANGE, [(A, 2, "abc"), (B, 5, "x😀y")]),
+        Fate::Accepted(NO_CHANGE, &[(A, 2, "abc"), (B, 5, "x😀y")]),
     ),
     (
         Phase::Running,
         (A, 2, &[]),
-        Fate::Accepted(NO_CHANGE, [(A, 2, "abc"), (B, 5, "x😀y")]),
+        Fate::Accepted(NO_CHANGE, &[(A, 2, "abc"), (B, 5, "x😀y")]),
     ),
     // A whole text, alone and before a range.
     (
         Phase::Running,
         (A, 2, &[(ALL, 0, 0, 0, "aXc")]),
-        Fate::Accepted(CANONICAL, [(A, 2, "aXc"), (B, 5, "x😀y")]),
+        Fate::Accepted(CANONICAL, &[(A, 2, "aXc"), (B, 5, "x😀y")]),
     ),
     (
         Phase::Running,
         (A, 2, &[(ALL, 0, 0, 0, "ac"), (0, 1, 0, 1, "X")]),
-        Fate::Accepted(CANONICAL, [(A, 2, "aXc"), (B, 5, "x😀y")]),
+        Fate::Accepted(CANONICAL, &[(A, 2, "aXc"), (B, 5, "x😀y")]),
     ),
     // Each refusal.
     (
@@ -210,9 +210,14 @@ fn is_open(server: &Server, wanted: Open) -> bool {
     }
 }
 
-/// Returns whether these two documents are open, and no others.
-fn are_open(server: &Server, wanted: &[Open; 2]) -> bool {
-    server.store().len() == 2 && is_open(server, wanted[0]) && is_open(server, wanted[1])
+/// Returns whether these documents are open, and no others.
+fn are_open(server: &Server, wanted: &[Open]) -> bool {
+    for document in wanted {
+        if !is_open(server, *document) {
+            return false;
+        }
+    }
+    server.store().len() == wanted.len()
 }
 
 /// Returns whether the documents are those from before a change.
@@ -277,8 +282,8 @@ fn is_answered(planned: Result<PlannedChange<'_>, ServerFault>, fate: &Fate) -> 
 }
 
 /// Returns a server in this phase.
-fn led(alloc: Global, config: Config, phase: Phase) -> Result<Server, ServerFault> {
-    let mut server = Server::new(alloc, config);
+fn led(alloc: Global, config: &Config, phase: Phase) -> Result<Server, ServerFault> {
+    let mut server = Server::new(alloc, *config);
     lead(&mut server, &WAY, phase)?;
     Ok(server)
 }
@@ -295,7 +300,7 @@ fn becomes(alloc: Global, server: &mut Server, row: &Row) -> Result<bool, Fail> 
 }
 
 fn is_fate(alloc: Global, row: &Row) -> Result<bool, Fail> {
-    let mut server = led(alloc, config(8)?, row.0)?;
+    let mut server = led(alloc, &config(8)?, row.0)?;
     Ok(becomes(alloc, &mut server, row)? && server.phase() == row.0)
 }
 
@@ -347,7 +352,7 @@ fn has_length(server: &Server, len: usize) -> bool {
 }
 
 fn long_change_is_taken(alloc: Global) -> Result<bool, Fail> {
-    let mut server = led(alloc, config(4_096)?, Phase::Running)?;
+    let mut server = led(alloc, &config(4_096)?, Phase::Running)?;
     let params = long_change(alloc)?;
     Ok(is_without_message(&mut server, &params)? && has_length(&server, 4_002))
 }
@@ -361,7 +366,7 @@ fn a_change_whose_message_is_too_long(rt: HostRuntime) -> Result<(), Fail> {
 /// Makes a server as [`led`] does, and again if it is out of memory, which is counted.
 fn led_again(
     alloc: Global,
-    config: Config,
+    config: &Config,
     phase: Phase,
     refused: &mut usize,
 ) -> Result<Server, ServerFault> {
@@ -453,7 +458,7 @@ fn becomes_again(
 
 fn is_fate_again(alloc: Global, row: &Row, refused: &mut usize) -> Result<bool, Fail> {
     let params = params_again(alloc, row.1, refused)?;
-    let mut server = led_again(alloc, config(8)?, row.0, refused)?;
+    let mut server = led_again(alloc, &config(8)?, row.0, refused)?;
     Ok(becomes_again(&mut server, &params, &row.2, refused)?)
 }
 
