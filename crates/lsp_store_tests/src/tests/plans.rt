@@ -302,13 +302,12 @@ fn start_again(
 {
     let document = store.planned_document(plan);
     let limits = store.limits();
-    match Batches::start(alloc, limits, &document, Encoding::Utf16) {
-        Ok(batches) => Ok(batches),
-        Err(AllocError) => {
-            *refused = refused.saturating_add(1);
-            Batches::start(alloc, limits, &document, Encoding::Utf16)
-        }
+    if let Ok(batches) = Batches::start(alloc, limits, &document, Encoding::Utf16) {
+        return Ok(batches);
     }
+    *refused = refused.saturating_add(1);
+    let batches = Batches::start(alloc, limits, &document, Encoding::Utf16)?;
+    Ok(batches)
 }
 
 /// Returns whether batches have a message with this end. Out of memory is counted, and the call
