@@ -1,0 +1,170 @@
+"""Must-fail edits: what they change, which functions of src/ these changes are in, and what those may call."""
+import os
+import re
+import shutil
+
+FUNCTION = re.compile(r'( *)((?:[\w()"]+ )*)fn (\w+)')
+
+# What calls a method of a trait beside its name.
+OPERATORS = {"from": r"\?|\binto\b", "fmt": r"!\(", "eq": "[=!]=", "next": r"\bfor\b", "cmp": "[<>]", "partial_cmp": "[<>]"}
+
+
+class Unfit(Exception):
+    """An edit that can't be applied, and why."""
+
+
+class Function:
+    """A function: its file, the head of its `impl` or `trait` block, and its lines."""
+
+    def __init__(self, path, block, lines, first, head):
+        indent, words, self.name = head.groups()
+        self.path, self.block, self.first, self.is_const = path, block, first, "const" in words.split()
+        self.opens = self.ends = first
+        for n in range(first, len(lines)):
+            outer = lines[n].strip() and not lines[n].startswith(f"{indent} ")
+            if outer and lines[n].endswith("{"):
+                self.opens = n
+                self.ends = lines.index(f"{indent}}}", n)
+            if outer and (self.ends > n or n > first and not re.match(r" *(\)|where\b)", lines[n])):
+                break
+        self.body = "\n".join(lines[self.opens + 1 : self.ends])
+        self.key = path, first
+
+    @property
+    def is_of_trait(self):
+        return " for " in self.block or self.block.startswith(("trait", "pub trait"))
+
+    @property
+    def owner(self):
+        """The type whose method it is, or nothing."""
+        named = re.sub(r" where\b.*| \{$", "", self.block).rpartition(" for ")[2]
+        return re.findall(r"\w+", named)[-1] if named else ""
+
+    def may_call(self, other):
+        """Returns whether its body has what may be a call of another function, by that one's name, or by its operator."""
+        if not other.owner:
+            return re.search(rf"\b{other.name}\b", self.body) is not None
+        owner = r"\w+" if other.is_of_trait else rf"(?:{other.owner}{'|Self' * (self.owner == other.owner)})"
+        ways = rf"\.{other.name}\b|\b{owner}(?:::<[^;]*>)?::{other.name}\b|{OPERATORS.get(other.name, '$^')}"
+        return re.search(ways, self.body) is not None
+
+    def is_named(self, name, crate):
+        """Returns whether a name of the prover is this function's, or that of a closure in it. The name of a method has the path of its type."""
+        path = [crate, *re.sub(r"^src/(?:lib|main)?|\.rt$", "", self.path).split("/")]
+        words = [it for it in name.split("::") if it != "fn"]
+        if not self.owner:
+            own = [*filter(None, path), self.name]
+            return words[: len(own)] == own
+        trait = re.findall(r"\w+", self.block.partition(" for ")[0])[-1] if " for " in self.block else ""
+        return any(one.startswith(self.owner + trait) and two == self.name for one, two in zip(words[1:], words[2:]))
+
+
+class Edit:
+    """A must-fail edit of the crate in a folder: the texts that it makes, and the functions whose bodies it changes, if nothing else."""
+
+    def __init__(self, path, crate):
+        self.path, self.name, self.crate, self.texts, self.functions = path, os.path.basename(path), crate, {}, []
+        self.said = text_of(path)
+        was = self.apply()
+        changed = [self.changed_in(it, text) for it, text in was.items()]
+        if all(changed) and not any(it.is_const for found in changed for it in found):
+            self.functions = [it for found in changed for it in found]
+
+    def apply(self):
+        """Makes the texts, and returns what they were."""
+        path, old, was = None, None, {}
+        for line in self.said.split("\n"):
+            key, _, rest = line.partition(":")
+            rest = rest.removeprefix(" ")
+            if key == "file":
+                path = rest.strip()
+            elif key == "old":
+                old = rest
+            elif key == "new":
+                self.replace(path, old, rest, was)
+                old = None
+        if not was:
+            raise Unfit("it has no pair of `old:` and `new:`")
+        return was
+
+    def replace(self, path, old, new, was):
+        if not path or not old:
+            raise Unfit("a `new:` comes before any `file:` or `old:`")
+        if path not in was:
+            if not os.path.isfile(f"{self.crate}/{path}"):
+                raise Unfit(f"there is no {path}")
+            was[path] = self.texts[path] = text_of(f"{self.crate}/{path}")
+        if self.texts[path].count(old) != 1:
+            raise Unfit(f"an `old:` is in {path} {self.texts[path].count(old)} times, and not once")
+        self.texts[path] = self.texts[path].replace(old, new)
+
+    def changed_in(self, path, was):
+        """Returns the functions of a file whose bodies have all that the edit changes there, or none."""
+        if not path.endswith(".rt"):
+            return []
+        changed = [n for n, (a, b) in enumerate(zip(was.split("\n"), self.texts[path].split("\n"))) if a != b]
+        functions = functions_of(path, was)
+        found = [[it for it in functions if it.opens < n < it.ends] for n in changed]
+        return list({it.key: it for one in found for it in one}.values()) if all(found) else []
+
+
+class Calls:
+    """Which functions may call which, by the names in their bodies: more than do, and none less."""
+
+    def __init__(self, functions):
+        self.direct = {it.key: [other.key for other in functions if it.may_call(other)] for it in functions}
+        self.reached = {}
+
+    def below(self, key):
+        if key not in self.reached:
+            found, new = set(), [key]
+            while new:
+                new = [it for it in self.direct[new.pop()] if it not in found] + new
+                found.update(new)
+            self.reached[key] = found
+        return self.reached[key]
+
+    def are_apart(self, edit, other):
+        """Returns whether the bodies that two edits change are of different functions, none of which may call another."""
+        pairs = [(one.key, two.key) for one in edit.functions for two in other.functions]
+        return not any(a == b or b in self.below(a) or a in self.below(b) for a, b in pairs)
+
+
+def functions_of(path, text):
+    """Returns the functions of a file's text, as `rt fmt` lays it out."""
+    lines, block, found = text.split("\n"), "", []
+    for n, line in enumerate(lines):
+        if re.match(r"(pub(\(\w+\))? )?(impl|trait)\b", line):
+            block = line
+            while "<" in block and (flat := re.sub(r"<[^<>]*>", "", block.replace("->", ""))) != block:
+                block = flat
+        elif line == "}":
+            block = ""
+        head = FUNCTION.match(line)
+        if head:
+            found.append(Function(path, block, lines, n, head))
+    return found
+
+
+def text_of(path):
+    with open(path, encoding="utf-8") as file:
+        return file.read()
+
+
+def write(folder, texts):
+    for path, text in texts.items():
+        with open(f"{folder}/{path}", "w", encoding="utf-8") as file:
+            file.write(text)
+
+
+def files_of(folder):
+    """Returns the texts of a crate's files, by their path in it."""
+    parts = [at for part in ("src", "specs", "proofs") for at in os.walk(f"{folder}/{part}")]
+    paths = sorted(os.path.relpath(f"{at}/{it}", folder) for at, _, names in parts for it in names)
+    return {it: text_of(f"{folder}/{it}") for it in paths}
+
+
+def copied(work, other):
+    """Copies kept work. A check replaces the file of a checked module, and never writes into it."""
+    shutil.rmtree(other, ignore_errors=True)
+    shutil.copytree(work, other, copy_function=lambda a, b: os.link(a, b) if a.endswith(".oantt") else shutil.copy2(a, b))
