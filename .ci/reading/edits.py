@@ -43,9 +43,9 @@ class Function:
     def may_call(self, other):
         """Returns whether its body has what may be a call of another function, by that one's name, or by its operator."""
         if not other.owner:
-            return re.search(rf"\b{other.name}\b", self.body) is not None
+            return re.search(rf"(?<![\w.]){other.name}(?:\(|::<)|[(,] *(?:\w+::)*{other.name}[,)]", self.body) is not None
         owner = r"\w+" if other.is_of_trait else rf"(?:{other.owner}{'|Self' * (self.owner == other.owner)})"
-        ways = rf"\.{other.name}\b|\b{owner}(?:::<[^;]*>)?::{other.name}\b|{OPERATORS.get(other.name, '$^')}"
+        ways = rf"(?<!\.)\.{other.name}\(|\b{owner}(?:::<[^;]*>)?::{other.name}\b|{OPERATORS.get(other.name, '(?!)')}"
         return re.search(ways, self.body) is not None
 
     def is_named(self, name, crate):
@@ -75,7 +75,7 @@ class Edit:
         path, old, was = None, None, {}
         for line in self.said.split("\n"):
             key, _, rest = line.partition(":")
-            rest = rest.removeprefix(" ")
+            rest = re.sub("^ ", "", rest)
             if key == "file":
                 path = rest.strip()
             elif key == "old":
