@@ -164,7 +164,7 @@ def files_of(folder):
     return {it: text_of(f"{folder}/{it}") for it in paths}
 
 
-def copied(work, other):
-    """Copies kept work. A check replaces the file of a checked module, and never writes into it."""
+def copied(kept, other):
+    """Copies kept work, or a library that was built. A check replaces the files of these, and never writes into one."""
     shutil.rmtree(other, ignore_errors=True)
-    shutil.copytree(work, other, copy_function=lambda a, b: os.link(a, b) if a.endswith(".oantt") else shutil.copy2(a, b))
+    shutil.copytree(kept, other, copy_function=lambda a, b: os.link(a, b) if a.endswith(".oantt") or ".rlib/" in a else shutil.copy2(a, b))
