@@ -14,9 +14,11 @@ INSTALL = install
 ifneq ($(wildcard launch),)
 SYNC_PROGRAM = crates/lspsync/out/lspsync
 SIMULATE_PROGRAM = crates/lsp_simulate/out/lsp_simulate
+RELEASE = $(RELEASES)/laspidru-$(VERSION).tar.gz
 else
 SYNC_PROGRAM = lspsync
 SIMULATE_PROGRAM = lsp_simulate
+RELEASE = .
 endif
 HEADER = crates/laspidru/include/laspidru.h
 ARCHIVE = crates/laspidru/out/liblaspidru.a
@@ -24,15 +26,19 @@ BUILD = build
 STATIC = $(BUILD)/liblaspidru.a
 SHARED = $(BUILD)/liblaspidru.so.$(VERSION)
 RELEASES = release
-SUMS = $(RELEASES)/laspidru-$(VERSION).sha256
+PACKAGES = packages
+KINDS = wheel npm crate deb lua
+SUMS = $(wildcard $(RELEASES)/laspidru-$(VERSION).sha256 $(PACKAGES)/laspidru-$(VERSION)-packages.sha256)
 
 help:
 	@echo 'make library        the library with its heap: $(STATIC) and $(SHARED); needs a C compiler'
 	@echo 'make install        installs programs, library, header, man pages and completions (PREFIX, DESTDIR); builds nothing'
 	@echo 'make uninstall      takes them away again'
 	@echo 'make release        $(RELEASES)/laspidru-$(VERSION).tar.gz and its SHA-256 sums; builds what is not current; needs rt'
-	@echo 'make verify         builds the release of the sums again in a new clone, and compares (SUMS=file); needs rt, about an hour'
+	@echo 'make packages       packages of the release: wheel, npm, crate, deb, lua (KINDS) in $(PACKAGES)/; needs their tools, no network'
+	@echo 'make verify         builds what has the sums again in a new clone, and compares (SUMS=file ..); needs rt, about an hour'
 	@echo 'make check-install  tests all this with small stand-ins for what is built'
+	@echo 'make check-packages tests $(PACKAGES)/ in a root without compilers, as docs/PACKAGES.md says; needs root'
 
 library: $(STATIC) $(SHARED)
 
@@ -89,10 +95,16 @@ uninstall:
 release:
 	@install/release "$(VERSION)" "$(RELEASES)"
 
+packages:
+	@install/packages "$(VERSION)" "$(RELEASE)" "$(PACKAGES)" $(KINDS)
+
 verify:
-	@install/verify "$(VERSION)" "$(SUMS)"
+	@install/verify "$(VERSION)" $(or $(SUMS),"$(RELEASES)/laspidru-$(VERSION).sha256")
+
+check-packages:
+	@install/test_packages "$(VERSION)" "$(PACKAGES)"
 
 check-install:
 	@install/test
 
-.PHONY: help library needed install uninstall release verify check-install
+.PHONY: help library needed install uninstall release packages verify check-install check-packages

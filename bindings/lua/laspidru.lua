@@ -1,6 +1,7 @@
 -- Texts that are kept as LSP 3.17 says, and a client's end of a session, by a library that is proved (docs/lua.md).
--- For LuaJIT, as Neovim has it. LASPIDRU_LIBRARY names the shared library, or the loader finds liblaspidru.so.0.
-local ffi = require("ffi")
+-- For LuaJIT, as Neovim has it. LASPIDRU_LIBRARY names the shared library, or it is beside this file, or the loader finds it.
+local has_ffi, ffi = pcall(require, "ffi")
+if not has_ffi then error("laspidru needs LuaJIT, as Neovim has it, and this is " .. _VERSION, 0) end
 
 ffi.cdef([[
 typedef struct { void *pointer; bool is_full; } laspidru_handle;
@@ -48,7 +49,26 @@ uint32_t laspidru_client_document(laspidru_handle *, const char *, size_t, laspi
 uint32_t laspidru_client_text(laspidru_handle *, const char *, size_t, size_t, char *, size_t, size_t *);
 ]])
 
-local C = ffi.load(os.getenv("LASPIDRU_LIBRARY") or "laspidru.so.0")
+-- The library's path: the one that LASPIDRU_LIBRARY names, or the one beside this file, or a name that the loader searches for.
+local function path_of_library()
+    local beside = (debug.getinfo(1, "S").source:match("^@(.*/)") or "./") .. "liblaspidru.so.0"
+    local file = io.open(beside, "rb")
+    if file then file:close() end
+    return os.getenv("LASPIDRU_LIBRARY") or file and beside or "laspidru.so.0"
+end
+
+-- Why the library can't be loaded, in a sentence. `problem` is what the loader says.
+local function why(problem)
+    if ffi.os ~= "Linux" or ffi.arch ~= "x64" then
+        return "laspidru's library is for Linux on x64, and this is " .. ffi.os .. " on " .. ffi.arch
+    end
+    local needed = problem:match("GLIBC_([0-9.]+)' not found")
+    if needed then return "laspidru's library needs glibc " .. needed .. " or newer, and this C library is older" end
+    return "laspidru's library can't be loaded (" .. problem .. "); LASPIDRU_LIBRARY names it if it is elsewhere"
+end
+
+local is_loaded, C = pcall(ffi.load, path_of_library())
+if not is_loaded then error(why(C), 0) end
 local ENCODINGS = { ["utf-8"] = 8, ["utf-16"] = 16, ["utf-32"] = 32 }
 local NAMES = { [8] = "utf-8", [16] = "utf-16", [32] = "utf-32" }
 local PHASES = { [0] = "new", "asked", "ready", "closing", "closed", "done", "failed" }

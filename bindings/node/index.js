@@ -2,7 +2,29 @@
 // Texts that are kept as LSP 3.17 says, and both ends of a session, by a library that is proved (docs/node.md). `TextDocument` has the members
 // of vscode-languageserver-textdocument. Unlike there a position inside a character is refused by a RangeError.
 const path = require('path');
-const addon = require(process.env.LASPIDRU_ADDON ? path.resolve(process.env.LASPIDRU_ADDON) : './laspidru.node');
+
+/** Why the addon can't be loaded, in a sentence. `problem` is what the loader says. */
+function why({ code, message: problem }) {
+  const { platform, arch } = process;
+  if (platform !== 'linux' || arch !== 'x64') return `laspidru's addon is for Linux on x64, and this Node is for ${platform} on ${arch}`;
+  if (code === 'MODULE_NOT_FOUND') return "laspidru's addon isn't built: docs/node.md says how, and LASPIDRU_ADDON names it if it is elsewhere";
+  const needed = /GLIBC_([0-9.]+)' not found/.exec(problem);
+  const { glibcVersionRuntime: version } = process.report.getReport().header;
+  if (needed) return `laspidru's addon needs glibc ${needed[1]} or newer, and this is glibc ${version}`;
+  if (!version) return "laspidru's addon needs the C library glibc, and this Node has another one";
+  return `laspidru's addon can't be loaded: ${problem}`;
+}
+
+/** The addon that LASPIDRU_ADDON names, or else the one beside this file. */
+function loaded() {
+  try {
+    return require(process.env.LASPIDRU_ADDON ? path.resolve(process.env.LASPIDRU_ADDON) : './laspidru.node');
+  } catch (error) {
+    throw Object.assign(new Error(why(error)), { code: error.code, cause: error });
+  }
+}
+
+const addon = loaded();
 
 const UTF16 = 16;
 

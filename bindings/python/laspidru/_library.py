@@ -4,6 +4,9 @@ from __future__ import annotations
 import ctypes
 import operator
 import os
+import platform
+import re
+import struct
 from ctypes import POINTER, c_bool, c_char_p, c_int32, c_size_t, c_uint32, c_uint64, c_void_p
 from typing import Any, List, Optional, Sequence, Tuple
 
@@ -90,11 +93,33 @@ class Ending(ctypes.Structure):
                 ("place", c_uint64), ("output_len", c_size_t)]
 
 
+NAME = "liblaspidru.so.0"
+
+
+def _path() -> str:
+    """The library that LASPIDRU_LIBRARY names, else the one beside this file, as a wheel has it, else the installed one."""
+    beside = os.path.join(os.path.dirname(os.path.abspath(__file__)), NAME)
+    return os.environ.get("LASPIDRU_LIBRARY") or (beside if os.path.exists(beside) else NAME)
+
+
+def _why(problem: str) -> str:
+    """Why the library can't be loaded, in a sentence. `problem` is what the loader says."""
+    system, machine, bits = platform.system(), platform.machine(), 8 * struct.calcsize("P")
+    if (system, machine, bits) != ("Linux", "x86_64", 64):
+        return f"laspidru's library is for Linux on x86-64 with 64 bits, and this Python is for {system} on {machine} with {bits} bits"
+    needed, (libc, version) = re.search(r"GLIBC_([0-9.]+)' not found", problem), platform.libc_ver()
+    if needed:
+        return f"laspidru's library needs glibc {needed.group(1)} or newer, and this is glibc {version}"
+    if libc != "glibc":
+        return "laspidru's library needs the C library glibc, and this Python has another one"
+    return f"laspidru's library can't be loaded ({problem}); LASPIDRU_LIBRARY names it if it is elsewhere"
+
+
 def _library() -> ctypes.CDLL:
     try:
-        library = ctypes.CDLL(os.environ.get("LASPIDRU_LIBRARY", "liblaspidru.so.0"))
+        library = ctypes.CDLL(_path())
     except OSError as error:
-        raise ImportError(f"{error}; LASPIDRU_LIBRARY names the shared library") from error
+        raise ImportError(_why(str(error))) from error
     handle, size, text = POINTER(Handle), POINTER(c_size_t), [c_char_p, c_size_t]
     batch = [handle, c_uint32, c_void_p, c_size_t] + text
     log = [handle, POINTER(LogSettings)] + text + [POINTER(Ending)]
