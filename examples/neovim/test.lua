@@ -1,0 +1,147 @@
+-- Random sessions in Neovim: after each step the server's text is compared with what Neovim would write. Driven by `test` (this folder).
+-- SESSIONS, STEPS and SEED are numbers, ENCODING is what positions count, BY is "laspidru" or "vim.lsp", OUT gets a line of JSON
+-- for each session: kind, everyday (whether only everyday steps), step and what differed first, or null.
+local here = vim.env.HERE
+local steps = dofile(here .. "/test_steps.lua")
+local api = vim.api
+local folder = vim.env.FOLDER
+local command = { "python3", here .. "/test_server.py", vim.env.ENCODING }
+local answer
+
+-- A generator of its own, so that all Neovims draw the same.
+local function generator(seed)
+    local state = seed % 2147483647 + 1
+    local function draw()
+        state = state * 48271 % 2147483647
+        return state
+    end
+    for _ = 1, 5 do
+        draw()
+    end
+    return function(count) return draw() % count + 1 end
+end
+
+local function by_laspidru()
+    local session = require("laspidru_sync").start({
+        cmd = command,
+        on_message = function(body)
+            local message = vim.json.decode(body)
+            if message.method == "test/text" then answer = message.params end
+        end,
+    })
+    vim.wait(10000, function() return session.is_ready end, 2)
+    return {
+        attach = function() session:attach(0) end,
+        is_attached = function(buffer) return session.entries[buffer] and session.entries[buffer].is_open end,
+        ask = function(uri)
+            local body = vim.json.encode({ jsonrpc = "2.0", method = "test/text", params = { uri = uri } })
+            session.process.write("Content-Length: " .. #body .. "\r\n\r\n" .. body)
+        end,
+        stop = function() session:stop(2000) end,
+    }
+end
+
+local function by_vim_lsp()
+    vim.lsp.handlers["test/text"] = function(_, result) answer = result end
+    local capabilities = vim.lsp.protocol.make_client_capabilities()
+    capabilities.offsetEncoding = { vim.env.ENCODING }
+    local id = vim.lsp.start_client({
+        name = "test",
+        cmd = command,
+        root_dir = folder,
+        capabilities = capabilities,
+        flags = { debounce_text_changes = 0, allow_incremental_sync = true },
+    })
+    vim.wait(10000, function() return vim.lsp.get_client_by_id(id).initialized end, 2)
+    local client = vim.lsp.get_client_by_id(id)
+    assert(client.offset_encoding == vim.env.ENCODING, client.offset_encoding)
+    return {
+        attach = function() vim.lsp.buf_attach_client(0, id) end,
+        is_attached = function(buffer) return vim.lsp.buf_is_attached(buffer, id) end,
+        ask = function(uri) client.notify("test/text", { uri = uri }) end,
+        stop = function()
+            client.stop()
+            vim.wait(2000, function() return client.is_stopped() end, 5)
+        end,
+    }
+end
+
+local function written(path)
+    vim.cmd("silent keepalt noautocmd write! " .. path)
+    local file = assert(io.open(path, "rb"))
+    local text = file:read("*a")
+    file:close()
+    return text
+end
+
+-- What differs between the server's text and Neovim's, or nil.
+local function difference(driver, uri)
+    answer = nil
+    -- (after what the step has scheduled)
+    vim.schedule(function() driver.ask(uri) end)
+    if not vim.wait(10000, function() return answer ~= nil end, 1) then return "no answer" end
+    if answer.fault ~= nil and answer.fault ~= vim.NIL then return answer.fault end
+    local text = written(folder .. "/written")
+    if answer.text == text then return nil end
+    -- vim.lsp takes the text of a buffer without lines for one line end: that is counted as right.
+    if vim.env.BY == "vim.lsp" and text == "" and (answer.text == "\n" or answer.text == "\r\n" or answer.text == "\r") then return nil end
+    return ("has %s, and Neovim %s"):format(vim.inspect(answer.text), vim.inspect(text))
+end
+
+local function steps_of(is_everyday)
+    local all = {}
+    vim.list_extend(all, steps.EVERYDAY)
+    if not is_everyday then vim.list_extend(all, steps.SELDOM) end
+    return all
+end
+
+local function run(driver, number)
+    local random = generator(number * 7919 + tonumber(vim.env.SEED))
+    local kind, is_everyday = steps.KINDS[number % #steps.KINDS + 1], math.floor(number / #steps.KINDS) % 2 == 0
+    local path = ("%s/text-%d.txt"):format(folder, number)
+    local file = assert(io.open(path, "wb"))
+    file:write(kind.text(random))
+    file:close()
+    vim.cmd("silent edit " .. path)
+    local buffer = api.nvim_get_current_buf()
+    driver.attach()
+    vim.wait(10000, function() return driver.is_attached(buffer) end, 1)
+    local uri, all = vim.uri_from_bufnr(buffer), steps_of(is_everyday)
+    local found = { kind = kind.name, everyday = is_everyday, number = number, first = vim.NIL }
+    for step = 0, tonumber(vim.env.STEPS) do
+        local name = "opens"
+        if step > 0 then
+            local chosen = all[random(#all)]
+            name = chosen[1]
+            vim.o.undolevels = vim.o.undolevels -- each step is undone alone
+            pcall(chosen[2], random, kind, driver.attach)
+        end
+        local problem = difference(driver, uri)
+        if problem then
+            found.first, found.step, found.problem = name, step, problem
+            break
+        end
+    end
+    vim.cmd("silent bwipeout!")
+    return found
+end
+
+local function main()
+    vim.o.fileformats = "unix,dos,mac"
+    vim.o.fixendofline, vim.o.hidden, vim.o.swapfile, vim.o.autoread = false, true, false, true
+    local driver = vim.env.BY == "vim.lsp" and by_vim_lsp() or by_laspidru()
+    local out = assert(io.open(vim.env.OUT, "w"))
+    for number = tonumber(vim.env.FIRST), tonumber(vim.env.SESSIONS) - 1, tonumber(vim.env.EACH) do
+        out:write(vim.json.encode(run(driver, number)), "\n")
+        out:flush()
+    end
+    out:close()
+    driver.stop()
+end
+
+-- (once Neovim has started: before that it says nothing of options that are set)
+vim.schedule(function()
+    local is_done, problem = xpcall(main, debug.traceback)
+    if not is_done then io.stderr:write(problem, "\n") end
+    vim.cmd(is_done and "qall!" or "cquit!")
+end)
