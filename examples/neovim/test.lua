@@ -1,6 +1,7 @@
 -- Random sessions in Neovim: after each step the server's text is compared with what Neovim would write. Driven by `test` (this folder).
 -- SESSIONS, STEPS and SEED are numbers, ENCODING is what positions count, BY is "laspidru" or "vim.lsp", OUT gets a line of JSON
--- for each session: kind, everyday (whether only everyday steps), step and what differed first, or null.
+-- for each session: kind, everyday (whether only everyday steps), `first`: the name of the step after which the texts differed first,
+-- or null, and `more`: that after which they differed in more than the last line end.
 local here = vim.env.HERE
 local steps = dofile(here .. "/test_steps.lua")
 local api = vim.api
@@ -43,13 +44,11 @@ end
 
 local function by_vim_lsp()
     vim.lsp.handlers["test/text"] = function(_, result) answer = result end
-    local capabilities = vim.lsp.protocol.make_client_capabilities()
-    capabilities.offsetEncoding = { vim.env.ENCODING }
     local id = vim.lsp.start_client({
         name = "test",
         cmd = command,
         root_dir = folder,
-        capabilities = capabilities,
+        offset_encoding = vim.env.ENCODING,
         flags = { debounce_text_changes = 0, allow_incremental_sync = true },
     })
     vim.wait(10000, function() return vim.lsp.get_client_by_id(id).initialized end, 2)
@@ -85,7 +84,8 @@ local function difference(driver, uri)
     if answer.text == text then return nil end
     -- vim.lsp takes the text of a buffer without lines for one line end: that is counted as right.
     if vim.env.BY == "vim.lsp" and text == "" and (answer.text == "\n" or answer.text == "\r\n" or answer.text == "\r") then return nil end
-    return ("has %s, and Neovim %s"):format(vim.inspect(answer.text), vim.inspect(text))
+    local problem = ("has %s, and Neovim %s"):format(vim.inspect(answer.text), vim.inspect(text))
+    return problem, answer.text ~= vim.NIL and answer.text:gsub("[\r\n]+$", "") == text:gsub("[\r\n]+$", "")
 end
 
 local function steps_of(is_everyday)
@@ -107,7 +107,7 @@ local function run(driver, number)
     driver.attach()
     vim.wait(10000, function() return driver.is_attached(buffer) end, 1)
     local uri, all = vim.uri_from_bufnr(buffer), steps_of(is_everyday)
-    local found = { kind = kind.name, everyday = is_everyday, number = number, first = vim.NIL }
+    local found = { kind = kind.name, everyday = is_everyday, number = number, first = vim.NIL, more = vim.NIL }
     for step = 0, tonumber(vim.env.STEPS) do
         local name = "opens"
         if step > 0 then
@@ -116,9 +116,10 @@ local function run(driver, number)
             vim.o.undolevels = vim.o.undolevels -- each step is undone alone
             pcall(chosen[2], random, kind, driver.attach)
         end
-        local problem = difference(driver, uri)
-        if problem then
-            found.first, found.step, found.problem = name, step, problem
+        local problem, is_last_end = difference(driver, uri)
+        if problem and found.first == vim.NIL then found.first, found.step, found.problem = name, step, problem end
+        if problem and not is_last_end then
+            found.more = name
             break
         end
     end

@@ -80,8 +80,7 @@ def main():
         method = message.get("method")
         if method == "initialize":
             capabilities = {"textDocumentSync": synchronisation, "positionEncoding": texts.encoding}
-            # (Neovim before 0.10 reads clangd's name of it)
-            send(id=message["id"], result={"capabilities": capabilities, "offsetEncoding": texts.encoding})
+            send(id=message["id"], result={"capabilities": capabilities})
         elif method == "shutdown":
             send(id=message["id"], result=None)
         elif method == "exit":
