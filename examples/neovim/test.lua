@@ -85,7 +85,7 @@ local function difference(driver, uri)
     -- vim.lsp takes the text of a buffer without lines for one line end: that is counted as right.
     if vim.env.BY == "vim.lsp" and text == "" and (answer.text == "\n" or answer.text == "\r\n" or answer.text == "\r") then return nil end
     local problem = ("has %s, and Neovim %s"):format(vim.inspect(answer.text), vim.inspect(text))
-    return problem, answer.text ~= vim.NIL and answer.text:gsub("[\r\n]+$", "") == text:gsub("[\r\n]+$", "")
+    return problem, type(answer.text) == "string" and answer.text:gsub("[\r\n]+$", "") == text:gsub("[\r\n]+$", "")
 end
 
 local function steps_of(is_everyday)
