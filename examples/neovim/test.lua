@@ -8,6 +8,7 @@ local api = vim.api
 local folder = vim.env.FOLDER
 local command = { "python3", here .. "/test_server.py", vim.env.ENCODING }
 local answer
+local stale = 0 -- steps after which the spans that Neovim reported weren't all that changed
 
 -- A generator of its own, so that all Neovims draw the same.
 local function generator(seed)
@@ -25,16 +26,26 @@ end
 local function by_laspidru()
     local session = require("laspidru_sync").start({
         cmd = command,
+        long = tonumber(vim.env.LONG),
         on_message = function(body)
             local message = vim.json.decode(body)
             if message.method == "test/text" then answer = message.params end
         end,
     })
+    local text = require("laspidru_sync.text")
+    -- Of a long buffer: reads all of it, as is done before a request, and counts where that finds more.
+    local function read_all()
+        local buffer = api.nvim_get_current_buf()
+        local entry = session.entries[buffer]
+        if entry.state and not text.is_same(entry.state, text.read(buffer)) then stale = stale + 1 end
+        session:flush(buffer)
+    end
     vim.wait(10000, function() return session.is_ready end, 2)
     return {
         attach = function() session:attach(0) end,
         is_attached = function(buffer) return session.entries[buffer] and session.entries[buffer].is_open end,
         ask = function(uri)
+            if vim.env.LONG then read_all() end
             local body = vim.json.encode({ jsonrpc = "2.0", method = "test/text", params = { uri = uri } })
             session.process.write("Content-Length: " .. #body .. "\r\n\r\n" .. body)
         end,
@@ -108,6 +119,7 @@ local function run(driver, number)
     vim.wait(10000, function() return driver.is_attached(buffer) end, 1)
     local uri, all = vim.uri_from_bufnr(buffer), steps_of(is_everyday)
     local found = { kind = kind.name, everyday = is_everyday, number = number, first = vim.NIL, more = vim.NIL }
+    stale = 0
     for step = 0, tonumber(vim.env.STEPS) do
         local name = "opens"
         if step > 0 then
@@ -124,6 +136,7 @@ local function run(driver, number)
         end
     end
     vim.cmd("silent bwipeout!")
+    found.stale = stale
     return found
 end
 

@@ -1,5 +1,5 @@
 -- Neovim's buffers as the documents of a language server, by laspidru's client in place of vim.lsp's own computation (README.md).
--- Neovim says that something changed (`on_bytes`); what changed is read from the buffer, once the command that did it is through.
+-- Neovim says that something changed (`on_bytes`, `on_lines`); what changed is read from the buffer, once the command that did it is through.
 local laspidru = require("laspidru")
 local process = require("laspidru_sync.process")
 local text = require("laspidru_sync.text")
@@ -16,11 +16,13 @@ local WHY = {
     NOT_UTF8 = "it isn't text in UTF-8",
     OUT_OF_MEMORY = "there is no memory left",
 }
+local CHECK_AFTER = 300 -- milliseconds without a change, after which a long buffer is read whole
 local NEW_STATE = { "BufWritePost", "FileChangedShellPost", "TextChanged", "TextChangedI", "TextChangedP" }
 
 -- Starts a server. `options.cmd` is its command, a list of words. Buffers of `options.filetypes` are attached as they come. Others:
 -- `on_message(body)` gets each notification of the server; `utf8`, `utf32` (both true) are offered beside UTF-16; `max_text`,
--- `max_body`, `max_docs` are laspidru's limits.
+-- `max_body`, `max_docs` are laspidru's limits; of a buffer with more than `long` lines (5000) only those are read at once that
+-- Neovim reports as changed, and the others a little later.
 function M.start(options)
     local self = setmetatable({ options = options, entries = {} }, Session)
     self.group = api.nvim_create_augroup("laspidru_sync", { clear = false })
@@ -112,7 +114,11 @@ function Session:listen(entry)
     end
     api.nvim_buf_attach(entry.buffer, false, {
         on_bytes = note,
-        on_lines = note, -- (`3J` on an empty buffer makes one line of none, and has no on_bytes)
+        -- (`3J` on an empty buffer makes one line of none, and has no on_bytes)
+        on_lines = function(_, _, _, first, old_last, new_last)
+            entry.span = text.span(entry.span, first, old_last, new_last)
+            return note()
+        end,
         on_reload = note,
         on_changedtick = note,
         on_detach = function() self:lose(entry) end,
@@ -180,8 +186,26 @@ function Session:flush_soon(entry)
     entry.is_scheduled = true
     vim.schedule(function()
         entry.is_scheduled = false
-        if self.entries[entry.buffer] == entry then self:flush(entry.buffer) end
+        if self.entries[entry.buffer] ~= entry then return end
+        if entry.span and entry.is_open and not entry.is_behind and #entry.state.lines > (self.options.long or 5000) then
+            self:flush_span(entry)
+        else
+            self:flush(entry.buffer)
+        end
     end)
+end
+
+-- Sends the lines that Neovim reports as changed, and reads all of them once nothing was changed for a little while.
+function Session:flush_span(entry)
+    if not self.is_ready then return end
+    local state = text.read_span(entry.buffer, entry.state, entry.span)
+    if not state then return self:flush(entry.buffer) end
+    entry.span, entry.spans = nil, (entry.spans or 0) + 1
+    if not text.is_same(entry.state, state) then self:attempt(entry, state, self.change) end
+    local spans = entry.spans
+    vim.defer_fn(function()
+        if self.entries[entry.buffer] == entry and entry.spans == spans then self:flush(entry.buffer) end
+    end, CHECK_AFTER)
 end
 
 -- Sends what changed in a buffer since the last time, if the server is there. Call it before a request on the buffer.
@@ -189,6 +213,7 @@ function Session:flush(buffer)
     local entry = self.entries[buffer]
     if not entry or not self.is_ready or not api.nvim_buf_is_loaded(buffer) then return end
     local state = text.read(buffer)
+    entry.span = nil
     if not entry.is_open then
         self:attempt(entry, state, self.open)
     elseif entry.is_behind then

@@ -18,6 +18,36 @@ function M.read(buffer)
     return { lines = lines, format = options.fileformat, has_last_end = options.endofline and not has_no_line(buffer, lines) }
 end
 
+-- A span of lines that changed: after the first `first` lines up to line `old_last` of the old lines, `new_last` of the new ones.
+-- `before` is a span or nil, and after it Neovim reported another (`on_lines`).
+function M.span(before, first, old_last, new_last)
+    if not before then return { first = first, old_last = old_last, new_last = new_last } end
+    local last = math.max(before.new_last, old_last)
+    return {
+        first = math.min(before.first, first),
+        old_last = before.old_last + last - before.new_last,
+        new_last = last + new_last - old_last,
+    }
+end
+
+-- The state of a buffer whose lines are as before but for a span: only those are read. Nothing where that can't be all that changed.
+function M.read_span(buffer, old, span)
+    local options, count = vim.bo[buffer], #old.lines + span.new_last - span.old_last
+    local is_same = options.fileformat == old.format and options.endofline == old.has_last_end
+    if not is_same or count == 1 or count ~= api.nvim_buf_line_count(buffer) then return nil end
+    local read, lines, rest = api.nvim_buf_get_lines(buffer, span.first, span.new_last, false), {}, span.new_last - span.old_last
+    for index = 1, span.first do
+        lines[index] = old.lines[index]
+    end
+    for index, line in ipairs(read) do
+        lines[span.first + index] = line
+    end
+    for index = span.old_last + 1, #old.lines do
+        lines[index + rest] = old.lines[index]
+    end
+    return { lines = lines, format = old.format, has_last_end = old.has_last_end }
+end
+
 -- The text of the lines after the first `from` up to line `to`.
 local function text_of(state, from, to)
     if from == to then return "" end
