@@ -1,3 +1,4 @@
+pub mod Streams
 pub mod Sessions
 pub mod Editors
 pub mod Stored
@@ -8,4 +9,5 @@ pub mod Edits
 pub mod Servers
 pub mod Framers
 pub mod Clients
+pub mod Taking
 pub mod Logs

@@ -26,6 +26,7 @@ use crate::reports::{
     Call, ClientSettings, ClientState, call_code_of, delivered_answer, frame_of, keep_frame,
     number_of, phase_of, report_call,
 };
+use crate::stream::Stream;
 use lsp_client::{Client, ClientFault, Phase};
 use lsp_message::Offers;
 use std::alloc::{AllocError, Global};
@@ -45,6 +46,7 @@ fn editor_of(alloc: Global, settings: &ClientSettings) -> Result<Editor, u32>
     Ok(Editor {
         client: Client::new(alloc, limits, offers),
         frame: Vec::new(alloc),
+        stream: Stream::new(alloc, limits),
     })
 }
 
@@ -94,7 +96,7 @@ fn called(client: &mut Client, call: Call) -> Result<Vec<u8>, ClientFault>
 #[tactic(auto, using(crate::proofs::Calls::accepted, crate::proofs::Calls::call_refused))]
 fn object_call(object: &mut Object, call: Call, len: &mut usize) -> u32
     ensures answer { IsRefusedOr (client_of object.old) result (λ editor.
-        IsCalled (call_result editor.client (lifecycle_call call)) result (Some object.new)
+        IsCalled editor.stream (call_result editor.client (lifecycle_call call)) result (Some object.new)
         len.new) }
     ensures unchanged { result ≢ OK → (object.new ≡ object.old) × (len.new ≡ len.old) }
 {
@@ -108,7 +110,7 @@ fn object_call(object: &mut Object, call: Call, len: &mut usize) -> u32
 /// Makes a call of the lifecycle by the client of a handle.
 fn call(alloc: Global, handle: &mut Handle, call: Call, len: &mut usize) -> u32
     ensures answer { IsRefusedOr (client_in handle.old.value) result (λ editor.
-        IsCalled (call_result editor.client (lifecycle_call call)) result handle.new.value
+        IsCalled editor.stream (call_result editor.client (lifecycle_call call)) result handle.new.value
         len.new) }
     ensures unchanged { result ≢ OK
         → (handle.new.value ≡ handle.old.value) × (len.new ≡ len.old) }
@@ -128,7 +130,7 @@ fn call(alloc: Global, handle: &mut Handle, call: Call, len: &mut usize) -> u32
 #[unsafe(no_mangle)]
 pub extern "C" fn laspidru_client_start(alloc: Global, handle: &mut Handle, len: &mut usize) -> u32
     ensures answer { IsRefusedOr (client_in handle.old.value) result (λ editor.
-        IsCalled (call_result editor.client (lifecycle_call Call.Start)) result handle.new.value
+        IsCalled editor.stream (call_result editor.client (lifecycle_call Call.Start)) result handle.new.value
         len.new) }
     ensures unchanged { result ≢ OK
         → (handle.new.value ≡ handle.old.value) × (len.new ≡ len.old) }
@@ -146,7 +148,7 @@ pub extern "C" fn laspidru_client_shutdown(
     len: &mut usize,
 ) -> u32
     ensures answer { IsRefusedOr (client_in handle.old.value) result (λ editor.
-        IsCalled (call_result editor.client (lifecycle_call Call.Shutdown)) result
+        IsCalled editor.stream (call_result editor.client (lifecycle_call Call.Shutdown)) result
         handle.new.value len.new) }
     ensures unchanged { result ≢ OK
         → (handle.new.value ≡ handle.old.value) × (len.new ≡ len.old) }
@@ -159,7 +161,7 @@ pub extern "C" fn laspidru_client_shutdown(
 #[unsafe(no_mangle)]
 pub extern "C" fn laspidru_client_exit(alloc: Global, handle: &mut Handle, len: &mut usize) -> u32
     ensures answer { IsRefusedOr (client_in handle.old.value) result (λ editor.
-        IsCalled (call_result editor.client (lifecycle_call Call.Exit)) result handle.new.value
+        IsCalled editor.stream (call_result editor.client (lifecycle_call Call.Exit)) result handle.new.value
         len.new) }
     ensures unchanged { result ≢ OK
         → (handle.new.value ≡ handle.old.value) × (len.new ≡ len.old) }
@@ -224,7 +226,7 @@ fn object_open(
     len: &mut usize,
 ) -> u32
     ensures answer { IsRefusedOr (client_of object.old) result (λ editor.
-        IsCalled (call_result editor.client
+        IsCalled editor.stream (call_result editor.client
         (orders (open_asked uri.now language.now version text.now))) result (Some object.new)
         len.new) }
     ensures unchanged { result ≢ OK → (object.new ≡ object.old) × (len.new ≡ len.old) }
@@ -252,7 +254,7 @@ pub extern "C" fn laspidru_client_open(
 ) -> u32
     ensures answer { IsRefusedOr
         (both (opening_asked uri.now language.now text.now) (client_in handle.old.value)) result
-        (λ asked. IsCalled (call_result asked.1.client
+        (λ asked. IsCalled asked.1.stream (call_result asked.1.client
         (orders (open_asked asked.0.uri asked.0.language version asked.0.text))) result
         handle.new.value len.new) }
     ensures unchanged { result ≢ OK
@@ -313,7 +315,7 @@ fn object_client_edit(
 ) -> u32
     requires { refused_edit edits.now texts.now ≡ None }
     ensures answer { IsRefusedOr (client_of object.old) result (λ editor.
-        IsCalled (call_result editor.client
+        IsCalled editor.stream (call_result editor.client
         (orders (edit_asked uri.now version edits.now texts.now))) result (Some object.new)
         len.new) }
     ensures report { IsRefusedOr (client_of object.old) result (λ editor.
@@ -359,7 +361,7 @@ pub extern "C" fn laspidru_client_edit(
     ensures answer { let client = unless (refused_edit edits.now texts.now)
         (client_in handle.old.value) in
         IsRefusedOr (both (uri_asked uri.now) client) result
-        (λ asked. IsCalled (call_result asked.1.client
+        (λ asked. IsCalled asked.1.stream (call_result asked.1.client
         (orders (edit_asked asked.0 version edits.now texts.now))) result handle.new.value
         len.new) }
     ensures report { let client = unless (refused_edit edits.now texts.now)
@@ -389,7 +391,7 @@ pub extern "C" fn laspidru_client_edit(
 #[tactic(auto, using(crate::proofs::Calls::accepted, crate::proofs::Calls::call_refused))]
 fn object_client_close(object: &mut Object, uri: &str, len: &mut usize) -> u32
     ensures answer { IsRefusedOr (client_of object.old) result (λ editor.
-        IsCalled (call_result editor.client (orders (closes uri.now))) result (Some object.new)
+        IsCalled editor.stream (call_result editor.client (orders (closes uri.now))) result (Some object.new)
         len.new) }
     ensures unchanged { result ≢ OK → (object.new ≡ object.old) × (len.new ≡ len.old) }
 {
@@ -412,7 +414,7 @@ pub extern "C" fn laspidru_client_close(
     len: &mut usize,
 ) -> u32
     ensures answer { IsRefusedOr (both (uri_asked uri.now) (client_in handle.old.value)) result
-        (λ asked. IsCalled (call_result asked.1.client (orders (closes asked.0))) result
+        (λ asked. IsCalled asked.1.stream (call_result asked.1.client (orders (closes asked.0))) result
         handle.new.value len.new) }
     ensures unchanged { result ≢ OK
         → (handle.new.value ≡ handle.old.value) × (len.new ≡ len.old) }
@@ -432,7 +434,7 @@ pub extern "C" fn laspidru_client_close(
 #[tactic(auto, using(crate::proofs::Calls::delivered, crate::proofs::Calls::delivery_refused))]
 fn object_deliver(alloc: Global, object: &mut Object, body: &[u8], out: &mut Answer) -> u32
     ensures answer { IsRefusedOr (client_of object.old) result (λ editor.
-        IsDeliveredTo (delivery_result editor.client (reading body.now)) result
+        IsDeliveredTo editor.stream (delivery_result editor.client (reading body.now)) result
         (Some object.new) out.new) }
     ensures unchanged { result ≢ OK → (object.new ≡ object.old) × (out.new ≡ out.old) }
 {
@@ -460,7 +462,7 @@ pub extern "C" fn laspidru_client_deliver(
     out: &mut Answer,
 ) -> u32
     ensures answer { IsRefusedOr (client_in handle.old.value) result (λ editor.
-        IsDeliveredTo (delivery_result editor.client (reading body.now)) result
+        IsDeliveredTo editor.stream (delivery_result editor.client (reading body.now)) result
         handle.new.value out.new) }
     ensures unchanged { result ≢ OK
         → (handle.new.value ≡ handle.old.value) × (out.new ≡ out.old) }

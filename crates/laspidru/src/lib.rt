@@ -25,6 +25,7 @@ mod batch;
 mod bytes;
 mod changes;
 mod client;
+mod client_stream;
 mod codes;
 mod command;
 mod document;
@@ -39,7 +40,9 @@ mod object;
 mod place;
 mod reports;
 mod server;
+mod server_stream;
 mod session;
+mod stream;
 mod taken;
 
 pub use answers::{Answer, Opened, Settings};

@@ -5,7 +5,7 @@ ghost use Rattle.lsp_server.specs.Seen.{answer_view};
 ghost use Rattle.laspidru.specs.declared.object.Object.TheVariants.{Server as ServerOf};
 ghost use Rattle.laspidru.specs.Codes.{IsAnswer, IsAnswerOrNoMemory, and_then, unless};
 ghost use Rattle.laspidru.specs.Objects.{IsCopy, in_use, rest_asked};
-ghost use Rattle.laspidru.specs.Servers.{IsHandled, IsOpened, config_asked, entry_asked, entry_in, live_asked, reply_asked, reply_out, server_in, server_of, session_of, step_at, text_of, uri_asked};
+ghost use Rattle.laspidru.specs.Servers.{IsHandled, IsOpened, config_asked, entry_asked, entry_in, live_asked, reply_asked, reply_out, server_in, server_of, session_of, text_of, uri_asked};
 
 use crate::answers::{Answer, Opened, Settings, answer_of, config_of};
 use crate::bytes::{copy_from, utf8_text};
@@ -13,6 +13,7 @@ use crate::codes::{EMPTY, ENDED, IN_USE, NOT_OPEN, NOT_UTF8, OK, OTHER_KIND, OUT
 use crate::handle::Handle;
 use crate::object::Object;
 use crate::session::Session;
+use crate::stream::Stream;
 use lsp_server::{Server, ServerFault};
 use std::alloc::Global;
 
@@ -40,6 +41,7 @@ pub extern "C" fn laspidru_server_new(
     let session = Session {
         server: Server::new(alloc, config),
         reply: Vec::new(alloc),
+        stream: Stream::new(alloc, config.limits),
     };
     let Ok(object) = Box::new(alloc, Object::Server(session)) else {
         return OUT_OF_MEMORY;
@@ -49,7 +51,7 @@ pub extern "C" fn laspidru_server_new(
 }
 
 /// The bytes of a reply; none of another answer.
-fn reply_of(alloc: Global, answer: lsp_server::Answer) -> Vec<u8>
+pub(crate) fn reply_of(alloc: Global, answer: lsp_server::Answer) -> Vec<u8>
     ensures { result.items ≡ reply_out (answer_view answer) }
 {
     match answer {
@@ -61,7 +63,7 @@ fn reply_of(alloc: Global, answer: lsp_server::Answer) -> Vec<u8>
 /// Handles a message by the server of an object.
 fn object_handle(alloc: Global, object: &mut Object, body: &[u8], out: &mut Answer) -> u32
     ensures answer { IsAnswerOrNoMemory (live_asked (server_of object.old)) result
-        (λ session. IsHandled (step_at session body.now) result (Some object.new) out.new) }
+        (λ session. IsHandled session body.now result (Some object.new) out.new) }
     ensures unchanged { result ≢ OK → (object.new ≡ object.old) × (out.new ≡ out.old) }
 {
     let Object::Server(session) = object else {
@@ -89,7 +91,7 @@ pub extern "C" fn laspidru_server_handle(
     out: &mut Answer,
 ) -> u32
     ensures answer { IsAnswerOrNoMemory (live_asked (server_in handle.old.value)) result
-        (λ session. IsHandled (step_at session body.now) result handle.new.value out.new) }
+        (λ session. IsHandled session body.now result handle.new.value out.new) }
     ensures unchanged { result ≢ OK
         → (handle.new.value ≡ handle.old.value) × (out.new ≡ out.old) }
 {
