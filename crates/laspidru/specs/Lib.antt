@@ -11,3 +11,4 @@ pub mod Framers
 pub mod Clients
 pub mod Taking
 pub mod Logs
+pub mod Messages

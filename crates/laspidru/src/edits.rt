@@ -54,7 +54,11 @@ fn text_edit_of(alloc: Global, edit: Edit, own: &[u8]) -> Result<TextEdit, Alloc
 }
 
 /// The text edits, each with its part of the texts.
-fn text_edits_of(alloc: Global, edits: &[Edit], texts: &[u8]) -> Result<Vec<TextEdit>, AllocError>
+pub(crate) fn text_edits_of(
+    alloc: Global,
+    edits: &[Edit],
+    texts: &[u8],
+) -> Result<Vec<TextEdit>, AllocError>
     requires { refused_edit edits.now texts.now ≡ None }
     ensures { IfOk result (λ passed.
         map replacement_of passed.items ≡ replacements_of edits.now texts.now) }
@@ -70,7 +74,7 @@ fn text_edits_of(alloc: Global, edits: &[Edit], texts: &[u8]) -> Result<Vec<Text
 }
 
 /// The code of a fault. A fault of an edit is written to `out`, another leaves it as it is.
-fn report_edits(fault: TextEditFault, out: &mut EditsFault) -> u32
+pub(crate) fn report_edits(fault: TextEditFault, out: &mut EditsFault) -> u32
     ensures report { IsEditsReport fault result out.new }
     ensures unchanged { IsUnlessFaulty result (out.new ≡ out.old) }
 {

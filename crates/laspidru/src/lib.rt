@@ -40,6 +40,8 @@ mod object;
 mod place;
 mod reports;
 mod server;
+mod server_edits;
+mod server_message;
 mod server_stream;
 mod session;
 mod stream;
