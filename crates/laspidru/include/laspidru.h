@@ -5,8 +5,10 @@
 
    Each function tests what it is passed and returns a code. Where the code isn't LASPIDRU_OK nothing has changed; only after
    the four faults of a log, 20 to 23, the output up to the fault is kept, after LASPIDRU_BAD_FRAME no more of a stream is
-   taken, and laspidru_server_take and laspidru_client_take may have taken a message that they couldn't handle yet. Memory is taken last: LASPIDRU_OUT_OF_MEMORY is returned only where the arguments are not refused.
-   A client's calls on documents take memory earlier: they may return it also where the documents would refuse the call.
+   taken, and laspidru_server_take and laspidru_client_take may have taken a message that they couldn't handle yet.
+   Memory is taken last: LASPIDRU_OUT_OF_MEMORY is returned only where the arguments are not refused. A client's calls on
+   documents, and laspidru_server_canonical_message, take memory earlier: they may return it also where the documents would
+   refuse the call.
    A handle of zeroes is empty. It is given to one call at a time, and never copied while it is full; it may be used
    by any thread. What a handle holds is freed by laspidru_close. Pointers are never null, also where a length is 0. */
 #ifndef LASPIDRU_H
@@ -55,7 +57,7 @@ enum {
     LASPIDRU_BODY_TOO_LONG = 22, /* the canonical message of a change has a longer body than max_body */
     LASPIDRU_BAD_LOG = 23,       /* what is there belongs in no log, or for laspidru_log_convert in none of version 1 */
 
-    LASPIDRU_TOO_MANY_TURNS = 24, /* too many reads and writes: 2^64 - 1 are allowed; nothing has changed */
+    LASPIDRU_TOO_MANY_TURNS = 24, /* as many reads and writes as are allowed, 2^64 - 1; nothing has changed */
     LASPIDRU_OVERLAP = 25,        /* two text edits overlap */
     LASPIDRU_FAILED = 26,         /* a framer returned LASPIDRU_BAD_FRAME before */
     LASPIDRU_NO_MESSAGE = 27,     /* no whole message is buffered */
@@ -93,7 +95,8 @@ enum {
 /* Encodings: what a position's character counts. */
 enum { LASPIDRU_UTF8 = 8, LASPIDRU_UTF16 = 16, LASPIDRU_UTF32 = 32 };
 
-/* A handle: room for a document, a batch, a framer, a server, a client or the output of a command on a log. */
+/* A handle: room for a document, a batch, a framer, a server, a client, or output: of a command on a log, or the frame of a
+   canonical message. */
 typedef struct laspidru_handle {
     void *pointer;
     laspidru_bool is_full;
@@ -286,8 +289,9 @@ laspidru_u32 laspidru_server_take(laspidru_handle *server, const unsigned char *
 laspidru_u32 laspidru_server_body(laspidru_handle *server, laspidru_size start,
     unsigned char *out, laspidru_size out_len, laspidru_size *copied);
 
-/* Hands the body of a message to a server: the bytes after its header. It is for who takes the stream apart. The reply, if there is one, stays with the
-   server until the next message that it answers. After LASPIDRU_OUT_OF_MEMORY the same body can be handed in again. */
+/* Hands the body of a message to a server: the bytes after its header. It is for who takes the stream apart. The reply, if
+   there is one, stays with the server until the next message that it answers. After LASPIDRU_OUT_OF_MEMORY the same body
+   can be handed in again. */
 laspidru_u32 laspidru_server_handle(laspidru_handle *server, const unsigned char *body, laspidru_size body_len,
     laspidru_answer *answer);
 
@@ -306,6 +310,20 @@ laspidru_u32 laspidru_server_document(laspidru_handle *server, const unsigned ch
 /* Copies the bytes of an open document's text from `start` on, as many as `out` holds, and says how many. */
 laspidru_u32 laspidru_server_text(laspidru_handle *server, const unsigned char *uri, laspidru_size uri_len,
     laspidru_size start, unsigned char *out, laspidru_size out_len, laspidru_size *copied);
+
+/* As laspidru_document_batch_of_edits, on the open document of a URI, for a formatter's or a code action's text edits. The
+   document stays as it is until the client reports them. */
+laspidru_u32 laspidru_server_batch_of_edits(laspidru_handle *server, const unsigned char *uri, laspidru_size uri_len,
+    laspidru_u32 encoding, const laspidru_edit *edits, laspidru_size edits_len, const unsigned char *texts,
+    laspidru_size texts_len, laspidru_handle *batch, laspidru_edits_fault *fault);
+
+/* Puts the one canonical didChange that means the same as these changes of an open document, under a version greater than
+   its own, into the empty handle `output`. laspidru_log_output copies it: `frame_len` bytes, with its header. The document
+   stays as it is. With INSIDE_CHARACTER and REVERSED_RANGE `fault` says which change is faulty. */
+laspidru_u32 laspidru_server_canonical_message(laspidru_handle *server, const unsigned char *uri, laspidru_size uri_len,
+    laspidru_i32 version, laspidru_u32 encoding, const laspidru_edit *edits, laspidru_size edits_len,
+    const unsigned char *texts, laspidru_size texts_len, laspidru_handle *output, laspidru_fault *fault,
+    laspidru_size *frame_len);
 
 /* ---- A framer takes a stream apart: feed, then body and next for each message, until all of the piece was taken.
 

@@ -3,6 +3,7 @@ pub mod Sessions
 pub mod Editors
 pub mod Stored
 pub mod Codes
+pub mod Numbers
 pub mod Objects
 pub mod Batches
 pub mod Edits

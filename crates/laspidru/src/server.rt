@@ -7,6 +7,10 @@ ghost use Rattle.laspidru.specs.Codes.{IsAnswer, IsAnswerOrNoMemory, and_then, u
 ghost use Rattle.laspidru.specs.Objects.{IsCopy, in_use, rest_asked};
 ghost use Rattle.laspidru.specs.Servers.{IsHandled, IsOpened, config_asked, entry_asked, entry_in, live_asked, reply_asked, reply_out, server_in, server_of, session_of, text_of, uri_asked};
 
+mod edits;
+mod message;
+mod stream;
+
 use crate::answers::{Answer, Opened, Settings, answer_of, config_of};
 use crate::bytes::{copy_from, utf8_text};
 use crate::codes::{EMPTY, ENDED, IN_USE, NOT_OPEN, NOT_UTF8, OK, OTHER_KIND, OUT_OF_MEMORY};
