@@ -339,10 +339,12 @@ static void test_other_kinds(void) {
     laspidru_opened opened = {9, 9};
     unsigned char out[1];
     laspidru_size copied = 9, len = 9;
+    laspidru_u32 encoding = 9;
     CHECK(open_text(&document, "a") == LASPIDRU_OK);
     CHECK(hand(&document, shutdown, &answer) == LASPIDRU_OTHER_KIND && answer.kind == 9 && answer.reply_len == 9);
     CHECK(laspidru_server_reply(&document, 0, out, 1, &copied) == LASPIDRU_OTHER_KIND && copied == 9);
     CHECK(laspidru_server_documents(&document, &len) == LASPIDRU_OTHER_KIND && len == 9);
+    CHECK(laspidru_server_encoding(&document, &encoding) == LASPIDRU_OTHER_KIND && encoding == 9);
     CHECK(laspidru_server_document(&document, bytes(uri_a), 9, &opened) == LASPIDRU_OTHER_KIND && opened.bytes == 9);
     CHECK(laspidru_server_text(&document, bytes(uri_a), 9, 0, out, 1, &copied) == LASPIDRU_OTHER_KIND && copied == 9);
     CHECK(has_text(&document, "a"));
@@ -1203,8 +1205,12 @@ static laspidru_u32 served_message(laspidru_handle *server, laspidru_i32 version
 /* Makes a server with "ab\ncd" open, under version 1. */
 static void start_server(laspidru_handle *server) {
     laspidru_answer answer = {9, 9, 9, 9, 9};
+    laspidru_u32 encoding = 9;
+    CHECK(laspidru_server_encoding(server, &encoding) == LASPIDRU_EMPTY && encoding == 9);
     CHECK(laspidru_server_new(server, &settings) == LASPIDRU_OK);
+    CHECK(laspidru_server_encoding(server, &encoding) == LASPIDRU_OK && encoding == 0);
     CHECK(hand(server, initialize, &answer) == LASPIDRU_OK && hand(server, open_a, &answer) == LASPIDRU_OK);
+    CHECK(laspidru_server_encoding(server, &encoding) == LASPIDRU_OK && encoding == LASPIDRU_UTF8);
     CHECK(answer.kind == LASPIDRU_CHANGED && holds(server, 1, "ab\ncd"));
 }
 

@@ -300,6 +300,9 @@ laspidru_u32 laspidru_server_handle(laspidru_handle *server, const unsigned char
 laspidru_u32 laspidru_server_reply(laspidru_handle *server, laspidru_size start,
     unsigned char *out, laspidru_size out_len, laspidru_size *copied);
 
+/* The encoding of positions that was chosen at initialize, of which the reply tells the client; 0 before. */
+laspidru_u32 laspidru_server_encoding(laspidru_handle *server, laspidru_u32 *encoding);
+
 /* How many documents are open. */
 laspidru_u32 laspidru_server_documents(laspidru_handle *server, laspidru_size *len);
 
