@@ -39,6 +39,11 @@ impl Received {
         let code = call(&self.bytes[self.at..], &mut taken);
         self.at += taken.bytes;
         self.is_inside |= taken.bytes > 0;
+        if code != ffi::OK && code != ffi::OUT_OF_MEMORY {
+            // No more of this stream is taken.
+            self.bytes.clear();
+            self.at = 0;
+        }
         match code {
             ffi::OK => {
                 self.is_inside &= !taken.is_whole;
