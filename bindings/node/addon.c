@@ -8,7 +8,7 @@
 #include "laspidru.h"
 
 enum {
-    MOST_ARGUMENTS = 5,
+    MOST_ARGUMENTS = 6,
     FEW_EDITS = 4,
     NUMBERS_OF_EDIT = 6,
     NUMBERS_OF_SETTINGS = 6,
@@ -768,6 +768,64 @@ static napi_value document_at(napi_env env, napi_callback_info info) {
     return array_of(env, (const double[]){it.version}, 1, text);
 }
 
+/* encoding(server): its number; 0 before one is chosen */
+static napi_value encoding_of(napi_env env, napi_callback_info info) {
+    napi_value found[MOST_ARGUMENTS], out = NULL;
+    laspidru_handle *server;
+    laspidru_u32 encoding = 0;
+    if (!arguments(env, info, 1, found) || !end_of(env, found[0], &server))
+        return refuse_arguments(env);
+    laspidru_u32 code = laspidru_server_encoding(server, &encoding);
+    return code == LASPIDRU_OK ? made(env, napi_create_uint32(env, encoding, &out), &out) : refuse(env, code);
+}
+
+/* batchOfEditsAt(server, uri, encoding, numbers, texts): the canonical batch of text edits on an open document */
+static napi_value batch_of_edits_at(napi_env env, napi_callback_info info) {
+    napi_value found[MOST_ARGUMENTS];
+    laspidru_handle *server, changes = {0};
+    laspidru_edits_fault fault = {0, 0, 0};
+    const void *uri;
+    size_t uri_len;
+    batch it;
+    if (!arguments(env, info, 5, found) || !end_of(env, found[0], &server) ||
+        !elements(env, found[1], napi_uint8_array, &uri, &uri_len) ||
+        napi_get_value_uint32(env, found[2], &it.encoding) != napi_ok)
+        return refuse_arguments(env);
+    if (!read_edits(env, found[3], found[4], &it))
+        return NULL;
+    laspidru_u32 code = laspidru_server_batch_of_edits(server, uri, uri_len, it.encoding, it.edits, it.count, it.texts,
+                                                       it.texts_len, &changes, &fault);
+    free_batch(&it);
+    return code == LASPIDRU_OK ? changes_of(env, &changes) : refuse_text_edits(env, code, fault);
+}
+
+/* canonicalMessage(server, uri, version, encoding, numbers, texts): the frame of the canonical message of a batch on an open
+   document */
+static napi_value canonical_message(napi_env env, napi_callback_info info) {
+    napi_value found[MOST_ARGUMENTS];
+    laspidru_handle *server, output = {0};
+    laspidru_fault fault = {0, 0};
+    laspidru_size len = 0;
+    const void *uri;
+    size_t uri_len;
+    int32_t version;
+    batch it;
+    if (!arguments(env, info, 6, found) || !end_of(env, found[0], &server) ||
+        !elements(env, found[1], napi_uint8_array, &uri, &uri_len) ||
+        napi_get_value_int32(env, found[2], &version) != napi_ok || napi_get_value_uint32(env, found[3], &it.encoding) != napi_ok)
+        return refuse_arguments(env);
+    if (!read_edits(env, found[4], found[5], &it))
+        return NULL;
+    laspidru_u32 code = laspidru_server_canonical_message(server, uri, uri_len, version, it.encoding, it.edits, it.count, it.texts,
+                                                          it.texts_len, &output, &fault, &len);
+    free_batch(&it);
+    if (code != LASPIDRU_OK)
+        return refuse_change(env, code, fault);
+    napi_value out = buffer_of(env, laspidru_log_output, &output, len);
+    laspidru_close(&output);
+    return out != NULL ? out : refuse(env, LASPIDRU_OUT_OF_MEMORY);
+}
+
 /* Logs */
 
 typedef laspidru_u32 log_command(laspidru_handle *output, const laspidru_log_settings *settings, const unsigned char *log,
@@ -828,6 +886,9 @@ NAPI_MODULE_INIT() {
         {"openAt", 0, open_at, 0, 0, 0, napi_default, 0},     {"edit", 0, edit, 0, 0, 0, napi_default, 0},
         {"closeAt", 0, close_at, 0, 0, 0, napi_default, 0},   {"deliver", 0, deliver, 0, 0, 0, napi_default, 0},
         {"state", 0, state_of, 0, 0, 0, napi_default, 0},     {"document", 0, document_at, 0, 0, 0, napi_default, 0},
+        {"encoding", 0, encoding_of, 0, 0, 0, napi_default, 0},
+        {"batchOfEditsAt", 0, batch_of_edits_at, 0, 0, 0, napi_default, 0},
+        {"canonicalMessage", 0, canonical_message, 0, 0, 0, napi_default, 0},
     };
     return made(env, napi_define_properties(env, exports, sizeof functions / sizeof *functions, functions), &exports);
 }
