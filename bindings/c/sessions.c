@@ -144,24 +144,45 @@ static void begin(const char *line) {
     demand(laspidru_client_new(&client, &offers));
 }
 
+static const struct {
+    const char *line;
+    laspidru_u32 (*call)(laspidru_handle *, laspidru_size *);
+} LIFECYCLE[] = {{"start\n", laspidru_client_start}, {"shutdown\n", laspidru_client_shutdown}, {"exit\n", laspidru_client_exit}};
+
+/* False where the line is no call of the lifecycle. */
+static int lifecycle(const char *line) {
+    laspidru_size len = 0;
+    for (size_t i = 0; i < sizeof LIFECYCLE / sizeof *LIFECYCLE; i++) {
+        if (strcmp(line, LIFECYCLE[i].line)) continue;
+        laspidru_u32 code = LIFECYCLE[i].call(&client, &len);
+        called(code, len);
+        return 1;
+    }
+    return 0;
+}
+
+static void open_document(const char *uri, int version, const char *escaped) {
+    static char text[ROOM];
+    laspidru_size text_len = plain(escaped, text), len = 0;
+    laspidru_u32 code = laspidru_client_open(&client, (bytes)uri, strlen(uri), (bytes)"c", 1, version, (bytes)text, text_len, &len);
+    called(code, len);
+}
+
+static void close_document(const char *uri) {
+    laspidru_size len = 0;
+    laspidru_u32 code = laspidru_client_close(&client, (bytes)uri, strlen(uri), &len);
+    called(code, len);
+}
+
 int main(void) {
-    static char line[ROOM], text[ROOM], uri[64];
+    static char line[ROOM], uri[64];
     int version, count, at;
     while (fgets(line, sizeof line, stdin)) {
-        laspidru_size len = 0;
         if (!strncmp(line, "session ", 8)) begin(line);
-        else if (!strcmp(line, "start\n")) { laspidru_u32 code = laspidru_client_start(&client, &len); called(code, len); }
-        else if (!strcmp(line, "shutdown\n")) { laspidru_u32 code = laspidru_client_shutdown(&client, &len); called(code, len); }
-        else if (!strcmp(line, "exit\n")) { laspidru_u32 code = laspidru_client_exit(&client, &len); called(code, len); }
-        else if (sscanf(line, "open %63s %d%n", uri, &version, &at) == 2) {
-            laspidru_size text_len = plain(line + at + 1, text);
-            laspidru_u32 code =
-                laspidru_client_open(&client, (bytes)uri, strlen(uri), (bytes)"c", 1, version, (bytes)text, text_len, &len);
-            called(code, len);
-        } else if (sscanf(line, "close %63s", uri) == 1) {
-            laspidru_u32 code = laspidru_client_close(&client, (bytes)uri, strlen(uri), &len);
-            called(code, len);
-        } else if (sscanf(line, "edit %63s %d %d", uri, &version, &count) == 3) edit(uri, version, count);
+        else if (lifecycle(line)) continue;
+        else if (sscanf(line, "open %63s %d%n", uri, &version, &at) == 2) open_document(uri, version, line + at + 1);
+        else if (sscanf(line, "close %63s", uri) == 1) close_document(uri);
+        else if (sscanf(line, "edit %63s %d %d", uri, &version, &count) == 3) edit(uri, version, count);
         else if (!strcmp(line, "toServer\n")) serve();
         else if (!strcmp(line, "toClient\n")) hear();
         else if (!strcmp(line, "end\n")) end_session();
