@@ -1,10 +1,14 @@
 //! The functions on text edits.
 
-ghost use Rattle.std.specs.Prelude.{◌≡◌, ◌≢◌, ◌≤◌, ◌⊎◌, None, IfErr, IfOk, Ok, OnErr, OnOk, Some, length, map, true};
+ghost use Rattle.std.specs.Prelude.{◌≡◌, ◌≢◌, ◌≤◌, ◌⊎◌, None, IfErr, IfOk, Ok, OnErr, OnOk, Some};
+ghost use Rattle.std.specs.Prelude.{length, map, true};
 ghost use Rattle.std.specs.Str.{is_utf8};
 ghost use Rattle.laspidru.specs.Batches.{refused_edit};
 ghost use Rattle.laspidru.specs.Codes.{IsAnswerOrNoMemory, unless};
-ghost use Rattle.laspidru.specs.Edits.{AreApplied, AreBatched, AreFaulty, IsBatchOfAsked, IsEditsReport, IsUnlessFaulty, IsTooMuch, edits_asked, edits_on, fitting_edits, range_or, replacement_of, replacement_with, replacements_of, text_left};
+ghost use Rattle.laspidru.specs.Edits.{AreApplied, AreBatched, AreFaulty, IsBatchOfAsked};
+ghost use Rattle.laspidru.specs.Edits.{IsEditsReport, IsUnlessFaulty, IsTooMuch, edits_asked};
+ghost use Rattle.laspidru.specs.Edits.{edits_on, fitting_edits, range_or, replacement_of};
+ghost use Rattle.laspidru.specs.Edits.{replacement_with, replacements_of, text_left};
 ghost use Rattle.laspidru.specs.Objects.{document_in, document_of, in_use};
 
 use crate::changes::{encoding_of, fits, position_of, refusal_of};

@@ -3,7 +3,9 @@
 ghost use Rattle.std.specs.Prelude.{◌≡◌, ◌≢◌, Err, IfErr, IfOk, Ok, OnErr, length};
 ghost use Rattle.lsp_client.specs.Seen.{delivered_view};
 ghost use Rattle.laspidru.specs.Servers.{store_code};
-ghost use Rattle.laspidru.specs.Clients.{IsCallReport, IsStoreReport, call_code, delivered_out, encoding_number, frame_out, phase_number, phase_reason, reason_number};
+ghost use Rattle.laspidru.specs.Clients.{IsCallReport, IsStoreReport, call_code, delivered_out};
+ghost use Rattle.laspidru.specs.Clients.{encoding_number, frame_out, phase_number, phase_reason};
+ghost use Rattle.laspidru.specs.Clients.{reason_number};
 
 use crate::answers::{Answer, plain, store_code_of};
 use crate::codes::{

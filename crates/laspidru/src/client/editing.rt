@@ -91,8 +91,8 @@ fn object_open(
 
 /// Opens a document: the frame of `textDocument/didOpen` is to be sent (LSP 3.17,
 /// DidOpenTextDocument). Codes, in this order: NOT_UTF8, EMPTY, OTHER_KIND, WRONG_PHASE; then
-/// OUT_OF_MEMORY, or ALREADY_OPEN, TOO_MANY_DOCUMENTS, TOO_LONG, also of a message that is too long.
-/// Costs [`Client::open`].
+/// OUT_OF_MEMORY, or ALREADY_OPEN, TOO_MANY_DOCUMENTS, TOO_LONG, also of a message that is too
+/// long. Costs [`Client::open`].
 #[unsafe(no_mangle)]
 pub extern "C" fn laspidru_client_open(
     alloc: Global,
@@ -153,7 +153,12 @@ fn edited(
 }
 
 /// Changes a document by an object's client.
-#[tactic(auto, using(crate::proofs::Calls::accepted, crate::proofs::Calls::call_refused, crate::proofs::Calls::report_written, crate::proofs::Calls::none_written))]
+#[tactic(auto, using(
+    crate::proofs::Calls::accepted,
+    crate::proofs::Calls::call_refused,
+    crate::proofs::Calls::report_written,
+    crate::proofs::Calls::none_written
+))]
 fn object_client_edit(
     alloc: Global,
     object: &mut Object,
@@ -242,8 +247,8 @@ pub extern "C" fn laspidru_client_edit(
 #[tactic(auto, using(crate::proofs::Calls::accepted, crate::proofs::Calls::call_refused))]
 fn object_client_close(object: &mut Object, uri: &str, len: &mut usize) -> u32
     ensures answer { IsRefusedOr (client_of object.old) result (λ editor.
-        IsCalled editor.stream (call_result editor.client (orders (closes uri.now))) result (Some object.new)
-        len.new) }
+        IsCalled editor.stream (call_result editor.client (orders (closes uri.now))) result
+        (Some object.new) len.new) }
     ensures unchanged { result ≢ OK → (object.new ≡ object.old) × (len.new ≡ len.old) }
 {
     let Object::Client(editor) = object else {
@@ -265,8 +270,8 @@ pub extern "C" fn laspidru_client_close(
     len: &mut usize,
 ) -> u32
     ensures answer { IsRefusedOr (both (uri_asked uri.now) (client_in handle.old.value)) result
-        (λ asked. IsCalled asked.1.stream (call_result asked.1.client (orders (closes asked.0))) result
-        handle.new.value len.new) }
+        (λ asked. IsCalled asked.1.stream (call_result asked.1.client (orders (closes asked.0)))
+        result handle.new.value len.new) }
     ensures unchanged { result ≢ OK
         → (handle.new.value ≡ handle.old.value) × (len.new ≡ len.old) }
 {

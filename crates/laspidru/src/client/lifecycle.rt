@@ -31,8 +31,8 @@ fn called(client: &mut Client, call: Call) -> Result<Vec<u8>, ClientFault>
 #[tactic(auto, using(crate::proofs::Calls::accepted, crate::proofs::Calls::call_refused))]
 fn object_call(object: &mut Object, call: Call, len: &mut usize) -> u32
     ensures answer { IsRefusedOr (client_of object.old) result (λ editor.
-        IsCalled editor.stream (call_result editor.client (lifecycle_call call)) result (Some object.new)
-        len.new) }
+        IsCalled editor.stream (call_result editor.client (lifecycle_call call)) result
+        (Some object.new) len.new) }
     ensures unchanged { result ≢ OK → (object.new ≡ object.old) × (len.new ≡ len.old) }
 {
     let Object::Client(editor) = object else {
@@ -45,8 +45,8 @@ fn object_call(object: &mut Object, call: Call, len: &mut usize) -> u32
 /// Makes a call of the lifecycle by the client of a handle.
 fn call(alloc: Global, handle: &mut Handle, call: Call, len: &mut usize) -> u32
     ensures answer { IsRefusedOr (client_in handle.old.value) result (λ editor.
-        IsCalled editor.stream (call_result editor.client (lifecycle_call call)) result handle.new.value
-        len.new) }
+        IsCalled editor.stream (call_result editor.client (lifecycle_call call)) result
+        handle.new.value len.new) }
     ensures unchanged { result ≢ OK
         → (handle.new.value ≡ handle.old.value) × (len.new ≡ len.old) }
 {
@@ -65,8 +65,8 @@ fn call(alloc: Global, handle: &mut Handle, call: Call, len: &mut usize) -> u32
 #[unsafe(no_mangle)]
 pub extern "C" fn laspidru_client_start(alloc: Global, handle: &mut Handle, len: &mut usize) -> u32
     ensures answer { IsRefusedOr (client_in handle.old.value) result (λ editor.
-        IsCalled editor.stream (call_result editor.client (lifecycle_call Call.Start)) result handle.new.value
-        len.new) }
+        IsCalled editor.stream (call_result editor.client (lifecycle_call Call.Start)) result
+        handle.new.value len.new) }
     ensures unchanged { result ≢ OK
         → (handle.new.value ≡ handle.old.value) × (len.new ≡ len.old) }
 {
@@ -96,8 +96,8 @@ pub extern "C" fn laspidru_client_shutdown(
 #[unsafe(no_mangle)]
 pub extern "C" fn laspidru_client_exit(alloc: Global, handle: &mut Handle, len: &mut usize) -> u32
     ensures answer { IsRefusedOr (client_in handle.old.value) result (λ editor.
-        IsCalled editor.stream (call_result editor.client (lifecycle_call Call.Exit)) result handle.new.value
-        len.new) }
+        IsCalled editor.stream (call_result editor.client (lifecycle_call Call.Exit)) result
+        handle.new.value len.new) }
     ensures unchanged { result ≢ OK
         → (handle.new.value ≡ handle.old.value) × (len.new ≡ len.old) }
 {

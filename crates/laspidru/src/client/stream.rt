@@ -83,8 +83,8 @@ fn object_hear(
 /// copied until the next call.
 ///
 /// Codes, in this order: EMPTY, OTHER_KIND, WRONG_PHASE, which change nothing. Then FAILED;
-/// OUT_OF_MEMORY, or BAD_FRAME. After OUT_OF_MEMORY a message may be whole and not handled: the next
-/// call handles it. Costs a pass over the bytes taken, their copy, and `Client::deliver`.
+/// OUT_OF_MEMORY, or BAD_FRAME. After OUT_OF_MEMORY a message may be whole and not handled: the
+/// next call handles it. Costs a pass over the bytes taken, their copy, and `Client::deliver`.
 #[unsafe(no_mangle)]
 pub extern "C" fn laspidru_client_take(
     alloc: Global,

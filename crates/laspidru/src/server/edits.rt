@@ -3,7 +3,8 @@
 ghost use Rattle.std.specs.Prelude.{◌≡◌, ◌≢◌, ◌⊎◌, IfErr, IfOk, None};
 ghost use Rattle.laspidru.specs.Batches.{refused_edit};
 ghost use Rattle.laspidru.specs.Codes.{IsAnswerOrNoMemory, and_then, unless};
-ghost use Rattle.laspidru.specs.Edits.{AreBatched, AreFaulty, IsBatchOfAsked, IsUnlessFaulty, edits_on, fitting_edits};
+ghost use Rattle.laspidru.specs.Edits.{AreBatched, AreFaulty, IsBatchOfAsked, IsUnlessFaulty};
+ghost use Rattle.laspidru.specs.Edits.{edits_on, fitting_edits};
 ghost use Rattle.laspidru.specs.Messages.{edits_named};
 ghost use Rattle.laspidru.specs.Objects.{in_use};
 ghost use Rattle.laspidru.specs.Servers.{entry_in, server_in, server_of, text_of};
@@ -91,9 +92,9 @@ fn object_served_edits(
 /// 3.17, TextEdit[]). All their ranges count in its text as it is. The document stays as it is: it
 /// changes when the client reports them.
 ///
-/// Codes, in this order: NOT_UTF8 of the URI; BAD_ENCODING; BAD_LENGTH or NOT_UTF8 of the first such
-/// edit; IN_USE of `batch`; EMPTY, OTHER_KIND, NOT_OPEN, TOO_LONG; OUT_OF_MEMORY, or the fault, as of
-/// `laspidru_document_batch_of_edits`. Costs the same, and a hash look-up.
+/// Codes, in this order: NOT_UTF8 of the URI; BAD_ENCODING; BAD_LENGTH or NOT_UTF8 of the first
+/// such edit; IN_USE of `batch`; EMPTY, OTHER_KIND, NOT_OPEN, TOO_LONG; OUT_OF_MEMORY, or the
+/// fault, as of `laspidru_document_batch_of_edits`. Costs the same, and a hash look-up.
 #[unsafe(no_mangle)]
 pub extern "C" fn laspidru_server_batch_of_edits(
     alloc: Global,

@@ -71,11 +71,11 @@ fn object_message(
 /// 3.17, DidChangeTextDocument): that of [`Store::canonical_message`](lsp_store::Store). It is
 /// copied by `laspidru_log_output`. The document stays as it is.
 ///
-/// Codes, in this order: NOT_UTF8 of the URI; BAD_ENCODING; BAD_LENGTH or NOT_UTF8 of the first such
-/// edit; IN_USE of `output`; EMPTY, OTHER_KIND. Then OUT_OF_MEMORY, or NOT_OPEN, STALE_VERSION,
-/// TOO_MANY_CHANGES, INSIDE_CHARACTER, REVERSED_RANGE, TOO_LONG, also of a message that is too long.
-/// With the two codes of a faulty change `fault` says which change it is. Costs a pass over the
-/// texts, their copy, and `Store::canonical_message`.
+/// Codes, in this order: NOT_UTF8 of the URI; BAD_ENCODING; BAD_LENGTH or NOT_UTF8 of the first
+/// such edit; IN_USE of `output`; EMPTY, OTHER_KIND. Then OUT_OF_MEMORY, or NOT_OPEN,
+/// STALE_VERSION, TOO_MANY_CHANGES, INSIDE_CHARACTER, REVERSED_RANGE, TOO_LONG, also of a message
+/// that is too long. With the two codes of a faulty change `fault` says which change it is. Costs a
+/// pass over the texts, their copy, and `Store::canonical_message`.
 #[unsafe(no_mangle)]
 pub extern "C" fn laspidru_server_canonical_message(
     alloc: Global,

@@ -69,12 +69,12 @@ fn object_serve(
 /// Takes bytes of the next piece of a server's stream: all of them, or those up to the end of one
 /// message, and handles that message (LSP 3.17, Base Protocol). `taken` is what
 /// `laspidru_framer_feed` writes. Once the message is whole, `out` is the answer of
-/// [`Server::handle`](lsp_server::Server::handle); before, it stays as it is. The body can be copied
-/// until the next call.
+/// [`Server::handle`](lsp_server::Server::handle); before, it stays as it is. The body can be
+/// copied until the next call.
 ///
-/// Codes, in this order: EMPTY, OTHER_KIND, ENDED, which change nothing. Then FAILED; OUT_OF_MEMORY,
-/// or BAD_FRAME. After OUT_OF_MEMORY a message may be whole and not handled: the next call handles
-/// it. Costs a pass over the bytes taken, their copy, and `Server::handle`.
+/// Codes, in this order: EMPTY, OTHER_KIND, ENDED, which change nothing. Then FAILED;
+/// OUT_OF_MEMORY, or BAD_FRAME. After OUT_OF_MEMORY a message may be whole and not handled: the
+/// next call handles it. Costs a pass over the bytes taken, their copy, and `Server::handle`.
 #[unsafe(no_mangle)]
 pub extern "C" fn laspidru_server_take(
     alloc: Global,
