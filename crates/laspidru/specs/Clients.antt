@@ -193,7 +193,8 @@ pub record IsTakenIn (stream : StreamData) (delivery : Delivery) (code : ℕ)
   pub answer : out ≡ delivered_out (as_sent delivery.delivered)
 
 -- A body is handled or out of memory, or refused.
-abbrev pub IsDeliveredTo : StreamData → Result Delivery Refusal → ℕ → Option Object → Answer → Type 0
+abbrev pub IsDeliveredTo : StreamData → Result Delivery Refusal → ℕ → Option Object → Answer →
+    Type 0
 IsDeliveredTo stream (Ok delivery) code stored out =
     (code ≡ OUT_OF_MEMORY) ⊎ IsTakenIn stream delivery code stored out
 IsDeliveredTo stream (Err refusal) code stored out = IsRefusedCall refusal code

@@ -20,7 +20,8 @@ use Rattle.laspidru.specs.Servers.{entry_in, store_code, text_of, uri_asked}
 use Rattle.laspidru.specs.Sessions.{SessionData}
 
 -- Text edits as C passes them, on the open document of a URI.
-abbrev pub edits_named : List ℕ → ℕ → List Edit → List ℕ → Result SessionData ℕ → Result EditsAsked ℕ
+abbrev pub edits_named : List ℕ → ℕ → List Edit → List ℕ → Result SessionData ℕ →
+    Result EditsAsked ℕ
 edits_named uri number edits texts server = and_then (uri_asked uri) (λ named.
     edits_asked number edits texts (text_of (and_then server (entry_in named))))
 

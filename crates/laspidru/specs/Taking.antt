@@ -132,7 +132,8 @@ IsHeardIn old piece code (Output bytes) taken before after = ⊥
 IsHeardIn old piece code (Framer framing) taken before after = ⊥
 
 -- The same of what a handle has.
-abbrev pub IsHeardStored : EditorData → List ℕ → ℕ → Option Object → Taken → Answer → Answer → Type 0
+abbrev pub IsHeardStored : EditorData → List ℕ → ℕ → Option Object → Taken → Answer → Answer →
+    Type 0
 IsHeardStored old piece code (Some object) taken before after =
     IsHeardIn old piece code object taken before after
 IsHeardStored old piece code None taken before after = ⊥
