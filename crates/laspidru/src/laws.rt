@@ -12,5 +12,4 @@ pub fn number_laws()
     ensures kinds { HaveKinds }
     ensures codes_differ { Rise codes }
     ensures kinds_differ { Rise kinds }
-{
-}
+{}

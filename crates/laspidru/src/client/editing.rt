@@ -153,12 +153,7 @@ fn edited(
 }
 
 /// Changes a document by an object's client.
-#[tactic(auto, using(
-    crate::proofs::Calls::accepted,
-    crate::proofs::Calls::call_refused,
-    crate::proofs::Calls::report_written,
-    crate::proofs::Calls::none_written
-))]
+#[tactic(auto, using(crate::proofs::Calls::accepted, crate::proofs::Calls::call_refused, crate::proofs::Calls::report_written, crate::proofs::Calls::none_written))]
 fn object_client_edit(
     alloc: Global,
     object: &mut Object,
