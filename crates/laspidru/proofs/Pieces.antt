@@ -1,11 +1,11 @@
 -- What is taken of a piece of a stream.
-use Rattle.std.proofs.Common.{◌≡◌, ◌≢◌, ℕ, List, false, inl, inr, ap, arith}
+use Rattle.std.proofs.Common.{◌≡◌, ◌≢◌, ℕ, Bool, List, false, true, inl, inr, ap, arith, subst, sym}
 use Rattle.lsp_frame.specs.Stream.{Framing}
 use Rattle.lsp_frame.specs.declared.fault.FrameFault.{FrameFault}
 use Rattle.lsp_frame.specs.declared.fault.FrameFault.TheVariants.{BadHeader, HeaderTooLong, MissingLength, RepeatedHeader, BadLength, BodyTooLong, BadCharset, Failed, NoMemory}
 use Rattle.laspidru.specs.declared.codes.TheConstants.{BAD_FRAME, OK}
 use Rattle.laspidru.specs.declared.taken.Taken.{Taken}
-use Rattle.laspidru.specs.Framers.{IsFed, IsFedTo, IsFrameReport, IsNext, frame_code, nothing_taken, taken_fault}
+use Rattle.laspidru.specs.Framers.{IsFed, IsFedTo, IsFrameReport, IsNext, IsReleased, frame_code, nothing_taken, taken_fault}
 use Rattle.laspidru.specs.Streams.{StreamData}
 
 -- No byte was taken.
@@ -35,6 +35,14 @@ none_of : (old new : Framing) (piece : List ℕ) (code : ℕ) (out : Taken) → 
     → (code ≢ OK → code ≢ BAD_FRAME → (new ≡ old) × (out ≡ nothing_taken)) → IsNothing out
 none_of old new piece code out (inl done) bad kept = absurd (bad done.0)
 none_of old new piece code out (inr fault) bad kept = none fault.fault code out fault.is fault.report (λ a b. (kept a b).1)
+
+-- A message that was handled is released.
+pub released_next : (is_handled : Bool) (old new : Framing) → is_handled ≡ true → IsReleased old new → IsNext is_handled old new
+released_next is_handled old new is done = subst (λ b. IsNext b old new) (sym is) done
+
+-- One that wasn't stays.
+pub kept_next : (is_handled : Bool) (old new : Framing) → is_handled ≡ false → new ≡ old → IsNext is_handled old new
+kept_next is_handled old new is same = subst (λ b. IsNext b old new) (sym is) same
 
 -- A piece was fed after the message that was handled.
 pub fed_to : (old new : StreamData) (at : Framing) (piece : List ℕ) (code : ℕ) (out : Taken)

@@ -46,10 +46,11 @@ pub extern "C" fn laspidru_server_new(
         Ok(config) => config,
         Err(code) => return code,
     };
+    let limits = config.limits;
     let session = Session {
         server: Server::new(alloc, config),
         reply: Vec::new(alloc),
-        stream: Stream::new(alloc, config.limits),
+        stream: Stream::new(alloc, limits),
     };
     let Ok(object) = Box::new(alloc, Object::Server(session)) else {
         return OUT_OF_MEMORY;

@@ -6,7 +6,7 @@ ghost use Rattle.laspidru.specs.Streams.{stream_of};
 
 use crate::codes::OK;
 use crate::framer::copy_body;
-use crate::taken::{Taken, feed, nothing};
+use crate::taken::{Taken, feed, nothing, release};
 use lsp_frame::{Framer, Limits};
 use std::alloc::Global;
 use std::marker::Model;
@@ -39,12 +39,13 @@ impl Stream {
     }
 
     /// Releases the message that was handled.
+    #[tactic(auto, using(crate::proofs::Pieces::released_next, crate::proofs::Pieces::kept_next))]
     fn release(&mut self)
         ensures next { IsNext self.old.is_handled self.old.framing self.new.framing }
         ensures unhandled { self.new.is_handled ≡ false }
     {
         if self.is_handled {
-            self.framer.next();
+            release(&mut self.framer);
             self.is_handled = false;
         }
     }

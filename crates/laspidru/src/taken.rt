@@ -1,7 +1,8 @@
 //! What is taken of a piece of a stream.
 
 ghost use Rattle.std.specs.Prelude.{◌≡◌, ◌≢◌};
-ghost use Rattle.laspidru.specs.Framers.{HasBody, IsFed, IsFrameReport, frame_code, nothing_taken};
+ghost use Rattle.laspidru.specs.Framers.{HasBody, IsFed, IsFrameReport, IsReleased, frame_code};
+ghost use Rattle.laspidru.specs.Framers.{nothing_taken};
 
 use crate::codes::{BAD_FRAME, FAILED, OK, OUT_OF_MEMORY};
 use lsp_frame::{FrameFault, Framer};
@@ -69,6 +70,13 @@ fn report_frame(fault: FrameFault, out: &mut Taken) -> u32
         ..nothing()
     };
     BAD_FRAME
+}
+
+/// Releases the message that a framer has buffered, if it is whole.
+pub(crate) fn release(framer: &mut Framer)
+    ensures { IsReleased framer.old framer.new }
+{
+    framer.next();
 }
 
 /// Feeds a piece of a stream to a framer.

@@ -18,6 +18,7 @@ use lsp_client::Phase;
 use std::alloc::Global;
 
 /// Takes bytes of a piece, and handles the message that is whole then.
+#[tactic(auto, using(crate::proofs::Heard::none_heard, crate::proofs::Heard::unheard, crate::proofs::Heard::one_heard, crate::proofs::Calls::heard))]
 fn hear(
     alloc: Global,
     editor: &mut Editor,

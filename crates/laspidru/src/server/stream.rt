@@ -18,6 +18,7 @@ use lsp_server::Phase;
 use std::alloc::Global;
 
 /// Takes bytes of a piece, and handles the message that is whole then.
+#[tactic(auto, using(crate::proofs::Heard::none_served, crate::proofs::Heard::waits, crate::proofs::Heard::one_served))]
 fn serve(
     alloc: Global,
     session: &mut Session,
