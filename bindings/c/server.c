@@ -1,52 +1,66 @@
-/* A session with a server: bodies go in, and replies and open documents come out. */
+/* A server on standard input and output. It keeps the open documents, and says on standard error what becomes of them. */
 #include <stdio.h>
-#include <string.h>
+#include <unistd.h>
 
 #include "laspidru.h"
 
-/* Hands a body in, and writes the reply, if there is one, as it is to be sent. */
-static laspidru_u32 hand(laspidru_handle *server, const char *body, laspidru_answer *answer) {
-    laspidru_u32 code = laspidru_server_handle(server, (const unsigned char *)body, strlen(body), answer);
-    unsigned char part[64];
-    laspidru_size start = 0, copied = 0;
-    while (code == LASPIDRU_OK && answer->kind == LASPIDRU_REPLIED && start < answer->reply_len) {
-        code = laspidru_server_reply(server, start, part, sizeof part, &copied);
-        fwrite(part, 1, copied, stdout);
-        start += copied;
+enum { GOES_ON = -1, FAILED = 2 };
+
+/* Writes the reply as it is to be sent. False where that failed. */
+static int reply(laspidru_handle *server, laspidru_size len) {
+    unsigned char part[4096];
+    laspidru_size start, copied;
+    for (start = 0; start < len; start += copied)
+        if (laspidru_server_reply(server, start, part, sizeof part, &copied) != LASPIDRU_OK ||
+            fwrite(part, 1, copied, stdout) != copied)
+            return 0;
+    return fflush(stdout) == 0;
+}
+
+/* What becomes of a message that was taken: the status to end with, or that the session goes on. */
+static int answered(laspidru_handle *server, laspidru_answer answer) {
+    laspidru_size documents = 0;
+    switch (answer.kind) {
+    case LASPIDRU_REPLIED: /* with the error -32601 the request is yours: answer it instead */
+        return reply(server, answer.reply_len) ? GOES_ON : FAILED;
+    case LASPIDRU_CHANGED:
+        laspidru_server_documents(server, &documents);
+        fprintf(stderr, "changed: %zu open\n", (size_t)documents);
+        return GOES_ON;
+    case LASPIDRU_REFUSED:
+        fprintf(stderr, "refused: code %u\n", (unsigned)answer.reason);
+        return GOES_ON;
+    case LASPIDRU_EXITED:
+        return (int)answer.status;
+    default: /* dropped, or yours */
+        return GOES_ON;
     }
-    return code;
+}
+
+/* Takes all messages that end in a piece of the stream. */
+static int take(laspidru_handle *server, const unsigned char *piece, laspidru_size len) {
+    laspidru_taken taken;
+    laspidru_answer answer;
+    int status = GOES_ON;
+    while (len > 0 && status == GOES_ON) {
+        if (laspidru_server_take(server, piece, len, &taken, &answer) != LASPIDRU_OK)
+            return FAILED;
+        piece += taken.bytes;
+        len -= taken.bytes;
+        if (taken.is_whole)
+            status = answered(server, answer);
+    }
+    return status;
 }
 
 int main(void) {
-    static const char *const bodies[] = {
-        "{\"jsonrpc\":\"2.0\",\"id\":1,\"method\":\"initialize\",\"params\":{\"capabilities\":{}}}",
-        "{\"jsonrpc\":\"2.0\",\"method\":\"textDocument/didOpen\",\"params\":{\"textDocument\":"
-        "{\"uri\":\"file:///a\",\"languageId\":\"c\",\"version\":1,\"text\":\"one\\ntwo\"}}}",
-        "{\"jsonrpc\":\"2.0\",\"method\":\"textDocument/didChange\",\"params\":{\"textDocument\":"
-        "{\"uri\":\"file:///a\",\"version\":2},\"contentChanges\":[{\"range\":{\"start\":{\"line\":1,\"character\":0},"
-        "\"end\":{\"line\":1,\"character\":3}},\"text\":\"2\"}]}}",
-        "{\"jsonrpc\":\"2.0\",\"id\":2,\"method\":\"shutdown\"}",
-        "{\"jsonrpc\":\"2.0\",\"method\":\"exit\"}",
-    };
-    laspidru_settings settings = {16777216, 16777216, 1024, 65536, LASPIDRU_UTF16, 0, 0};
+    laspidru_settings settings = {16777216, 16777216, 1024, 65536, LASPIDRU_UTF16, 0, 0}; /* lspsync's defaults */
     laspidru_handle server = {0};
-    laspidru_answer answer = {0};
-    if (laspidru_server_new(&server, &settings) != LASPIDRU_OK)
-        return 1;
-    for (size_t i = 0; i < sizeof bodies / sizeof bodies[0]; i++) {
-        if (hand(&server, bodies[i], &answer) != LASPIDRU_OK)
-            return 1;
-        if (answer.kind == LASPIDRU_REFUSED)
-            printf("refused: %u\n", (unsigned)answer.reason);
-    }
-
-    const unsigned char *uri = (const unsigned char *)"file:///a";
-    laspidru_opened document = {0};
-    unsigned char text[64];
-    laspidru_size copied = 0;
-    if (laspidru_server_document(&server, uri, 9, &document) == LASPIDRU_OK &&
-        laspidru_server_text(&server, uri, 9, 0, text, sizeof text, &copied) == LASPIDRU_OK)
-        printf("\nversion %d: %.*s\n", (int)document.version, (int)copied, (const char *)text);
+    unsigned char piece[4096];
+    int status = laspidru_server_new(&server, &settings) == LASPIDRU_OK ? GOES_ON : FAILED;
+    ssize_t len;
+    while (status == GOES_ON && (len = read(STDIN_FILENO, piece, sizeof piece)) > 0)
+        status = take(&server, piece, (laspidru_size)len);
     laspidru_close(&server);
-    return (int)answer.status;
+    return status == GOES_ON ? 1 : status; /* the stream ended before `exit` */
 }

@@ -9,7 +9,7 @@ enum { ROOM = 1 << 14, MOST = 256 };
 typedef const unsigned char *bytes;
 struct queue { unsigned char *frames[MOST]; laspidru_size lens[MOST]; int first, count; };
 
-static laspidru_handle client, server, client_framer, server_framer;
+static laspidru_handle client, server;
 static struct queue to_server, to_client;
 static const char *const URIS[] = {"file:///a", "file:///b", "file:///c"};
 
@@ -37,45 +37,34 @@ static void push(struct queue *queue, copying copy, laspidru_handle *handle, las
     queue->lens[at] = len;
 }
 
-/* The body of the first frame, which is fed in two pieces; none where no frame waits. */
-static unsigned char *next_body(struct queue *queue, laspidru_handle *framer, laspidru_size *len) {
-    if (queue->count == 0) return NULL;
+typedef laspidru_u32 (*taking)(laspidru_handle *, bytes, laspidru_size, laspidru_taken *, laspidru_answer *);
+
+/* An end takes the first frame that waits, in two pieces. False where none waits. */
+static int take(struct queue *queue, taking piece_taken, laspidru_handle *end, laspidru_answer *answer) {
+    if (queue->count == 0) return 0;
     unsigned char *frame = queue->frames[queue->first];
     laspidru_size all = queue->lens[queue->first], cut = all * 2 / 3;
     laspidru_taken taken;
-    laspidru_bool at_rest;
     queue->first = (queue->first + 1) % MOST;
     queue->count--;
-    demand(laspidru_framer_feed(framer, frame, cut, &taken));
+    demand(piece_taken(end, frame, cut, &taken, answer));
     if (taken.is_whole || taken.bytes != cut) demand(99);
-    demand(laspidru_framer_feed(framer, frame + cut, all - cut, &taken));
+    demand(piece_taken(end, frame + cut, all - cut, &taken, answer));
     if (!taken.is_whole || taken.bytes != all - cut) demand(99);
-    unsigned char *body = copied(laspidru_framer_body, framer, *len = taken.body_len);
-    demand(laspidru_framer_next(framer));
-    demand(laspidru_framer_at_rest(framer, &at_rest));
-    if (!at_rest) demand(99);
     free(frame);
-    return body;
+    return 1;
 }
 
 static void serve(void) {
-    laspidru_size len;
     laspidru_answer answer;
-    unsigned char *body = next_body(&to_server, &server_framer, &len);
-    if (body == NULL) { puts("nothing"); return; }
-    demand(laspidru_server_handle(&server, body, len, &answer));
-    free(body);
+    if (!take(&to_server, laspidru_server_take, &server, &answer)) { puts("nothing"); return; }
     if (answer.kind == LASPIDRU_REPLIED) push(&to_client, laspidru_server_reply, &server, answer.reply_len);
     printf("server %u %u %u %d\n", answer.kind, answer.reason, answer.status, answer.error);
 }
 
 static void hear(void) {
-    laspidru_size len;
     laspidru_answer answer;
-    unsigned char *body = next_body(&to_client, &client_framer, &len);
-    if (body == NULL) { puts("nothing"); return; }
-    demand(laspidru_client_deliver(&client, body, len, &answer));
-    free(body);
+    if (!take(&to_client, laspidru_client_take, &client, &answer)) { puts("nothing"); return; }
     if (answer.kind == LASPIDRU_REPLIED) push(&to_server, laspidru_client_frame, &client, answer.reply_len);
     printf("client %u %u\n", answer.kind, answer.reason);
 }
@@ -133,13 +122,13 @@ static void print_document(const char *name, laspidru_handle *end, opening docum
 }
 
 static void end_session(void) {
-    laspidru_handle *all[] = {&client, &server, &client_framer, &server_framer};
     printf("waiting %d %d\n", to_server.count, to_client.count);
     for (int i = 0; i < 3; i++) {
         print_document("client", &client, laspidru_client_document, laspidru_client_text, URIS[i]);
         print_document("server", &server, laspidru_server_document, laspidru_server_text, URIS[i]);
     }
-    for (int i = 0; i < 4; i++) laspidru_close(all[i]);
+    laspidru_close(&client);
+    laspidru_close(&server);
     for (; to_server.count; to_server.count--) free(to_server.frames[to_server.first++ % MOST]);
     for (; to_client.count; to_client.count--) free(to_client.frames[to_client.first++ % MOST]);
     to_server.first = to_client.first = 0;
@@ -153,28 +142,47 @@ static void begin(const char *line) {
     laspidru_client_settings offers = {16777216, text, docs, changes, utf8, utf32};
     demand(laspidru_server_new(&server, &settings));
     demand(laspidru_client_new(&client, &offers));
-    demand(laspidru_framer_new(&server_framer, settings.max_body));
-    demand(laspidru_framer_new(&client_framer, settings.max_body));
+}
+
+static const struct {
+    const char *line;
+    laspidru_u32 (*call)(laspidru_handle *, laspidru_size *);
+} LIFECYCLE[] = {{"start\n", laspidru_client_start}, {"shutdown\n", laspidru_client_shutdown}, {"exit\n", laspidru_client_exit}};
+
+/* False where the line is no call of the lifecycle. */
+static int lifecycle(const char *line) {
+    laspidru_size len = 0;
+    for (size_t i = 0; i < sizeof LIFECYCLE / sizeof *LIFECYCLE; i++) {
+        if (strcmp(line, LIFECYCLE[i].line)) continue;
+        laspidru_u32 code = LIFECYCLE[i].call(&client, &len);
+        called(code, len);
+        return 1;
+    }
+    return 0;
+}
+
+static void open_document(const char *uri, int version, const char *escaped) {
+    static char text[ROOM];
+    laspidru_size text_len = plain(escaped, text), len = 0;
+    laspidru_u32 code = laspidru_client_open(&client, (bytes)uri, strlen(uri), (bytes)"c", 1, version, (bytes)text, text_len, &len);
+    called(code, len);
+}
+
+static void close_document(const char *uri) {
+    laspidru_size len = 0;
+    laspidru_u32 code = laspidru_client_close(&client, (bytes)uri, strlen(uri), &len);
+    called(code, len);
 }
 
 int main(void) {
-    static char line[ROOM], text[ROOM], uri[64];
+    static char line[ROOM], uri[64];
     int version, count, at;
     while (fgets(line, sizeof line, stdin)) {
-        laspidru_size len = 0;
         if (!strncmp(line, "session ", 8)) begin(line);
-        else if (!strcmp(line, "start\n")) { laspidru_u32 code = laspidru_client_start(&client, &len); called(code, len); }
-        else if (!strcmp(line, "shutdown\n")) { laspidru_u32 code = laspidru_client_shutdown(&client, &len); called(code, len); }
-        else if (!strcmp(line, "exit\n")) { laspidru_u32 code = laspidru_client_exit(&client, &len); called(code, len); }
-        else if (sscanf(line, "open %63s %d%n", uri, &version, &at) == 2) {
-            laspidru_size text_len = plain(line + at + 1, text);
-            laspidru_u32 code =
-                laspidru_client_open(&client, (bytes)uri, strlen(uri), (bytes)"c", 1, version, (bytes)text, text_len, &len);
-            called(code, len);
-        } else if (sscanf(line, "close %63s", uri) == 1) {
-            laspidru_u32 code = laspidru_client_close(&client, (bytes)uri, strlen(uri), &len);
-            called(code, len);
-        } else if (sscanf(line, "edit %63s %d %d", uri, &version, &count) == 3) edit(uri, version, count);
+        else if (lifecycle(line)) continue;
+        else if (sscanf(line, "open %63s %d%n", uri, &version, &at) == 2) open_document(uri, version, line + at + 1);
+        else if (sscanf(line, "close %63s", uri) == 1) close_document(uri);
+        else if (sscanf(line, "edit %63s %d %d", uri, &version, &count) == 3) edit(uri, version, count);
         else if (!strcmp(line, "toServer\n")) serve();
         else if (!strcmp(line, "toClient\n")) hear();
         else if (!strcmp(line, "end\n")) end_session();

@@ -30,10 +30,6 @@ uint32_t laspidru_document_offset(laspidru_handle *, uint32_t, laspidru_place, s
 uint32_t laspidru_document_position(laspidru_handle *, uint32_t, size_t, laspidru_place *);
 uint32_t laspidru_batch_len(laspidru_handle *, size_t *);
 uint32_t laspidru_batch_edit(laspidru_handle *, size_t, laspidru_edit *, char *, size_t, size_t *);
-uint32_t laspidru_framer_new(laspidru_handle *, size_t);
-uint32_t laspidru_framer_feed(laspidru_handle *, const char *, size_t, laspidru_taken *);
-uint32_t laspidru_framer_body(laspidru_handle *, size_t, char *, size_t, size_t *);
-uint32_t laspidru_framer_next(laspidru_handle *);
 uint32_t laspidru_client_new(laspidru_handle *, const laspidru_client_settings *);
 uint32_t laspidru_client_start(laspidru_handle *, size_t *);
 uint32_t laspidru_client_open(laspidru_handle *, const char *, size_t, const char *, size_t, int32_t, const char *, size_t, size_t *);
@@ -42,6 +38,8 @@ uint32_t laspidru_client_edit(laspidru_handle *, const char *, size_t, int32_t, 
 uint32_t laspidru_client_close(laspidru_handle *, const char *, size_t, size_t *);
 uint32_t laspidru_client_shutdown(laspidru_handle *, size_t *);
 uint32_t laspidru_client_exit(laspidru_handle *, size_t *);
+uint32_t laspidru_client_take(laspidru_handle *, const char *, size_t, laspidru_taken *, laspidru_answer *);
+uint32_t laspidru_client_body(laspidru_handle *, size_t, char *, size_t, size_t *);
 uint32_t laspidru_client_deliver(laspidru_handle *, const char *, size_t, laspidru_answer *);
 uint32_t laspidru_client_frame(laspidru_handle *, size_t, char *, size_t, size_t *);
 uint32_t laspidru_client_state(laspidru_handle *, laspidru_state *);
@@ -262,7 +260,7 @@ Client.__index = Client
 -- Options are `utf8`, `utf32` (what it offers beside UTF-16), `max_body`, `max_text`, `max_docs`, `max_changes`.
 function Client.new(options)
     options = options or {}
-    local self = setmetatable({ handle = new_handle(), framer = new_handle(), rest = "" }, Client)
+    local self = setmetatable({ handle = new_handle(), rest = "" }, Client)
     local settings = ffi.new("laspidru_client_settings", {
         max_body = number(options.max_body or 16777216, 0, 2 ^ 53),
         max_text = number(options.max_text or 16777216, 0, 2 ^ 53),
@@ -272,7 +270,6 @@ function Client.new(options)
         utf32 = options.utf32 and true or false,
     })
     demand(C.laspidru_client_new(self.handle, settings))
-    demand(C.laspidru_framer_new(self.framer, settings.max_body))
     return self
 end
 
@@ -330,29 +327,31 @@ function Client:exit()
     return call(self, C.laspidru_client_exit(self.handle, len), len)
 end
 
--- What the client does with the body of a message of the server: {kind, body}, with `frame` where kind is "send", and with `reason`
--- where it is "bad-server". The others are "noted" and "ignored".
-function Client:deliver(body)
-    local answer = ffi.new("laspidru_answer")
-    demand(C.laspidru_client_deliver(self.handle, text_of(body, "a body"), #body, answer))
+-- What the client did with a message.
+local function event_of(self, answer, body)
     local event = { kind = KINDS[answer.kind], body = body }
     if event.kind == "send" then event.frame = frame_of(self, answer.reply_len) end
     if event.kind == "bad-server" then event.reason = CODES[answer.reason] end
     return event
 end
 
--- The next body of what was received, or nil. One that waits, since it couldn't be handled yet, comes first.
-local function next_body(self)
-    if self.waiting then return self.waiting end
-    local framer, taken = self.framer, ffi.new("laspidru_taken")
-    local code = C.laspidru_framer_feed(framer, self.rest, #self.rest, taken)
+-- What the client does with the body of a message of the server: {kind, body}, with `frame` where kind is "send", and with `reason`
+-- where it is "bad-server". The others are "noted" and "ignored".
+function Client:deliver(body)
+    local answer = ffi.new("laspidru_answer")
+    demand(C.laspidru_client_deliver(self.handle, text_of(body, "a body"), #body, answer))
+    return event_of(self, answer, body)
+end
+
+-- What the client did with the next message of what was received, or nil where the rest of it is to come.
+local function next_event(self)
+    local handle, taken, answer = self.handle, ffi.new("laspidru_taken"), ffi.new("laspidru_answer")
+    local code = C.laspidru_client_take(handle, self.rest, #self.rest, taken, answer)
+    self.rest = self.rest:sub(tonumber(taken.bytes) + 1)
     if code == 21 then refuse(code, { frame = taken.frame, place = tonumber(taken.place) }) end
     demand(code)
-    self.rest = self.rest:sub(tonumber(taken.bytes) + 1)
     if not taken.is_whole then return nil end
-    local body = copied(function(...) return C.laspidru_framer_body(framer, 0, ...) end, tonumber(taken.body_len))
-    demand(C.laspidru_framer_next(framer))
-    return body
+    return event_of(self, answer, copied(function(...) return C.laspidru_client_body(handle, 0, ...) end, tonumber(taken.body_len)))
 end
 
 -- What the client does with each message that ends in these bytes, as `deliver` says it: a list of events. Of a faulty frame the
@@ -361,16 +360,10 @@ function Client:receive(bytes)
     local events = {}
     self.rest = self.rest .. text_of(bytes, "what is received")
     local is_done, problem = pcall(function()
-        for body in next_body, self do
-            self.waiting = body
-            events[#events + 1] = self:deliver(body)
-            self.waiting = nil
-        end
+        for event in next_event, self do events[#events + 1] = event end
     end)
     if not is_done then
-        local code = type(problem) == "table" and problem.code
-        if code ~= "OUT_OF_MEMORY" then self.waiting = nil end
-        if code then problem.events = events end
+        if type(problem) == "table" then problem.events = events end
         error(problem, 0)
     end
     return events

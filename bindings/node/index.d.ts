@@ -156,6 +156,15 @@ export class Server {
   /** What the server does with the body of a message. */
   handle(body: Uint8Array): ServerEvent;
 
+  /** The encoding of positions, once `initialize` was answered. */
+  readonly encoding: 'utf-8' | 'utf-16' | 'utf-32' | undefined;
+
+  /** The canonical batch of what text edits mean on the open document of a URI: the changes of the didChange that reports them. */
+  batchOfEdits(uri: string, edits: TextEdit[]): TextDocumentContentChangeEvent[];
+
+  /** The frame of the one canonical didChange that means the same as these changes of the open document of a URI. */
+  canonicalMessage(uri: string, version: number, changes: TextDocumentContentChangeEvent[]): Buffer;
+
   readonly documentCount: number;
   version(uri: string): number | undefined;
   text(uri: string): string | undefined;

@@ -357,6 +357,27 @@ class Server {
     return event;
   }
 
+  /** The encoding of positions, once `initialize` was answered; undefined before. */
+  get encoding() {
+    return NAMES[addon.encoding(this.#server)];
+  }
+
+  #units() {
+    return addon.encoding(this.#server) || UTF16;
+  }
+
+  /** The canonical batch of what text edits mean on the open document of a URI: the changes of the didChange that reports them. All
+   * count in the text as it is, which stays. */
+  batchOfEdits(uri, edits) {
+    return addon.batchOfEditsAt(this.#server, utf8(uri), this.#units(), ...passedEdits(edits)).map(written);
+  }
+
+  /** The frame of the one canonical didChange that means the same as these changes of the open document of a URI, under a version
+   * greater than its own. The document stays as it is. */
+  canonicalMessage(uri, version, changes) {
+    return addon.canonicalMessage(this.#server, utf8(uri), int(version), this.#units(), ...passed(changes));
+  }
+
   get documentCount() {
     return addon.documents(this.#server);
   }

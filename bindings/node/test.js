@@ -309,6 +309,28 @@ const exit = framed('{"jsonrpc":"2.0","method":"exit"}');
 const ended = new Server();
 assert.deepStrictEqual(ended.receive(Buffer.concat([exit, exit])).map((event) => [event.kind, event.status]), [['exited', 1]]);
 assert.throws(() => ended.receive(exit), { code: 'ENDED' });
+
+// What edits mean on a server's documents.
+const serving = new Server();
+assert.strictEqual(serving.encoding, undefined);
+const editing = new Client();
+editing.receive(serving.receive(editing.start())[0].frame);
+serving.receive(editing.open('a', 'c', 1, 'abc'));
+assert.strictEqual(serving.encoding, 'utf-16');
+const textEdit = (start, end, newText) => ({ range: { start: at(0, start), end: at(0, end) }, newText });
+assert.deepStrictEqual(serving.batchOfEdits('a', [textEdit(0, 0, '1'), textEdit(1, 2, '2')]),
+  [change(at(0, 1), at(0, 2), '2'), change(at(0, 0), at(0, 0), '1')]);
+assert.throws(() => serving.batchOfEdits('a', [textEdit(0, 2, ''), textEdit(1, 3, '')]), { code: 'OVERLAP', edit: 0, other: 1 });
+assert.throws(() => serving.batchOfEdits('b', []), { code: 'NOT_OPEN' });
+assert.throws(() => serving.canonicalMessage('a', 1, []), { code: 'STALE_VERSION' });
+assert.throws(() => serving.canonicalMessage('a', 2, [change(at(0, 1), at(0, 0), '')]), { code: 'REVERSED_RANGE', change: 0 });
+const written = serving.canonicalMessage('a', 2, [change(at(0, 0), at(0, 1), 'x'), change(at(0, 1), at(0, 1), 'y')]);
+assert.deepStrictEqual(JSON.parse(written.subarray(written.indexOf('{'))).params,
+  { contentChanges: [change(at(0, 0), at(0, 1), 'xy')], textDocument: { uri: 'a', version: 2 } });
+assert.deepStrictEqual([serving.version('a'), serving.text('a')], [1, 'abc']);
+assert.deepStrictEqual(serving.receive(written).map(({ kind }) => kind), ['changed']);
+assert.deepStrictEqual([serving.version('a'), serving.text('a')], [2, 'xybc']);
+
 const framer = new Framer({ maxBody: 4096 });
 assert.deepStrictEqual(framer.receive(Buffer.concat([framed('x'), framed(''), Buffer.from('Content-Le')])).map(String), ['x', '']);
 assert.throws(() => framer.receive(Buffer.from('ngth: 1\r\n\r\nyContent-Length 2')), (error) => error instanceof FrameFault &&

@@ -1,4 +1,5 @@
 """The test of both ends in Python."""
+import json
 import os
 import random
 import threading
@@ -14,6 +15,18 @@ LETTERS = ["a", "\r", "\n", "\r\n", "\u00e9", "\u2028", "\U0001F600"]
 
 def frame(body):
     return b"Content-Length: %d\r\n\r\n%s" % (len(body), body)
+
+
+def opened_server(text):
+    """A server with this text open under version 1."""
+    client, server = Client(), Server()
+    client.receive(server.receive(client.start())[0].frame)
+    server.receive(client.open("a", "c", 1, text))
+    return server
+
+
+def text_edit(start, end, text):
+    return {"range": {"start": at(0, start), "end": at(0, end)}, "newText": text}
 
 
 class Pair:
@@ -148,6 +161,45 @@ class Tests(unittest.TestCase):
         self.refuses(laspidru.ENDED, server.receive, exits)
         self.assertRaises(TypeError, server.receive, "text")
         self.refuses(laspidru.BAD_ENCODING, Server, "utf-7")
+
+    def test_text_edits(self):
+        server = opened_server("abc")
+        self.assertEqual(server.batch_of_edits("a", [text_edit(0, 0, "1"), text_edit(1, 2, "2")]),
+                         [change(at(0, 1), at(0, 2), "2"), change(at(0, 0), at(0, 0), "1")])
+        fault = self.refuses(laspidru.OVERLAP, server.batch_of_edits, "a", [text_edit(0, 2, ""), text_edit(1, 3, "")])
+        self.assertEqual((fault.edit, fault.other), (0, 1))
+        self.refuses(laspidru.NOT_OPEN, server.batch_of_edits, "b", [])
+        self.assertRaises(TypeError, server.batch_of_edits, "a", [{"newText": ""}])
+        self.assertEqual((server.version("a"), server.text("a")), (1, "abc"))
+
+    def test_canonical_message(self):
+        server = opened_server("abc")
+        self.refuses(laspidru.NOT_OPEN, server.canonical_message, "b", 2, [])
+        self.refuses(laspidru.STALE_VERSION, server.canonical_message, "a", 1, [])
+        fault = self.refuses(laspidru.REVERSED_RANGE, server.canonical_message, "a", 2, [change(at(0, 1), at(0, 0), "")])
+        self.assertEqual((fault.change, fault.at_end), (0, False))
+        message = server.canonical_message("a", 2, [change(at(0, 0), at(0, 1), "x"), change(at(0, 1), at(0, 1), "y")])
+        params = {"contentChanges": [change(at(0, 0), at(0, 1), "xy")], "textDocument": {"uri": "a", "version": 2}}
+        body = message[message.index(b"\r\n\r\n") + 4:]
+        self.assertEqual(json.loads(body), {"jsonrpc": "2.0", "method": "textDocument/didChange", "params": params})
+        self.assertEqual(server.text("a"), "abc")
+        event, = server.receive(message)
+        self.assertEqual((event.kind, event.body, server.version("a"), server.text("a")), ("changed", body, 2, "xybc"))
+
+    def test_encoding(self):
+        server = Server("utf-8")
+        self.assertIsNone(server.encoding)
+        client = Client(utf8=True)
+        server.receive(client.start())
+        self.assertEqual(server.encoding, "utf-8")
+
+    def test_an_end_takes_no_more(self):
+        server = Server()
+        self.assertEqual(server.receive(frame(b'{"jsonrpc":"2.0","method":"exit"}') + b"Content-Length: 0\r")[0].status, 1)
+        self.refuses(laspidru.ENDED, server.receive, b"\n\r\n")
+        with self.assertRaises(laspidru.FrameFault) as caught:
+            Server().receive(b"Content-Length: x")
+        self.assertEqual((caught.exception.frame, caught.exception.events), (5, []))
 
     def test_framer(self):
         framer = Framer(4096)

@@ -7,12 +7,12 @@ import os
 import platform
 import re
 import struct
-from ctypes import POINTER, c_bool, c_char_p, c_int32, c_size_t, c_uint32, c_uint64, c_void_p
-from typing import Any, List, Optional, Sequence, Tuple
+from ctypes import POINTER, byref, c_bool, c_char_p, c_int32, c_size_t, c_uint32, c_uint64, c_void_p, create_string_buffer
+from typing import Any, Dict, List, Optional, Sequence, Tuple
 
 UTF8, UTF16, UTF32 = 8, 16, 32
 ENCODINGS = {"utf-8": UTF8, "utf-16": UTF16, "utf-32": UTF32}
-NOT_UTF8, OUT_OF_MEMORY, EMPTY, TOO_LONG, INSIDE_CHARACTER, REVERSED_RANGE, BAD_ENCODING = 1, 2, 4, 5, 6, 7, 8
+OK, NOT_UTF8, OUT_OF_MEMORY, EMPTY, TOO_LONG, INSIDE_CHARACTER, REVERSED_RANGE, BAD_ENCODING = 0, 1, 2, 4, 5, 6, 7, 8
 OUT_OF_RANGE, BAD_LIMIT, ENDED, NOT_OPEN, ALREADY_OPEN, TOO_MANY_DOCUMENTS, STALE_VERSION = 11, 12, 13, 14, 15, 16, 17
 TOO_MANY_CHANGES, INVALID_PARAMS, CUT, BAD_FRAME, BODY_TOO_LONG, BAD_LOG, OVERLAP = 18, 19, 20, 21, 22, 23, 25
 FAILED, WRONG_PHASE, NOT_AN_ANSWER, ERROR_ANSWER, NO_SYNC = 26, 28, 29, 30, 31
@@ -121,9 +121,11 @@ def _library() -> ctypes.CDLL:
     except OSError as error:
         raise ImportError(_why(str(error))) from error
     handle, size, text = POINTER(Handle), POINTER(c_size_t), [c_char_p, c_size_t]
-    batch = [handle, c_uint32, c_void_p, c_size_t] + text
     log = [handle, POINTER(LogSettings)] + text + [POINTER(Ending)]
     copied = [c_size_t, c_void_p, c_size_t, size]
+    piece = [handle, c_void_p, c_size_t, POINTER(Taken)]
+    edits = [c_uint32, c_void_p, c_size_t] + text
+    batch = [handle] + edits
     arguments = {
         "document_open": [handle] + text,
         "document_change": batch + [POINTER(Fault)],
@@ -138,13 +140,18 @@ def _library() -> ctypes.CDLL:
         "batch_len": [handle, size],
         "batch_edit": [handle, c_size_t, POINTER(Edit), c_void_p, c_size_t, size],
         "framer_new": [handle, c_size_t],
-        "framer_feed": [handle, c_void_p, c_size_t, POINTER(Taken)],
+        "framer_feed": piece,
         "framer_body": [handle] + copied,
         "framer_next": [handle],
         "framer_at_rest": [handle, POINTER(c_bool)],
         "server_new": [handle, POINTER(Settings)],
         "server_handle": [handle] + text + [POINTER(Answer)],
         "server_reply": [handle] + copied,
+        "server_take": piece + [POINTER(Answer)],
+        "server_body": [handle] + copied,
+        "server_batch_of_edits": [handle] + text + edits + [handle, POINTER(TextEditsFault)],
+        "server_canonical_message": [handle] + text + [c_int32] + edits + [handle, POINTER(Fault), size],
+        "server_encoding": [handle, POINTER(c_uint32)],
         "server_documents": [handle, size],
         "server_document": [handle] + text + [POINTER(Opened)],
         "server_text": [handle] + text + copied,
@@ -155,6 +162,8 @@ def _library() -> ctypes.CDLL:
         "client_close": [handle] + text + [size],
         "client_shutdown": [handle, size],
         "client_exit": [handle, size],
+        "client_take": piece + [POINTER(Answer)],
+        "client_body": [handle] + copied,
         "client_deliver": [handle] + text + [POINTER(Answer)],
         "client_frame": [handle] + copied,
         "client_state": [handle, POINTER(State)],
@@ -320,8 +329,12 @@ def _ends(range_: Any) -> Tuple[Place, Place]:
     return place_of(range_.start), place_of(range_.end)
 
 
-def batch(changes: Sequence[Any]) -> Tuple[Any, int, bytes]:
-    """The changes of a didChange as the library takes them: the edits, how many they are, and their texts."""
+# A batch as the library takes it: the edits, how many they are, and their texts.
+Passed = Tuple[Any, int, bytes]
+
+
+def batch(changes: Sequence[Any]) -> Passed:
+    """The changes of a didChange as the library takes them."""
     read = None if FAST is None else FAST.read(changes)
     if read is not None:
         return read[0], len(read[0]) // ctypes.sizeof(Edit), read[1]
@@ -338,7 +351,7 @@ def batch(changes: Sequence[Any]) -> Tuple[Any, int, bytes]:
     return edits, len(edits), b"".join(texts)
 
 
-def batch_of_edits(edits: Sequence[Any]) -> Tuple[Any, int, bytes]:
+def batch_of_edits(edits: Sequence[Any]) -> Passed:
     """Text edits as the library takes them."""
     if any(_parts(edit)[0] is None for edit in edits):
         raise TypeError("a text edit has a range")
@@ -347,6 +360,28 @@ def batch_of_edits(edits: Sequence[Any]) -> Tuple[Any, int, bytes]:
 
 def copy_out(function: Any, room: int, *arguments: Any) -> bytes:
     """What one of the functions that copy has from 0 on, whose last arguments are the start, the room, its length and the count."""
-    out, copied = ctypes.create_string_buffer(max(room, 1)), c_size_t()
-    demand(function(*arguments, 0, out, room, ctypes.byref(copied)))
+    out, copied = create_string_buffer(max(room, 1)), c_size_t()
+    demand(function(*arguments, 0, out, room, byref(copied)))
     return ctypes.string_at(out, copied.value)
+
+
+def changes_of(batch_: Handle) -> List[Dict[str, Any]]:
+    """The changes of a batch, which is closed."""
+    count = c_size_t()
+    try:
+        demand(LIBRARY.laspidru_batch_len(byref(batch_), byref(count)))
+        return [_change_at(batch_, index) for index in range(count.value)]
+    finally:
+        LIBRARY.laspidru_close(byref(batch_))
+
+
+def _change_at(batch_: Handle, index: int) -> Dict[str, Any]:
+    edit, copied = Edit(), c_size_t()
+    demand(LIBRARY.laspidru_batch_edit(byref(batch_), index, byref(edit), create_string_buffer(1), 0, byref(copied)))
+    out = create_string_buffer(max(edit.len, 1))
+    demand(LIBRARY.laspidru_batch_edit(byref(batch_), index, byref(edit), out, edit.len, byref(copied)))
+    change: Dict[str, Any] = {"text": out.raw[:copied.value].decode()}
+    if not edit.is_whole:
+        change["range"] = {"start": {"line": edit.start.line, "character": edit.start.character},
+                           "end": {"line": edit.end.line, "character": edit.end.character}}
+    return change

@@ -7,10 +7,10 @@ import re
 import threading
 import urllib.parse
 from ctypes import addressof, byref, c_size_t, create_string_buffer
-from typing import Any, Callable, Dict, List, Optional, Pattern, Sequence
+from typing import Any, Callable, Dict, List, Optional, Pattern, Sequence, Tuple
 
-from ._library import (FAST, LIBRARY, Edit, Fault, Handle, Length, Line, Place, TextEditsFault, batch, batch_of_edits, copy_out, demand,
-                       demand_change, demand_edits, encoding_number, number, place_of, utf8)
+from ._library import (FAST, LIBRARY, Fault, Handle, Length, Line, Passed, Place, TextEditsFault, batch, batch_of_edits, changes_of,
+                       copy_out, demand, demand_change, demand_edits, encoding_number, number, place_of, utf8)
 
 # The methods of `Document` keep their state in names of the class alone (`__lock`), so that a subclass may use any name.
 
@@ -99,14 +99,24 @@ class Document:
         """Makes the changes of a didChange, in order, or raises and makes none of them."""
         if FAST is not None and self.__change_fast(FAST.read(changes)):
             return
-        edits, count, texts = batch(changes)
         fault = Fault()
+        demand_change(self.__make(LIBRARY.laspidru_document_change, batch(changes), fault), fault)
+
+    def __make(self, function: Any, passed: Passed, fault: Any) -> int:
+        """Makes changes or text edits by a function of the library, or none of them."""
+        edits, count, texts = passed
         with self.__lock:
-            code = LIBRARY.laspidru_document_change(
-                self.__full(), self.__encoding, edits, count, texts, len(texts), byref(fault))
+            code = int(function(self.__full(), self.__encoding, edits, count, texts, len(texts), byref(fault)))
             if code == 0:
                 self.__changed()
-        demand_change(code, fault)
+        return code
+
+    def __batch(self, function: Any, passed: Passed, fault: Any) -> Tuple[int, Handle]:
+        """The batch that a function of the library has of changes or text edits."""
+        (edits, count, texts), found = passed, Handle()
+        with self.__lock:
+            code = function(self.__full(), self.__encoding, edits, count, texts, len(texts), byref(found), byref(fault))
+        return code, found
 
     def __change_fast(self, read: Any) -> bool:
         """Makes changes that the extension has read, if it has. Else nothing has changed."""
@@ -121,34 +131,22 @@ class Document:
 
     def canonical(self, changes: Sequence[Any]) -> List[Dict[str, Any]]:
         """The one canonical batch that means the same on the text: a list of changes as LSP writes them."""
-        edits, count, texts = batch(changes)
-        found, fault = Handle(), Fault()
-        with self.__lock:
-            code = LIBRARY.laspidru_document_canonical(
-                self.__full(), self.__encoding, edits, count, texts, len(texts), byref(found), byref(fault))
+        fault = Fault()
+        code, found = self.__batch(LIBRARY.laspidru_document_canonical, batch(changes), fault)
         demand_change(code, fault)
-        return _changes(found)
+        return changes_of(found)
 
     def apply_edits(self, edits: Sequence[Any]) -> None:
         """Makes text edits, as a formatter returns them, or raises EditsFault and makes none of them. All count in the text as it is."""
-        passed, count, texts = batch_of_edits(edits)
         fault = TextEditsFault()
-        with self.__lock:
-            code = LIBRARY.laspidru_document_apply_edits(
-                self.__full(), self.__encoding, passed, count, texts, len(texts), byref(fault))
-            if code == 0:
-                self.__changed()
-        demand_edits(code, fault)
+        demand_edits(self.__make(LIBRARY.laspidru_document_apply_edits, batch_of_edits(edits), fault), fault)
 
     def batch_of_edits(self, edits: Sequence[Any]) -> List[Dict[str, Any]]:
         """The canonical batch of what text edits mean on the text: the changes of the didChange that reports them."""
-        passed, count, texts = batch_of_edits(edits)
-        found, fault = Handle(), TextEditsFault()
-        with self.__lock:
-            code = LIBRARY.laspidru_document_batch_of_edits(
-                self.__full(), self.__encoding, passed, count, texts, len(texts), byref(found), byref(fault))
+        fault = TextEditsFault()
+        code, found = self.__batch(LIBRARY.laspidru_document_batch_of_edits, batch_of_edits(edits), fault)
         demand_edits(code, fault)
-        return _changes(found)
+        return changes_of(found)
 
     def byte_offset(self, position: Any, encoding: Optional[str] = None) -> int:
         """The byte offset of a position. One after the line's end is the line's end. Positions count units of the document's
@@ -180,28 +178,6 @@ def _lines(text: str) -> List[str]:
     if any(letter in text for letter in _NO_LINE_ENDS):
         return list(io.StringIO(text, newline=""))
     return text.splitlines(True)
-
-
-def _changes(batch_: Handle) -> List[Dict[str, Any]]:
-    """The changes of a batch, which is closed."""
-    count = c_size_t()
-    try:
-        demand(LIBRARY.laspidru_batch_len(byref(batch_), byref(count)))
-        return [_change_at(batch_, index) for index in range(count.value)]
-    finally:
-        LIBRARY.laspidru_close(byref(batch_))
-
-
-def _change_at(batch_: Handle, index: int) -> Dict[str, Any]:
-    edit, copied = Edit(), c_size_t()
-    demand(LIBRARY.laspidru_batch_edit(byref(batch_), index, byref(edit), create_string_buffer(1), 0, byref(copied)))
-    out = create_string_buffer(max(edit.len, 1))
-    demand(LIBRARY.laspidru_batch_edit(byref(batch_), index, byref(edit), out, edit.len, byref(copied)))
-    change: Dict[str, Any] = {"text": out.raw[:copied.value].decode()}
-    if not edit.is_whole:
-        change["range"] = {"start": {"line": edit.start.line, "character": edit.start.character},
-                           "end": {"line": edit.end.line, "character": edit.end.character}}
-    return change
 
 
 WORD_START, WORD_END = re.compile("[A-Za-z_0-9]*$"), re.compile("^[A-Za-z_0-9]*")

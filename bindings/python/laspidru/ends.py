@@ -4,25 +4,52 @@ from __future__ import annotations
 
 import ctypes
 import threading
-from ctypes import byref, c_bool, c_size_t
-from typing import Any, List, NamedTuple, Optional, Sequence
+from ctypes import byref, c_bool, c_size_t, c_uint32
+from typing import Any, Dict, List, NamedTuple, Optional, Sequence, Tuple
 
-from ._library import (BAD_FRAME, BAD_LIMIT, ENDED, LIBRARY, NOT_OPEN, WRONG_PHASE, Answer, ClientSettings, Fault, FrameFault, Handle,
-                       LaspidruError, Opened, Settings, State, Taken, batch, copy_out, demand, demand_change, encoding_name,
-                       encoding_number, limits, number, some_bytes, utf8, version_number)
+from ._library import (BAD_FRAME, BAD_LIMIT, ENDED, LIBRARY, NOT_OPEN, OK, OUT_OF_MEMORY, UTF16, WRONG_PHASE, Answer,
+                       ClientSettings, Fault, FrameFault, Handle, LaspidruError, Opened, Settings, State, Taken, TextEditsFault, batch,
+                       batch_of_edits, changes_of, copy_out, demand, demand_change, demand_edits, encoding_name, encoding_number,
+                       limits, number, some_bytes, utf8, version_number)
 
 PHASES = ("new", "asked", "ready", "closing", "closed", "done", "failed")
 _SERVER_KINDS = ("replied", "changed", "dropped", "ignored", "refused", "exited")
 _CLIENT_KINDS = {0: "send", 3: "ignored", 6: "noted", 7: "bad-server"}
 
 
+class _Received:
+    """What was received of a stream and isn't taken yet."""
+
+    def __init__(self) -> None:
+        self._data, self._at = b"", 0
+
+    def add(self, data: bytes) -> None:
+        self._data, self._at = self._data[self._at:] + some_bytes(data, "what is received"), 0
+
+    def is_empty(self) -> bool:
+        return self._at == len(self._data)
+
+    def take(self, function: Any, *arguments: Any) -> Optional[int]:
+        """Hands what is left to a function that takes bytes up to the end of one message: how many bytes its body has, once it is
+        whole."""
+        taken, start = Taken(), ctypes.cast(self._data, ctypes.c_void_p).value or 0
+        handle, *outputs = arguments
+        code = function(handle, start + self._at, len(self._data) - self._at, byref(taken), *outputs)
+        self._at += taken.bytes
+        if code not in (OK, OUT_OF_MEMORY):
+            # No more of this stream is taken.
+            self._data, self._at = b"", 0
+        if code == BAD_FRAME:
+            raise FrameFault(taken.place, taken.frame, [])
+        demand(code)
+        return taken.body_len if taken.is_whole else None
+
+
 class Framer:
     """Takes a stream apart into the bodies of its messages, in whatever pieces it comes (LSP 3.17, Base Protocol)."""
 
     def __init__(self, max_body: int = 16777216) -> None:
-        self.__handle, self.__lock = Handle(), threading.Lock()
-        # What was received and isn't taken yet, and up to where it was taken.
-        self.__data, self.__at = b"", 0
+        self.__handle, self.__lock, self.__received = Handle(), threading.Lock(), _Received()
         demand(LIBRARY.laspidru_framer_new(byref(self.__handle), number(max_body, 64, BAD_LIMIT)))
 
     def __del__(self) -> None:
@@ -34,10 +61,10 @@ class Framer:
         it. Where memory runs out after some bodies they are returned, else MemoryError is raised; `receive(b"")` continues."""
         bodies: List[bytes] = []
         with self.__lock:
-            self._add(data)
+            self.__received.add(data)
             try:
                 while True:
-                    body = self._next_body()
+                    body = self.__next_body()
                     if body is None:
                         return bodies
                     bodies.append(body)
@@ -55,37 +82,27 @@ class Framer:
         found = c_bool()
         with self.__lock:
             demand(LIBRARY.laspidru_framer_at_rest(byref(self.__handle), byref(found)))
-            return found.value and self.__at == len(self.__data)
+            return found.value and self.__received.is_empty()
 
-    # Of the ends below, which hold a lock of their own.
-
-    def _add(self, data: bytes) -> None:
-        self.__data, self.__at = self.__data[self.__at:] + some_bytes(data, "what is received"), 0
-
-    def _next_body(self) -> Optional[bytes]:
-        handle, taken = byref(self.__handle), Taken()
-        start = ctypes.cast(self.__data, ctypes.c_void_p).value or 0
-        code = LIBRARY.laspidru_framer_feed(handle, start + self.__at, len(self.__data) - self.__at, byref(taken))
-        if code == BAD_FRAME:
-            raise FrameFault(taken.place, taken.frame, [])
-        demand(code)
-        self.__at += taken.bytes
-        if not taken.is_whole:
+    def __next_body(self) -> Optional[bytes]:
+        handle = byref(self.__handle)
+        length = self.__received.take(LIBRARY.laspidru_framer_feed, handle)
+        if length is None:
             return None
-        body = copy_out(LIBRARY.laspidru_framer_body, taken.body_len, handle)
+        body = copy_out(LIBRARY.laspidru_framer_body, length, handle)
         demand(LIBRARY.laspidru_framer_next(handle))
         return body
 
 
 class _End:
-    """What both ends have: open documents, and a stream that is taken apart."""
+    """What both ends have: open documents, and a stream of messages."""
 
     _names = ""
 
-    def __init__(self, max_body: int) -> None:
-        self._handle, self._lock, self._framer = Handle(), threading.Lock(), Framer(max_body)
-        # A body that is to be handled, since the end was out of memory.
-        self._waiting: Optional[bytes] = None
+    def __init__(self) -> None:
+        self._handle, self._lock, self._received = Handle(), threading.Lock(), _Received()
+        # The answer to a message that isn't reported yet, and how many bytes its body has.
+        self._answered: Optional[Tuple[Answer, int]] = None
 
     def __del__(self) -> None:
         if hasattr(self, "_lock"):
@@ -94,21 +111,34 @@ class _End:
     def _function(self, name: str) -> Any:
         return getattr(LIBRARY, f"laspidru_{self._names}_{name}")
 
-    def _handle_body(self, body: bytes) -> Any:
+    def _event(self, answer: Answer, body: bytes) -> Any:
+        """What is reported of an answer to a message."""
         raise NotImplementedError
+
+    def _next_event(self) -> Any:
+        """What the end did with the next message that is whole; None where the rest of it is to come."""
+        handle = byref(self._handle)
+        if self._answered is None:
+            answer = Answer()
+            length = self._received.take(self._function("take"), handle, byref(answer))
+            if length is None:
+                return None
+            self._answered = answer, length
+        answer, length = self._answered
+        event = self._event(answer, copy_out(self._function("body"), length, handle))
+        self._answered = None
+        return event
 
     def _receive(self, data: bytes) -> List[Any]:
         events: List[Any] = []
         with self._lock:
-            self._framer._add(data)
+            self._received.add(data)
             try:
                 while True:
-                    body = self._framer._next_body() if self._waiting is None else self._waiting
-                    if body is None:
+                    event = self._next_event()
+                    if event is None:
                         return events
-                    self._waiting = body
-                    events.append(self._handle_body(body))
-                    self._waiting = None
+                    events.append(event)
             except MemoryError:
                 if events:
                     return events
@@ -118,7 +148,6 @@ class _End:
                 raise
             except LaspidruError as error:
                 # An end that listens no more has no use for what follows.
-                self._waiting = None
                 if events and error.code in (ENDED, WRONG_PHASE):
                     return events
                 raise
@@ -172,7 +201,7 @@ class Server(_End):
                  max_text: int = 16777216, max_docs: int = 1024, max_changes: int = 65536) -> None:
         numbers = limits(max_body, max_text, max_docs, max_changes)
         settings = Settings(*numbers, encoding_number(encoding), is_fixed, is_full)
-        super().__init__(max_body)
+        super().__init__()
         demand(LIBRARY.laspidru_server_new(byref(self._handle), byref(settings)))
 
     def receive(self, data: bytes) -> List[ServerEvent]:
@@ -183,16 +212,53 @@ class Server(_End):
 
     def handle(self, body: bytes) -> ServerEvent:
         """What the server does with the body of a message: the bytes after its header."""
+        data, answer = some_bytes(body, "a body"), Answer()
         with self._lock:
-            return self._handle_body(some_bytes(body, "a body"))
+            demand(LIBRARY.laspidru_server_handle(byref(self._handle), data, len(data), byref(answer)))
+            return self._event(answer, data)
 
-    def _handle_body(self, body: bytes) -> ServerEvent:
-        answer = Answer()
-        demand(LIBRARY.laspidru_server_handle(byref(self._handle), body, len(body), byref(answer)))
+    def _event(self, answer: Answer, body: bytes) -> ServerEvent:
         kind, frame = _SERVER_KINDS[answer.kind], b""
         if kind == "replied":
             frame = copy_out(LIBRARY.laspidru_server_reply, answer.reply_len, byref(self._handle))
         return ServerEvent(kind, body, frame, answer.error, answer.reason, answer.status if kind == "exited" else None)
+
+    def __encoding(self) -> int:
+        found = c_uint32()
+        demand(LIBRARY.laspidru_server_encoding(byref(self._handle), byref(found)))
+        return found.value
+
+    @property
+    def encoding(self) -> Optional[str]:
+        """The encoding of positions, once `initialize` was answered."""
+        with self._lock:
+            return encoding_name(self.__encoding())
+
+    def batch_of_edits(self, uri: str, edits: Sequence[Any]) -> List[Dict[str, Any]]:
+        """The canonical batch of what text edits mean on the open document of a URI: the changes of the didChange that reports
+        them. All count in the text as it is, which stays. Positions count units of `encoding`."""
+        name, (passed, count, texts) = utf8(uri), batch_of_edits(edits)
+        found, fault = Handle(), TextEditsFault()
+        with self._lock:
+            code = LIBRARY.laspidru_server_batch_of_edits(byref(self._handle), name, len(name), self.__encoding() or UTF16, passed, count,
+                                                          texts, len(texts), byref(found), byref(fault))
+        demand_edits(code, fault)
+        return changes_of(found)
+
+    def canonical_message(self, uri: str, version: int, changes: Sequence[Any]) -> bytes:
+        """The frame of the one canonical `textDocument/didChange` that means the same as these changes of the open document of a
+        URI, under a version greater than its own. Positions count units of `encoding`. The document stays as it is."""
+        name, (edits, count, texts) = utf8(uri), batch(changes)
+        output, fault, length = Handle(), Fault(), c_size_t()
+        with self._lock:
+            code = LIBRARY.laspidru_server_canonical_message(
+                byref(self._handle), name, len(name), version_number(version), self.__encoding() or UTF16, edits, count, texts,
+                len(texts), byref(output), byref(fault), byref(length))
+        demand_change(code, fault)
+        try:
+            return copy_out(LIBRARY.laspidru_log_output, length.value, byref(output))
+        finally:
+            LIBRARY.laspidru_close(byref(output))
 
     @property
     def document_count(self) -> int:
@@ -222,7 +288,7 @@ class Client(_End):
     def __init__(self, *, utf8: bool = False, utf32: bool = False, max_body: int = 16777216, max_text: int = 16777216,
                  max_docs: int = 1024, max_changes: int = 65536) -> None:
         settings = ClientSettings(*limits(max_body, max_text, max_docs, max_changes), utf8, utf32)
-        super().__init__(max_body)
+        super().__init__()
         demand(LIBRARY.laspidru_client_new(byref(self._handle), byref(settings)))
 
     def __frame(self, length: int) -> bytes:
@@ -274,12 +340,12 @@ class Client(_End):
 
     def deliver(self, body: bytes) -> ClientEvent:
         """What the client does with the body of a message: the bytes after its header."""
+        data, answer = some_bytes(body, "a body"), Answer()
         with self._lock:
-            return self._handle_body(some_bytes(body, "a body"))
+            demand(LIBRARY.laspidru_client_deliver(byref(self._handle), data, len(data), byref(answer)))
+            return self._event(answer, data)
 
-    def _handle_body(self, body: bytes) -> ClientEvent:
-        answer = Answer()
-        demand(LIBRARY.laspidru_client_deliver(byref(self._handle), body, len(body), byref(answer)))
+    def _event(self, answer: Answer, body: bytes) -> ClientEvent:
         kind = _CLIENT_KINDS[answer.kind]
         return ClientEvent(kind, body, self.__frame(answer.reply_len) if kind == "send" else b"", answer.reason)
 

@@ -1,6 +1,7 @@
 //! A client's end of a session: it keeps an editor's documents, and each call returns the frame to send.
 
-use crate::framer::{FrameError, Framer};
+use crate::framer::FrameError;
+use crate::received::{NotTaken, Received};
 use crate::server::{refusal, Refusal};
 use crate::{batch, ffi, Change, Encoding, DEFAULT_LIMITS};
 use std::fmt;
@@ -112,16 +113,6 @@ impl fmt::Display for ClientError {
 
 impl std::error::Error for ClientError {}
 
-impl From<FrameError> for ClientError {
-    fn from(error: FrameError) -> Self {
-        match error {
-            FrameError::OutOfMemory => ClientError::OutOfMemory,
-            FrameError::BadLimit => ClientError::BadLimit,
-            error => ClientError::Frame(error),
-        }
-    }
-}
-
 /// A client's end of a session, without input and output of its own: each call returns the frame to send, and bytes that
 /// were read go in by [`Client::receive`].
 ///
@@ -135,15 +126,12 @@ impl From<FrameError> for ClientError {
 /// ```
 pub struct Client {
     handle: ffi::Handle,
-    framer: Framer,
-    // A body that wasn't handled yet, since the client was out of memory.
-    waiting: Option<Vec<u8>>,
+    received: Received,
 }
 
 impl Client {
     /// A client at the start of a session.
     pub fn new(settings: &Settings) -> Result<Self, ClientError> {
-        let framer = Framer::new(settings.max_body)?;
         let settings = ffi::ClientSettings {
             max_body: settings.max_body,
             max_text: settings.max_text,
@@ -154,7 +142,7 @@ impl Client {
         };
         let handle = ffi::Handle::empty();
         demand(handle.client_new(&settings), &ffi::Fault::default())?;
-        Ok(Client { handle, framer, waiting: None })
+        Ok(Client { handle, received: Received::default() })
     }
 
     /// Begins the session: the frame of `initialize`.
@@ -195,27 +183,16 @@ impl Client {
 
     /// Takes bytes that were read. [`Client::next_message`] then has the messages that end in them.
     pub fn receive(&mut self, bytes: &[u8]) {
-        self.framer.receive(bytes);
+        self.received.add(bytes);
     }
 
     /// The next message that is whole, and what the client did with it; none where the rest of it is to come. After
     /// [`ClientError::OutOfMemory`] the same call continues.
     pub fn next_message(&mut self) -> Result<Option<(Vec<u8>, Delivered)>, ClientError> {
-        let body = match self.waiting.take() {
-            Some(body) => body,
-            None => match self.framer.next_body()? {
-                Some(body) => body,
-                None => return Ok(None),
-            },
-        };
-        match self.deliver(&body) {
-            Ok(delivered) => Ok(Some((body, delivered))),
-            Err(error) => {
-                if error == ClientError::OutOfMemory {
-                    self.waiting = Some(body);
-                }
-                Err(error)
-            }
+        match self.received.take_by(&self.handle, ffi::End::Client) {
+            Ok(found) => Ok(found.map(|(body, answer)| (body, self.delivered(&answer)))),
+            Err(NotTaken::Stream(fault)) => Err(ClientError::Frame(fault)),
+            Err(NotTaken::Code(code)) => demand(code, &ffi::Fault::default()).and(Ok(None)),
         }
     }
 
@@ -223,13 +200,17 @@ impl Client {
     pub fn deliver(&mut self, body: &[u8]) -> Result<Delivered, ClientError> {
         let mut answer = ffi::Answer::default();
         demand(self.handle.client_deliver(body, &mut answer), &ffi::Fault::default())?;
-        Ok(match answer.kind {
+        Ok(self.delivered(&answer))
+    }
+
+    fn delivered(&self, answer: &ffi::Answer) -> Delivered {
+        match answer.kind {
             ffi::REPLIED => Delivered::Send(self.handle.client_frame(answer.reply_len)),
             ffi::NOTED => Delivered::Noted,
             ffi::IGNORED => Delivered::Ignored,
             ffi::BAD_SERVER => Delivered::BadServer(reason(answer.reason)),
             kind => unreachable!("a delivery of kind {kind}"),
-        })
+        }
     }
 
     /// The phase of the session.
@@ -248,12 +229,7 @@ impl Client {
 
     /// The encoding that was agreed on.
     pub fn encoding(&self) -> Option<Encoding> {
-        match self.state().encoding {
-            8 => Some(Encoding::Utf8),
-            16 => Some(Encoding::Utf16),
-            32 => Some(Encoding::Utf32),
-            _ => None,
-        }
+        Encoding::of(self.state().encoding)
     }
 
     /// How many documents are open.

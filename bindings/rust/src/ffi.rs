@@ -1,47 +1,15 @@
-//! The library's functions, as laspidru.h declares them, and a handle that calls them. All that is unsafe is here.
+//! The library's types, as laspidru.h declares them, and a handle that calls its functions. All that is unsafe is here.
+
+mod codes;
+mod functions;
 
 use crate::Position;
+pub use codes::*;
+use functions::*;
 use std::cell::RefCell;
 
-pub const OK: u32 = 0;
-pub const OUT_OF_MEMORY: u32 = 2;
-pub const TOO_LONG: u32 = 5;
-pub const INSIDE_CHARACTER: u32 = 6;
-pub const REVERSED_RANGE: u32 = 7;
-pub const BAD_ENCODING: u32 = 8;
-pub const OUT_OF_RANGE: u32 = 11;
-pub const BAD_LIMIT: u32 = 12;
-pub const ENDED: u32 = 13;
-pub const NOT_OPEN: u32 = 14;
-pub const ALREADY_OPEN: u32 = 15;
-pub const TOO_MANY_DOCUMENTS: u32 = 16;
-pub const STALE_VERSION: u32 = 17;
-pub const TOO_MANY_CHANGES: u32 = 18;
-pub const INVALID_PARAMS: u32 = 19;
-pub const CUT: u32 = 20;
-pub const BAD_FRAME: u32 = 21;
-pub const BODY_TOO_LONG: u32 = 22;
-pub const BAD_LOG: u32 = 23;
-pub const TOO_MANY_TURNS: u32 = 24;
-pub const OVERLAP: u32 = 25;
-pub const FAILED: u32 = 26;
-pub const WRONG_PHASE: u32 = 28;
-pub const NOT_AN_ANSWER: u32 = 29;
-pub const ERROR_ANSWER: u32 = 30;
-pub const NO_SYNC: u32 = 31;
-
-// Kinds of an answer.
-pub const REPLIED: u32 = 0;
-pub const CHANGED: u32 = 1;
-pub const DROPPED: u32 = 2;
-pub const IGNORED: u32 = 3;
-pub const REFUSED: u32 = 4;
-pub const EXITED: u32 = 5;
-pub const NOTED: u32 = 6;
-pub const BAD_SERVER: u32 = 7;
-
 #[repr(C)]
-struct Raw {
+pub struct Raw {
     pointer: *mut std::ffi::c_void,
     is_full: bool,
 }
@@ -165,189 +133,11 @@ pub struct Ending {
 /// One of the four commands on logs.
 type LogCommand = unsafe extern "C" fn(*mut Raw, *const LogSettings, *const u8, usize, *mut Ending) -> u32;
 
-extern "C" {
-    fn laspidru_document_open(document: *mut Raw, text: *const u8, len: usize) -> u32;
-    fn laspidru_close(handle: *mut Raw);
-    fn laspidru_document_change(
-        document: *mut Raw,
-        encoding: u32,
-        edits: *const Edit,
-        edits_len: usize,
-        texts: *const u8,
-        texts_len: usize,
-        fault: *mut Fault,
-    ) -> u32;
-    fn laspidru_document_size(document: *mut Raw, length: *mut Length) -> u32;
-    fn laspidru_document_line(document: *mut Raw, line: u32, range: *mut Line) -> u32;
-    fn laspidru_document_copy(
-        document: *mut Raw,
-        start: usize,
-        out: *mut u8,
-        out_len: usize,
-        copied: *mut usize,
-    ) -> u32;
-    fn laspidru_document_offset(
-        document: *mut Raw,
-        encoding: u32,
-        position: Position,
-        offset: *mut usize,
-    ) -> u32;
-    fn laspidru_document_position(
-        document: *mut Raw,
-        encoding: u32,
-        offset: usize,
-        position: *mut Position,
-    ) -> u32;
-    fn laspidru_document_canonical(
-        document: *mut Raw,
-        encoding: u32,
-        edits: *const Edit,
-        edits_len: usize,
-        texts: *const u8,
-        texts_len: usize,
-        batch: *mut Raw,
-        fault: *mut Fault,
-    ) -> u32;
-    fn laspidru_document_apply_edits(
-        document: *mut Raw,
-        encoding: u32,
-        edits: *const Edit,
-        edits_len: usize,
-        texts: *const u8,
-        texts_len: usize,
-        fault: *mut EditsFault,
-    ) -> u32;
-    fn laspidru_document_batch_of_edits(
-        document: *mut Raw,
-        encoding: u32,
-        edits: *const Edit,
-        edits_len: usize,
-        texts: *const u8,
-        texts_len: usize,
-        batch: *mut Raw,
-        fault: *mut EditsFault,
-    ) -> u32;
-    fn laspidru_batch_len(batch: *mut Raw, len: *mut usize) -> u32;
-    fn laspidru_batch_edit(
-        batch: *mut Raw,
-        index: usize,
-        edit: *mut Edit,
-        out: *mut u8,
-        out_len: usize,
-        copied: *mut usize,
-    ) -> u32;
-    fn laspidru_server_new(server: *mut Raw, settings: *const Settings) -> u32;
-    fn laspidru_server_handle(
-        server: *mut Raw,
-        body: *const u8,
-        body_len: usize,
-        answer: *mut Answer,
-    ) -> u32;
-    fn laspidru_server_reply(
-        server: *mut Raw,
-        start: usize,
-        out: *mut u8,
-        out_len: usize,
-        copied: *mut usize,
-    ) -> u32;
-    fn laspidru_server_documents(server: *mut Raw, len: *mut usize) -> u32;
-    fn laspidru_server_document(
-        server: *mut Raw,
-        uri: *const u8,
-        uri_len: usize,
-        document: *mut Opened,
-    ) -> u32;
-    fn laspidru_server_text(
-        server: *mut Raw,
-        uri: *const u8,
-        uri_len: usize,
-        start: usize,
-        out: *mut u8,
-        out_len: usize,
-        copied: *mut usize,
-    ) -> u32;
-    fn laspidru_log_check(
-        output: *mut Raw,
-        settings: *const LogSettings,
-        log: *const u8,
-        log_len: usize,
-        ending: *mut Ending,
-    ) -> u32;
-    fn laspidru_log_replay(
-        output: *mut Raw,
-        settings: *const LogSettings,
-        log: *const u8,
-        log_len: usize,
-        ending: *mut Ending,
-    ) -> u32;
-    fn laspidru_log_normalise(
-        output: *mut Raw,
-        settings: *const LogSettings,
-        log: *const u8,
-        log_len: usize,
-        ending: *mut Ending,
-    ) -> u32;
-    fn laspidru_log_convert(
-        output: *mut Raw,
-        settings: *const LogSettings,
-        log: *const u8,
-        log_len: usize,
-        ending: *mut Ending,
-    ) -> u32;
-    fn laspidru_log_output(
-        output: *mut Raw,
-        start: usize,
-        out: *mut u8,
-        out_len: usize,
-        copied: *mut usize,
-    ) -> u32;
-    fn laspidru_framer_new(framer: *mut Raw, max_body: usize) -> u32;
-    fn laspidru_framer_feed(framer: *mut Raw, piece: *const u8, piece_len: usize, taken: *mut Taken) -> u32;
-    fn laspidru_framer_body(framer: *mut Raw, start: usize, out: *mut u8, out_len: usize, copied: *mut usize) -> u32;
-    fn laspidru_framer_next(framer: *mut Raw) -> u32;
-    fn laspidru_framer_at_rest(framer: *mut Raw, at_rest: *mut bool) -> u32;
-    fn laspidru_client_new(client: *mut Raw, settings: *const ClientSettings) -> u32;
-    fn laspidru_client_start(client: *mut Raw, frame_len: *mut usize) -> u32;
-    fn laspidru_client_open(
-        client: *mut Raw,
-        uri: *const u8,
-        uri_len: usize,
-        language: *const u8,
-        language_len: usize,
-        version: i32,
-        text: *const u8,
-        text_len: usize,
-        frame_len: *mut usize,
-    ) -> u32;
-    fn laspidru_client_edit(
-        client: *mut Raw,
-        uri: *const u8,
-        uri_len: usize,
-        version: i32,
-        edits: *const Edit,
-        edits_len: usize,
-        texts: *const u8,
-        texts_len: usize,
-        fault: *mut Fault,
-        frame_len: *mut usize,
-    ) -> u32;
-    fn laspidru_client_close(client: *mut Raw, uri: *const u8, uri_len: usize, frame_len: *mut usize) -> u32;
-    fn laspidru_client_shutdown(client: *mut Raw, frame_len: *mut usize) -> u32;
-    fn laspidru_client_exit(client: *mut Raw, frame_len: *mut usize) -> u32;
-    fn laspidru_client_deliver(client: *mut Raw, body: *const u8, body_len: usize, answer: *mut Answer) -> u32;
-    fn laspidru_client_frame(client: *mut Raw, start: usize, out: *mut u8, out_len: usize, copied: *mut usize) -> u32;
-    fn laspidru_client_state(client: *mut Raw, state: *mut State) -> u32;
-    fn laspidru_client_document(client: *mut Raw, uri: *const u8, uri_len: usize, document: *mut Opened) -> u32;
-    fn laspidru_client_text(
-        client: *mut Raw,
-        uri: *const u8,
-        uri_len: usize,
-        start: usize,
-        out: *mut u8,
-        out_len: usize,
-        copied: *mut usize,
-    ) -> u32;
-}
+/// A call on a document with a batch: edits, and their texts.
+type Changing<F> = unsafe extern "C" fn(*mut Raw, u32, *const Edit, usize, *const u8, usize, *mut F) -> u32;
+
+/// One that also fills an empty handle.
+type Batching<F> = unsafe extern "C" fn(*mut Raw, u32, *const Edit, usize, *const u8, usize, *mut Raw, *mut F) -> u32;
 
 /// Which command on a log is run.
 #[derive(Clone, Copy)]
@@ -366,7 +156,7 @@ pub enum Lifecycle {
     Exit,
 }
 
-/// Which documents are asked for.
+/// Which end of a session.
 #[derive(Clone, Copy)]
 pub enum End {
     Server,
@@ -397,10 +187,26 @@ impl Handle {
         unsafe { laspidru_document_open(&mut *self.0.borrow_mut(), text.as_ptr(), text.len()) }
     }
 
-    pub fn document_change(&self, encoding: u32, edits: &[Edit], texts: &[u8], fault: &mut Fault) -> u32 {
+    fn with_batch<F>(&self, call: Changing<F>, encoding: u32, edits: &[Edit], texts: &[u8], fault: &mut F) -> u32 {
         let handle = &mut *self.0.borrow_mut();
-        let (at, len) = (edits.as_ptr(), edits.len());
-        unsafe { laspidru_document_change(handle, encoding, at, len, texts.as_ptr(), texts.len(), fault) }
+        unsafe { call(handle, encoding, edits.as_ptr(), edits.len(), texts.as_ptr(), texts.len(), fault) }
+    }
+
+    fn batch_by<F>(
+        &self,
+        call: Batching<F>,
+        encoding: u32,
+        edits: &[Edit],
+        texts: &[u8],
+        batch: &Handle,
+        fault: &mut F,
+    ) -> u32 {
+        let (handle, batch) = (&mut *self.0.borrow_mut(), &mut *batch.0.borrow_mut());
+        unsafe { call(handle, encoding, edits.as_ptr(), edits.len(), texts.as_ptr(), texts.len(), batch, fault) }
+    }
+
+    pub fn document_change(&self, encoding: u32, edits: &[Edit], texts: &[u8], fault: &mut Fault) -> u32 {
+        self.with_batch(laspidru_document_change, encoding, edits, texts, fault)
     }
 
     pub fn document_canonical(
@@ -411,15 +217,11 @@ impl Handle {
         batch: &Handle,
         fault: &mut Fault,
     ) -> u32 {
-        let (handle, batch) = (&mut *self.0.borrow_mut(), &mut *batch.0.borrow_mut());
-        let (at, len) = (edits.as_ptr(), edits.len());
-        unsafe { laspidru_document_canonical(handle, encoding, at, len, texts.as_ptr(), texts.len(), batch, fault) }
+        self.batch_by(laspidru_document_canonical, encoding, edits, texts, batch, fault)
     }
 
     pub fn document_apply_edits(&self, encoding: u32, edits: &[Edit], texts: &[u8], fault: &mut EditsFault) -> u32 {
-        let handle = &mut *self.0.borrow_mut();
-        let (at, len) = (edits.as_ptr(), edits.len());
-        unsafe { laspidru_document_apply_edits(handle, encoding, at, len, texts.as_ptr(), texts.len(), fault) }
+        self.with_batch(laspidru_document_apply_edits, encoding, edits, texts, fault)
     }
 
     pub fn document_batch_of_edits(
@@ -430,11 +232,7 @@ impl Handle {
         batch: &Handle,
         fault: &mut EditsFault,
     ) -> u32 {
-        let (handle, batch) = (&mut *self.0.borrow_mut(), &mut *batch.0.borrow_mut());
-        let (at, len) = (edits.as_ptr(), edits.len());
-        unsafe {
-            laspidru_document_batch_of_edits(handle, encoding, at, len, texts.as_ptr(), texts.len(), batch, fault)
-        }
+        self.batch_by(laspidru_document_batch_of_edits, encoding, edits, texts, batch, fault)
     }
 
     pub fn document_size(&self, length: &mut Length) -> u32 {
@@ -499,6 +297,62 @@ impl Handle {
 
     pub fn server_reply(&self, len: usize) -> Vec<u8> {
         copied(len, |out, copied| unsafe { laspidru_server_reply(&mut *self.0.borrow_mut(), 0, out, len, copied) })
+    }
+
+    pub fn server_encoding(&self, encoding: &mut u32) -> u32 {
+        unsafe { laspidru_server_encoding(&mut *self.0.borrow_mut(), encoding) }
+    }
+
+    pub fn server_batch_of_edits(
+        &self,
+        uri: &str,
+        encoding: u32,
+        edits: &[Edit],
+        texts: &[u8],
+        batch: &Handle,
+        fault: &mut EditsFault,
+    ) -> u32 {
+        let (handle, batch) = (&mut *self.0.borrow_mut(), &mut *batch.0.borrow_mut());
+        let (edits, count) = (edits.as_ptr(), edits.len());
+        let (texts, len) = (texts.as_ptr(), texts.len());
+        unsafe {
+            laspidru_server_batch_of_edits(
+                handle, uri.as_ptr(), uri.len(), encoding, edits, count, texts, len, batch, fault,
+            )
+        }
+    }
+
+    /// The frame of a canonical message, in the handle `output`, which was empty.
+    pub fn server_canonical_message(
+        &self,
+        uri: &str,
+        version: i32,
+        encoding: u32,
+        edits: &[Edit],
+        texts: &[u8],
+        output: &Handle,
+        fault: &mut Fault,
+    ) -> (u32, usize) {
+        let (handle, output) = (&mut *self.0.borrow_mut(), &mut *output.0.borrow_mut());
+        let (edits, count) = (edits.as_ptr(), edits.len());
+        let mut frame_len = 0;
+        let code = unsafe {
+            laspidru_server_canonical_message(
+                handle,
+                uri.as_ptr(),
+                uri.len(),
+                version,
+                encoding,
+                edits,
+                count,
+                texts.as_ptr(),
+                texts.len(),
+                output,
+                fault,
+                &mut frame_len,
+            )
+        };
+        (code, frame_len)
     }
 
     pub fn server_documents(&self, len: &mut usize) -> u32 {
@@ -575,6 +429,26 @@ impl Handle {
 
     pub fn client_state(&self, state: &mut State) -> u32 {
         unsafe { laspidru_client_state(&mut *self.0.borrow_mut(), state) }
+    }
+
+    /// Takes bytes of a piece of an end's stream.
+    pub fn take(&self, end: End, piece: &[u8], taken: &mut Taken, answer: &mut Answer) -> u32 {
+        let handle = &mut *self.0.borrow_mut();
+        match end {
+            End::Server => unsafe { laspidru_server_take(handle, piece.as_ptr(), piece.len(), taken, answer) },
+            End::Client => unsafe { laspidru_client_take(handle, piece.as_ptr(), piece.len(), taken, answer) },
+        }
+    }
+
+    /// The body of the message that an end took last.
+    pub fn body(&self, end: End, len: usize) -> Vec<u8> {
+        copied(len, |out, copied| {
+            let handle = &mut *self.0.borrow_mut();
+            match end {
+                End::Server => unsafe { laspidru_server_body(handle, 0, out, len, copied) },
+                End::Client => unsafe { laspidru_client_body(handle, 0, out, len, copied) },
+            }
+        })
     }
 
     /// The open document of a URI at an end.

@@ -1,6 +1,7 @@
 //! A stream that is taken apart into its messages.
 
 use crate::ffi;
+use crate::received::{NotTaken, Received};
 use std::fmt;
 
 /// Takes a stream apart into the bodies of its messages, in whatever pieces it comes (LSP 3.17, Base Protocol).
@@ -14,9 +15,7 @@ use std::fmt;
 /// ```
 pub struct Framer {
     handle: ffi::Handle,
-    // What was received and isn't taken yet, from `at` on.
-    rest: Vec<u8>,
-    at: usize,
+    received: Received,
 }
 
 /// Why there is no framer, or no message.
@@ -50,7 +49,7 @@ impl Framer {
     pub fn new(max_body: usize) -> Result<Self, FrameError> {
         let handle = ffi::Handle::empty();
         match handle.framer_new(max_body) {
-            ffi::OK => Ok(Framer { handle, rest: Vec::new(), at: 0 }),
+            ffi::OK => Ok(Framer { handle, received: Received::default() }),
             ffi::BAD_LIMIT => Err(FrameError::BadLimit),
             _ => Err(FrameError::OutOfMemory),
         }
@@ -58,34 +57,28 @@ impl Framer {
 
     /// Takes bytes that were read.
     pub fn receive(&mut self, bytes: &[u8]) {
-        self.rest.drain(..self.at);
-        self.at = 0;
-        self.rest.extend_from_slice(bytes);
+        self.received.add(bytes);
     }
 
     /// The body of the next message that is whole; none where the rest of it is to come.
     pub fn next_body(&mut self) -> Result<Option<Vec<u8>>, FrameError> {
-        let mut taken = ffi::Taken::default();
-        match self.handle.framer_feed(&self.rest[self.at..], &mut taken) {
-            ffi::OK => {}
-            ffi::BAD_FRAME => return Err(FrameError::Fault { number: taken.frame, place: taken.place }),
-            ffi::FAILED => return Err(FrameError::Failed),
-            _ => return Err(FrameError::OutOfMemory),
+        match self.received.take(|piece, taken| self.handle.framer_feed(piece, taken)) {
+            Ok(None) => Ok(None),
+            Ok(Some(len)) => {
+                let body = self.handle.framer_body(len);
+                assert_eq!(self.handle.framer_next(), ffi::OK, "the handle of a framer is full");
+                Ok(Some(body))
+            }
+            Err(NotTaken::Stream(fault)) => Err(fault),
+            Err(NotTaken::Code(_)) => Err(FrameError::OutOfMemory),
         }
-        self.at += taken.bytes;
-        if !taken.is_whole {
-            return Ok(None);
-        }
-        let body = self.handle.framer_body(taken.body_len);
-        assert_eq!(self.handle.framer_next(), ffi::OK, "the handle of a framer is full");
-        Ok(Some(body))
     }
 
     /// Whether the stream may end here: no byte of a message is left, and there was no fault.
     pub fn is_at_rest(&self) -> bool {
         let mut at_rest = false;
         assert_eq!(self.handle.framer_at_rest(&mut at_rest), ffi::OK, "the handle of a framer is full");
-        at_rest && self.at == self.rest.len()
+        at_rest && self.received.is_at_rest()
     }
 }
 

@@ -22,6 +22,7 @@ pub mod framer;
 pub mod log;
 #[cfg(feature = "lsp-types")]
 mod lsp;
+mod received;
 pub mod server;
 
 pub use client::Client;
@@ -37,6 +38,13 @@ pub enum Encoding {
     Utf8 = 8,
     Utf16 = 16,
     Utf32 = 32,
+}
+
+impl Encoding {
+    /// The encoding of a number of laspidru.h.
+    fn of(number: u32) -> Option<Self> {
+        [Encoding::Utf8, Encoding::Utf16, Encoding::Utf32].into_iter().find(|&encoding| encoding as u32 == number)
+    }
 }
 
 /// A position: a line, counted from 0, and the units before it in that line.

@@ -1,13 +1,14 @@
 //! A server's end of a session: bytes or bodies of messages go in, and it keeps the open documents.
 
-use crate::framer::{Framer, FrameError};
-use crate::{DEFAULT_LIMITS, Encoding, ffi};
+use crate::framer::FrameError;
+use crate::received::{NotTaken, Received};
+use crate::{batch, changes_of, demand_edits, ffi, passed_edits, Change, Encoding, Error, TextEdit, DEFAULT_LIMITS};
 use std::fmt;
 
 /// How a server is set up. The default is that of `lspsync serve`.
 #[derive(Clone, Copy, Debug, PartialEq, Eq)]
 pub struct Settings {
-    /// 4,096 to 1,073,741,824 bytes. It is for who takes the stream apart: a server takes any body.
+    /// 4,096 to 1,073,741,824 bytes of a message of the stream. [`Server::handle`] takes any body.
     pub max_body: usize,
     /// Up to 1,073,741,824 bytes of a document.
     pub max_text: usize,
@@ -91,15 +92,6 @@ pub enum ServerError {
     Frame(FrameError),
 }
 
-impl From<FrameError> for ServerError {
-    fn from(error: FrameError) -> Self {
-        match error {
-            FrameError::OutOfMemory => ServerError::OutOfMemory,
-            error => ServerError::Frame(error),
-        }
-    }
-}
-
 impl fmt::Display for ServerError {
     fn fmt(&self, f: &mut fmt::Formatter<'_>) -> fmt::Result {
         match self {
@@ -112,6 +104,32 @@ impl fmt::Display for ServerError {
 }
 
 impl std::error::Error for ServerError {}
+
+/// Why there is no canonical message.
+#[derive(Clone, Copy, Debug, PartialEq, Eq)]
+pub enum MessageError {
+    /// The documents refuse the changes, or their message would be too long.
+    Refused(Refusal),
+    /// An end of a change's range lies inside a character.
+    InsideCharacter { change: usize, at_end: bool },
+    /// A change's range starts after its end.
+    ReversedRange { change: usize },
+    /// The same call can be made again.
+    OutOfMemory,
+}
+
+impl fmt::Display for MessageError {
+    fn fmt(&self, f: &mut fmt::Formatter<'_>) -> fmt::Result {
+        match *self {
+            MessageError::Refused(refusal) => write!(f, "refused: {refusal:?}"),
+            MessageError::InsideCharacter { change, at_end } => write!(f, "{}", Error::InsideCharacter { change, at_end }),
+            MessageError::ReversedRange { change } => write!(f, "{}", Error::ReversedRange { change }),
+            MessageError::OutOfMemory => write!(f, "out of memory"),
+        }
+    }
+}
+
+impl std::error::Error for MessageError {}
 
 /// A server's end of a session, without input and output of its own: bytes that were read go in, frames to send come out.
 ///
@@ -126,9 +144,7 @@ impl std::error::Error for ServerError {}
 /// ```
 pub struct Server {
     handle: ffi::Handle,
-    framer: Framer,
-    // A body that wasn't handled yet, since the server was out of memory.
-    waiting: Option<Vec<u8>>,
+    received: Received,
 }
 
 impl Server {
@@ -145,16 +161,12 @@ impl Server {
         };
         let handle = ffi::Handle::empty();
         demand(handle.server_new(&settings))?;
-        let framer = Framer::new(settings.max_body).map_err(|error| match error {
-            FrameError::BadLimit => ServerError::BadLimit,
-            _ => ServerError::OutOfMemory,
-        })?;
-        Ok(Server { handle, framer, waiting: None })
+        Ok(Server { handle, received: Received::default() })
     }
 
     /// Takes bytes that were read. [`Server::next_message`] then has the messages that end in them.
     pub fn receive(&mut self, bytes: &[u8]) {
-        self.framer.receive(bytes);
+        self.received.add(bytes);
     }
 
     /// The next message that is whole, and what the server did with it; none where the rest of it is to come.
@@ -162,34 +174,27 @@ impl Server {
     /// After [`ServerError::OutOfMemory`] the same call continues. A request that the server doesn't handle is answered by
     /// the code -32601: it is yours, and your answer goes in place of that frame.
     pub fn next_message(&mut self) -> Result<Option<(Vec<u8>, Answer)>, ServerError> {
-        let body = match self.waiting.take() {
-            Some(body) => body,
-            None => match self.framer.next_body().map_err(ServerError::from)? {
-                Some(body) => body,
-                None => return Ok(None),
-            },
-        };
-        match self.handle(&body) {
-            Ok(answer) => Ok(Some((body, answer))),
-            Err(error) => {
-                if error == ServerError::OutOfMemory {
-                    self.waiting = Some(body);
-                }
-                Err(error)
-            }
+        match self.received.take_by(&self.handle, ffi::End::Server) {
+            Ok(found) => Ok(found.map(|(body, answer)| (body, self.answered(&answer)))),
+            Err(NotTaken::Stream(fault)) => Err(ServerError::Frame(fault)),
+            Err(NotTaken::Code(code)) => demand(code).and(Ok(None)),
         }
     }
 
     /// Whether the stream may end here: no byte of a message is left.
     pub fn is_at_rest(&self) -> bool {
-        self.waiting.is_none() && self.framer.is_at_rest()
+        self.received.is_at_rest()
     }
 
     /// Answers the body of a message: the bytes after its header.
     pub fn handle(&mut self, body: &[u8]) -> Result<Answer, ServerError> {
         let mut answer = ffi::Answer::default();
         demand(self.handle.server_handle(body, &mut answer))?;
-        Ok(match answer.kind {
+        Ok(self.answered(&answer))
+    }
+
+    fn answered(&self, answer: &ffi::Answer) -> Answer {
+        match answer.kind {
             ffi::REPLIED => Answer::Reply {
                 frame: self.handle.server_reply(answer.reply_len),
                 code: (answer.error != 0).then_some(answer.error),
@@ -200,7 +205,44 @@ impl Server {
             ffi::REFUSED => Answer::Refused(refusal(answer.reason)),
             ffi::EXITED => Answer::Exit(u8::from(answer.status != 0)),
             kind => unreachable!("an answer of kind {kind}"),
-        })
+        }
+    }
+
+    /// The encoding of positions, once `initialize` was answered.
+    pub fn encoding(&self) -> Option<Encoding> {
+        let mut number = 0;
+        assert_eq!(self.handle.server_encoding(&mut number), ffi::OK, "the handle of a server is full");
+        Encoding::of(number)
+    }
+
+    /// The canonical batch of what text edits mean on the open document of a URI: the changes of the `didChange` that
+    /// reports them; none where no document of the URI is open. Positions count units of [`Server::encoding`], and all ranges
+    /// count in the text as it is. The document stays as it is.
+    pub fn batch_of_edits(&self, uri: &str, edits: &[TextEdit]) -> Result<Option<Vec<Change>>, Error> {
+        let (passed, texts) = passed_edits(edits);
+        let (mut fault, found) = (ffi::EditsFault::default(), ffi::Handle::empty());
+        let units = self.encoding().unwrap_or(Encoding::Utf16) as u32;
+        match self.handle.server_batch_of_edits(uri, units, &passed, texts.as_bytes(), &found, &mut fault) {
+            ffi::NOT_OPEN => Ok(None),
+            code => demand_edits(code, &fault).map(|()| Some(changes_of(&found))),
+        }
+    }
+
+    /// The frame of the one canonical `didChange` that means the same as these changes of the open document of a URI, under a
+    /// version greater than its own. Positions count units of [`Server::encoding`]. The document stays as it is.
+    pub fn canonical_message(&self, uri: &str, version: i32, changes: &[Change]) -> Result<Vec<u8>, MessageError> {
+        let (edits, texts) = batch(changes);
+        let (mut fault, output) = (ffi::Fault::default(), ffi::Handle::empty());
+        let units = self.encoding().unwrap_or(Encoding::Utf16) as u32;
+        match self.handle.server_canonical_message(uri, version, units, &edits, &texts, &output, &mut fault) {
+            (ffi::OK, len) => Ok(output.log_output(len)),
+            (ffi::OUT_OF_MEMORY, _) => Err(MessageError::OutOfMemory),
+            (ffi::INSIDE_CHARACTER, _) => {
+                Err(MessageError::InsideCharacter { change: fault.change, at_end: fault.at_end })
+            }
+            (ffi::REVERSED_RANGE, _) => Err(MessageError::ReversedRange { change: fault.change }),
+            (code, _) => Err(MessageError::Refused(refusal(code))),
+        }
     }
 
     /// How many documents are open.

@@ -1,5 +1,5 @@
-use laspidru::server::{Answer, Refusal, Server, ServerError, Settings};
-use laspidru::Encoding;
+use laspidru::server::{Answer, MessageError, Refusal, Server, ServerError, Settings};
+use laspidru::{Change, Encoding, Error, Position, Range, TextEdit};
 
 const URI: &str = "file:///a";
 
@@ -100,6 +100,61 @@ fn settings() -> Result<(), ServerError> {
     let body = request(1, "initialize", r#"{"capabilities":{}}"#);
     let Answer::Reply { frame, .. } = server.handle(body.as_bytes())? else { panic!("no reply") };
     assert!(String::from_utf8_lossy(&frame).contains(r#""positionEncoding":"utf-8""#));
+    Ok(())
+}
+
+fn range(start: u32, end: u32) -> Range {
+    Range { start: Position { line: 0, character: start }, end: Position { line: 0, character: end } }
+}
+
+#[test]
+fn text_edits_on_an_open_document() -> Result<(), Box<dyn std::error::Error>> {
+    let mut server = initialized()?;
+    let edit = |start, end, text: &str| TextEdit { range: range(start, end), new_text: text.into() };
+    assert_eq!(server.batch_of_edits(URI, &[])?, None);
+    server.handle(open("abc").as_bytes())?;
+    let edits = [edit(0, 0, "1"), edit(1, 2, "2")];
+    let wanted =
+        vec![Change { range: Some(range(1, 2)), text: "2".into() }, Change { range: Some(range(0, 0)), text: "1".into() }];
+    assert_eq!(server.batch_of_edits(URI, &edits)?, Some(wanted));
+    let overlapping = [edit(0, 2, ""), edit(1, 3, "")];
+    assert_eq!(server.batch_of_edits(URI, &overlapping), Err(Error::Overlap { first: 0, second: 1 }));
+    assert_eq!(server.batch_of_edits(URI, &[edit(1, 0, "")]), Err(Error::ReversedRange { change: 0 }));
+    assert_eq!((server.version(URI), server.text(URI).as_deref()), (Some(1), Some("abc")));
+    Ok(())
+}
+
+#[test]
+fn the_canonical_message_of_changes() -> Result<(), Box<dyn std::error::Error>> {
+    let mut server = initialized()?;
+    let change = |start, end, text: &str| Change { range: Some(range(start, end)), text: text.into() };
+    let refused = |refusal| Err(MessageError::Refused(refusal));
+    assert_eq!(server.canonical_message(URI, 2, &[]), refused(Refusal::NotOpen));
+    server.handle(open("abc").as_bytes())?;
+    assert_eq!(server.canonical_message(URI, 1, &[]), refused(Refusal::StaleVersion));
+    let reversed = server.canonical_message(URI, 2, &[change(1, 0, "")]);
+    assert_eq!(reversed, Err(MessageError::ReversedRange { change: 0 }));
+    let frame = server.canonical_message(URI, 2, &[change(0, 1, "x"), change(1, 1, "y")])?;
+    let body = concat!(
+        r#"{"jsonrpc":"2.0","method":"textDocument/didChange","params":{"contentChanges":[{"range":{"end":"#,
+        r#"{"character":1,"line":0},"start":{"character":0,"line":0}},"text":"xy"}],"textDocument":"#,
+        r#"{"uri":"file:///a","version":2}}}"#
+    );
+    assert_eq!(String::from_utf8(frame.clone())?, format!("Content-Length: {}\r\n\r\n{body}", body.len()));
+    assert_eq!((server.version(URI), server.text(URI).as_deref()), (Some(1), Some("abc")));
+    server.receive(&frame);
+    assert_eq!(server.next_message()?, Some((body.as_bytes().to_vec(), Answer::Changed)));
+    assert_eq!((server.version(URI), server.text(URI).as_deref()), (Some(2), Some("xybc")));
+    Ok(())
+}
+
+#[test]
+fn the_encoding_is_known_once_it_is_chosen() -> Result<(), ServerError> {
+    let mut server = Server::new(&Settings { encoding: Encoding::Utf8, ..Settings::default() })?;
+    assert_eq!(server.encoding(), None);
+    let offers = r#"{"capabilities":{"general":{"positionEncodings":["utf-8"]}}}"#;
+    assert!(replies(&mut server, &request(1, "initialize", offers), None)?);
+    assert_eq!(server.encoding(), Some(Encoding::Utf8));
     Ok(())
 }
 

@@ -4,9 +4,11 @@
    CODES.md beside this file each function's codes.
 
    Each function tests what it is passed and returns a code. Where the code isn't LASPIDRU_OK nothing has changed; only after
-   the four faults of a log, 20 to 23, the output up to the fault is kept, and after LASPIDRU_BAD_FRAME a framer takes no
-   more of its stream. Memory is taken last: LASPIDRU_OUT_OF_MEMORY is returned only where the arguments are not refused.
-   A client's calls on documents take memory earlier: they may return it also where the documents would refuse the call.
+   the four faults of a log, 20 to 23, the output up to the fault is kept, after LASPIDRU_BAD_FRAME no more of a stream is
+   taken, and laspidru_server_take and laspidru_client_take may have taken a message that they couldn't handle yet.
+   Memory is taken last: LASPIDRU_OUT_OF_MEMORY is returned only where the arguments are not refused. A client's calls on
+   documents, and laspidru_server_canonical_message, take memory earlier: they may return it also where the documents would
+   refuse the call.
    A handle of zeroes is empty. It is given to one call at a time, and never copied while it is full; it may be used
    by any thread. What a handle holds is freed by laspidru_close. Pointers are never null, also where a length is 0. */
 #ifndef LASPIDRU_H
@@ -55,7 +57,7 @@ enum {
     LASPIDRU_BODY_TOO_LONG = 22, /* the canonical message of a change has a longer body than max_body */
     LASPIDRU_BAD_LOG = 23,       /* what is there belongs in no log, or for laspidru_log_convert in none of version 1 */
 
-    LASPIDRU_TOO_MANY_TURNS = 24, /* too many reads and writes: 2^64 - 1 are allowed; nothing has changed */
+    LASPIDRU_TOO_MANY_TURNS = 24, /* as many reads and writes as are allowed, 2^64 - 1; nothing has changed */
     LASPIDRU_OVERLAP = 25,        /* two text edits overlap */
     LASPIDRU_FAILED = 26,         /* a framer returned LASPIDRU_BAD_FRAME before */
     LASPIDRU_NO_MESSAGE = 27,     /* no whole message is buffered */
@@ -93,7 +95,8 @@ enum {
 /* Encodings: what a position's character counts. */
 enum { LASPIDRU_UTF8 = 8, LASPIDRU_UTF16 = 16, LASPIDRU_UTF32 = 32 };
 
-/* A handle: room for a document, a batch, a framer, a server, a client or the output of a command on a log. */
+/* A handle: room for a document, a batch, a framer, a server, a client, or output: of a command on a log, or the frame of a
+   canonical message. */
 typedef struct laspidru_handle {
     void *pointer;
     laspidru_bool is_full;
@@ -142,7 +145,7 @@ typedef struct laspidru_length {
 /* How a server is set up. `encoding` is the one that it prefers, and takes where the client offers it, else UTF-16; where
    `is_fixed`, the one that it takes whatever is offered. Where `is_full` it asks for whole texts, else for ranges. */
 typedef struct laspidru_settings {
-    laspidru_size max_body;    /* 4,096 to 1,073,741,824 bytes; for who frames, since a server takes any body */
+    laspidru_size max_body;    /* 4,096 to 1,073,741,824 bytes of a message of its stream; laspidru_server_handle takes any body */
     laspidru_size max_text;    /* up to 1,073,741,824 bytes */
     laspidru_size max_docs;    /* 1 to 65,536 */
     laspidru_size max_changes; /* 1 to 1,048,576 in a message */
@@ -160,18 +163,18 @@ typedef struct laspidru_answer {
     laspidru_size reply_len; /* REPLIED: how many bytes laspidru_server_reply copies */
 } laspidru_answer;
 
-/* What a framer took of a piece of a stream, or where the stream is faulty. A member that isn't of the code is 0. */
+/* What was taken of a piece of a stream, or where the stream is faulty. A member that isn't of the code is 0. */
 typedef struct laspidru_taken {
-    laspidru_size bytes;    /* OK: how many bytes of the piece */
-    laspidru_size body_len; /* OK: how many bytes the body has, once the message is whole */
+    laspidru_size bytes;    /* how many bytes of the piece */
+    laspidru_size body_len; /* how many bytes the body has, once the message is whole */
     laspidru_u64 place;     /* BAD_FRAME: the byte offset in the stream on which the fault was decided */
     laspidru_u32 frame;     /* BAD_FRAME: 1 to 7, for F1 to F7 of docs/FORMATS.md */
-    laspidru_bool is_whole; /* OK: whether the message is whole */
+    laspidru_bool is_whole; /* whether the message is whole */
 } laspidru_taken;
 
 /* How a client is set up. It offers UTF-16, and these. */
 typedef struct laspidru_client_settings {
-    laspidru_size max_body;    /* 4,096 to 1,073,741,824 bytes of a message that it sends for a document */
+    laspidru_size max_body;    /* 4,096 to 1,073,741,824 bytes of a message: of one that it sends for a document, and of its stream */
     laspidru_size max_text;    /* up to 1,073,741,824 bytes */
     laspidru_size max_docs;    /* 1 to 65,536 */
     laspidru_size max_changes; /* 1 to 1,048,576 in a message */
@@ -274,8 +277,21 @@ laspidru_u32 laspidru_batch_edit(laspidru_handle *batch, laspidru_size index, la
 /* Makes a server in an empty handle, at the start of a session. */
 laspidru_u32 laspidru_server_new(laspidru_handle *server, const laspidru_settings *settings);
 
-/* Hands the body of a message to a server: the bytes after its header. The reply, if there is one, stays with the
-   server until the next message that it answers. After LASPIDRU_OUT_OF_MEMORY the same body can be handed in again. */
+/* Takes bytes of the next piece of the client's stream: all of them, or those up to the end of one message, which it handles.
+   `taken` says how many. Once the message is whole, `answer` is what laspidru_server_handle answers, and the body can be
+   copied until the next call; before, it stays as it is. With a code after LASPIDRU_ENDED no byte was taken, except that
+   with LASPIDRU_OUT_OF_MEMORY a message may be whole. Then the next call handles it first. */
+laspidru_u32 laspidru_server_take(laspidru_handle *server, const unsigned char *piece, laspidru_size piece_len,
+    laspidru_taken *taken, laspidru_answer *answer);
+
+/* Copies the bytes of the body that laspidru_server_take took last from `start` on, as many as `out` holds, and says how many.
+   A message whose answer is IGNORED is yours, and so is a request whose reply has the error -32601. */
+laspidru_u32 laspidru_server_body(laspidru_handle *server, laspidru_size start,
+    unsigned char *out, laspidru_size out_len, laspidru_size *copied);
+
+/* Hands the body of a message to a server: the bytes after its header. It is for who takes the stream apart. The reply, if
+   there is one, stays with the server until the next message that it answers. After LASPIDRU_OUT_OF_MEMORY the same body
+   can be handed in again. */
 laspidru_u32 laspidru_server_handle(laspidru_handle *server, const unsigned char *body, laspidru_size body_len,
     laspidru_answer *answer);
 
@@ -283,6 +299,9 @@ laspidru_u32 laspidru_server_handle(laspidru_handle *server, const unsigned char
    its header, to be sent as it is. Where the last message had none it has no bytes. */
 laspidru_u32 laspidru_server_reply(laspidru_handle *server, laspidru_size start,
     unsigned char *out, laspidru_size out_len, laspidru_size *copied);
+
+/* The encoding of positions that was chosen at initialize, of which the reply tells the client; 0 before. */
+laspidru_u32 laspidru_server_encoding(laspidru_handle *server, laspidru_u32 *encoding);
 
 /* How many documents are open. */
 laspidru_u32 laspidru_server_documents(laspidru_handle *server, laspidru_size *len);
@@ -294,6 +313,20 @@ laspidru_u32 laspidru_server_document(laspidru_handle *server, const unsigned ch
 /* Copies the bytes of an open document's text from `start` on, as many as `out` holds, and says how many. */
 laspidru_u32 laspidru_server_text(laspidru_handle *server, const unsigned char *uri, laspidru_size uri_len,
     laspidru_size start, unsigned char *out, laspidru_size out_len, laspidru_size *copied);
+
+/* As laspidru_document_batch_of_edits, on the open document of a URI, for a formatter's or a code action's text edits. The
+   document stays as it is until the client reports them. */
+laspidru_u32 laspidru_server_batch_of_edits(laspidru_handle *server, const unsigned char *uri, laspidru_size uri_len,
+    laspidru_u32 encoding, const laspidru_edit *edits, laspidru_size edits_len, const unsigned char *texts,
+    laspidru_size texts_len, laspidru_handle *batch, laspidru_edits_fault *fault);
+
+/* Puts the one canonical didChange that means the same as these changes of an open document, under a version greater than
+   its own, into the empty handle `output`. laspidru_log_output copies it: `frame_len` bytes, with its header. The document
+   stays as it is. With INSIDE_CHARACTER and REVERSED_RANGE `fault` says which change is faulty. */
+laspidru_u32 laspidru_server_canonical_message(laspidru_handle *server, const unsigned char *uri, laspidru_size uri_len,
+    laspidru_i32 version, laspidru_u32 encoding, const laspidru_edit *edits, laspidru_size edits_len,
+    const unsigned char *texts, laspidru_size texts_len, laspidru_handle *output, laspidru_fault *fault,
+    laspidru_size *frame_len);
 
 /* ---- A framer takes a stream apart: feed, then body and next for each message, until all of the piece was taken.
 
@@ -345,6 +378,16 @@ laspidru_u32 laspidru_client_shutdown(laspidru_handle *client, laspidru_size *fr
 
 /* exit, in phase CLOSED, which becomes DONE. */
 laspidru_u32 laspidru_client_exit(laspidru_handle *client, laspidru_size *frame_len);
+
+/* Takes bytes of the next piece of the server's stream, as laspidru_server_take does of the client's. Once a message is whole,
+   `answer` is that of laspidru_client_deliver. */
+laspidru_u32 laspidru_client_take(laspidru_handle *client, const unsigned char *piece, laspidru_size piece_len,
+    laspidru_taken *taken, laspidru_answer *answer);
+
+/* Copies the bytes of the body that laspidru_client_take took last from `start` on, as many as `out` holds, and says how many.
+   A notification, which is IGNORED, is yours, and so is a request, to which the frame is an error reply. */
+laspidru_u32 laspidru_client_body(laspidru_handle *client, laspidru_size start,
+    unsigned char *out, laspidru_size out_len, laspidru_size *copied);
 
 /* Hands the body of a message of the server to a client that listens, from ASKED to CLOSED. REPLIED says that there is a frame
    to send, `reply_len` bytes: initialized after the response to initialize, else an error reply to a request. */

@@ -1,29 +1,28 @@
 -- What a call of a client sends, and the code of its refusal, by the tables of its steps.
-use Rattle.std.proofs.Common.{◌≡◌, ◌⊎◌, ℕ, List, length, Option, Some, Result, Ok, Err, inl, inr, ap, subst, ◌∙◌}
-use Rattle.lsp_store.specs.declared.fault.StoreFault.{StoreFault}
-use Rattle.lsp_store.specs.Faults as documents
+use Rattle.std.proofs.Common.{◌≡◌, ℕ, List, length, true, Option, Some, Result, Ok, Err, inl, inr, ap, subst, ◌∙◌}
+use Rattle.lsp_message.specs.Message.{Reading}
 use Rattle.lsp_client.specs.declared.fault.ClientFault.{ClientFault}
-use Rattle.lsp_client.specs.declared.fault.ClientFault.TheVariants as client
 use Rattle.lsp_client.specs.Seen.{IsSent, IsFaultOf, IsDelivered}
-use Rattle.lsp_client.specs.Step.{State, Sending, Refusal, wrong_phase, store, Delivery, DeliveredData}
+use Rattle.lsp_client.specs.Step.{State, Sending, Refusal, wrong_phase, store, Delivery, DeliveredData, delivery_of, delivery_result, if_listening, is_listening}
 use Rattle.laspidru.specs.declared.answers.Answer.{Answer}
-use Rattle.laspidru.specs.declared.codes.TheConstants.{OK, OUT_OF_MEMORY, WRONG_PHASE}
+use Rattle.laspidru.specs.declared.codes.TheConstants.{OK}
 use Rattle.laspidru.specs.declared.object.Object.{Object}
 use Rattle.laspidru.specs.declared.object.Object.TheVariants.{Client}
 use Rattle.laspidru.specs.declared.place.Fault.{Fault}
-use Rattle.laspidru.specs.Clients.{IsCalled, IsDeliveredTo, IsRefusedCall, IsWritten, IsCallReport, call_code, delivered_out, frame_out}
+use Rattle.laspidru.specs.Streams.{StreamData}
+use Rattle.laspidru.specs.Clients.{IsCalled, IsDeliveredTo, IsTakenIn, IsRefusedCall, IsWritten, IsCallReport, call_code, delivered_out, frame_out}
 
 -- A call that sends a frame is accepted.
-pub accepted : (r : Result Sending Refusal) (bytes : List ℕ) (new : State) (code len : ℕ) (stored : Option Object)
-    → IsSent r bytes new → code ≡ OK → stored ≡ Some (Client (record { client = new; frame = bytes })) → len ≡ length bytes
-    → IsCalled r code stored len
-accepted (Ok sending) bytes new code len stored sent done held counted =
+pub accepted : (stream : StreamData) (r : Result Sending Refusal) (bytes : List ℕ) (new : State) (code len : ℕ) (stored : Option Object)
+    → IsSent r bytes new → code ≡ OK → stored ≡ Some (Client (record { client = new; frame = bytes; stream = stream })) → len ≡ length bytes
+    → IsCalled stream r code stored len
+accepted stream (Ok sending) bytes new code len stored sent done held counted =
     inr (record {
       done = done;
-      client = held ∙ (λ i. Some (Client (record { client = sent.1 i; frame = sent.0 i })));
+      client = held ∙ (λ i. Some (Client (record { client = sent.1 i; frame = sent.0 i; stream = stream })));
       frame_len = counted ∙ ap length sent.0;
     })
-accepted (Err refusal) bytes new code len stored sent done held counted = absurd sent
+accepted stream (Err refusal) bytes new code len stored sent done held counted = absurd sent
 
 -- The code of a fault says why the step is refused.
 code_is : (refusal : Refusal) (fault : ClientFault) (code : ℕ) → IsFaultOf {A = Sending} (Err refusal) fault → code ≡ call_code fault → IsRefusedCall refusal code
@@ -37,10 +36,10 @@ delivery_code_is (store refusal) fault code (inl none) is = inl (is ∙ ap call_
 delivery_code_is (store refusal) fault code (inr why) is = inr (is ∙ ap call_code why)
 
 -- A call with a fault is refused, or out of memory.
-pub call_refused : (r : Result Sending Refusal) (fault : ClientFault) (code len : ℕ) (stored : Option Object)
-    → IsFaultOf r fault → code ≡ call_code fault → IsCalled r code stored len
-call_refused (Ok sending) fault code len stored why is = inl (is ∙ ap call_code why)
-call_refused (Err refusal) fault code len stored why is = code_is refusal fault code why is
+pub call_refused : (stream : StreamData) (r : Result Sending Refusal) (fault : ClientFault) (code len : ℕ) (stored : Option Object)
+    → IsFaultOf r fault → code ≡ call_code fault → IsCalled stream r code stored len
+call_refused stream (Ok sending) fault code len stored why is = inl (is ∙ ap call_code why)
+call_refused stream (Err refusal) fault code len stored why is = code_is refusal fault code why is
 
 -- What its report writes is of the refusal.
 pub report_written : (r : Result Sending Refusal) (fault : ClientFault) (code : ℕ) (out : Fault)
@@ -56,19 +55,32 @@ none_written (Ok sending) bytes new code out sent = tt
 none_written (Err refusal) bytes new code out sent = absurd sent
 
 -- A body that a client takes.
-pub delivered : (r : Result Delivery Refusal) (given : DeliveredData (List ℕ)) (new : State) (code : ℕ) (stored : Option Object) (out : Answer)
-    → IsDelivered r given new → code ≡ OK → stored ≡ Some (Client (record { client = new; frame = frame_out given })) → out ≡ delivered_out given
-    → IsDeliveredTo r code stored out
-delivered (Ok delivery) given new code stored out is done held answered =
+pub delivered : (stream : StreamData) (r : Result Delivery Refusal) (given : DeliveredData (List ℕ)) (new : State) (code : ℕ) (stored : Option Object) (out : Answer)
+    → IsDelivered r given new → code ≡ OK → stored ≡ Some (Client (record { client = new; frame = frame_out given; stream = stream })) → out ≡ delivered_out given
+    → IsDeliveredTo stream r code stored out
+delivered stream (Ok delivery) given new code stored out is done held answered =
     inr (record {
       done = done;
-      client = held ∙ (λ i. Some (Client (record { client = is.1 i; frame = frame_out (is.0 i) })));
+      client = held ∙ (λ i. Some (Client (record { client = is.1 i; frame = frame_out (is.0 i); stream = stream })));
       answer = answered ∙ ap delivered_out is.0;
     })
-delivered (Err refusal) given new code stored out is done held answered = absurd is
+delivered stream (Err refusal) given new code stored out is done held answered = absurd is
 
 -- A body that a client refuses.
-pub delivery_refused : (r : Result Delivery Refusal) (fault : ClientFault) (code : ℕ) (stored : Option Object) (out : Answer)
-    → IsFaultOf r fault → code ≡ call_code fault → IsDeliveredTo r code stored out
-delivery_refused (Ok delivery) fault code stored out why is = inl (is ∙ ap call_code why)
-delivery_refused (Err refusal) fault code stored out why is = delivery_code_is refusal fault code why is
+pub delivery_refused : (stream : StreamData) (r : Result Delivery Refusal) (fault : ClientFault) (code : ℕ) (stored : Option Object) (out : Answer)
+    → IsFaultOf r fault → code ≡ call_code fault → IsDeliveredTo stream r code stored out
+delivery_refused stream (Ok delivery) fault code stored out why is = inl (is ∙ ap call_code why)
+delivery_refused stream (Err refusal) fault code stored out why is = delivery_code_is refusal fault code why is
+
+-- A body that a listening client takes.
+pub heard : (stream : StreamData) (s : State) (body : Reading) (given : DeliveredData (List ℕ)) (new : State) (code : ℕ) (stored : Option Object) (out : Answer)
+    → is_listening s.phase ≡ true → IsDelivered (delivery_result s body) given new → code ≡ OK
+    → stored ≡ Some (Client (record { client = new; frame = frame_out given; stream = stream })) → out ≡ delivered_out given
+    → IsTakenIn stream (delivery_of s body) code stored out
+heard stream s body given new code stored out listens is done held answered =
+    let d : IsDelivered (Ok (delivery_of s body)) given new = subst (λ b. IsDelivered (if_listening b s body) given new) listens is in
+    record {
+      done = done;
+      client = held ∙ (λ i. Some (Client (record { client = d.1 i; frame = frame_out (d.0 i); stream = stream })));
+      answer = answered ∙ ap delivered_out d.0;
+    }

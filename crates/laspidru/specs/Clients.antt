@@ -1,14 +1,12 @@
 -- A client that C asks for, the calls on it, and what C gets of them.
-use Rattle.std.specs.Prelude.{ℕ, ℤ, ◌≡◌, ◌⊎◌, if◌then◌else◌, false, List, [], length, option_map, Option, Some, None, Result, Ok, Err}
+use Rattle.std.specs.Prelude.{ℕ, ℤ, ◌≡◌, ◌⊎◌, false, List, [], length, option_map, Option, Some, None, Result, Ok, Err}
 use Rattle.std.specs.Option.{ok_or}
-use Rattle.std.specs.Str.{is_utf8}
 use Rattle.lsp_frame.specs.Frame.{frame}
 use Rattle.lsp_frame.specs.Limits.{Bounds}
 use Rattle.lsp_text.specs.declared.encoding.Encoding.{Encoding}
 use Rattle.lsp_text.specs.declared.encoding.Encoding.TheVariants.{Utf8, Utf16, Utf32}
 use Rattle.lsp_edit.specs.declared.fault.EditFault.TheVariants as edit
-use Rattle.lsp_message.specs.Message.{reading}
-use Rattle.lsp_message.specs.Outgoing.{OutgoingData, body_of}
+use Rattle.lsp_message.specs.Outgoing.{body_of}
 use Rattle.lsp_message.specs.Params.{DocumentItem}
 use Rattle.lsp_store.specs.declared.fault.StoreFault.{StoreFault}
 use Rattle.lsp_store.specs.declared.fault.StoreFault.TheVariants as faults
@@ -21,21 +19,22 @@ use Rattle.lsp_client.specs.declared.phase.Phase.TheVariants.{New, Asked, Ready,
 use Rattle.lsp_client.specs.declared.phase.Reason.{Reason}
 use Rattle.lsp_client.specs.declared.phase.Reason.TheVariants.{NotAnAnswer, ErrorAnswer, NoSync, BadEncoding}
 use Rattle.lsp_client.specs.Seen.{as_sent}
-use Rattle.lsp_client.specs.Step.{State, Call, starts, shuts_down, exits, orders, opens, edits, closes, Order, Sending, Refusal, wrong_phase, store, Delivery, DeliveredData, sends, noted, ignored, bad_server, start, call_result, delivery_result}
+use Rattle.lsp_client.specs.Step.{Call, starts, shuts_down, exits, opens, edits, Order, Sending, Refusal, wrong_phase, store, Delivery, DeliveredData, sends, noted, ignored, bad_server, start}
 use Rattle.laspidru.specs.declared.answers.Answer.{Answer}
 use Rattle.laspidru.specs.declared.reports.Call.{Call as Lifecycle}
 use Rattle.laspidru.specs.declared.reports.Call.TheVariants.{Start, Shutdown, Exit}
 use Rattle.laspidru.specs.declared.reports.ClientSettings.{ClientSettings}
 use Rattle.laspidru.specs.declared.reports.ClientState.{ClientState}
-use Rattle.laspidru.specs.declared.codes.TheConstants.{BAD_ENCODING, BAD_SERVER, EMPTY, ERROR_ANSWER, IGNORED, NO_SYNC, NOT_AN_ANSWER, NOT_OPEN, NOT_UTF8, NOTED, OK, OTHER_KIND, OUT_OF_MEMORY, REPLIED, WRONG_PHASE}
+use Rattle.laspidru.specs.declared.codes.TheConstants.{BAD_ENCODING, BAD_SERVER, EMPTY, ERROR_ANSWER, IGNORED, NO_SYNC, NOT_AN_ANSWER, NOT_OPEN, NOTED, OK, OTHER_KIND, OUT_OF_MEMORY, REPLIED, WRONG_PHASE}
 use Rattle.laspidru.specs.declared.object.Object.{Object}
 use Rattle.laspidru.specs.declared.object.Object.TheVariants.{Document, Batch, Server, Output, Framer, Client}
 use Rattle.laspidru.specs.declared.place.Edit.{Edit}
 use Rattle.laspidru.specs.declared.place.Fault.{Fault}
-use Rattle.laspidru.specs.Codes.{and_then, unless}
-use Rattle.laspidru.specs.Batches.{edits_of, refused_edit, side_at}
+use Rattle.laspidru.specs.Codes.{and_then}
+use Rattle.laspidru.specs.Batches.{edits_of, side_at}
 use Rattle.laspidru.specs.Editors.{EditorData}
 use Rattle.laspidru.specs.Servers.{limits_asked, plain_out, store_code, uri_asked}
+use Rattle.laspidru.specs.Streams.{StreamData, stream_of}
 
 -- ---- how a client is set up
 
@@ -53,6 +52,7 @@ abbrev pub client_asked : ClientSettings → Result EditorData ℕ
 client_asked settings = and_then (limits_asked (client_bounds settings)) (λ limits. Ok (record {
   client = start limits (record { utf8 = settings.utf8; utf32 = settings.utf32 });
   frame = [];
+  stream = stream_of limits;
 }))
 
 -- The client of an object, with its last frame.
@@ -121,18 +121,21 @@ IsRefusedCall (store refusal) code =
     (code ≡ OUT_OF_MEMORY) ⊎ (code ≡ store_code (documents.fault_of refusal))
 
 -- A call is accepted: the client is in its new state, and has the frame to send.
-pub record IsAccepted (sending : Sending) (code : ℕ) (stored : Option Object)
+pub record IsAccepted (stream : StreamData) (sending : Sending) (code : ℕ) (stored : Option Object)
     (len : ℕ) : Type 0 where
   pub done : code ≡ OK
-  pub client : stored
-      ≡ Some (Client (record { client = sending.state; frame = frame (body_of sending.message) }))
+  pub client : stored ≡ Some (Client (record {
+    client = sending.state;
+    frame = frame (body_of sending.message);
+    stream = stream;
+  }))
   pub frame_len : len ≡ length (frame (body_of sending.message))
 
 -- A call is accepted or out of memory, or refused.
-abbrev pub IsCalled : Result Sending Refusal → ℕ → Option Object → ℕ → Type 0
-IsCalled (Ok sending) code stored len =
-    (code ≡ OUT_OF_MEMORY) ⊎ IsAccepted sending code stored len
-IsCalled (Err refusal) code stored len = IsRefusedCall refusal code
+abbrev pub IsCalled : StreamData → Result Sending Refusal → ℕ → Option Object → ℕ → Type 0
+IsCalled stream (Ok sending) code stored len =
+    (code ≡ OUT_OF_MEMORY) ⊎ IsAccepted stream sending code stored len
+IsCalled stream (Err refusal) code stored len = IsRefusedCall refusal code
 
 -- What a refusal writes of a faulty change.
 abbrev pub IsWritten : Result Sending Refusal → ℕ → Fault → Type 0
@@ -179,20 +182,22 @@ frame_out ignored = []
 frame_out (bad_server reason) = []
 
 -- The handle has the client after a delivery, and C gets its result.
-pub record IsTakenIn (delivery : Delivery) (code : ℕ) (stored : Option Object)
-    (out : Answer) : Type 0 where
+pub record IsTakenIn (stream : StreamData) (delivery : Delivery) (code : ℕ)
+    (stored : Option Object) (out : Answer) : Type 0 where
   pub done : code ≡ OK
   pub client : stored ≡ Some (Client (record {
     client = delivery.state;
     frame = frame_out (as_sent delivery.delivered);
+    stream = stream;
   }))
   pub answer : out ≡ delivered_out (as_sent delivery.delivered)
 
 -- A body is handled or out of memory, or refused.
-abbrev pub IsDeliveredTo : Result Delivery Refusal → ℕ → Option Object → Answer → Type 0
-IsDeliveredTo (Ok delivery) code stored out =
-    (code ≡ OUT_OF_MEMORY) ⊎ IsTakenIn delivery code stored out
-IsDeliveredTo (Err refusal) code stored out = IsRefusedCall refusal code
+abbrev pub IsDeliveredTo : StreamData → Result Delivery Refusal → ℕ → Option Object → Answer →
+    Type 0
+IsDeliveredTo stream (Ok delivery) code stored out =
+    (code ≡ OUT_OF_MEMORY) ⊎ IsTakenIn stream delivery code stored out
+IsDeliveredTo stream (Err refusal) code stored out = IsRefusedCall refusal code
 
 -- ---- what is asked of a client
 

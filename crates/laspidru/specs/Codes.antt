@@ -31,3 +31,8 @@ IsAnswer asked code fact = IsRefusedOr asked code (λ taken. (code ≡ OK) × fa
 abbrev pub IsAnswerOrNoMemory : {X : Type 0} → Result X ℕ → ℕ → (X → Type 0) → Type 0
 IsAnswerOrNoMemory asked code fact =
     IsRefusedOr asked code (λ taken. (code ≡ OUT_OF_MEMORY) ⊎ fact taken)
+
+-- If the call is refused, `fact` holds.
+abbrev pub OnRefused : {X : Type 0} → Result X ℕ → Type 0 → Type 0
+OnRefused (Err refusal) fact = fact
+OnRefused (Ok taken) fact = Unit {0}

@@ -1,8 +1,10 @@
 -- A client in a handle.
 use Rattle.std.specs.Prelude.{ℕ, List}
 use Rattle.lsp_client.specs.Step.{State}
+use Rattle.laspidru.specs.Streams.{StreamData}
 
--- A client, and the frame that it sends last; no bytes if it sends none.
+-- A client, the frame that it sends last (no bytes if it sends none), and its stream.
 pub record EditorData : Type 0 where
   pub client : State
   pub frame : List ℕ
+  pub stream : StreamData

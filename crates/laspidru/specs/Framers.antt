@@ -1,5 +1,5 @@
 -- A framer that C asks for, and what it takes of a stream (LSP 3.17, Base Protocol).
-use Rattle.std.specs.Prelude.{ℕ, ◌≡◌, ◌≤◌, ◌<◌, ◌++◌, ◌⊎◌, Bool, true, false, List, [], length, take, Option, Some, None, Result, Ok, Err}
+use Rattle.std.specs.Prelude.{ℕ, ◌≡◌, ◌≢◌, ◌≤◌, ◌<◌, ◌++◌, ◌⊎◌, Bool, true, false, List, length, take, Option, Some, None, Result, Ok, Err}
 use Rattle.lsp_frame.specs.Limits.{Bounds, default_limits}
 use Rattle.lsp_frame.specs.Frame.{IsFrameOf}
 use Rattle.lsp_frame.specs.Stream.{Framing, IsFrame, HoldsOne, IsFeedFault, released}
@@ -12,12 +12,9 @@ use Rattle.laspidru.specs.declared.taken.Taken.{Taken}
 use Rattle.laspidru.specs.Codes.{IsAnswer}
 use Rattle.laspidru.specs.Objects.{IsCopy, rest_asked}
 use Rattle.laspidru.specs.Servers.{limits_asked}
+use Rattle.laspidru.specs.Streams.{StreamData}
 
 -- ---- the framer of a handle
-
--- A framer at the start of a stream.
-abbrev pub framing_of : Bounds → Framing
-framing_of limits = record { place = 0; buffered = []; failed = false; limits = limits }
 
 -- The limits of a framer, if the greatest length of a body is in its range. The others are ignored.
 abbrev pub framer_limits : ℕ → Result Bounds ℕ
@@ -68,10 +65,13 @@ frame_code (frame.BadCharset place) = BAD_FRAME
 frame_code frame.Failed = FAILED
 frame_code frame.NoMemory = OUT_OF_MEMORY
 
+-- What is written where no byte was taken.
+abbrev pub nothing_taken : Taken
+nothing_taken = record { bytes = 0; body_len = 0; place = 0; frame = 0; is_whole = false }
+
 -- What is written of a fault: its number and its byte offset in the stream.
 abbrev pub taken_fault : ℕ → ℕ → Taken
-taken_fault number place =
-    record { bytes = 0; body_len = 0; place = place; frame = number; is_whole = false }
+taken_fault number place = record nothing_taken { place = place; frame = number }
 
 -- A fault is written, if it is one of F1 to F7.
 abbrev pub IsFrameReport : FrameFault → Taken → Type 0
@@ -148,3 +148,24 @@ IsReleasedIn old (Client editor) = ⊥
 abbrev pub IsReleasedStored : Framing → Option Object → Type 0
 IsReleasedStored old (Some object) = IsReleasedIn old object
 IsReleasedStored old None = ⊥
+
+-- ---- the stream of an end
+
+-- The framer as the next piece finds it: a message that was handled is released.
+abbrev pub IsNext : Bool → Framing → Framing → Type 0
+IsNext true old new = IsReleased old new
+IsNext false old new = new ≡ old
+
+-- A piece was fed to a stream. With another code than OK no byte of it was taken.
+pub record IsFedTo (old : StreamData) (piece : List ℕ) (code : ℕ) (new : StreamData)
+    (out : Taken) : Type 0 where
+  pub at : Framing
+  pub next : IsNext old.is_handled old.framing at
+  pub fed : IsFed at piece code new.framing out
+  pub unhandled : new.is_handled ≡ false
+  pub none : code ≢ OK → (out.bytes ≡ 0) × (out.is_whole ≡ false)
+
+-- The body of the message that is buffered.
+abbrev pub IsBodyOf : Framing → List ℕ → Type 0
+IsBodyOf framing body = (framing.failed ≡ false)
+    × IsFrameOf framing.limits.max_body framing.buffered body

@@ -1,11 +1,15 @@
+pub mod Streams
 pub mod Sessions
 pub mod Editors
 pub mod Stored
 pub mod Codes
+pub mod Numbers
 pub mod Objects
 pub mod Batches
 pub mod Edits
 pub mod Servers
 pub mod Framers
 pub mod Clients
+pub mod Taking
 pub mod Logs
+pub mod Messages

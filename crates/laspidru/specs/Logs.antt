@@ -45,6 +45,10 @@ log_asked settings = and_then (encoding_at settings.encoding) (λ encoding.
       squash = settings.squash;
     })))
 
+-- How many reads and writes a command may make: more aren't counted.
+abbrev pub allowed_turns : ℕ
+allowed_turns = 18446744073709551615
+
 -- ---- the output of a command
 
 -- How a command reads a log: `convert` refuses version 2.

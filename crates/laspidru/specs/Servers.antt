@@ -32,6 +32,7 @@ use Rattle.laspidru.specs.declared.object.Object.TheVariants.{Document, Batch, S
 use Rattle.laspidru.specs.Codes.{and_then, unless}
 use Rattle.laspidru.specs.Objects.{encoding_at}
 use Rattle.laspidru.specs.Sessions.{SessionData}
+use Rattle.laspidru.specs.Streams.{stream_of}
 
 -- ---- how a server is set up
 
@@ -146,15 +147,17 @@ live_asked server =
 abbrev pub step_at : SessionData → List ℕ → Step
 step_at session body = step session.server (reading body)
 
--- The server after a step, with its reply.
-abbrev pub after_step : Step → SessionData
-after_step it = record { server = it.state; reply = reply_out (as_sent it.answer) }
+-- A session after a step of its server, with the reply.
+abbrev pub after_step : SessionData → Step → SessionData
+after_step session it =
+    record session { server = it.state; reply = reply_out (as_sent it.answer) }
 
--- The handle has the server after the step, and C gets its answer.
-pub record IsHandled (it : Step) (code : ℕ) (stored : Option Object) (out : Answer) : Type 0 where
+-- The handle has the session after the message, and C gets its answer.
+pub record IsHandled (session : SessionData) (body : List ℕ) (code : ℕ) (stored : Option Object)
+    (out : Answer) : Type 0 where
   pub done : code ≡ OK
-  pub server : stored ≡ Some (Server (after_step it))
-  pub answer : out ≡ answer_out (as_sent it.answer)
+  pub server : stored ≡ Some (Server (after_step session (step_at session body)))
+  pub answer : out ≡ answer_out (as_sent (step_at session body).answer)
 
 -- A URI, if it is UTF-8.
 abbrev pub uri_asked : List ℕ → Result (List ℕ) ℕ
@@ -184,4 +187,5 @@ pub record IsOpened (out : Opened) (entry : DocumentItem) : Type 0 where
 
 -- A new server, which has replied nothing.
 abbrev pub session_of : Config → SessionData
-session_of config = record { server = start config; reply = [] }
+session_of config =
+    record { server = start config; reply = []; stream = stream_of config.limits }

@@ -1,8 +1,10 @@
 -- A server in a handle.
 use Rattle.std.specs.Prelude.{ℕ, List}
 use Rattle.lsp_server.specs.Step.{State}
+use Rattle.laspidru.specs.Streams.{StreamData}
 
--- A server, and its reply to the last message; no bytes if it had none.
+-- A server, its reply to the last message (no bytes if it had none), and its stream.
 pub record SessionData : Type 0 where
   pub server : State
   pub reply : List ℕ
+  pub stream : StreamData

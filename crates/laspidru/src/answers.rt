@@ -3,7 +3,8 @@
 ghost use Rattle.std.specs.Prelude.{◌≡◌, Err, IfErr, IfOk, Ok};
 ghost use Rattle.lsp_frame.specs.Limits.{Bounds};
 ghost use Rattle.lsp_server.specs.Seen.{answer_view};
-ghost use Rattle.laspidru.specs.Servers.{answer_out, config_asked, error_number, limits_asked, plain_out, refusal_code, store_code};
+ghost use Rattle.laspidru.specs.Servers.{answer_out, config_asked, error_number, limits_asked};
+ghost use Rattle.laspidru.specs.Servers.{plain_out, refusal_code, store_code};
 
 use crate::changes::encoding_of;
 use crate::codes::{

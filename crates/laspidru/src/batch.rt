@@ -1,9 +1,12 @@
 //! The functions on canonical batches.
 
 ghost use Rattle.std.specs.Prelude.{◌≡◌, ◌≢◌, None, length};
-ghost use Rattle.laspidru.specs.Batches.{HoldsBatchOf, IsBatchOf, IsCanonicalIf, IsEdit, IsEditOf, IsReport, batch_asked, change_asked, fitting, left_by, refused_edit};
+ghost use Rattle.laspidru.specs.Batches.{HoldsBatchOf, IsBatchOf, IsCanonicalIf, IsEdit, IsEditOf};
+ghost use Rattle.laspidru.specs.Batches.{IsReport, batch_asked, change_asked, fitting, left_by};
+ghost use Rattle.laspidru.specs.Batches.{refused_edit};
 ghost use Rattle.laspidru.specs.Codes.{IsAnswer, IsAnswerOrNoMemory, unless};
-ghost use Rattle.laspidru.specs.Objects.{batch_in, batch_of, document_in, document_of, in_use, position_at};
+ghost use Rattle.laspidru.specs.Objects.{batch_in, batch_of, document_in, document_of, in_use};
+ghost use Rattle.laspidru.specs.Objects.{position_at};
 
 use crate::bytes::copy_bytes;
 use crate::changes::{changes_of, encoding_of, fits, refusal_of, report};

@@ -1,6 +1,7 @@
 //! A batch as C passes it, and the report of its fault.
 
-ghost use Rattle.std.specs.Prelude.{◌≡◌, ◌≢◌, ◌≤◌, ◌↔◌, None, IfOk, IsTrue, length, map, string_len, sum_by, true};
+ghost use Rattle.std.specs.Prelude.{◌≡◌, ◌≢◌, ◌≤◌, ◌↔◌, None, IfOk, IsTrue, length, map};
+ghost use Rattle.std.specs.Prelude.{string_len, sum_by, true};
 ghost use Rattle.std.specs.Str.{is_utf8};
 ghost use Rattle.lsp_edit.specs.Edited.{edit_of};
 ghost use Rattle.laspidru.specs.Objects.{encoding_numbered, position_at};

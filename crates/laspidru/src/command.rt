@@ -1,10 +1,10 @@
 //! The commands on logs, over bytes in memory.
 
 ghost use Rattle.std.specs.Prelude.{◌≡◌, ◌≢◌, Err, Some, [], false, true};
-ghost use Rattle.lsp_replay.specs.Engine.{Ran, state_of};
+ghost use Rattle.lsp_replay.specs.Engine.{Called, Ran, state_of};
 ghost use Rattle.lsp_replay.specs.AllRecords.{RanOver};
 ghost use Rattle.lsp_stream.specs.declared.fault.EngineFault.TheVariants.{Read, TooManyTurns};
-ghost use Rattle.laspidru.specs.Logs.{IsLawful, RanOn, command_output, reading_of};
+ghost use Rattle.laspidru.specs.Logs.{IsLawful, RanOn, allowed_turns, command_output, reading_of};
 
 use crate::log_reader::LogReader;
 use lsp_replay::{EngineFault, Outcome, Settings, Told, check, convert, normalise, replay};
@@ -52,6 +52,8 @@ fn run_between(
     ensures all_read { result ≢ Err TooManyTurns → reader.new.ended ≡ true
         → reader.new.rest.now ≡ [] }
     ensures no_read_fault { result ≢ Err Read }
+    ensures called { Called reader.old.calls reader.new.calls writer.old.calls writer.new.calls
+        allowed_turns false writer.new.failed reader.new.ended (Some reader.new.rest.now) result }
 {
     match command {
         Command::Check => check(alloc, reader, writer, settings, u64::MAX),

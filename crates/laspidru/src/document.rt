@@ -1,6 +1,7 @@
 //! The functions on documents.
 
-ghost use Rattle.std.specs.Prelude.{◌≡◌, ◌≢◌, ◌<◌, ◌≤◌, List, None, Ok, Some, IfErr, IfNone, IfOk, IfSome, OnSome, length, ℕ};
+ghost use Rattle.std.specs.Prelude.{◌≡◌, ◌≢◌, ◌<◌, ◌≤◌, List, None, Ok, Some, IfErr, IfNone, IfOk};
+ghost use Rattle.std.specs.Prelude.{IfSome, OnSome, length, ℕ};
 ghost use Rattle.std.specs.Str.{chars};
 ghost use Rattle.lsp_text.specs.LineStarts.{Indexes};
 ghost use Rattle.lsp_text.specs.Text.{place_of};
@@ -8,7 +9,9 @@ ghost use Rattle.lsp_text.specs.TextLines.{line_ends, line_start, line_stop};
 ghost use Rattle.laspidru.specs.declared.object.Object.TheVariants.{Document};
 ghost use Rattle.laspidru.specs.Batches.{IsLeft, batch_asked, fitting, left_by, refused_edit};
 ghost use Rattle.laspidru.specs.Codes.{IsAnswer, IsAnswerOrNoMemory, IsRefusedOr, both, unless};
-ghost use Rattle.laspidru.specs.Objects.{IsCopy, IsLine, IsPositionAt, IsSize, document_in, document_of, encoding_at, in_use, line_asked, offset_asked, position_at, rest_asked, text_asked};
+ghost use Rattle.laspidru.specs.Objects.{IsCopy, IsLine, IsPositionAt, IsSize, document_in};
+ghost use Rattle.laspidru.specs.Objects.{document_of, encoding_at, in_use, line_asked};
+ghost use Rattle.laspidru.specs.Objects.{offset_asked, position_at, rest_asked, text_asked};
 
 use crate::bytes::{copy_bytes, utf8_text};
 use crate::changes::{changes_of, encoding_of, fits, position_of, refusal_of, report};

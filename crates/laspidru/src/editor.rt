@@ -1,13 +1,16 @@
 //! A client in a handle.
 
+use crate::stream::Stream;
 use lsp_client::Client;
 use std::marker::Model;
 
-/// A client, and the frame that its last accepted call or delivery sends; no bytes if none.
+/// A client, the frame that its last accepted call or delivery sends (no bytes if none), and its
+/// stream.
 #[derive(Drop)]
 pub struct Editor {
     pub(crate) client: Client,
     pub(crate) frame: Vec<u8>,
+    pub(crate) stream: Stream,
 }
 
 impl Model for Editor {
@@ -15,5 +18,6 @@ impl Model for Editor {
 
     ghost Value = { EditorData };
 
-    ghost view = { λ it. record { client = it.client; frame = it.frame.items } };
+    ghost view = { λ it.
+        record { client = it.client; frame = it.frame.items; stream = it.stream } };
 }

@@ -1,10 +1,14 @@
 //! The functions on text edits.
 
-ghost use Rattle.std.specs.Prelude.{◌≡◌, ◌≢◌, ◌≤◌, ◌⊎◌, None, IfErr, IfOk, Ok, OnErr, OnOk, Some, length, map, true};
+ghost use Rattle.std.specs.Prelude.{◌≡◌, ◌≢◌, ◌≤◌, ◌⊎◌, None, IfErr, IfOk, Ok, OnErr, OnOk, Some};
+ghost use Rattle.std.specs.Prelude.{length, map, true};
 ghost use Rattle.std.specs.Str.{is_utf8};
 ghost use Rattle.laspidru.specs.Batches.{refused_edit};
 ghost use Rattle.laspidru.specs.Codes.{IsAnswerOrNoMemory, unless};
-ghost use Rattle.laspidru.specs.Edits.{AreApplied, AreBatched, AreFaulty, IsBatchOfAsked, IsEditsReport, IsUnlessFaulty, IsTooMuch, edits_asked, edits_on, fitting_edits, range_or, replacement_of, replacement_with, replacements_of, text_left};
+ghost use Rattle.laspidru.specs.Edits.{AreApplied, AreBatched, AreFaulty, IsBatchOfAsked};
+ghost use Rattle.laspidru.specs.Edits.{IsEditsReport, IsUnlessFaulty, IsTooMuch, edits_asked};
+ghost use Rattle.laspidru.specs.Edits.{edits_on, fitting_edits, range_or, replacement_of};
+ghost use Rattle.laspidru.specs.Edits.{replacement_with, replacements_of, text_left};
 ghost use Rattle.laspidru.specs.Objects.{document_in, document_of, in_use};
 
 use crate::changes::{encoding_of, fits, position_of, refusal_of};
@@ -54,7 +58,11 @@ fn text_edit_of(alloc: Global, edit: Edit, own: &[u8]) -> Result<TextEdit, Alloc
 }
 
 /// The text edits, each with its part of the texts.
-fn text_edits_of(alloc: Global, edits: &[Edit], texts: &[u8]) -> Result<Vec<TextEdit>, AllocError>
+pub(crate) fn text_edits_of(
+    alloc: Global,
+    edits: &[Edit],
+    texts: &[u8],
+) -> Result<Vec<TextEdit>, AllocError>
     requires { refused_edit edits.now texts.now ≡ None }
     ensures { IfOk result (λ passed.
         map replacement_of passed.items ≡ replacements_of edits.now texts.now) }
@@ -70,7 +78,7 @@ fn text_edits_of(alloc: Global, edits: &[Edit], texts: &[u8]) -> Result<Vec<Text
 }
 
 /// The code of a fault. A fault of an edit is written to `out`, another leaves it as it is.
-fn report_edits(fault: TextEditFault, out: &mut EditsFault) -> u32
+pub(crate) fn report_edits(fault: TextEditFault, out: &mut EditsFault) -> u32
     ensures report { IsEditsReport fault result out.new }
     ensures unchanged { IsUnlessFaulty result (out.new ≡ out.old) }
 {

@@ -1,7 +1,8 @@
 //! The settings that C passes to a command on a log, and the ending that it gets.
 
 ghost use Rattle.std.specs.Prelude.{◌≡◌, Err, IfErr, IfOk, Ok};
-ghost use Rattle.laspidru.specs.Logs.{IsUnlessEnded, ending_out, fault_out, frame_out, log_asked, outcome_out};
+ghost use Rattle.laspidru.specs.Logs.{IsUnlessEnded, ending_out, fault_out, frame_out, log_asked};
+ghost use Rattle.laspidru.specs.Logs.{outcome_out};
 
 use crate::answers::limits_of;
 use crate::changes::encoding_of;

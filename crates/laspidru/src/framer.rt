@@ -1,10 +1,12 @@
 //! The functions on framers.
 
-ghost use Rattle.std.specs.Prelude.{◌≡◌, ◌≢◌, ◌↔◌, IsTrue, Some, true, false, []};
+ghost use Rattle.std.specs.Prelude.{◌≡◌, ◌≢◌, ◌↔◌, IsTrue, Some, false, []};
 ghost use Rattle.laspidru.specs.declared.object.Object.TheVariants.{Framer as FramerOf};
 ghost use Rattle.laspidru.specs.Codes.{IsAnswer, IsAnswerOrNoMemory, IsRefusedOr, unless};
-ghost use Rattle.laspidru.specs.Framers.{IsBodyAnswer, IsFedObject, IsFedStored, IsReleasedIn, IsReleasedStored, framer_in, framer_limits, framer_of, framing_of};
+ghost use Rattle.laspidru.specs.Framers.{IsBodyAnswer, IsFedObject, IsFedStored, IsReleasedIn};
+ghost use Rattle.laspidru.specs.Framers.{IsReleasedStored, framer_in, framer_limits, framer_of};
 ghost use Rattle.laspidru.specs.Objects.{in_use};
+ghost use Rattle.laspidru.specs.Streams.{framing_of};
 
 use crate::answers::limits_of;
 use crate::bytes::copy_from;

@@ -6,17 +6,19 @@
 //! is kept; and after [`BAD_FRAME`] a framer takes no more of its stream.
 //!
 //! - `document`: the functions on documents; `batch`: those on canonical batches; `edits`: those
-//!   on text edits; `server`: those on servers; `client`: those on clients; `framer`: those on
-//!   framers; `log`: those on logs.
+//!   on text edits; `framer`: those on framers; `log`: those on logs.
+//! - `server`: the functions on servers, with those on its stream (`stream`), on text edits
+//!   (`edits`) and on canonical messages (`message`).
+//! - `client`: the functions on clients, with those of its lifecycle (`lifecycle`), on documents
+//!   (`editing`, `documents`), on bodies (`delivery`) and on its stream (`stream`).
 //! - `handle`: a handle that C holds; `object`: the object in it; `session`: a server with its last
-//!   reply; `editor`: a client with its last frame.
-//! - `codes`: the codes that the functions return; `place`: the plain structs that C passes and
-//!   gets.
+//!   reply; `editor`: a client with its last frame; `stream`: the stream of either.
+//! - `codes`: the codes that the functions return, and `laws` their numbers; `place`: the plain
+//!   structs that C passes and gets.
 //! - `changes`: a batch as C passes it, and the report of its fault; `bytes`: bytes that C passes
 //!   or gets.
 //! - `answers`: a server's settings and its answers; `reports`: a client's; `taken`: what is taken
-//!   of a stream; `endings`: the settings of a command on a log,
-//!   and its ending.
+//!   of a stream; `endings`: the settings of a command on a log, and its ending.
 //! - `command`: the commands over bytes; `log_reader`: a log in memory, as a command reads it.
 #![tactic(auto)]
 
@@ -33,6 +35,7 @@ mod edits;
 mod endings;
 mod framer;
 mod handle;
+mod laws;
 mod log;
 mod log_reader;
 mod object;
@@ -40,6 +43,7 @@ mod place;
 mod reports;
 mod server;
 mod session;
+mod stream;
 mod taken;
 
 pub use answers::{Answer, Opened, Settings};
@@ -55,6 +59,7 @@ pub use command::{Command, Run};
 pub use editor::Editor;
 pub use endings::{Ending, LogSettings};
 pub use handle::Handle;
+pub use laws::number_laws;
 pub use object::Object;
 pub use place::{Edit, EditsFault, Fault, Line, Place, Size};
 pub use reports::{Call, ClientSettings, ClientState};

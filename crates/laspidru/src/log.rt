@@ -1,9 +1,11 @@
 //! The functions on logs.
 
 ghost use Rattle.std.specs.Prelude.{◌≡◌, ◌≢◌, ◌⊎◌, None};
-ghost use Rattle.laspidru.specs.declared.command.Command.TheVariants.{Check, Convert, Normalise, Replay};
+ghost use Rattle.laspidru.specs.declared.command.Command.TheVariants.{Check, Convert, Normalise};
+ghost use Rattle.laspidru.specs.declared.command.Command.TheVariants.{Replay};
 ghost use Rattle.laspidru.specs.Codes.{IsAnswer, IsAnswerOrNoMemory, unless};
-ghost use Rattle.laspidru.specs.Logs.{IsEnded, IsRun, IsUnlessEnded, log_asked, output_in, output_of};
+ghost use Rattle.laspidru.specs.Logs.{IsEnded, IsRun, IsUnlessEnded, log_asked, output_in};
+ghost use Rattle.laspidru.specs.Logs.{output_of};
 ghost use Rattle.laspidru.specs.Objects.{IsCopy, in_use, rest_asked};
 
 use crate::bytes::copy_from;

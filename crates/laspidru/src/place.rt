@@ -28,7 +28,8 @@ pub struct Fault {
 }
 
 /// Which text edit a fault is about, counted from 0, and which end of its range. Of two that
-/// overlap, `edit` is the one that starts first, and `other` starts before it ends; else `other` is 0.
+/// overlap, `edit` is the one that starts first, and `other` starts before it ends; else `other` is
+/// 0.
 #[repr(C)]
 #[derive(Clone, Copy, Debug, PartialEq, Eq)]
 pub struct EditsFault {

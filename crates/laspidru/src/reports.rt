@@ -2,7 +2,10 @@
 
 ghost use Rattle.std.specs.Prelude.{◌≡◌, ◌≢◌, Err, IfErr, IfOk, Ok, OnErr, length};
 ghost use Rattle.lsp_client.specs.Seen.{delivered_view};
-ghost use Rattle.laspidru.specs.Clients.{IsCallReport, IsStoreReport, call_code, delivered_out, encoding_number, frame_out, phase_number, phase_reason, reason_number};
+ghost use Rattle.laspidru.specs.Servers.{store_code};
+ghost use Rattle.laspidru.specs.Clients.{IsCallReport, IsStoreReport, call_code, delivered_out};
+ghost use Rattle.laspidru.specs.Clients.{encoding_number, frame_out, phase_number, phase_reason};
+ghost use Rattle.laspidru.specs.Clients.{reason_number};
 
 use crate::answers::{Answer, plain, store_code_of};
 use crate::codes::{
@@ -61,29 +64,42 @@ pub(crate) fn call_code_of(fault: ClientFault) -> u32
     }
 }
 
-/// The code of a refused call. A faulty change is written to `out`; else it stays as it is.
-pub(crate) fn report_call(fault: ClientFault, out: &mut Fault) -> u32
-    ensures code { result ≡ call_code fault }
-    ensures report { IsCallReport fault out.new }
+/// The code of a refusal of the documents. A faulty change is written to `out`; else it stays as it
+/// is.
+pub(crate) fn report_store(fault: StoreFault, out: &mut Fault) -> u32
+    ensures code { result ≡ store_code fault }
+    ensures report { IsStoreReport fault out.new }
     ensures unchanged { result ≢ INSIDE_CHARACTER → result ≢ REVERSED_RANGE → out.new ≡ out.old }
 {
-    let code = call_code_of(fault);
+    let code = store_code_of(fault);
     match fault {
-        ClientFault::Store(StoreFault::Edit(EditFault::InsideCharacter { change, side })) => {
+        StoreFault::Edit(EditFault::InsideCharacter { change, side }) => {
             *out = Fault {
                 change,
                 at_end: side == Side::Stop,
             };
             code
         }
-        ClientFault::Store(StoreFault::Edit(EditFault::ReversedRange { change })) => {
+        StoreFault::Edit(EditFault::ReversedRange { change }) => {
             *out = Fault {
                 change,
                 at_end: false,
             };
             code
         }
-        ClientFault::Store(_) | ClientFault::WrongPhase { .. } | ClientFault::NoMemory => code,
+        _ => code,
+    }
+}
+
+/// The code of a refused call. A faulty change is written to `out`; else it stays as it is.
+pub(crate) fn report_call(fault: ClientFault, out: &mut Fault) -> u32
+    ensures code { result ≡ call_code fault }
+    ensures report { IsCallReport fault out.new }
+    ensures unchanged { result ≢ INSIDE_CHARACTER → result ≢ REVERSED_RANGE → out.new ≡ out.old }
+{
+    match fault {
+        ClientFault::Store(fault) => report_store(fault, out),
+        ClientFault::WrongPhase { .. } | ClientFault::NoMemory => call_code_of(fault),
     }
 }
 

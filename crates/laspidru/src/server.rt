@@ -3,16 +3,25 @@
 ghost use Rattle.std.specs.Prelude.{◌≡◌, ◌≢◌, Some, length};
 ghost use Rattle.lsp_server.specs.Seen.{answer_view};
 ghost use Rattle.laspidru.specs.declared.object.Object.TheVariants.{Server as ServerOf};
+ghost use Rattle.laspidru.specs.Clients.{encoding_number};
 ghost use Rattle.laspidru.specs.Codes.{IsAnswer, IsAnswerOrNoMemory, and_then, unless};
 ghost use Rattle.laspidru.specs.Objects.{IsCopy, in_use, rest_asked};
-ghost use Rattle.laspidru.specs.Servers.{IsHandled, IsOpened, config_asked, entry_asked, entry_in, live_asked, reply_asked, reply_out, server_in, server_of, session_of, step_at, text_of, uri_asked};
+ghost use Rattle.laspidru.specs.Servers.{IsHandled, IsOpened, config_asked, entry_asked, entry_in};
+ghost use Rattle.laspidru.specs.Servers.{live_asked, reply_asked, reply_out, server_in, server_of};
+ghost use Rattle.laspidru.specs.Servers.{session_of, text_of, uri_asked};
+
+mod edits;
+mod message;
+mod stream;
 
 use crate::answers::{Answer, Opened, Settings, answer_of, config_of};
 use crate::bytes::{copy_from, utf8_text};
 use crate::codes::{EMPTY, ENDED, IN_USE, NOT_OPEN, NOT_UTF8, OK, OTHER_KIND, OUT_OF_MEMORY};
 use crate::handle::Handle;
 use crate::object::Object;
+use crate::reports::number_of;
 use crate::session::Session;
+use crate::stream::Stream;
 use lsp_server::{Server, ServerFault};
 use std::alloc::Global;
 
@@ -37,9 +46,11 @@ pub extern "C" fn laspidru_server_new(
         Ok(config) => config,
         Err(code) => return code,
     };
+    let limits = config.limits;
     let session = Session {
         server: Server::new(alloc, config),
         reply: Vec::new(alloc),
+        stream: Stream::new(alloc, limits),
     };
     let Ok(object) = Box::new(alloc, Object::Server(session)) else {
         return OUT_OF_MEMORY;
@@ -49,7 +60,7 @@ pub extern "C" fn laspidru_server_new(
 }
 
 /// The bytes of a reply; none of another answer.
-fn reply_of(alloc: Global, answer: lsp_server::Answer) -> Vec<u8>
+pub(crate) fn reply_of(alloc: Global, answer: lsp_server::Answer) -> Vec<u8>
     ensures { result.items ≡ reply_out (answer_view answer) }
 {
     match answer {
@@ -61,7 +72,7 @@ fn reply_of(alloc: Global, answer: lsp_server::Answer) -> Vec<u8>
 /// Handles a message by the server of an object.
 fn object_handle(alloc: Global, object: &mut Object, body: &[u8], out: &mut Answer) -> u32
     ensures answer { IsAnswerOrNoMemory (live_asked (server_of object.old)) result
-        (λ session. IsHandled (step_at session body.now) result (Some object.new) out.new) }
+        (λ session. IsHandled session body.now result (Some object.new) out.new) }
     ensures unchanged { result ≢ OK → (object.new ≡ object.old) × (out.new ≡ out.old) }
 {
     let Object::Server(session) = object else {
@@ -89,7 +100,7 @@ pub extern "C" fn laspidru_server_handle(
     out: &mut Answer,
 ) -> u32
     ensures answer { IsAnswerOrNoMemory (live_asked (server_in handle.old.value)) result
-        (λ session. IsHandled (step_at session body.now) result handle.new.value out.new) }
+        (λ session. IsHandled session body.now result handle.new.value out.new) }
     ensures unchanged { result ≢ OK
         → (handle.new.value ≡ handle.old.value) × (out.new ≡ out.old) }
 {
@@ -166,6 +177,36 @@ pub extern "C" fn laspidru_server_documents(
         return EMPTY;
     };
     let code = object_documents(&object, out);
+    handle.put(object);
+    code
+}
+
+/// Returns the encoding of an object's server.
+fn object_encoding(object: &Object, out: &mut u32) -> u32
+    ensures answer { IsAnswer (server_of object.now) result
+        (λ session. out.new ≡ encoding_number session.server.encoding) }
+    ensures unchanged { result ≢ OK → out.new ≡ out.old }
+{
+    let Object::Server(session) = object else {
+        return OTHER_KIND;
+    };
+    *out = number_of(session.server.encoding());
+    OK
+}
+
+/// Returns the encoding of positions (LSP 3.17, PositionEncodingKind): 0 before an accepted
+/// `initialize`, then 8, 16 or 32. Codes, in this order: EMPTY, OTHER_KIND.
+#[unsafe(no_mangle)]
+pub extern "C" fn laspidru_server_encoding(alloc: Global, handle: &mut Handle, out: &mut u32) -> u32
+    ensures answer { IsAnswer (server_in handle.old.value) result
+        (λ session. out.new ≡ encoding_number session.server.encoding) }
+    ensures handle { handle.new.value ≡ handle.old.value }
+    ensures unchanged { result ≢ OK → out.new ≡ out.old }
+{
+    let Some(object) = handle.take(alloc) else {
+        return EMPTY;
+    };
+    let code = object_encoding(&object, out);
     handle.put(object);
     code
 }

@@ -1,13 +1,15 @@
 //! A server in a handle.
 
+use crate::stream::Stream;
 use lsp_server::Server;
 use std::marker::Model;
 
-/// A server, and its reply to the last message: a frame, or no bytes if it had none.
+/// A server, its reply to the last message (a frame, or no bytes if it had none), and its stream.
 #[derive(Drop)]
 pub struct Session {
     pub(crate) server: Server,
     pub(crate) reply: Vec<u8>,
+    pub(crate) stream: Stream,
 }
 
 impl Model for Session {
@@ -15,5 +17,6 @@ impl Model for Session {
 
     ghost Value = { SessionData };
 
-    ghost view = { λ it. record { server = it.server; reply = it.reply.items } };
+    ghost view = { λ it.
+        record { server = it.server; reply = it.reply.items; stream = it.stream } };
 }

@@ -1,7 +1,8 @@
 //! What is taken of a piece of a stream.
 
 ghost use Rattle.std.specs.Prelude.{◌≡◌, ◌≢◌};
-ghost use Rattle.laspidru.specs.Framers.{HasBody, IsFed, IsFrameReport, frame_code};
+ghost use Rattle.laspidru.specs.Framers.{HasBody, IsFed, IsFrameReport, IsReleased, frame_code};
+ghost use Rattle.laspidru.specs.Framers.{nothing_taken};
 
 use crate::codes::{BAD_FRAME, FAILED, OK, OUT_OF_MEMORY};
 use lsp_frame::{FrameFault, Framer};
@@ -21,6 +22,19 @@ pub struct Taken {
     pub frame: u32,
     /// OK: whether the message is whole.
     pub is_whole: bool,
+}
+
+/// No byte of a piece was taken.
+pub(crate) fn nothing() -> Taken
+    ensures { result ≡ nothing_taken }
+{
+    Taken {
+        bytes: 0,
+        body_len: 0,
+        place: 0,
+        frame: 0,
+        is_whole: false,
+    }
 }
 
 /// Returns whether a whole message is buffered, and the length of its body.
@@ -51,13 +65,18 @@ fn report_frame(fault: FrameFault, out: &mut Taken) -> u32
         FrameFault::NoMemory => return OUT_OF_MEMORY,
     };
     *out = Taken {
-        bytes: 0,
-        body_len: 0,
         place,
         frame,
-        is_whole: false,
+        ..nothing()
     };
     BAD_FRAME
+}
+
+/// Releases the message that a framer has buffered, if it is whole.
+pub(crate) fn release(framer: &mut Framer)
+    ensures { IsReleased framer.old framer.new }
+{
+    framer.next();
 }
 
 /// Feeds a piece of a stream to a framer.
@@ -74,9 +93,8 @@ pub(crate) fn feed(framer: &mut Framer, piece: &[u8], out: &mut Taken) -> u32
     *out = Taken {
         bytes,
         body_len,
-        place: 0,
-        frame: 0,
         is_whole,
+        ..nothing()
     };
     OK
 }

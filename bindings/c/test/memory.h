@@ -1,0 +1,253 @@
+/* The test in which each request for memory is refused in turn. test.c includes it. */
+
+/* One run with a request refused. Each call that is refused leaves what was, and the same call then succeeds. */
+static int run_refused(void) {
+    static const laspidru_edit edits[2] = {{{0, 1}, {0, 1}, 2, 0}, {{1, 0}, {1, 1}, 6, 0}};
+    static const char texts[] = "\r\nlonger";
+    laspidru_handle document = {0}, batch = {0};
+    laspidru_fault fault = {0, 0};
+    laspidru_edits_fault edits_fault = {0, 0, 0};
+    laspidru_u32 code;
+    int refusals = 0;
+    while ((code = open_text(&document, "ab\ncd")) == LASPIDRU_OUT_OF_MEMORY) {
+        CHECK(!document.is_full);
+        refusals++;
+    }
+    CHECK(code == LASPIDRU_OK);
+    while ((code = laspidru_document_canonical(&document, LASPIDRU_UTF16, edits, 2, bytes(texts), 8, &batch, &fault)) ==
+           LASPIDRU_OUT_OF_MEMORY) {
+        CHECK(!batch.is_full && has_text(&document, "ab\ncd"));
+        refusals++;
+    }
+    CHECK(code == LASPIDRU_OK);
+    while ((code = laspidru_document_change(&document, LASPIDRU_UTF16, edits, 2, bytes(texts), 8, &fault)) ==
+           LASPIDRU_OUT_OF_MEMORY) {
+        CHECK(has_text(&document, "ab\ncd"));
+        refusals++;
+    }
+    CHECK(code == LASPIDRU_OK && has_text(&document, "a\r\nlonger\ncd"));
+    laspidru_close(&batch);
+    while ((code = laspidru_document_batch_of_edits(&document, LASPIDRU_UTF16, edits, 2, bytes(texts), 8, &batch, &edits_fault)) ==
+           LASPIDRU_OUT_OF_MEMORY) {
+        CHECK(!batch.is_full && has_text(&document, "a\r\nlonger\ncd"));
+        refusals++;
+    }
+    CHECK(code == LASPIDRU_OK);
+    while ((code = apply(&document, edits, 2, texts, &edits_fault)) == LASPIDRU_OUT_OF_MEMORY) {
+        CHECK(has_text(&document, "a\r\nlonger\ncd"));
+        refusals++;
+    }
+    CHECK(code == LASPIDRU_OK && has_text(&document, "a\r\n\r\nlongeronger\ncd"));
+    laspidru_close(&batch);
+    laspidru_close(&document);
+    CHECK(heap_blocks() == 0);
+    return refusals;
+}
+
+/* A session with a request refused. Each call that is refused leaves what was, and the same call then succeeds. */
+static int run_refused_server(void) {
+    static const char *const bodies[] = {initialize, open_a, change_a, shutdown, exits};
+    laspidru_handle server = {0};
+    laspidru_answer answer = {9, 9, 9, 9, 9};
+    laspidru_u32 code;
+    laspidru_size len, i;
+    int refusals = 0;
+    while ((code = laspidru_server_new(&server, &settings)) == LASPIDRU_OUT_OF_MEMORY) {
+        CHECK(!server.is_full);
+        refusals++;
+    }
+    CHECK(code == LASPIDRU_OK);
+    for (i = 0; i < sizeof bodies / sizeof bodies[0]; i++) {
+        laspidru_answer before = answer;
+        while ((code = hand(&server, bodies[i], &answer)) == LASPIDRU_OUT_OF_MEMORY) {
+            CHECK(answer.kind == before.kind && answer.reply_len == before.reply_len);
+            CHECK(laspidru_server_documents(&server, &len) == LASPIDRU_OK && len == (i > 1));
+            CHECK(i != 2 || holds(&server, 1, "ab\ncd"));
+            refusals++;
+        }
+        CHECK(code == LASPIDRU_OK && answer.kind != LASPIDRU_REFUSED && answer.kind != LASPIDRU_DROPPED);
+    }
+    CHECK(holds(&server, 7, "ab\nXYd"));
+    laspidru_close(&server);
+    CHECK(heap_blocks() == 0);
+    return refusals;
+}
+
+/* The four commands with a request refused. A call that is refused leaves what was, and the same call then succeeds. */
+static int run_refused_logs(void) {
+    static command *const commands[] = {laspidru_log_check, laspidru_log_replay, laspidru_log_normalise, laspidru_log_convert};
+    static const char *const session[] = {initialize, open_a, change_a, change_b, 0};
+    static part log;
+    laspidru_handle output = {0};
+    laspidru_ending ending = {9, 9, 9, 9, 9, 9};
+    laspidru_u32 code;
+    laspidru_size i;
+    int refusals = 0;
+    log = log_of(session);
+    for (i = 0; i < sizeof commands / sizeof commands[0]; i++) {
+        laspidru_ending before = ending;
+        while ((code = commands[i](&output, &squashing, log.bytes, log.len, &ending)) == LASPIDRU_OUT_OF_MEMORY) {
+            CHECK(!output.is_full && ending.status == before.status && ending.output_len == before.output_len);
+            refusals++;
+        }
+        CHECK(code == LASPIDRU_OK && is_outcome(ending, 0, 4, 0));
+        laspidru_close(&output);
+    }
+    CHECK(heap_blocks() == 0);
+    return refusals;
+}
+
+/* A stream with a request refused. */
+static int run_refused_framer(void) {
+    static const char stream[] = "Content-Length: 5\r\n\r\nabcde";
+    laspidru_handle framer = {0};
+    laspidru_taken taken = {9, 9, 9, 9, 0};
+    int refusals = 0;
+    while (laspidru_framer_new(&framer, 4096) == LASPIDRU_OUT_OF_MEMORY) {
+        CHECK(!framer.is_full);
+        refusals++;
+    }
+    while (laspidru_framer_feed(&framer, bytes(stream), strlen(stream), &taken) == LASPIDRU_OUT_OF_MEMORY) {
+        CHECK(taken.bytes == 9 && is_at_rest(&framer, 1));
+        refusals++;
+    }
+    CHECK(is_taken(taken, strlen(stream), 1, 5) && is_body(&framer, "abcde"));
+    laspidru_close(&framer);
+    CHECK(heap_blocks() == 0);
+    return refusals;
+}
+
+/* A client's session with a request refused. Each call that is refused leaves what was, and the same call then succeeds. */
+static int run_refused_client(void) {
+    static const laspidru_edit edits[2] = {{{0, 1}, {0, 1}, 2, 0}, {{1, 0}, {1, 1}, 6, 0}};
+    static const char answered[] = "{\"jsonrpc\":\"2.0\",\"id\":2,\"result\":null}";
+    laspidru_handle client = {0};
+    laspidru_answer answer = {9, 9, 9, 9, 9};
+    laspidru_fault fault = {9, 1};
+    laspidru_size len = 9;
+    int refusals = 0;
+#define AGAIN(call, phase, documents)                                                                                   \
+    while ((call) == LASPIDRU_OUT_OF_MEMORY) {                                                                          \
+        CHECK(is_state(&client, (phase), 0, (phase) < LASPIDRU_READY ? 0 : LASPIDRU_UTF8, (documents)) && len == 9);     \
+        refusals++;                                                                                                     \
+    }                                                                                                                   \
+    len = 9
+    while (laspidru_client_new(&client, &client_settings) == LASPIDRU_OUT_OF_MEMORY) {
+        CHECK(!client.is_full);
+        refusals++;
+    }
+    AGAIN(laspidru_client_start(&client, &len), LASPIDRU_NEW, 0);
+    AGAIN(deliver(&client, capabilities, &answer), LASPIDRU_ASKED, 0);
+    AGAIN(client_open(&client, uri_a, 1, "ab\ncd", &len), LASPIDRU_READY, 0);
+    CHECK(keeps(&client, 1, "ab\ncd"));
+    AGAIN(client_edit(&client, 2, edits, 2, "\r\nlonger", &fault, &len), LASPIDRU_READY, 1);
+    CHECK(keeps(&client, 2, "a\r\nlonger\ncd") && fault.change == 9);
+    AGAIN(laspidru_client_close(&client, bytes(uri_a), 9, &len), LASPIDRU_READY, 1);
+    AGAIN(laspidru_client_shutdown(&client, &len), LASPIDRU_READY, 0);
+    AGAIN(deliver(&client, answered, &answer), LASPIDRU_CLOSING, 0);
+    AGAIN(laspidru_client_exit(&client, &len), LASPIDRU_CLOSED, 0);
+#undef AGAIN
+    CHECK(is_state(&client, LASPIDRU_DONE, 0, LASPIDRU_UTF8, 0));
+    laspidru_close(&client);
+    CHECK(heap_blocks() == 0);
+    return refusals;
+}
+
+/* Takes a message, by the same call again where memory is refused: what was taken isn't passed again. */
+static int take_again(taking take, laspidru_handle *end, const char *const *bodies, laspidru_answer *answer) {
+    static char stream[STREAM_ROOM];
+    laspidru_size len = stream_of(stream, bodies), at = 0;
+    laspidru_taken taken = {9, 9, 9, 9, 1};
+    laspidru_u32 code;
+    int refusals = 0;
+    do {
+        laspidru_answer before = *answer;
+        code = take(end, bytes(stream) + at, len - at, &taken, answer);
+        at += taken.bytes;
+        CHECK(code == LASPIDRU_OK || code == LASPIDRU_OUT_OF_MEMORY);
+        if (code == LASPIDRU_OUT_OF_MEMORY) {
+            CHECK(answer->kind == before.kind && answer->reply_len == before.reply_len && (taken.bytes == 0 || (taken.is_whole && at == len)));
+            refusals++;
+        }
+    } while (code == LASPIDRU_OUT_OF_MEMORY);
+    CHECK(at == len && taken.is_whole);
+    return refusals;
+}
+
+static int run_refused_take(void) {
+    static const char *const bodies[] = {initialize, open_a, change_a, shutdown, exits};
+    static const char *const from_server[] = {capabilities, 0};
+    laspidru_handle server = {0}, client = {0};
+    laspidru_answer answer = {9, 9, 9, 9, 9};
+    laspidru_size i, len;
+    int refusals = 0;
+    while (laspidru_server_new(&server, &settings) == LASPIDRU_OUT_OF_MEMORY)
+        refusals++;
+    for (i = 0; i < sizeof bodies / sizeof bodies[0]; i++) {
+        const char *const one[] = {bodies[i], 0};
+        refusals += take_again(laspidru_server_take, &server, one, &answer);
+        CHECK(answer.kind != LASPIDRU_REFUSED && answer.kind != LASPIDRU_DROPPED && copies(laspidru_server_body, &server, bodies[i]));
+    }
+    CHECK(holds(&server, 7, "ab\nXYd"));
+    laspidru_close(&server);
+    while (laspidru_client_new(&client, &client_settings) == LASPIDRU_OUT_OF_MEMORY)
+        refusals++;
+    while (laspidru_client_start(&client, &len) == LASPIDRU_OUT_OF_MEMORY)
+        refusals++;
+    refusals += take_again(laspidru_client_take, &client, from_server, &answer);
+    CHECK(is_state(&client, LASPIDRU_READY, 0, LASPIDRU_UTF8, 0));
+    laspidru_close(&client);
+    CHECK(heap_blocks() == 0);
+    return refusals;
+}
+
+static int run_refused_served(void) {
+    static const laspidru_edit edits[2] = {{{0, 1}, {0, 1}, 2, 0}, {{1, 0}, {1, 1}, 6, 0}};
+    static const char texts[] = "\r\nlonger";
+    laspidru_handle server = {0}, made = {0};
+    laspidru_edits_fault edits_fault = {9, 9, 0};
+    laspidru_fault fault = {9, 0};
+    laspidru_answer answer = {9, 9, 9, 9, 9};
+    laspidru_u32 code;
+    laspidru_size len = 9;
+    int refusals = 0;
+    while (laspidru_server_new(&server, &settings) == LASPIDRU_OUT_OF_MEMORY)
+        refusals++;
+    while (hand(&server, initialize, &answer) == LASPIDRU_OUT_OF_MEMORY)
+        refusals++;
+    while (hand(&server, open_a, &answer) == LASPIDRU_OUT_OF_MEMORY)
+        refusals++;
+    while ((code = served_edits(&server, edits, 2, texts, &made, &edits_fault)) == LASPIDRU_OUT_OF_MEMORY) {
+        CHECK(!made.is_full && is_about(edits_fault, 9, 9, 0) && holds(&server, 1, "ab\ncd"));
+        refusals++;
+    }
+    CHECK(code == LASPIDRU_OK && made.is_full);
+    laspidru_close(&made);
+    while ((code = served_message(&server, 7, edits, 2, texts, &made, &fault, &len)) == LASPIDRU_OUT_OF_MEMORY) {
+        CHECK(!made.is_full && len == 9 && fault.change == 9 && holds(&server, 1, "ab\ncd"));
+        refusals++;
+    }
+    CHECK(code == LASPIDRU_OK && made.is_full && len != 9);
+    laspidru_close(&made);
+    laspidru_close(&server);
+    CHECK(heap_blocks() == 0);
+    return refusals;
+}
+
+static void test_refused(int (*run)(void)) {
+    long number, requests;
+    int met, all = 0;
+    heap_refuse(0);
+    CHECK(run() == 0);
+    requests = heap_requests();
+    for (number = 1; number <= requests; number++) {
+        heap_refuse(number);
+        met = run();
+        CHECK(met <= 1);
+        all += met;
+    }
+    /* A growth that is refused is asked for again with less room, so some calls succeed all the same. */
+    CHECK(all > 0);
+    printf("%ld requests, each refused in turn, of which %d calls report\n", requests, all);
+    heap_refuse(0);
+}

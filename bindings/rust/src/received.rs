@@ -1,0 +1,67 @@
+//! What was received of a stream and isn't taken yet.
+
+use crate::ffi;
+use crate::framer::FrameError;
+
+#[derive(Default)]
+pub(crate) struct Received {
+    bytes: Vec<u8>,
+    // Up to where they were taken.
+    at: usize,
+    // Were bytes taken of a message that isn't done, or is the stream faulty?
+    is_inside: bool,
+}
+
+/// Why the library took nothing.
+pub(crate) enum NotTaken {
+    /// The stream is faulty.
+    Stream(FrameError),
+    /// Another code of laspidru.h.
+    Code(u32),
+}
+
+impl Received {
+    pub fn add(&mut self, bytes: &[u8]) {
+        self.bytes.drain(..self.at);
+        self.at = 0;
+        self.bytes.extend_from_slice(bytes);
+    }
+
+    /// Was all taken, up to the end of a message?
+    pub fn is_at_rest(&self) -> bool {
+        self.at == self.bytes.len() && !self.is_inside
+    }
+
+    /// Hands what is left to a call that takes bytes up to the end of one message: how many bytes its body has, once it is
+    /// whole.
+    pub fn take(&mut self, call: impl FnOnce(&[u8], &mut ffi::Taken) -> u32) -> Result<Option<usize>, NotTaken> {
+        let mut taken = ffi::Taken::default();
+        let code = call(&self.bytes[self.at..], &mut taken);
+        self.at += taken.bytes;
+        self.is_inside |= taken.bytes > 0;
+        if code != ffi::OK && code != ffi::OUT_OF_MEMORY {
+            // No more of this stream is taken.
+            self.bytes.clear();
+            self.at = 0;
+        }
+        match code {
+            ffi::OK => {
+                self.is_inside &= !taken.is_whole;
+                Ok(taken.is_whole.then_some(taken.body_len))
+            }
+            ffi::BAD_FRAME => {
+                self.is_inside = true;
+                Err(NotTaken::Stream(FrameError::Fault { number: taken.frame, place: taken.place }))
+            }
+            ffi::FAILED => Err(NotTaken::Stream(FrameError::Failed)),
+            code => Err(NotTaken::Code(code)),
+        }
+    }
+
+    /// Hands what is left to an end of a session: the body of the message that ends there, and the end's answer.
+    pub fn take_by(&mut self, handle: &ffi::Handle, end: ffi::End) -> Result<Option<(Vec<u8>, ffi::Answer)>, NotTaken> {
+        let mut answer = ffi::Answer::default();
+        let len = self.take(|piece, taken| handle.take(end, piece, taken, &mut answer))?;
+        Ok(len.map(|len| (handle.body(end, len), answer)))
+    }
+}

@@ -1,0 +1,124 @@
+-- What a server and a client do with a piece of a stream.
+use Rattle.std.proofs.Common.{◌≡◌, ◌≢◌, ℕ, List, Some, inl, inr, ap, refl, subst, ◌∙◌}
+use Rattle.lsp_message.specs.Message.{reading}
+use Rattle.lsp_server.specs.Answer.{AnswerData, Sent, as_sent}
+use Rattle.lsp_server.specs.Step as server
+use Rattle.lsp_client.specs.Step.{delivery_of}
+use Rattle.laspidru.specs.declared.answers.Answer.{Answer}
+use Rattle.laspidru.specs.declared.codes.TheConstants.{OK, OUT_OF_MEMORY}
+use Rattle.laspidru.specs.declared.object.Object.TheVariants.{Server, Client}
+use Rattle.laspidru.specs.declared.taken.Taken.{Taken}
+use Rattle.laspidru.specs.Clients.{IsTakenIn}
+use Rattle.laspidru.specs.Editors.{EditorData}
+use Rattle.laspidru.specs.Framers.{HasNoBody, IsBodyOf, IsFedTo}
+use Rattle.laspidru.specs.Servers.{answer_out, reply_out, step_at}
+use Rattle.laspidru.specs.Sessions.{SessionData}
+use Rattle.laspidru.specs.Streams.{StreamData}
+use Rattle.laspidru.specs.Taking.{IsHeard, IsServed, handled}
+
+-- The same with the code `OK`.
+fed_well : (old new : StreamData) (piece : List ℕ) (code : ℕ) (taken : Taken) → code ≡ OK
+    → IsFedTo old piece code new taken → IsFedTo old piece OK new taken
+fed_well old new piece code taken is fed = subst (λ c. IsFedTo old piece c new taken) is fed
+
+-- ---- a server
+
+-- There is a fault, and no byte was taken.
+pub not_served : (old new : SessionData) (piece : List ℕ) (code : ℕ) (taken : Taken) (before after : Answer)
+    → IsFedTo old.stream piece code new.stream taken → code ≢ OK
+    → new ≡ record old { stream = new.stream } → after ≡ before → IsServed old piece code new taken before after
+not_served old new piece code taken before after fed bad rest same =
+    inl (record { stream = record { fed = fed; none = λ is. absurd (bad is) }; rest = rest; answer = same })
+
+-- No message is whole.
+pub none_served : (old new : SessionData) (piece : List ℕ) (code : ℕ) (taken : Taken) (before after : Answer)
+    → IsFedTo old.stream piece code new.stream taken → code ≡ OK → HasNoBody new.stream.framing
+    → new ≡ record old { stream = new.stream } → after ≡ before → IsServed old piece OK new taken before after
+none_served old new piece code taken before after fed is no_body rest same =
+    inl (record {
+      stream = record { fed = fed_well old.stream new.stream piece code taken is fed; none = λ _. no_body };
+      rest = rest;
+      answer = same;
+    })
+
+-- A message is whole, and out of memory.
+pub waits : (old new : SessionData) (piece body : List ℕ) (code : ℕ) (taken : Taken) (before after : Answer)
+    → IsFedTo old.stream piece code new.stream taken → code ≡ OK → IsBodyOf new.stream.framing body
+    → new ≡ record old { stream = new.stream } → after ≡ before → IsServed old piece OUT_OF_MEMORY new taken before after
+waits old new piece body code taken before after fed is whole rest same =
+    inr (inl (record {
+      body = body;
+      message = record { fed = fed_well old.stream new.stream piece code taken is fed; is = whole };
+      code = refl;
+      rest = rest;
+      answer = same;
+    }))
+
+-- A message is whole, and was handled.
+pub one_served : (old new : SessionData) (stream : StreamData) (piece body reply : List ℕ) (code : ℕ) (taken : Taken)
+    (before after : Answer) (after_it : server.State) (given : AnswerData Sent)
+    → IsFedTo old.stream piece code stream taken → code ≡ OK → IsBodyOf stream.framing body
+    → given ≡ as_sent (step_at old body).answer → after_it ≡ (step_at old body).state → reply ≡ reply_out given
+    → new ≡ record { server = after_it; reply = reply; stream = handled stream } → after ≡ answer_out given
+    → IsServed old piece OK new taken before after
+one_served old new stream piece body reply code taken before after after_it given fed is whole answered moved replied held written =
+    inr (inr (record {
+      stream = stream;
+      body = body;
+      message = record { fed = fed_well old.stream stream piece code taken is fed; is = whole };
+      handled = record {
+        done = refl;
+        server = ap (λ (s : SessionData). Some (Server s)) held ∙ (λ i. Some (Server (record {
+          server = moved i;
+          reply = (replied ∙ ap reply_out answered) i;
+          stream = handled stream;
+        })));
+        answer = written ∙ ap answer_out answered;
+      };
+    }))
+
+-- ---- a client
+
+-- There is a fault, and no byte was taken.
+pub not_heard : (old new : EditorData) (piece : List ℕ) (code : ℕ) (taken : Taken) (before after : Answer)
+    → IsFedTo old.stream piece code new.stream taken → code ≢ OK
+    → new ≡ record old { stream = new.stream } → after ≡ before → IsHeard old piece code new taken before after
+not_heard old new piece code taken before after fed bad rest same =
+    inl (record { stream = record { fed = fed; none = λ is. absurd (bad is) }; rest = rest; answer = same })
+
+-- No message is whole.
+pub none_heard : (old new : EditorData) (piece : List ℕ) (code : ℕ) (taken : Taken) (before after : Answer)
+    → IsFedTo old.stream piece code new.stream taken → code ≡ OK → HasNoBody new.stream.framing
+    → new ≡ record old { stream = new.stream } → after ≡ before → IsHeard old piece OK new taken before after
+none_heard old new piece code taken before after fed is no_body rest same =
+    inl (record {
+      stream = record { fed = fed_well old.stream new.stream piece code taken is fed; none = λ _. no_body };
+      rest = rest;
+      answer = same;
+    })
+
+-- A message is whole, and out of memory.
+pub unheard : (old new : EditorData) (piece body : List ℕ) (code : ℕ) (taken : Taken) (before after : Answer)
+    → IsFedTo old.stream piece code new.stream taken → code ≡ OK → IsBodyOf new.stream.framing body
+    → new ≡ record old { stream = new.stream } → after ≡ before → IsHeard old piece OUT_OF_MEMORY new taken before after
+unheard old new piece body code taken before after fed is whole rest same =
+    inr (inl (record {
+      body = body;
+      message = record { fed = fed_well old.stream new.stream piece code taken is fed; is = whole };
+      code = refl;
+      rest = rest;
+      answer = same;
+    }))
+
+-- A message is whole, and was handled.
+pub one_heard : (old new : EditorData) (stream : StreamData) (piece body : List ℕ) (code : ℕ) (taken : Taken) (before after : Answer)
+    → IsFedTo old.stream piece code stream taken → code ≡ OK → IsBodyOf stream.framing body
+    → IsTakenIn (handled stream) (delivery_of old.client (reading body)) OK (Some (Client new)) after
+    → IsHeard old piece OK new taken before after
+one_heard old new stream piece body code taken before after fed is whole delivered =
+    inr (inr (record {
+      stream = stream;
+      body = body;
+      message = record { fed = fed_well old.stream stream piece code taken is fed; is = whole };
+      delivered = delivered;
+    }))

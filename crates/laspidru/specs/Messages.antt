@@ -1,0 +1,68 @@
+-- What edits mean on a server's documents: text edits, and the canonical message of a batch.
+use Rattle.std.specs.Prelude.{ℕ, ℤ, ◌≡◌, List, length, Option, Some, None, Result, Ok, Err}
+use Rattle.lsp_text.specs.declared.encoding.Encoding.{Encoding}
+use Rattle.lsp_text.specs.Units.{units_in}
+use Rattle.lsp_edit.specs.Batch as batch
+use Rattle.lsp_store.specs.Faults as documents
+use Rattle.lsp_store.specs.Message.{canonical_frame, message_refusal}
+use Rattle.lsp_store.specs.Table.{Refusal}
+use Rattle.laspidru.specs.declared.codes.TheConstants.{OK}
+use Rattle.laspidru.specs.declared.object.Object.{Object}
+use Rattle.laspidru.specs.declared.place.Edit.{Edit}
+use Rattle.laspidru.specs.declared.place.Fault.{Fault}
+use Rattle.laspidru.specs.Batches.{edits_of, refused_edit}
+use Rattle.laspidru.specs.Clients.{IsStoreReport}
+use Rattle.laspidru.specs.Codes.{and_then, unless}
+use Rattle.laspidru.specs.Edits.{EditsAsked, edits_asked}
+use Rattle.laspidru.specs.Logs.{output_in}
+use Rattle.laspidru.specs.Objects.{encoding_at}
+use Rattle.laspidru.specs.Servers.{entry_in, store_code, text_of, uri_asked}
+use Rattle.laspidru.specs.Sessions.{SessionData}
+
+-- Text edits as C passes them, on the open document of a URI.
+abbrev pub edits_named : List ℕ → ℕ → List Edit → List ℕ → Result SessionData ℕ →
+    Result EditsAsked ℕ
+edits_named uri number edits texts server = and_then (uri_asked uri) (λ named.
+    edits_asked number edits texts (text_of (and_then server (entry_in named))))
+
+-- A batch on the open document of a URI, under a version.
+pub record MessageAsked : Type 0 where
+  pub session : SessionData
+  pub uri : List ℕ
+  pub version : ℤ
+  pub encoding : Encoding
+  pub edits : List batch.Edit
+
+-- The same as C passes it, or the code of its refusal.
+abbrev pub message_asked : List ℕ → ℤ → ℕ → List Edit → List ℕ → Result SessionData ℕ →
+    Result MessageAsked ℕ
+message_asked uri version number edits texts server = and_then (uri_asked uri) (λ named.
+    and_then (encoding_at number) (λ encoding. unless (refused_edit edits texts) (
+    and_then server (λ session. Ok (record {
+      session = session;
+      uri = named;
+      version = version;
+      encoding = encoding;
+      edits = edits_of edits texts;
+    })))))
+
+-- The frame of the canonical message, unless it is refused.
+abbrev pub frame_unless : Option Refusal → List ℕ → Result (List ℕ) Refusal
+frame_unless (Some refusal) frame = Err refusal
+frame_unless None frame = Ok frame
+
+abbrev pub message_of : MessageAsked → Result (List ℕ) Refusal
+message_of asked =
+    let units = units_in asked.encoding in
+    let server = asked.session.server in
+    frame_unless
+    (message_refusal server.config.limits units server.table asked.uri asked.version asked.edits)
+    (canonical_frame units server.table asked.uri asked.version asked.edits)
+
+-- The handle has the frame, or its refusal is reported.
+abbrev pub IsMessageLeft : Result (List ℕ) Refusal → ℕ → Option Object → ℕ → Fault → Type 0
+IsMessageLeft (Ok frame) code stored len out =
+    (code ≡ OK) × (output_in stored ≡ Ok frame) × (len ≡ length frame)
+IsMessageLeft (Err refusal) code stored len out =
+    (code ≡ store_code (documents.fault_of refusal))
+    × IsStoreReport (documents.fault_of refusal) out

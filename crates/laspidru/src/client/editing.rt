@@ -1,0 +1,282 @@
+//! The calls that open, change and close a client's documents.
+
+ghost use Rattle.std.specs.Prelude.{◌≡◌, ◌≢◌, IfErr, IfOk, None, OnErr, Some, Err, Ok};
+ghost use Rattle.std.specs.Prelude.{string_bytes};
+ghost use Rattle.lsp_client.specs.Seen.{IsFaultOf, IsSent};
+ghost use Rattle.lsp_client.specs.Step.{call_result, closes, orders};
+ghost use Rattle.laspidru.specs.Batches.{refused_edit};
+ghost use Rattle.laspidru.specs.Clients.{IsCalled, IsWritten, client_in, client_of, edit_asked};
+ghost use Rattle.laspidru.specs.Clients.{open_asked, opening_asked};
+ghost use Rattle.laspidru.specs.Codes.{IsRefusedOr, both, unless};
+ghost use Rattle.laspidru.specs.Servers.{uri_asked};
+
+use crate::bytes::utf8_text;
+use crate::changes::{changes_of, refusal_of};
+use crate::codes::{EMPTY, INSIDE_CHARACTER, NOT_UTF8, OK, OTHER_KIND, REVERSED_RANGE};
+use crate::handle::Handle;
+use crate::object::Object;
+use crate::place::{Edit, Fault};
+use crate::reports::{keep_frame, report_call};
+use lsp_client::{Client, ClientFault, Phase};
+use std::alloc::{AllocError, Global};
+
+/// The three texts of a document, each in a string of its own.
+#[derive(Drop)]
+struct Texts {
+    uri: String,
+    language: String,
+    text: String,
+}
+
+/// Copies the texts of a document that is to be opened.
+fn texts_of(alloc: Global, uri: &str, language: &str, text: &str) -> Result<Texts, AllocError>
+    ensures { IfOk result (λ texts. (string_bytes texts.uri ≡ uri.now)
+        × (string_bytes texts.language ≡ language.now) × (string_bytes texts.text ≡ text.now)) }
+{
+    Ok(Texts {
+        uri: uri.to_string(alloc)?,
+        language: language.to_string(alloc)?,
+        text: text.to_string(alloc)?,
+    })
+}
+
+/// Opens a document of a client in phase Ready.
+fn opened(
+    alloc: Global,
+    client: &mut Client,
+    uri: &str,
+    language: &str,
+    version: i32,
+    text: &str,
+) -> Result<Vec<u8>, ClientFault>
+    ensures ok { IfOk result (λ frame.
+        IsSent (call_result client.old
+        (orders (open_asked uri.now language.now version text.now))) frame.items client.new) }
+    ensures unchanged { OnErr result (client.new ≡ client.old) }
+    ensures error { IfErr result (IsFaultOf (call_result client.old
+        (orders (open_asked uri.now language.now version text.now)))) }
+{
+    match client.phase() {
+        Phase::Ready => {
+            let texts = texts_of(alloc, uri, language, text)?;
+            client.open(texts.uri, texts.language, version, texts.text)
+        }
+        phase => Err(ClientFault::WrongPhase { phase }),
+    }
+}
+
+/// Opens a document by an object's client.
+#[tactic(auto, using(crate::proofs::Calls::accepted, crate::proofs::Calls::call_refused))]
+fn object_open(
+    alloc: Global,
+    object: &mut Object,
+    uri: &str,
+    language: &str,
+    version: i32,
+    text: &str,
+    len: &mut usize,
+) -> u32
+    ensures answer { IsRefusedOr (client_of object.old) result (λ editor.
+        IsCalled editor.stream (call_result editor.client
+        (orders (open_asked uri.now language.now version text.now))) result (Some object.new)
+        len.new) }
+    ensures unchanged { result ≢ OK → (object.new ≡ object.old) × (len.new ≡ len.old) }
+{
+    let Object::Client(editor) = object else {
+        return OTHER_KIND;
+    };
+    let answer = opened(alloc, &mut editor.client, uri, language, version, text);
+    keep_frame(&mut editor.frame, answer, len)
+}
+
+/// Opens a document: the frame of `textDocument/didOpen` is to be sent (LSP 3.17,
+/// DidOpenTextDocument). Codes, in this order: NOT_UTF8, EMPTY, OTHER_KIND, WRONG_PHASE; then
+/// OUT_OF_MEMORY, or ALREADY_OPEN, TOO_MANY_DOCUMENTS, TOO_LONG, also of a message that is too
+/// long. Costs [`Client::open`].
+#[unsafe(no_mangle)]
+pub extern "C" fn laspidru_client_open(
+    alloc: Global,
+    handle: &mut Handle,
+    uri: &[u8],
+    language: &[u8],
+    version: i32,
+    text: &[u8],
+    len: &mut usize,
+) -> u32
+    ensures answer { IsRefusedOr
+        (both (opening_asked uri.now language.now text.now) (client_in handle.old.value)) result
+        (λ asked. IsCalled asked.1.stream (call_result asked.1.client
+        (orders (open_asked asked.0.uri asked.0.language version asked.0.text))) result
+        handle.new.value len.new) }
+    ensures unchanged { result ≢ OK
+        → (handle.new.value ≡ handle.old.value) × (len.new ≡ len.old) }
+{
+    let (Some(uri), Some(language), Some(text)) = (
+        utf8_text(uri),
+        utf8_text(language),
+        utf8_text(text),
+    ) else {
+        return NOT_UTF8;
+    };
+    let Some(mut object) = handle.take(alloc) else {
+        return EMPTY;
+    };
+    let code = object_open(alloc, &mut object, uri, language, version, text, len);
+    handle.put(object);
+    code
+}
+
+/// Changes a document of a client.
+fn edited(
+    alloc: Global,
+    client: &mut Client,
+    uri: &str,
+    version: i32,
+    edits: &[Edit],
+    texts: &[u8],
+) -> Result<Vec<u8>, ClientFault>
+    requires { refused_edit edits.now texts.now ≡ None }
+    ensures ok { IfOk result (λ frame.
+        IsSent (call_result client.old (orders (edit_asked uri.now version edits.now texts.now)))
+        frame.items client.new) }
+    ensures unchanged { OnErr result (client.new ≡ client.old) }
+    ensures error { IfErr result (IsFaultOf (call_result client.old
+        (orders (edit_asked uri.now version edits.now texts.now)))) }
+{
+    match client.phase() {
+        Phase::Ready => {
+            let changes = changes_of(alloc, edits, texts)?;
+            client.edit(uri, version, &changes)
+        }
+        phase => Err(ClientFault::WrongPhase { phase }),
+    }
+}
+
+/// Changes a document by an object's client.
+#[tactic(auto, using(crate::proofs::Calls::accepted, crate::proofs::Calls::call_refused, crate::proofs::Calls::report_written, crate::proofs::Calls::none_written))]
+fn object_client_edit(
+    alloc: Global,
+    object: &mut Object,
+    uri: &str,
+    version: i32,
+    edits: &[Edit],
+    texts: &[u8],
+    fault: &mut Fault,
+    len: &mut usize,
+) -> u32
+    requires { refused_edit edits.now texts.now ≡ None }
+    ensures answer { IsRefusedOr (client_of object.old) result (λ editor.
+        IsCalled editor.stream (call_result editor.client
+        (orders (edit_asked uri.now version edits.now texts.now))) result (Some object.new)
+        len.new) }
+    ensures report { IsRefusedOr (client_of object.old) result (λ editor.
+        IsWritten (call_result editor.client
+        (orders (edit_asked uri.now version edits.now texts.now))) result fault.new) }
+    ensures unchanged { result ≢ OK → (object.new ≡ object.old) × (len.new ≡ len.old) }
+    ensures fault { result ≢ INSIDE_CHARACTER → result ≢ REVERSED_RANGE → fault.new ≡ fault.old }
+{
+    let Object::Client(editor) = object else {
+        return OTHER_KIND;
+    };
+    match edited(alloc, &mut editor.client, uri, version, edits, texts) {
+        Ok(frame) => {
+            *len = frame.len();
+            editor.frame = frame;
+            OK
+        }
+        Err(error) => report_call(error, fault),
+    }
+}
+
+/// Changes a document: the frame of one `textDocument/didChange` is to be sent, with the canonical
+/// batch, or where the server asked for it with the whole text (LSP 3.17, DidChangeTextDocument).
+/// Positions are in the encoding that was agreed on. The texts of the edits follow each other in
+/// `texts`.
+///
+/// Codes, in this order: NOT_UTF8 of the URI; BAD_LENGTH or NOT_UTF8 of the first such edit; EMPTY,
+/// OTHER_KIND, WRONG_PHASE. Then OUT_OF_MEMORY, or NOT_OPEN, STALE_VERSION, TOO_MANY_CHANGES,
+/// INSIDE_CHARACTER, REVERSED_RANGE, TOO_LONG, also of a message that is too long. With the two
+/// codes of a faulty change `fault` says which change it is. Costs a pass over the texts, their
+/// copy, and [`Client::edit`].
+#[unsafe(no_mangle)]
+pub extern "C" fn laspidru_client_edit(
+    alloc: Global,
+    handle: &mut Handle,
+    uri: &[u8],
+    version: i32,
+    edits: &[Edit],
+    texts: &[u8],
+    fault: &mut Fault,
+    len: &mut usize,
+) -> u32
+    ensures answer { let client = unless (refused_edit edits.now texts.now)
+        (client_in handle.old.value) in
+        IsRefusedOr (both (uri_asked uri.now) client) result
+        (λ asked. IsCalled asked.1.stream (call_result asked.1.client
+        (orders (edit_asked asked.0 version edits.now texts.now))) result handle.new.value
+        len.new) }
+    ensures report { let client = unless (refused_edit edits.now texts.now)
+        (client_in handle.old.value) in
+        IsRefusedOr (both (uri_asked uri.now) client) result
+        (λ asked. IsWritten (call_result asked.1.client
+        (orders (edit_asked asked.0 version edits.now texts.now))) result fault.new) }
+    ensures unchanged { result ≢ OK
+        → (handle.new.value ≡ handle.old.value) × (len.new ≡ len.old) }
+    ensures fault { result ≢ INSIDE_CHARACTER → result ≢ REVERSED_RANGE → fault.new ≡ fault.old }
+{
+    let Some(uri) = utf8_text(uri) else {
+        return NOT_UTF8;
+    };
+    if let Some(code) = refusal_of(edits, texts) {
+        return code;
+    }
+    let Some(mut object) = handle.take(alloc) else {
+        return EMPTY;
+    };
+    let code = object_client_edit(alloc, &mut object, uri, version, edits, texts, fault, len);
+    handle.put(object);
+    code
+}
+
+/// Closes a document by an object's client.
+#[tactic(auto, using(crate::proofs::Calls::accepted, crate::proofs::Calls::call_refused))]
+fn object_client_close(object: &mut Object, uri: &str, len: &mut usize) -> u32
+    ensures answer { IsRefusedOr (client_of object.old) result (λ editor.
+        IsCalled editor.stream (call_result editor.client (orders (closes uri.now))) result
+        (Some object.new) len.new) }
+    ensures unchanged { result ≢ OK → (object.new ≡ object.old) × (len.new ≡ len.old) }
+{
+    let Object::Client(editor) = object else {
+        return OTHER_KIND;
+    };
+    let answer = editor.client.close(uri);
+    keep_frame(&mut editor.frame, answer, len)
+}
+
+/// Closes a document: the frame of `textDocument/didClose` is to be sent (LSP 3.17,
+/// DidCloseTextDocument). Codes, in this order: NOT_UTF8 of the URI, EMPTY, OTHER_KIND,
+/// WRONG_PHASE; then OUT_OF_MEMORY, or NOT_OPEN, or TOO_LONG of the message. Costs
+/// [`Client::close`].
+#[unsafe(no_mangle)]
+pub extern "C" fn laspidru_client_close(
+    alloc: Global,
+    handle: &mut Handle,
+    uri: &[u8],
+    len: &mut usize,
+) -> u32
+    ensures answer { IsRefusedOr (both (uri_asked uri.now) (client_in handle.old.value)) result
+        (λ asked. IsCalled asked.1.stream (call_result asked.1.client (orders (closes asked.0)))
+        result handle.new.value len.new) }
+    ensures unchanged { result ≢ OK
+        → (handle.new.value ≡ handle.old.value) × (len.new ≡ len.old) }
+{
+    let Some(uri) = utf8_text(uri) else {
+        return NOT_UTF8;
+    };
+    let Some(mut object) = handle.take(alloc) else {
+        return EMPTY;
+    };
+    let code = object_client_close(&mut object, uri, len);
+    handle.put(object);
+    code
+}
