@@ -49,7 +49,7 @@ waits old new piece body code taken before after fed is whole rest same =
     inr (inl (record {
       body = body;
       message = record { fed = fed_well old.stream new.stream piece code taken is fed; is = whole };
-      code = refl;
+      memory = refl;
       rest = rest;
       answer = same;
     }))
@@ -105,7 +105,7 @@ unheard old new piece body code taken before after fed is whole rest same =
     inr (inl (record {
       body = body;
       message = record { fed = fed_well old.stream new.stream piece code taken is fed; is = whole };
-      code = refl;
+      memory = refl;
       rest = rest;
       answer = same;
     }))
