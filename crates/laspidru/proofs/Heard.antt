@@ -1,20 +1,24 @@
 -- What a server and a client do with a piece of a stream.
-use Rattle.std.proofs.Common.{◌≡◌, ◌≢◌, ℕ, List, Some, inl, inr, ap, refl, subst, ◌∙◌}
+use Rattle.std.proofs.Common.{◌≡◌, ◌≢◌, if◌then◌else◌, true, ℕ, List, Option, Some, None, Ok, Err, inl, inr, ap, refl, subst, sym, ◌∙◌}
 use Rattle.lsp_message.specs.Message.{reading}
 use Rattle.lsp_server.specs.Answer.{AnswerData, Sent, as_sent}
 use Rattle.lsp_server.specs.Step as server
-use Rattle.lsp_client.specs.Step.{delivery_of}
+use Rattle.lsp_server.specs.declared.phase.Phase.{Phase}
+use Rattle.lsp_server.specs.declared.phase.Phase.TheVariants.{New, Running, Down, Ended}
+use Rattle.lsp_client.specs.Step.{delivery_of, is_listening}
 use Rattle.laspidru.specs.declared.answers.Answer.{Answer}
-use Rattle.laspidru.specs.declared.codes.TheConstants.{OK, OUT_OF_MEMORY}
+use Rattle.laspidru.specs.declared.codes.TheConstants.{OK, OUT_OF_MEMORY, WRONG_PHASE}
+use Rattle.laspidru.specs.declared.object.Object.{Object}
 use Rattle.laspidru.specs.declared.object.Object.TheVariants.{Server, Client}
 use Rattle.laspidru.specs.declared.taken.Taken.{Taken}
-use Rattle.laspidru.specs.Clients.{IsTakenIn}
+use Rattle.laspidru.specs.Clients.{IsTakenIn, client_of}
+use Rattle.laspidru.specs.Codes.{IsRefusedOr, OnRefused, unless}
 use Rattle.laspidru.specs.Editors.{EditorData}
 use Rattle.laspidru.specs.Framers.{HasNoBody, IsBodyOf, IsFedTo}
-use Rattle.laspidru.specs.Servers.{answer_out, reply_out, step_at}
+use Rattle.laspidru.specs.Servers.{answer_out, ended, live_asked, reply_out, server_of, step_at}
 use Rattle.laspidru.specs.Sessions.{SessionData}
 use Rattle.laspidru.specs.Streams.{StreamData}
-use Rattle.laspidru.specs.Taking.{IsHeard, IsServed, handled}
+use Rattle.laspidru.specs.Taking.{IsHeard, IsHeardIn, IsServed, IsServedIn, handled, listening_asked}
 
 -- The same with the code `OK`.
 fed_well : (old new : StreamData) (piece : List ℕ) (code : ℕ) (taken : Taken) → code ≡ OK
@@ -49,7 +53,7 @@ waits old new piece body code taken before after fed is whole rest same =
     inr (inl (record {
       body = body;
       message = record { fed = fed_well old.stream new.stream piece code taken is fed; is = whole };
-      code = refl;
+      memory = refl;
       rest = rest;
       answer = same;
     }))
@@ -76,6 +80,31 @@ one_served old new stream piece body reply code taken before after after_it give
         answer = written ∙ ap answer_out answered;
       };
     }))
+
+-- A session that hasn't ended is not refused.
+live : (phase : Phase) → phase ≢ Ended → ended phase ≡ None
+live New other = refl
+live Running other = refl
+live Down other = refl
+live Ended other = absurd (other refl)
+
+-- The server of an object takes a piece.
+pub served_in : (object stored : Object) (session new : SessionData) (piece : List ℕ) (code : ℕ) (taken : Taken) (before after : Answer)
+    → object ≡ Server session → session.server.phase ≢ Ended → stored ≡ Server new
+    → IsServed session piece code new taken before after
+    → IsRefusedOr (live_asked (server_of object)) code (λ s. IsServedIn s piece code stored taken before after)
+served_in object stored session new piece code taken before after is other left served =
+    subst (λ (o : Object). IsRefusedOr (live_asked (server_of o)) code (λ s. IsServedIn s piece code stored taken before after)) (sym is)
+    (subst (λ (o : Option ℕ). IsRefusedOr (unless o (Ok session)) code (λ s. IsServedIn s piece code stored taken before after))
+    (sym (live session.server.phase other))
+    (subst (λ (o : Object). IsServedIn session piece code o taken before after) (sym left) served))
+
+-- It isn't refused.
+pub served_unrefused : (object : Object) (session : SessionData) (Fact : Type 0) → object ≡ Server session
+    → session.server.phase ≢ Ended → OnRefused (live_asked (server_of object)) Fact
+served_unrefused object session Fact is other =
+    subst (λ (o : Object). OnRefused (live_asked (server_of o)) Fact) (sym is)
+    (subst (λ (o : Option ℕ). OnRefused (unless o (Ok session)) Fact) (sym (live session.server.phase other)) tt)
 
 -- ---- a client
 
@@ -105,7 +134,7 @@ unheard old new piece body code taken before after fed is whole rest same =
     inr (inl (record {
       body = body;
       message = record { fed = fed_well old.stream new.stream piece code taken is fed; is = whole };
-      code = refl;
+      memory = refl;
       rest = rest;
       answer = same;
     }))
@@ -122,3 +151,21 @@ one_heard old new stream piece body code taken before after fed is whole deliver
       message = record { fed = fed_well old.stream stream piece code taken is fed; is = whole };
       delivered = delivered;
     }))
+
+-- The client of an object takes a piece.
+pub heard_in : (object stored : Object) (editor new : EditorData) (piece : List ℕ) (code : ℕ) (taken : Taken) (before after : Answer)
+    → object ≡ Client editor → is_listening editor.client.phase ≡ true → stored ≡ Client new
+    → IsHeard editor piece code new taken before after
+    → IsRefusedOr (listening_asked (client_of object)) code (λ e. IsHeardIn e piece code stored taken before after)
+heard_in object stored editor new piece code taken before after is listens left heard =
+    subst (λ (o : Object). IsRefusedOr (listening_asked (client_of o)) code (λ e. IsHeardIn e piece code stored taken before after)) (sym is)
+    (subst (λ b. IsRefusedOr (if b then Ok editor else Err WRONG_PHASE) code (λ e. IsHeardIn e piece code stored taken before after))
+    (sym listens)
+    (subst (λ (o : Object). IsHeardIn editor piece code o taken before after) (sym left) heard))
+
+-- It isn't refused.
+pub heard_unrefused : (object : Object) (editor : EditorData) (Fact : Type 0) → object ≡ Client editor
+    → is_listening editor.client.phase ≡ true → OnRefused (listening_asked (client_of object)) Fact
+heard_unrefused object editor Fact is listens =
+    subst (λ (o : Object). OnRefused (listening_asked (client_of o)) Fact) (sym is)
+    (subst (λ b. OnRefused (if b then Ok editor else Err WRONG_PHASE) Fact) (sym listens) tt)

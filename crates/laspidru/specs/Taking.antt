@@ -45,7 +45,7 @@ pub record IsWaiting (old : SessionData) (piece : List ℕ) (code : ℕ) (new : 
     (taken : Taken) (before after : Answer) : Type 0 where
   pub body : List ℕ
   pub message : HasMessage old.stream piece new.stream taken body
-  pub code : code ≡ OUT_OF_MEMORY
+  pub memory : code ≡ OUT_OF_MEMORY
   pub rest : new ≡ record old { stream = new.stream }
   pub answer : after ≡ before
 
@@ -101,7 +101,7 @@ pub record IsUnheard (old : EditorData) (piece : List ℕ) (code : ℕ) (new : E
     (taken : Taken) (before after : Answer) : Type 0 where
   pub body : List ℕ
   pub message : HasMessage old.stream piece new.stream taken body
-  pub code : code ≡ OUT_OF_MEMORY
+  pub memory : code ≡ OUT_OF_MEMORY
   pub rest : new ≡ record old { stream = new.stream }
   pub answer : after ≡ before
 

@@ -18,7 +18,7 @@ use lsp_client::Phase;
 use std::alloc::Global;
 
 /// Takes bytes of a piece, and handles the message that is whole then.
-#[tactic(auto, using(crate::proofs::Heard::none_heard, crate::proofs::Heard::unheard, crate::proofs::Heard::one_heard, crate::proofs::Calls::heard))]
+#[tactic(auto, using(crate::proofs::Heard::not_heard, crate::proofs::Heard::none_heard, crate::proofs::Heard::unheard, crate::proofs::Heard::one_heard, crate::proofs::Calls::heard))]
 fn hear(
     alloc: Global,
     editor: &mut Editor,
@@ -56,6 +56,7 @@ fn listens(phase: Phase) -> bool
 }
 
 /// Takes bytes of a piece by an object's client.
+#[tactic(auto, using(crate::proofs::Heard::heard_in, crate::proofs::Heard::heard_unrefused))]
 fn object_hear(
     alloc: Global,
     object: &mut Object,

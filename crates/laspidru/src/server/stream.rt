@@ -18,7 +18,7 @@ use lsp_server::Phase;
 use std::alloc::Global;
 
 /// Takes bytes of a piece, and handles the message that is whole then.
-#[tactic(auto, using(crate::proofs::Heard::none_served, crate::proofs::Heard::waits, crate::proofs::Heard::one_served))]
+#[tactic(auto, using(crate::proofs::Heard::not_served, crate::proofs::Heard::none_served, crate::proofs::Heard::waits, crate::proofs::Heard::one_served))]
 fn serve(
     alloc: Global,
     session: &mut Session,
@@ -46,6 +46,7 @@ fn serve(
 }
 
 /// Takes bytes of a piece by an object's server.
+#[tactic(auto, using(crate::proofs::Heard::served_in, crate::proofs::Heard::served_unrefused))]
 fn object_serve(
     alloc: Global,
     object: &mut Object,
