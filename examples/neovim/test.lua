@@ -64,6 +64,8 @@ local function by_vim_lsp()
     })
     vim.wait(10000, function() return vim.lsp.get_client_by_id(id).initialized end, 2)
     local client = vim.lsp.get_client_by_id(id)
+    -- (as plugins do that start servers: a file that is read again is attached again)
+    api.nvim_create_autocmd("BufReadPost", { callback = function(event) vim.lsp.buf_attach_client(event.buf, id) end })
     assert(client.offset_encoding == vim.env.ENCODING, client.offset_encoding)
     return {
         attach = function() vim.lsp.buf_attach_client(0, id) end,
