@@ -78,6 +78,10 @@ local function by_vim_lsp()
     }
 end
 
+local function is_utf8(text)
+    return (pcall(require("laspidru").Document.new, text))
+end
+
 local function written(path)
     vim.cmd("silent keepalt noautocmd write! " .. path)
     local file = assert(io.open(path, "rb"))
@@ -86,14 +90,16 @@ local function written(path)
     return text
 end
 
--- What differs between the server's text and Neovim's, or nil.
+-- What differs between the server's text and Neovim's, or nil. A step may leave a buffer that isn't UTF-8 (`A` over a block that cuts a
+-- character): no message can have that text, so that it isn't compared, and vim.lsp's session ends there.
 local function difference(driver, uri)
     answer = nil
     -- (after what the step has scheduled)
     vim.schedule(function() driver.ask(uri) end)
     if not vim.wait(10000, function() return answer ~= nil end, 1) then return "no answer" end
-    if answer.fault ~= nil and answer.fault ~= vim.NIL then return answer.fault end
     local text = written(folder .. "/written")
+    if not is_utf8(text) then return nil, nil, true end
+    if answer.fault ~= nil and answer.fault ~= vim.NIL then return answer.fault end
     if answer.text == text then return nil end
     -- vim.lsp takes the text of a buffer without lines for one line end: that is counted as right.
     if vim.env.BY == "vim.lsp" and text == "" and (answer.text == "\n" or answer.text == "\r\n" or answer.text == "\r") then return nil end
@@ -130,7 +136,8 @@ local function run(driver, number)
             vim.o.undolevels = vim.o.undolevels -- each step is undone alone
             pcall(chosen[2], random, kind, driver.attach)
         end
-        local problem, is_last_end = difference(driver, uri)
+        local problem, is_last_end, is_no_text = difference(driver, uri)
+        if is_no_text and vim.env.BY == "vim.lsp" then break end
         if problem and found.first == vim.NIL then found.first, found.step, found.problem = name, step, problem end
         if problem and not is_last_end then
             found.more = name

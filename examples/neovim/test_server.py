@@ -75,7 +75,7 @@ def main():
         body = read_body()
         if body is None:
             return 1
-        message = json.loads(body)
+        message = json.loads(body.decode("utf-8", "replace"))
         texts.take(message, body)
         method = message.get("method")
         if method == "initialize":
