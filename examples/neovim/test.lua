@@ -37,7 +37,7 @@ local function by_laspidru()
     local function read_all()
         local buffer = api.nvim_get_current_buf()
         local entry = session.entries[buffer]
-        if entry.state and not text.is_same(entry.state, text.read(buffer)) then stale = stale + 1 end
+        if entry.state and not entry.is_behind and not text.is_same(entry.state, text.read(buffer)) then stale = stale + 1 end
         session:flush(buffer)
     end
     vim.wait(10000, function() return session.is_ready end, 2)
