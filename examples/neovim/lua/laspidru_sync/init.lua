@@ -101,6 +101,7 @@ end
 function Session:attach(buffer)
     if buffer == 0 then buffer = api.nvim_get_current_buf() end
     if self.entries[buffer] then return end
+    vim.fn.bufload(buffer)
     local entry = { buffer = buffer, version = 0 }
     self.entries[buffer] = entry
     self:listen(entry)
