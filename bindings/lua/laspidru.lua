@@ -349,6 +349,8 @@ local function next_event(self)
     local code = C.laspidru_client_take(handle, self.rest, #self.rest, taken, answer)
     self.rest = self.rest:sub(tonumber(taken.bytes) + 1)
     if code == 21 then refuse(code, { frame = taken.frame, place = tonumber(taken.place) }) end
+    -- A client that takes no more is asked for nothing.
+    if code == 28 and self.rest == "" then return nil end
     demand(code)
     if not taken.is_whole then return nil end
     return event_of(self, answer, copied(function(...) return C.laspidru_client_body(handle, 0, ...) end, tonumber(taken.body_len)))

@@ -197,9 +197,10 @@ class Tests(unittest.TestCase):
         server = Server()
         self.assertEqual(server.receive(frame(b'{"jsonrpc":"2.0","method":"exit"}') + b"Content-Length: 0\r")[0].status, 1)
         self.refuses(laspidru.ENDED, server.receive, b"\n\r\n")
+        self.assertEqual(server.receive(b""), [])
         with self.assertRaises(laspidru.FrameFault) as caught:
-            Server().receive(b"Content-Length: x")
-        self.assertEqual((caught.exception.frame, caught.exception.events), (5, []))
+            Server().receive(b"Content-Length 2")
+        self.assertEqual((caught.exception.frame, caught.exception.events), (1, []))
 
     def test_framer(self):
         framer = Framer(4096)

@@ -133,6 +133,7 @@ class _End:
         events: List[Any] = []
         with self._lock:
             self._received.add(data)
+            is_empty = self._received.is_empty()
             try:
                 while True:
                     event = self._next_event()
@@ -148,7 +149,7 @@ class _End:
                 raise
             except LaspidruError as error:
                 # An end that listens no more has no use for what follows.
-                if events and error.code in (ENDED, WRONG_PHASE):
+                if error.code in (ENDED, WRONG_PHASE) and (events or is_empty):
                     return events
                 raise
 

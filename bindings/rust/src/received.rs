@@ -36,6 +36,7 @@ impl Received {
     /// whole.
     pub fn take(&mut self, call: impl FnOnce(&[u8], &mut ffi::Taken) -> u32) -> Result<Option<usize>, NotTaken> {
         let mut taken = ffi::Taken::default();
+        let is_empty = self.at == self.bytes.len();
         let code = call(&self.bytes[self.at..], &mut taken);
         self.at += taken.bytes;
         self.is_inside |= taken.bytes > 0;
@@ -54,6 +55,8 @@ impl Received {
                 Err(NotTaken::Stream(FrameError::Fault { number: taken.frame, place: taken.place }))
             }
             ffi::FAILED => Err(NotTaken::Stream(FrameError::Failed)),
+            // (an end that takes no more is asked for nothing)
+            ffi::ENDED | ffi::WRONG_PHASE if is_empty => Ok(None),
             code => Err(NotTaken::Code(code)),
         }
     }
