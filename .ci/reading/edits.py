@@ -112,22 +112,30 @@ class Calls:
     """Which functions may call which, by the names in their bodies: more than do, and none less."""
 
     def __init__(self, functions):
-        self.direct = {it.key: [other.key for other in functions if it.may_call(other)] for it in functions}
+        self.functions = functions
+        self.direct = {it.key: self.called_by(it) for it in functions}
         self.reached = {}
 
-    def below(self, key):
-        if key not in self.reached:
-            found, new = set(), [key]
+    def called_by(self, function):
+        return [it.key for it in self.functions if function.may_call(it)]
+
+    def below(self, edit):
+        """Returns the functions that those which an edit changes may call, before it or after, and those that these may call."""
+        if edit.name not in self.reached:
+            after = [it for path, text in edit.texts.items() for it in functions_of(path, text)]
+            keys = {it.key for it in edit.functions}
+            found, new = set(), [key for it in [*edit.functions, *after] if it.key in keys for key in self.called_by(it)]
             while new:
-                new = [it for it in self.direct[new.pop()] if it not in found] + new
-                found.update(new)
-            self.reached[key] = found
-        return self.reached[key]
+                key = new.pop()
+                new += [] if key in found else self.direct[key]
+                found.add(key)
+            self.reached[edit.name] = found
+        return self.reached[edit.name]
 
     def are_apart(self, edit, other):
-        """Returns whether the bodies that two edits change are of different functions, none of which may call another."""
-        pairs = [(one.key, two.key) for one in edit.functions for two in other.functions]
-        return not any(a == b or b in self.below(a) or a in self.below(b) for a, b in pairs)
+        """Returns whether two edits change different functions, none of which may call another."""
+        one, two = ({it.key for it in some.functions} for some in (edit, other))
+        return not (one & two or one & self.below(other) or two & self.below(edit))
 
 
 def functions_of(path, text):

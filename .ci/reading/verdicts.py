@@ -1,0 +1,40 @@
+"""What a check says of functions: which it refuses by themselves, and why."""
+import re
+
+REFUSED, PROVED, UNFIT, UNKNOWN = OUTCOMES = "refused", "proved", "not applied or not compiled", "not judged"
+LINE = re.compile(r"(?m)^fn (.+?): (.*)$")
+FAILS = re.compile(r"(not proved|no proof)(?!.*(?:it calls|it passes|a call of))")
+LIMIT = re.compile(r"antt ran out of|outgrew the memory limit|stopped at the step limit")
+LOST_NAME = re.compile(r"has no field|is not in scope|has no `|was not admitted")
+
+
+class Verdicts:
+    """The lines of a check of some functions."""
+
+    def __init__(self, said):
+        self.said, self.lines = said, dict(LINE.findall(said))
+        self.has_ended = re.search(r"(?m)^only=", said) is not None
+        self.at_fault = {(path, int(line) - 1) for path, line in re.findall(r"(?m)^(?:\./)?(src/\S+\.rt):(\d+):\d+: error", said)}
+
+    def refuses(self, name):
+        """Returns whether a function isn't proved by itself, whatever it calls."""
+        return FAILS.match(self.lines.get(name, "")) is not None
+
+    def why(self, name):
+        """Returns why a function isn't proved, and says where that shows little: its proof only names what the edit took away."""
+        goals = re.split(r"(?m)^(?:fn|struct|enum|impl) .*$", self.said.partition(f"\nfn {name}: ")[0])[-1]
+        found = re.findall(r"(?m)^note: (src/\S+: it is not proved that .*)$", goals)
+        own = re.findall(rf"(?m)^\./proofs/{'/'.join(name.split('::')[1:])}/\S+: error: (.*)$", self.said)
+        found += [it for it in own if not LOST_NAME.search(it)]
+        return found[0] if found else f"only since its proof names what the edit took away: {own[0]}" if own else self.lines[name]
+
+
+def outcome_of(status, said):
+    """Returns what the check of a crate with one edit comes to, and why."""
+    if not status:
+        return PROVED, "the crate is still proved with it"
+    lines = re.findall(r"(?m)^(?:note: src/.*: it is not proved .*|\./\S+:\d+:\d+: error.*|src/\S+: error.*|error.*|fn .*: (?!proved).*)$", said)
+    why = next((it for it in lines if not LOST_NAME.search(it)), (lines or [said.strip().rpartition("\n")[2]])[0])
+    if status == 1 and re.search(r"(?m)^logic=not-proved", said) or status == 3 and LIMIT.search(said):
+        return REFUSED, why
+    return UNFIT if re.search(r"error\[", said) else UNKNOWN, why
