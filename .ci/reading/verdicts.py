@@ -24,6 +24,8 @@ class Verdicts:
         """Returns why a function isn't proved, and says where that shows little: its proof only names what the edit took away."""
         goals = re.split(r"(?m)^(?:fn|struct|enum|impl) .*$", self.said.partition(f"\nfn {name}: ")[0])[-1]
         found = re.findall(r"(?m)^note: (src/\S+: it is not proved that .*)$", goals)
+        # (what the function's own clauses ask comes first: what a call in the new body requires says nothing of them)
+        found.sort(key=lambda it: "requires holds at this call" in it)
         own = re.findall(rf"(?m)^\./proofs/{'/'.join(name.split('::')[1:])}/\S+: error: (.*)$", self.said)
         found += [it for it in own if not LOST_NAME.search(it)]
         return found[0] if found else f"only since its proof names what the edit took away: {own[0]}" if own else self.lines[name]
