@@ -3,7 +3,7 @@ import re
 
 REFUSED, PROVED, UNFIT, UNKNOWN = OUTCOMES = "refused", "proved", "not applied or not compiled", "not judged"
 LINE = re.compile(r"(?m)^fn (.+?): (.*)$")
-FAILS = re.compile(r"(not proved|no proof)(?!.*(?:it calls|it passes|a call of))")
+FAILS = re.compile(r"(not proved|no proof)(?!.*(?:it calls|it passes|a call of|which (?:is|are) not proved|a type that is not proved))")
 LIMIT = re.compile(r"antt ran out of|outgrew the memory limit|stopped at the step limit")
 LOST_NAME = re.compile(r"has no field|is not in scope|has no `|was not admitted")
 
