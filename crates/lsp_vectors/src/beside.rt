@@ -5,9 +5,10 @@
 //! same; each case shows it.
 
 ghost use Rattle.std.specs.Prelude.{◌≡◌, ◌≤◌, IfOk, length, encode_utf8_all, map, string_len, sum_by};
+ghost use Rattle.lsp_text.specs.LineStarts.{Indexes};
 ghost use Rattle.lsp_text.specs.Units.{units_in};
 ghost use Rattle.lsp_edit.specs.Edited.{edit_of};
-ghost use Rattle.lsp_vectors.specs.Answer.{IsLeft};
+ghost use Rattle.lsp_vectors.specs.Answer.{IsLeft, alike};
 
 use crate::answer::Left;
 use lsp_edit::{
@@ -20,8 +21,20 @@ use std::alloc::{AllocError, Global};
 /// How many characters of a line are asked for.
 const WIDTH: u32 = 16;
 
+/// What was compared, and was the same by all programs.
+#[derive(Debug, Clone, Copy, Default, PartialEq, Eq)]
+pub struct Alike {
+    /// Messages, each by the plain program, by a kept text and by joined batches.
+    pub messages: u64,
+    /// Positions, each by the plain program and by known lines.
+    pub positions: u64,
+}
+
 /// Returns whether what the plain program says of a message is what a kept text says.
-pub fn agree(plain: &Result<Left, EditFault>, kept: &Result<Left, TextFault>) -> bool {
+pub fn agree(plain: &Result<Left, EditFault>, kept: &Result<Left, TextFault>) -> bool
+    ensures { result ≡ alike ⟦<Left as PartialEq>⟧.eq ⟦<EditFault as PartialEq>⟧.eq
+        plain.now kept.now }
+{
     match (plain, kept) {
         (Ok(plain), Ok(kept)) => plain == kept,
         (Err(plain), Err(TextFault::Edit(kept))) => plain == kept,
@@ -41,8 +54,9 @@ pub fn left_by_kept_text(
     ensures { IfOk result (IsLeft (units_in encoding) text.now (map edit_of changes.now)) }
 {
     let mut kept = IndexedText::new(alloc, String::from_str(alloc, text)?)?;
-    let canonical = kept.canonical(encoding, changes, usize::MAX)?;
-    kept.change(encoding, changes, usize::MAX)?;
+    let delta = kept.delta(encoding, changes, usize::MAX)?;
+    let canonical = delta.canonical(alloc, &kept)?;
+    kept.apply(delta)?;
     let text = String::from_str(alloc, kept.text())?;
     Ok(Left { text, canonical })
 }
@@ -69,33 +83,65 @@ pub fn left_by_joining(
     Ok(Left { text, canonical })
 }
 
-/// Returns whether known lines and the plain program agree on each position of a text's lines, and
-/// some past their ends, and on the exact position of each of its characters.
-pub fn positions_agree(alloc: Global, text: &str, encoding: Encoding) -> Result<bool, AllocError>
+/// Compares known lines with the plain program: on each position of a text's lines and some past
+/// their ends, and on the exact position of each of its characters. Returns how many positions
+/// were compared, and none if one differs.
+pub fn positions_alike(
+    alloc: Global,
+    text: &str,
+    encoding: Encoding,
+) -> Result<Option<u64>, AllocError>
     requires { length text.now ≤ MAX_OLD_TEXT }
 {
     let characters = characters(alloc, text)?;
     let lines = Lines::new(alloc, text)?;
+    let Some(resolved) = resolved_alike(&lines, text, &characters, encoding) else {
+        return Ok(None);
+    };
+    let Some(found) = found_alike(&lines, text, &characters, encoding) else {
+        return Ok(None);
+    };
+    Ok(Some(resolved.saturating_add(found)))
+}
+
+/// Compares what positions denote, and returns how many were compared if none differs.
+fn resolved_alike(lines: &Lines, text: &str, characters: &[char], encoding: Encoding) -> Option<u64>
+    requires lines { Indexes lines.now text.now }
+    requires size { length (encode_utf8_all characters.now) ≤ MAX_OLD_TEXT }
+{
+    let mut compared = 0u64;
     for index in 0..lines.count().saturating_add(1) {
-        let line = u32::try_from(index).unwrap_or(u32::MAX);
+        let line = u32::try_from(index).ok()?;
         for character in 0..WIDTH {
             let position = Position { line, character };
             let offset = lines.resolve(text, encoding, position).ok();
-            if offset != resolved(&characters, encoding, position) {
-                return Ok(false);
+            if offset != resolved(characters, encoding, position) {
+                return None;
             }
+            compared = compared.saturating_add(1);
         }
     }
+    Some(compared)
+}
+
+/// Compares the exact positions of characters, and returns how many were compared if none differs.
+fn found_alike(lines: &Lines, text: &str, characters: &[char], encoding: Encoding) -> Option<u64>
+    requires lines { Indexes lines.now text.now }
+    requires size { length (encode_utf8_all characters.now) ≤ MAX_OLD_TEXT }
+{
+    let mut compared = 0u64;
     for index in 0..characters.len() + 1 {
-        let offset = place_of(&characters, index);
-        if lines.is_place(text, offset)
-            && lines.position(text, encoding, offset)
-                != exact_position(&characters, encoding, index)
-        {
-            return Ok(false);
+        let offset = place_of(characters, index);
+        if lines.is_place(text, offset) {
+            if lines.position(text, encoding, offset)
+                != exact_position(characters, encoding, index)
+            {
+                return None;
+            }
+            compared = compared.saturating_add(1);
         }
     }
-    Ok(true)
+    Some(compared)
 }
 
 /// Returns the characters of a text.

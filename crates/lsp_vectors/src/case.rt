@@ -3,7 +3,7 @@
 ghost use Rattle.std.specs.Prelude.{◌≤◌, length, string_len, sum_by};
 
 use crate::answer::{Left, batch_of_edits, left_by_changes};
-use crate::beside::{agree, left_by_joining, left_by_kept_text, positions_agree};
+use crate::beside::{Alike, agree, left_by_joining, left_by_kept_text, positions_alike};
 use crate::fault::{edits_refused, invalid, refused};
 use crate::frames::frames_expected;
 use crate::session::session_expected;
@@ -15,16 +15,16 @@ use lsp_text::{Encoding, Range};
 use serde_json::{Map, Value, json};
 use std::alloc::Global;
 
-/// Returns what a case means.
-pub fn expected(alloc: Global, case: Value) -> Result<Value> {
+/// Returns what a case means, and counts what the programs agree on.
+pub fn expected(alloc: Global, case: Value, alike: &mut Alike) -> Result<Value> {
     let Value::Object(mut members) = case else {
         bail!("a case is an object");
     };
     if let Some(changes) = members.remove("changes") {
-        return message_expected(alloc, &members, changes);
+        return message_expected(alloc, &members, changes, alike);
     }
     if let Some(edits) = members.remove("edits") {
-        return edits_expected(alloc, &members, edits);
+        return edits_expected(alloc, &members, edits, alike);
     }
     if let Some(messages) = members.remove("messages") {
         return session_expected(alloc, encoding_in(&members)?, messages);
@@ -33,7 +33,12 @@ pub fn expected(alloc: Global, case: Value) -> Result<Value> {
 }
 
 /// Returns what a message leaves of a text.
-fn message_expected(alloc: Global, members: &Map<String, Value>, changes: Value) -> Result<Value> {
+fn message_expected(
+    alloc: Global,
+    members: &Map<String, Value>,
+    changes: Value,
+    alike: &mut Alike,
+) -> Result<Value> {
     let params =
         json!(in alloc; {"textDocument": {"uri": "", "version": 1}, "contentChanges": changes})?;
     match params_change(alloc, Some(params)) {
@@ -42,6 +47,7 @@ fn message_expected(alloc: Global, members: &Map<String, Value>, changes: Value)
             text_in(members, "text")?,
             encoding_in(members)?,
             &params.changes,
+            alike,
         ),
         Err(ParamsFault::InvalidParams) => invalid(alloc),
         Err(ParamsFault::NoMemory) => bail!("out of memory"),
@@ -54,12 +60,15 @@ fn changes_expected(
     text: &str,
     encoding: Encoding,
     changes: &[Change],
+    alike: &mut Alike,
 ) -> Result<Value> {
     if text.len() > MAX_OLD_TEXT || !fits(changes) {
         bail!("a case is too long");
     }
     let left = left_by_changes(alloc, text, encoding, changes);
-    compare_programs(alloc, text, encoding, changes, &left)?;
+    let positions = compare_programs(alloc, text, encoding, changes, &left)?;
+    alike.messages = alike.messages.saturating_add(1);
+    alike.positions = alike.positions.saturating_add(positions);
     match left {
         Ok(left) => left_value(alloc, left),
         Err(fault) => refused(alloc, fault),
@@ -67,13 +76,14 @@ fn changes_expected(
 }
 
 /// Fails if a kept text, joined batches or known lines say otherwise than the plain program.
+/// Returns how many positions were compared.
 fn compare_programs(
     alloc: Global,
     text: &str,
     encoding: Encoding,
     changes: &[Change],
     left: &Result<Left, EditFault>,
-) -> Result<()>
+) -> Result<u64>
     requires size { length text.now ≤ MAX_OLD_TEXT }
     requires fits { sum_by (λ change. string_len change.text) changes.now ≤ MAX_NEW_TEXT }
 {
@@ -83,14 +93,17 @@ fn compare_programs(
     if left.is_ok() && !agree(left, &left_by_joining(alloc, text, encoding, changes)) {
         bail!("joined batches differ from the plain program");
     }
-    if !positions_agree(alloc, text, encoding)? {
-        bail!("known lines differ from the plain program");
-    }
-    Ok(())
+    let positions = positions_alike(alloc, text, encoding)?;
+    Ok(positions.context("known lines differ from the plain program")?)
 }
 
 /// Returns what text edits leave of a text.
-fn edits_expected(alloc: Global, members: &Map<String, Value>, edits: Value) -> Result<Value> {
+fn edits_expected(
+    alloc: Global,
+    members: &Map<String, Value>,
+    edits: Value,
+    alike: &mut Alike,
+) -> Result<Value> {
     let text = text_in(members, "text")?;
     let encoding = encoding_in(members)?;
     let Some(edits) = edits_in(alloc, edits)? else {
@@ -100,7 +113,7 @@ fn edits_expected(alloc: Global, members: &Map<String, Value>, edits: Value) -> 
         bail!("a case is too long");
     }
     match batch_of_edits(alloc, text, encoding, &edits) {
-        Ok(batch) => changes_expected(alloc, text, encoding, &batch),
+        Ok(batch) => changes_expected(alloc, text, encoding, &batch, alike),
         Err(fault) => edits_refused(alloc, fault),
     }
 }

@@ -9,7 +9,8 @@
 //! there already is dropped, and computed anew.
 //!
 //! Without arguments the cases of standard input are written with their meanings. Each argument
-//! names a file of vectors; of those the lines are written that are not as computed, and how many.
+//! names a file of vectors; of those the lines are written that are not as computed, and how many,
+//! and on how many messages and positions the programs agreed.
 #![tactic(auto)]
 
 mod answer;
@@ -20,6 +21,7 @@ mod frames;
 mod session;
 mod written;
 
+use crate::beside::Alike;
 use crate::case::expected;
 use anyhow::{Context, Result};
 use serde_json::Value;
@@ -37,8 +39,9 @@ fn main(rt: HostRuntime) -> Result<()> {
     let paths: Vec<String> = env::args(&rt)?.collect(alloc)?;
     if paths.len() < 2 {
         let input = BufReader::new(alloc, rt.stdin())?;
+        let mut alike = Alike::default();
         for line in input.lines(alloc) {
-            writeln!(output, "{}", complete(alloc, &line?)?)?;
+            writeln!(output, "{}", complete(alloc, &line?, &mut alike)?)?;
         }
     }
     for path in paths.iter().skip(1) {
@@ -48,29 +51,37 @@ fn main(rt: HostRuntime) -> Result<()> {
     Ok(())
 }
 
-/// Writes the lines of a file that are not as computed, as they should be, and how many there are.
+/// Writes the lines of a file that are not as computed, as they should be, and how many there are;
+/// then how much was compared.
 fn compare<W: Write>(rt: &HostRuntime, path: &str, output: &mut W) -> Result<()> {
     let alloc = rt.alloc();
     let input = BufReader::new(alloc, File::open(rt, path)?)?;
     let mut lines = 0u64;
     let mut wrong = 0u64;
+    let mut alike = Alike::default();
     for line in input.lines(alloc) {
         let line = line?;
-        let computed = complete(alloc, &line)?;
+        let computed = complete(alloc, &line, &mut alike)?;
         lines = lines.saturating_add(1);
         if computed != line {
             wrong = wrong.saturating_add(1);
             writeln!(output, "{computed}")?;
         }
     }
-    Ok(writeln!(output, "{path}: {lines} cases, {wrong} not as computed")?)
+    writeln!(output, "{path}: {lines} cases, {wrong} not as computed")?;
+    let Alike {
+        messages,
+        positions,
+    } = alike;
+    writeln!(output, "alike: {messages} messages, {positions} positions")?;
+    Ok(())
 }
 
 /// Returns the line of a case with what it means.
-fn complete(alloc: Global, line: &str) -> Result<String> {
+fn complete(alloc: Global, line: &str, alike: &mut Alike) -> Result<String> {
     let input = input_of(line).context("a case is an object")?;
     let case = Value::from_str(alloc, &format!(in alloc; "{input}}}")?)?;
-    let expect = expected(alloc, case)?.to_string(alloc)?;
+    let expect = expected(alloc, case, alike)?.to_string(alloc)?;
     Ok(format!(in alloc; "{input}{MARK}{expect}}}")?)
 }
 
