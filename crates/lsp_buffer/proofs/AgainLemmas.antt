@@ -97,15 +97,15 @@ module _ (blocks : List (List ℕ)) (starts lines : List ℕ) (first last : ℕ)
         subst EndsClear (append_assoc (take (start - from) block) new (drop (stop - from') block') ∙ sym text_is)
         (back_ends block' (take (start - from) block ++ new) (stop - from') (inside_stop are) feed)
 
-    behind : (drop (last + 1) blocks ≡ []) ⊎ (AreFull fresh × AreBlocks (drop (last + 1) blocks))
-    behind =
+    after : (drop (last + 1) blocks ≡ []) ⊎ (AreFull fresh × AreBlocks (drop (last + 1) blocks))
+    after =
         ⊎_elim
         (λ (e : drop (last + 1) blocks ≡ []). inl e)
         (λ (e : EndsClear (get_or blocks last []) × AreBlocks (drop (last + 1) blocks)). inr (fresh_full (text_ends (subst EndsClear same e.0) e.1), e.1))
-        (split blocks last again.is.are last_within).behind
+        (split blocks last again.is.are last_within).after
 
     pub again_are : AreBlocks (take first blocks ++ (fresh ++ drop (last + 1) blocks))
-    again_are = joined_blocks (take first blocks) fresh (drop (last + 1) blocks) (split blocks first again.is.are first_within).full fresh_are behind
+    again_are = joined_blocks (take first blocks) fresh (drop (last + 1) blocks) (split blocks first again.is.are first_within).full fresh_are after
 
     pub starts_room : slice_index starts first + sum (map length fresh) + sum (map length (drop (last + 1) blocks)) ≤ 2147483648
     starts_room =

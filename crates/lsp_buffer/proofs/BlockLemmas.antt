@@ -1,4 +1,4 @@
--- Blocks: what stands before one and behind it, and the lines of both.
+-- Blocks: what comes before one and after it, and the lines of both.
 use Rattle.std.proofs.Common.{ℕ, zero, suc, ◌≡◌, ◌+◌, ◌-◌, ◌<◌, ◌≤◌, ◌⊎◌, true, List, [], ◌∷◌, ◌++◌, length, take, drop, map, sum, get_or, slice_index, ⊎_elim, inl, inr, refl, sym, ap, ◌∙◌, arith, subst}
 use Rattle.std.specs.Prelude.{encode_utf8_all}
 use Rattle.std.specs.List.{concat}
@@ -89,18 +89,18 @@ full_length (b ∷ blocks) = omega (arith, length-append b (concat blocks), full
 
 -- ---- one of the blocks
 
--- What stands before the block with an index, the block, and what stands behind it.
+-- What comes before the block with an index, the block, and what comes after it.
 pub record IsSplit (blocks : List (List ℕ)) (index : ℕ) : Type 0 where
   pub whole : blocks ≡ take index blocks ++ get_or blocks index [] ∷ drop (index + 1) blocks
   pub full : AreFull (take index blocks)
   pub utf8 : is_utf8 (get_or blocks index []) ≡ true
-  pub behind : (drop (index + 1) blocks ≡ []) ⊎ (EndsClear (get_or blocks index []) × AreBlocks (drop (index + 1) blocks))
+  pub after : (drop (index + 1) blocks ≡ []) ⊎ (EndsClear (get_or blocks index []) × AreBlocks (drop (index + 1) blocks))
 
 pub split : (blocks : List (List ℕ)) (index : ℕ) → AreBlocks blocks → index < length blocks → IsSplit blocks index
 split [] index are h = absurd are
-split (b ∷ []) zero are h = record { whole = refl; full = tt; utf8 = are; behind = inl refl }
+split (b ∷ []) zero are h = record { whole = refl; full = tt; utf8 = are; after = inl refl }
 split (b ∷ []) (suc index) are h = absurd (omega arith)
-split (b ∷ c ∷ blocks) zero are h = record { whole = refl; full = tt; utf8 = are.0; behind = inr (are.1, are.2) }
+split (b ∷ c ∷ blocks) zero are h = record { whole = refl; full = tt; utf8 = are.0; after = inr (are.1, are.2) }
 split (b ∷ c ∷ blocks) (suc index) are h =
     let at : suc index + 1 ≡ suc (index + 1) = omega arith in
     let later = split (c ∷ blocks) index are.2 (omega arith) in
@@ -108,7 +108,7 @@ split (b ∷ c ∷ blocks) (suc index) are h =
       whole = rw at (ap (λ bs. b ∷ bs) later.whole);
       full = (are.0, are.1, later.full);
       utf8 = later.utf8;
-      behind = rw at later.behind;
+      after = rw at later.after;
     }
 
 put_first : (b : List ℕ) (blocks : List (List ℕ)) → is_utf8 b ≡ true → EndsClear b → AreBlocks blocks → AreBlocks (b ∷ blocks)
@@ -121,12 +121,12 @@ full_front (b ∷ front) blocks full are = put_first b (front ++ blocks) full.0 
 
 -- Blocks in three parts.
 pub joined_blocks : (front fresh rest : List (List ℕ)) → AreFull front → AreBlocks fresh → (rest ≡ []) ⊎ (AreFull fresh × AreBlocks rest) → AreBlocks (front ++ (fresh ++ rest))
-joined_blocks front fresh rest full are behind =
+joined_blocks front fresh rest full are after =
     full_front front (fresh ++ rest) full
     (⊎_elim
     (λ (e : rest ≡ []). rw e (rw (append-nil fresh) are))
     (λ (e : AreFull fresh × AreBlocks rest). full_front fresh rest e.0 e.1)
-    behind)
+    after)
 
 -- The last of some blocks is another one.
 pub full_last : (front : List (List ℕ)) (b : List ℕ) → AreFull front → is_utf8 b ≡ true → EndsClear b → AreFull (front ++ b ∷ [])

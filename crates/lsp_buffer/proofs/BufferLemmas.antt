@@ -61,11 +61,11 @@ module _ (blocks : List (List ℕ)) (starts lines : List ℕ) (is : IsBuffer blo
       front_utf8 = full_utf8 (take index blocks) parts.full;
       block_utf8 = subst IsUtf8 same (IsUtf8-from_is_utf8 (get_or blocks index []) parts.utf8);
       closes = full_closes (take index blocks) parts.full;
-      behind =
+      after =
           ⊎_elim
           (λ (e : drop (index + 1) blocks ≡ []). inl (ap concat e))
           (λ (e : EndsClear (get_or blocks index []) × AreBlocks (drop (index + 1) blocks)). inr (subst EndsClear same e.0))
-          parts.behind;
+          parts.after;
     }
 
     pub start_is : slice_index starts index ≡ length (concat (take index blocks))
@@ -84,19 +84,19 @@ module _ (blocks : List (List ℕ)) (starts lines : List ℕ) (is : IsBuffer blo
         lines_sum (index + 1) h ∙
         sym (row_more ends_of 0 (slice_index lines index) (ends_of block) index blocks block within block_is refl (lines_sum index within ∙ omega arith) ∙ omega arith)
 
-    pub none_behind : length blocks ≤ index + 1 → concat (drop (index + 1) blocks) ≡ []
-    none_behind h = ap concat (drop_all (index + 1) blocks h)
+    pub none_after : length blocks ≤ index + 1 → concat (drop (index + 1) blocks) ≡ []
+    none_after h = ap concat (drop_all (index + 1) blocks h)
 
     -- What is found for a place is in the block.
     pub place_inside : (place : ℕ) → IsLineOf starts place index → (concat (drop (index + 1) blocks) ≡ []) ⊎ (place - length (concat (take index blocks)) < length block)
     place_inside place found =
         ⊎_elim
         (λ (h : index + 1 < length blocks). inr (omega (arith, found.greatest (index + 1) (omega arith) (omega (arith, starts_count)), found.at_most, next_start h, start_is)))
-        (λ (h : length blocks ≤ index + 1). inl (none_behind h))
+        (λ (h : length blocks ≤ index + 1). inl (none_after h))
         (cases_lt (index + 1) (length blocks))
 
     pub last_none : index + 1 ≡ length blocks → concat (drop (index + 1) blocks) ≡ []
-    last_none h = none_behind (omega arith)
+    last_none h = none_after (omega arith)
 
     pub whole_length : length (concat blocks) ≡ length (concat (take index blocks)) + (length block + length (concat (drop (index + 1) blocks)))
     whole_length =

@@ -19,12 +19,12 @@ use Rattle.lsp_text.proofs.LineLemmas.{line_step}
 use Rattle.lsp_text.proofs.PlaceLemmas.{place_one}
 use Rattle.lsp_text.proofs.PlainLemmas.{units_total}
 use Rattle.lsp_buffer.specs.Blocks.{IsBuffer, IsTextBuffer, AreBlocks, carried, ends_of, head_of, head_after}
-use Rattle.lsp_buffer.specs.inside.Seams.{IsBehind, IsBefore, heads_end, mark, marks_of, position_after, position_from}
+use Rattle.lsp_buffer.specs.inside.Seams.{IsAtOrAfter, IsBefore, heads_end, mark, marks_of, position_after, position_from}
 use Rattle.lsp_buffer.proofs.HeadLemmas.{blocks_texts, length-heads, heads_at, heads_high, head_full, end_append}
-use Rattle.lsp_buffer.proofs.MarkLemmas.{marks_at, length-marks, behind_from, before_from, before_after}
+use Rattle.lsp_buffer.proofs.MarkLemmas.{marks_at, length-marks, at_or_after, before_from, before_after}
 use Rattle.std.proofs.lemmas.List.Sums.{sum_by-cons}
 use Rattle.lsp_buffer.proofs.PartLemmas.{AreThree, resolved_three, inner_index, exact_three, boundary_in, drop_three, ends_three}
-use Rattle.lsp_buffer.proofs.BufferLemmas.{starts_count, lines_count, parts, three, start_is, line_is, next_line, none_behind, place_inside, last_none, utf8_all, whole_length}
+use Rattle.lsp_buffer.proofs.BufferLemmas.{starts_count, lines_count, parts, three, start_is, line_is, next_line, none_after, place_inside, last_none, utf8_all, whole_length}
 
 pub units_some : (encoding : Encoding) (c : ℕ) → 1 ≤ units_in encoding c
 units_some Utf8 c = (utf8_bounds c).0
@@ -42,7 +42,7 @@ pub record IsLineFound (bytes front block rest : List ℕ) (units : ℕ → ℕ)
   pub from_is : from ≡ length front
   pub first_is : first ≡ line_ends (chars front)
   pub head_is : head ≡ head_of units front
-  pub low : IsBehind first head p
+  pub low : IsAtOrAfter first head p
   pub inside : (rest ≡ []) ⊎ IsBefore (ends_of block) (head_of units block) (position_after first head p)
 
 module _ (blocks : List (List ℕ)) (starts lines bytes : List ℕ) (is : IsBuffer blocks starts lines) (view : concat blocks ≡ bytes) where
@@ -119,7 +119,7 @@ module _ (blocks : List (List ℕ)) (starts lines : List ℕ) (heads : Encoding 
           from_is = from_at ∙ (get_or_default starts index from 0 (omega (arith, within, starts_count blocks starts lines is.sums)) ∙ start_is blocks starts lines is.sums index block within block_is);
           first_is = first_is ∙ line_is blocks starts lines is.sums index block within block_is;
           head_is = head_now ∙ head_is;
-          low = behind;
+          low = after;
           inside = inside;
         }
       where
@@ -135,9 +135,9 @@ module _ (blocks : List (List ℕ)) (starts lines : List ℕ) (heads : Encoding 
         head_now : head ≡ get_or (heads encoding) index 0
         head_now = head_at ∙ get_or_default (heads encoding) index head 0 (omega (arith, within, heads_count))
 
-        behind : IsBehind first head p
-        behind =
-            behind_from first head p few
+        after : IsAtOrAfter first head p
+        after =
+            at_or_after first head p few
             (omega (arith, found.at_most, marks_at lines (heads encoding) index same (omega (arith, within, counts)), first_is, head_now))
 
         next_mark : index + 1 < length blocks → get_or (marks_of lines (heads encoding)) (index + 1) 0 ≡ mark (first + ends_of block) (head_after (units_in encoding) head block)
@@ -151,11 +151,11 @@ module _ (blocks : List (List ℕ)) (starts lines : List ℕ) (heads : Encoding 
             ⊎_elim
             (λ (h : index + 1 < length blocks).
             inr
-            (before_after first head (ends_of block) (head_of (units_in encoding) block) p behind
+            (before_after first head (ends_of block) (head_of (units_in encoding) block) p after
             (before_from (first + ends_of block) (head_after (units_in encoding) head block) p
             (omega (arith, head_small (index + 1) h, next_head h, ap (λ x. head_after (units_in encoding) x block) head_now))
             (omega (arith, found.greatest (index + 1) (omega arith) (omega (arith, h, counts, length-marks lines (heads encoding) same)), next_mark h)))))
-            (λ (h : length blocks ≤ index + 1). inl (none_behind blocks starts lines is.sums index block within block_is h))
+            (λ (h : length blocks ≤ index + 1). inl (none_after blocks starts lines is.sums index block within block_is h))
             (cases_lt (index + 1) (length blocks))
 
   -- What the search was given, and what it found.
@@ -189,7 +189,7 @@ module _ (bytes front block rest : List ℕ) where
       option_map (λ n. from + n) o ≡ option_map (place_of (chars bytes)) (denoted (units_in encoding) (chars bytes) p)
   resolved_found encoding p first head from o found is =
       let units = units_in encoding in
-      let low : IsBehind (line_ends (chars front)) (head_of units front) p = subst (λ h. IsBehind (line_ends (chars front)) h p) found.head_is (subst (λ l. IsBehind l head p) found.first_is found.low) in
+      let low : IsAtOrAfter (line_ends (chars front)) (head_of units front) p = subst (λ h. IsAtOrAfter (line_ends (chars front)) h p) found.head_is (subst (λ l. IsAtOrAfter l head p) found.first_is found.low) in
       let inside : (rest ≡ []) ⊎ IsBefore (ends_of block) (head_of units block) (position_after (line_ends (chars front)) (head_of units front) p) =
       subst (λ h. (rest ≡ []) ⊎ IsBefore (ends_of block) (head_of units block) (position_after (line_ends (chars front)) h p)) found.head_is
       (subst (λ l. (rest ≡ []) ⊎ IsBefore (ends_of block) (head_of units block) (position_after l head p)) found.first_is found.inside) in

@@ -14,7 +14,7 @@ use Rattle.lsp_buffer.specs.inside.Seams.{heads_end}
 use Rattle.lsp_buffer.proofs.SumLemmas.{sums_low}
 use Rattle.lsp_buffer.proofs.SeamLemmas.{head}
 use Rattle.lsp_buffer.proofs.BlockLemmas.{Closes, chars_close, ends_join, full_utf8}
-use Rattle.lsp_buffer.proofs.PartLemmas.{carried_none, head_behind}
+use Rattle.lsp_buffer.proofs.PartLemmas.{carried_none, head_of_both}
 
 pub carried_few : (line units : ℕ) → carried line units ≤ units
 carried_few zero units = omega arith
@@ -92,7 +92,7 @@ module _ (units : ℕ → ℕ) where
   -- ---- what they are
 
   pub head_joined : (a b : List ℕ) → IsUtf8 a → Closes a → head_of units (a ++ b) ≡ head_after units (head_of units a) b
-  head_joined a b utf8 closes = ap (head units) (chars-append a b utf8) ∙ head_behind (chars a) (chars b) (chars_close a utf8 closes) units
+  head_joined a b utf8 closes = ap (head units) (chars-append a b utf8) ∙ head_of_both (chars a) (chars b) (chars_close a utf8 closes) units
 
   head_front : (a : List ℕ) (blocks : List (List ℕ)) → IsUtf8 a → Closes a → AreFull blocks → head_of units (a ++ concat blocks) ≡ heads_end units (head_of units a) blocks
   head_front a [] utf8 closes full = ap (head_of units) (append-nil a)

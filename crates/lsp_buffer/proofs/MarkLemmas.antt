@@ -9,7 +9,7 @@ use Rattle.lsp_text.specs.declared.position.Position.{Position}
 use Rattle.lsp_text.specs.Starts.{AreStarts}
 use Rattle.lsp_text.specs.Units.{units_in}
 use Rattle.lsp_buffer.specs.Blocks.{AreBlocks, IsTextBuffer, carried, ends_of, head_of, head_after, heads_from, sums_from}
-use Rattle.lsp_buffer.specs.inside.Seams.{AreMarks, IsBehind, IsBefore, mark, marks_of, position_after}
+use Rattle.lsp_buffer.specs.inside.Seams.{AreMarks, IsAtOrAfter, IsBefore, mark, marks_of, position_after}
 use Rattle.lsp_buffer.proofs.SumLemmas.{length-sums}
 use Rattle.lsp_buffer.proofs.BlockLemmas.{blocks_some}
 use Rattle.lsp_buffer.proofs.HeadLemmas.{AreTexts, blocks_texts, after_low, length-heads}
@@ -82,8 +82,8 @@ module _ (encoding : Encoding) where
       (subst (λ (xs : List ℕ). AreMarks (sums_from 0 (map ends_of blocks)) xs) (sym (is.heads_are encoding)) (rows_are blocks is.sums.are is.sums.size))
 
 -- What is found by marks, in words of lines and units.
-pub behind_from : (line head : ℕ) (p : Position) → p.character < 4294967296 → mark line head ≤ mark p.line p.character → IsBehind line head p
-behind_from line head p few at_most =
+pub at_or_after : (line head : ℕ) (p : Position) → p.character < 4294967296 → mark line head ≤ mark p.line p.character → IsAtOrAfter line head p
+at_or_after line head p few at_most =
     ⊎_elim
     (λ (h : line < p.line). inl h)
     (λ (h : p.line ≤ line). inr (omega arith, omega arith))
@@ -96,9 +96,9 @@ before_from line head p few less =
     (λ (h : line ≤ p.line). inr (omega arith, omega arith))
     (cases_lt p.line line)
 
-pub before_after : (line head ends own : ℕ) (p : Position) → IsBehind line head p → IsBefore (line + ends) (carried ends head + own) p → IsBefore ends own (position_after line head p)
-before_after line head ends own p behind =
-    let low = carried_low line head p behind in
+pub before_after : (line head ends own : ℕ) (p : Position) → IsAtOrAfter line head p → IsBefore (line + ends) (carried ends head + own) p → IsBefore ends own (position_after line head p)
+before_after line head ends own p after =
+    let low = carried_low line head p after in
     ⊎_elim
     (λ (h : p.line < line + ends). inl (omega (arith, low.0)))
     (λ (h : (p.line ≡ line + ends) × (p.character < carried ends head + own)).

@@ -1,4 +1,4 @@
--- A text in three parts: what stands before a block, the block, and what stands behind it. Positions, boundaries and changes of the text by those of the block.
+-- A text in three parts: what comes before a block, the block, and what comes after it. Positions, boundaries and changes of the text by those of the block.
 use Rattle.std.proofs.Common.{ℕ, zero, suc, ◌≡◌, ◌+◌, ◌-◌, ◌<◌, ◌≤◌, ◌⊎◌, false, List, [], ◌++◌, length, take, drop, get_or, slice_index, Option, Some, None, option_map, ⊎_elim, inl, inr, refl, sym, ap, ◌∙◌, arith, subst}
 use Rattle.std.specs.Prelude.{encode_utf8_all}
 use Rattle.std.specs.Str.{chars, IsUtf8, IsCharBoundary}
@@ -15,7 +15,7 @@ use Rattle.lsp_text.proofs.LineLemmas.{splits_none_past}
 use Rattle.lsp_text.proofs.PositionLemmas.{denoted_whole}
 use Rattle.lsp_text.proofs.NearLemmas.{exact_near}
 use Rattle.lsp_buffer.specs.Blocks.{EndsClear, carried}
-use Rattle.lsp_buffer.specs.inside.Seams.{IsBehind, IsBefore, position_after, position_from}
+use Rattle.lsp_buffer.specs.inside.Seams.{IsAtOrAfter, IsBefore, position_after, position_from}
 use Rattle.lsp_buffer.proofs.SeamLemmas.{head, denoted_left, denoted_last, denoted_right, exact_right, head_right, seam_splits, beyond_splits, seam_count}
 use Rattle.lsp_buffer.proofs.BlockLemmas.{Closes, clear_chars, chars_close}
 
@@ -23,7 +23,7 @@ pub carried_none : (line : ℕ) → carried line 0 ≡ 0
 carried_none zero = refl
 carried_none (suc line) = refl
 
-pub carried_low : (line head : ℕ) (p : Position) → IsBehind line head p → (line ≤ p.line) × (carried (p.line - line) head ≤ p.character)
+pub carried_low : (line head : ℕ) (p : Position) → IsAtOrAfter line head p → (line ≤ p.line) × (carried (p.line - line) head ≤ p.character)
 carried_low line head p =
     ⊎_elim
     (λ (h : line < p.line).
@@ -33,21 +33,21 @@ carried_low line head p =
     let here : p.line - line ≡ 0 = omega (arith, h.0) in
     (omega (arith, h.0), omega (arith, h.1, ap (λ (n : ℕ). carried n head) here)))
 
-pub position_back : (line head : ℕ) (p : Position) → IsBehind line head p → ◌≡◌ {A = Position} p (position_from line head (position_after line head p))
-position_back line head p behind =
-    let low = carried_low line head p behind in
+pub position_back : (line head : ℕ) (p : Position) → IsAtOrAfter line head p → ◌≡◌ {A = Position} p (position_from line head (position_after line head p))
+position_back line head p after =
+    let low = carried_low line head p after in
     let l : p.line ≡ line + (p.line - line) = omega (arith, low.0) in
     let c : p.character ≡ carried (p.line - line) head + (p.character - carried (p.line - line) head) = omega (arith, low.1) in
     λ i. record { line = l i; character = c i }
 
 -- Characters: the first part is empty or ends with no carriage return.
 module _ (a r : List ℕ) (closes : Closes a) where
-  pub denoted_behind : (units : ℕ → ℕ) → ((c : ℕ) → 1 ≤ units c) → (p : Position) → IsBehind (line_ends a) (head units a) p → denoted units (a ++ r) p ≡ option_map (λ k. length a + k) (denoted units r (position_after (line_ends a) (head units a) p))
-  denoted_behind units some p behind =
+  pub denoted_after : (units : ℕ → ℕ) → ((c : ℕ) → 1 ≤ units c) → (p : Position) → IsAtOrAfter (line_ends a) (head units a) p → denoted units (a ++ r) p ≡ option_map (λ k. length a + k) (denoted units r (position_after (line_ends a) (head units a) p))
+  denoted_after units some p after =
       ⊎_elim
       (λ (e : a ≡ []). at_none e)
       (λ (e : EndsClear a).
-      ap (denoted units (a ++ r)) (position_back (line_ends a) (head units a) p behind) ∙
+      ap (denoted units (a ++ r)) (position_back (line_ends a) (head units a) p after) ∙
       denoted_right a r e units some (p.line - line_ends a) (p.character - carried (p.line - line_ends a) (head units a)))
       closes
     where
@@ -63,8 +63,8 @@ module _ (a r : List ℕ) (closes : Closes a) where
           subst (λ (x : List ℕ). denoted units (x ++ r) p ≡ option_map (λ k. length x + k) (denoted units r (position_after (line_ends x) (head units x) p))) (sym e)
           (same (denoted units r p) ∙ ap (λ (p : Position). option_map (λ k. 0 + k) (denoted units r p)) (sym q))
 
-  pub exact_behind : (units : ℕ → ℕ) (k : ℕ) → k ≤ length r → ◌≡◌ {A = Position} (exact_position units (a ++ r) (length a + k)) (position_from (line_ends a) (head units a) (exact_position units r k))
-  exact_behind units k h =
+  pub exact_after : (units : ℕ → ℕ) (k : ℕ) → k ≤ length r → ◌≡◌ {A = Position} (exact_position units (a ++ r) (length a + k)) (position_from (line_ends a) (head units a) (exact_position units r k))
+  exact_after units k h =
       ⊎_elim
       (λ (e : a ≡ []).
       let n : 0 + k ≡ k = omega arith in
@@ -76,8 +76,8 @@ module _ (a r : List ℕ) (closes : Closes a) where
       (λ (e : EndsClear a). exact_right a r e units k h)
       closes
 
-  pub head_behind : (units : ℕ → ℕ) → head units (a ++ r) ≡ carried (line_ends r) (head units a) + head units r
-  head_behind units =
+  pub head_of_both : (units : ℕ → ℕ) → head units (a ++ r) ≡ carried (line_ends r) (head units a) + head units r
+  head_of_both units =
       ⊎_elim
       (λ (e : a ≡ []).
       subst (λ (x : List ℕ). head units (x ++ r) ≡ carried (line_ends r) (head units x) + head units r) (sym e)
@@ -85,26 +85,26 @@ module _ (a r : List ℕ) (closes : Closes a) where
       (λ (e : EndsClear a). head_right a r e units)
       closes
 
-  pub splits_behind : (k : ℕ) → splits_crlf (a ++ r) (length a + k) ≡ splits_crlf r k
-  splits_behind k =
+  pub splits_after : (k : ℕ) → splits_crlf (a ++ r) (length a + k) ≡ splits_crlf r k
+  splits_after k =
       ⊎_elim
       (λ (e : a ≡ []). rw e (let n : 0 + k ≡ k = omega arith in rw n refl))
       (λ (e : EndsClear a). beyond_splits a r e k)
       closes
 
-  place_behind : (k : ℕ) → place_of (a ++ r) (length a + k) ≡ length (encode_utf8_all a) + place_of r k
-  place_behind k =
+  place_after : (k : ℕ) → place_of (a ++ r) (length a + k) ≡ length (encode_utf8_all a) + place_of r k
+  place_after k =
       place_add (a ++ r) (length a) k ∙
       (ap (λ cs. length (encode_utf8_all cs) + place_of (drop (length a) (a ++ r)) k) (take_at a r (length a) refl) ∙
       ap (λ cs. length (encode_utf8_all a) + place_of cs k) (drop-append_seam a r))
 
--- Nothing stands behind, or the part before it ends with no carriage return.
-abbrev pub Behind : List ℕ → List ℕ → Type 0
-Behind b c = (c ≡ []) ⊎ EndsClear b
+-- Nothing comes after a part, or it ends with no carriage return.
+abbrev pub IsClearSeam : List ℕ → List ℕ → Type 0
+IsClearSeam b c = (c ≡ []) ⊎ EndsClear b
 
 module _ (b c : List ℕ) where
   pub denoted_before : (units : ℕ → ℕ) → ((c : ℕ) → 1 ≤ units c) → (p : Position) → (c ≡ []) ⊎ (EndsClear b × IsBefore (line_ends b) (head units b) p) → denoted units (b ++ c) p ≡ denoted units b p
-  denoted_before units some p behind =
+  denoted_before units some p after =
       ⊎_elim
       (λ (e : c ≡ []). subst (λ (x : List ℕ). denoted units (b ++ x) p ≡ denoted units b p) (sym e) (ap (λ t. denoted units t p) (append-nil b)))
       (λ (e : EndsClear b × IsBefore (line_ends b) (head units b) p).
@@ -112,17 +112,17 @@ module _ (b c : List ℕ) where
       (λ (h : p.line < line_ends b). denoted_left b c e.0 units p h)
       (λ (h : (p.line ≡ line_ends b) × (p.character < head units b)). denoted_last b c e.0 units some p h.0 h.1)
       e.1)
-      behind
+      after
 
   place_before : (k : ℕ) → k ≤ length b → place_of (b ++ c) k ≡ place_of b k
   place_before k h = ap (λ cs. length (encode_utf8_all cs)) (take-append-le k b c h)
 
-  splits_before : (k : ℕ) → k ≤ length b → Behind b c → splits_crlf (b ++ c) k ≡ splits_crlf b k
-  splits_before k h behind =
+  splits_before : (k : ℕ) → k ≤ length b → IsClearSeam b c → splits_crlf (b ++ c) k ≡ splits_crlf b k
+  splits_before k h after =
       ⊎_elim
       (λ (e : c ≡ []). rw e (rw (append-nil b) refl))
       (λ (e : EndsClear b). seam_splits b c e k h)
-      behind
+      after
 
 -- Bytes in three parts.
 pub record AreThree (bytes front block rest : List ℕ) : Type 0 where
@@ -130,7 +130,7 @@ pub record AreThree (bytes front block rest : List ℕ) : Type 0 where
   pub front_utf8 : IsUtf8 front
   pub block_utf8 : IsUtf8 block
   pub closes : Closes front
-  pub behind : Behind block rest
+  pub after : IsClearSeam block rest
 
 module _ (bytes front block rest : List ℕ) (are : AreThree bytes front block rest) where
   a : List ℕ
@@ -148,12 +148,12 @@ module _ (bytes front block rest : List ℕ) (are : AreThree bytes front block r
   closes_chars : Closes (chars front)
   closes_chars = chars_close front are.front_utf8 are.closes
 
-  behind_chars : Behind (chars block) (chars rest)
-  behind_chars =
+  seam_chars : IsClearSeam (chars block) (chars rest)
+  seam_chars =
       ⊎_elim
       (λ (e : rest ≡ []). inl (ap chars e ∙ chars-nil))
       (λ (e : EndsClear block). inr (clear_chars block are.block_utf8 e))
-      are.behind
+      are.after
 
   front_len : length (encode_utf8_all (chars front)) ≡ length front
   front_len = ap length (encodes-chars front are.front_utf8)
@@ -162,12 +162,12 @@ module _ (bytes front block rest : List ℕ) (are : AreThree bytes front block r
   block_len = ap length (encodes-chars block are.block_utf8)
 
   -- What a position denotes in all is what it denotes in the block.
-  pub resolved_three : (units : ℕ → ℕ) → ((c : ℕ) → 1 ≤ units c) → (p : Position) → IsBehind (line_ends (chars front)) (head units (chars front)) p →
+  pub resolved_three : (units : ℕ → ℕ) → ((c : ℕ) → 1 ≤ units c) → (p : Position) → IsAtOrAfter (line_ends (chars front)) (head units (chars front)) p →
       (rest ≡ []) ⊎ IsBefore (line_ends (chars block)) (head units (chars block)) (position_after (line_ends (chars front)) (head units (chars front)) p) →
       option_map (place_of (chars bytes)) (denoted units (chars bytes) p) ≡ option_map (λ n. length front + n) (option_map (place_of (chars block)) (denoted units (chars block) (position_after (line_ends (chars front)) (head units (chars front)) p)))
   resolved_three units some p low high =
       ap (λ cs. option_map (place_of cs) (denoted units cs p)) chars_are ∙
-      (ap (option_map (place_of (chars front ++ (chars block ++ chars rest)))) (denoted_behind (chars front) (chars block ++ chars rest) closes_chars units some p low ∙ ap (option_map (λ k. length (chars front) + k)) (denoted_before (chars block) (chars rest) units some q inside)) ∙
+      (ap (option_map (place_of (chars front ++ (chars block ++ chars rest)))) (denoted_after (chars front) (chars block ++ chars rest) closes_chars units some p low ∙ ap (option_map (λ k. length (chars front) + k)) (denoted_before (chars block) (chars rest) units some q inside)) ∙
       placed (denoted units (chars block) q) refl)
     where
       q : Position
@@ -181,7 +181,7 @@ module _ (bytes front block rest : List ℕ) (are : AreThree bytes front block r
           ⊎_elim
           (λ (e : chars rest ≡ []). inl e)
           (λ (e : EndsClear (chars block)). inr (e, h))
-          behind_chars)
+          seam_chars)
           high
 
       placed : (o : Option ℕ) → denoted units (chars block) q ≡ o →
@@ -190,7 +190,7 @@ module _ (bytes front block rest : List ℕ) (are : AreThree bytes front block r
       placed (Some k) e =
           let within : k ≤ length (chars block) = (denoted_whole units (chars block) q k e).within in
           ap Some
-          (place_behind (chars front) (chars block ++ chars rest) closes_chars k ∙
+          (place_after (chars front) (chars block ++ chars rest) closes_chars k ∙
           (ap (λ n. n + place_of (chars block ++ chars rest) k) front_len ∙ ap (λ n. length front + n) (place_before (chars block) (chars rest) k within)))
 
   -- The lines of all.
@@ -218,7 +218,7 @@ module _ (bytes front block rest : List ℕ) (are : AreThree bytes front block r
         index_is = back;
         within = inside;
         place_is = sym (place_before (chars block) (chars rest) j inside) ∙ omega (arith, placed);
-        splits = ap (splits_crlf (chars bytes)) back ∙ (ap (λ cs. splits_crlf cs (length (chars front) + j)) chars_are ∙ (splits_behind (chars front) (chars block ++ chars rest) closes_chars j ∙ splits_before (chars block) (chars rest) j inside behind_chars));
+        splits = ap (splits_crlf (chars bytes)) back ∙ (ap (λ cs. splits_crlf cs (length (chars front) + j)) chars_are ∙ (splits_after (chars front) (chars block ++ chars rest) closes_chars j ∙ splits_before (chars block) (chars rest) j inside seam_chars));
       }
     where
       j : ℕ
@@ -241,7 +241,7 @@ module _ (bytes front block rest : List ℕ) (are : AreThree bytes front block r
       placed : place ≡ length front + place_of (chars block ++ chars rest) j
       placed =
           sym at ∙ (ap (place_of (chars bytes)) back ∙ (ap (λ cs. place_of cs (length (chars front) + j)) chars_are ∙
-          (place_behind (chars front) (chars block ++ chars rest) closes_chars j ∙ ap (λ n. n + place_of (chars block ++ chars rest) j) front_len)))
+          (place_after (chars front) (chars block ++ chars rest) closes_chars j ∙ ap (λ n. n + place_of (chars block ++ chars rest) j) front_len)))
 
       block_end : place_of (chars block ++ chars rest) (length (chars block)) ≡ length block
       block_end = place_before (chars block) (chars rest) (length (chars block)) (omega arith) ∙ (place_end (chars block) ∙ block_len)
@@ -263,10 +263,10 @@ module _ (bytes front block rest : List ℕ) (are : AreThree bytes front block r
       let tail : length (chars block ++ chars rest) ≡ length (chars block) + length (chars rest) = length-append (chars block) (chars rest) in
       let same : exact_position units (chars block ++ chars rest) is.inner ≡ exact_position units (chars block) is.inner =
       exact_near units (chars block ++ chars rest) (chars block) is.inner (take-append-le is.inner (chars block) (chars rest) is.within) (omega (arith, tail, is.within)) is.within
-      (splits_before (chars block) (chars rest) is.inner is.within behind_chars ∙ (sym is.splits ∙ whole)) (sym is.splits ∙ whole) in
+      (splits_before (chars block) (chars rest) is.inner is.within seam_chars ∙ (sym is.splits ∙ whole)) (sym is.splits ∙ whole) in
       ap (exact_position units (chars bytes)) is.index_is ∙
       (ap (λ cs. exact_position units cs (length (chars front) + is.inner)) chars_are ∙
-      (exact_behind (chars front) (chars block ++ chars rest) closes_chars units is.inner (omega (arith, tail, is.within)) ∙
+      (exact_after (chars front) (chars block ++ chars rest) closes_chars units is.inner (omega (arith, tail, is.within)) ∙
       ap (position_from (line_ends (chars front)) (head units (chars front))) same))
 
   -- Boundaries.
@@ -304,9 +304,9 @@ module _ (bytes front block rest : List ℕ) (are : AreThree bytes front block r
         length (chars front) + j,
         omega (arith, size, tail, at.1),
         ap (λ cs. splits_crlf cs (length (chars front) + j)) chars_are ∙
-            (splits_behind (chars front) (chars block ++ chars rest) closes_chars j ∙ (splits_before (chars block) (chars rest) j at.1 behind_chars ∙ at.2)),
+            (splits_after (chars front) (chars block ++ chars rest) closes_chars j ∙ (splits_before (chars block) (chars rest) j at.1 seam_chars ∙ at.2)),
         ap (λ cs. place_of cs (length (chars front) + j)) chars_are ∙
-            (place_behind (chars front) (chars block ++ chars rest) closes_chars j ∙
+            (place_after (chars front) (chars block ++ chars rest) closes_chars j ∙
             (ap (λ n. n + place_of (chars block ++ chars rest) j) front_len ∙ ap (λ n. length front + n) (place_before (chars block) (chars rest) j at.1 ∙ at.3))),
       )
 

@@ -35,8 +35,8 @@ module _ (f : List ℕ → ℕ) (sums : List ℕ) (blocks : List (List ℕ)) (in
   low : ℕ
   low = 0 + sum (map f (take index blocks))
 
-  behind_is : drop (index + 1) sums ≡ sums_from (0 + sum (map f (take index blocks)) + f block) (map f (drop (index + 1) blocks))
-  behind_is =
+  later_are : drop (index + 1) sums ≡ sums_from (0 + sum (map f (take index blocks)) + f block) (map f (drop (index + 1) blocks))
+  later_are =
       let front = sums_from 0 (map f (take index blocks)) ++ (0 + sum (map f (take index blocks))) ∷ [] in
       let all : sums ≡ front ++ sums_from (0 + sum (map f (take index blocks)) + f block) (map f (drop (index + 1) blocks)) =
       sums_are ∙ (ap (sums_from 0) rows ∙ (sums_append 0 (map f (take index blocks)) (f block ∷ map f (drop (index + 1) blocks)) ∙
@@ -45,12 +45,12 @@ module _ (f : List ℕ → ℕ) (sums : List ℕ) (blocks : List (List ℕ)) (in
       drop_at front (sums_from (0 + sum (map f (take index blocks)) + f block) (map f (drop (index + 1) blocks))) (index + 1)
       (omega (arith, length-append (sums_from 0 (map f (take index blocks))) ((0 + sum (map f (take index blocks))) ∷ []), length-sums 0 (map f (take index blocks)), size))
 
-  behind_count : length (drop (index + 1) sums) ≡ length (map f (drop (index + 1) blocks))
-  behind_count = ap length behind_is ∙ length-sums (0 + sum (map f (take index blocks)) + f block) (map f (drop (index + 1) blocks))
+  later_count : length (drop (index + 1) sums) ≡ length (map f (drop (index + 1) blocks))
+  later_count = ap length later_are ∙ length-sums (0 + sum (map f (take index blocks)) + f block) (map f (drop (index + 1) blocks))
 
   pub sums_after : (k : ℕ) → k < length (drop (index + 1) sums) → f block ≤ slice_index (drop (index + 1) sums) k
   sums_after k h =
-      omega (arith, ap (λ xs. get_or xs k 0) behind_is, sums_low (0 + sum (map f (take index blocks)) + f block) (map f (drop (index + 1) blocks)) k (omega (arith, h, behind_count)))
+      omega (arith, ap (λ xs. get_or xs k 0) later_are, sums_low (0 + sum (map f (take index blocks)) + f block) (map f (drop (index + 1) blocks)) k (omega (arith, h, later_count)))
 
   pub sum_next : sum (map f (take index blocks ++ fresh ∷ drop (index + 1) blocks)) ≡ sum (map f (take index blocks)) + (f fresh + sum (map f (drop (index + 1) blocks)))
   sum_next =
@@ -59,7 +59,7 @@ module _ (f : List ℕ → ℕ) (sums : List ℕ) (blocks : List (List ℕ)) (in
 
   pub sums_room : sum (map f (take index blocks ++ fresh ∷ drop (index + 1) blocks)) ≤ 2147483648 → (k : ℕ) → k < length (drop (index + 1) sums) → slice_index (drop (index + 1) sums) k - f block + f fresh < 2 ^ 32
   sums_room total k h =
-      omega (arith, total, sum_next, ap (λ xs. get_or xs k 0) behind_is, sums_high (0 + sum (map f (take index blocks)) + f block) (map f (drop (index + 1) blocks)) k (omega (arith, h, behind_count)))
+      omega (arith, total, sum_next, ap (λ xs. get_or xs k 0) later_are, sums_high (0 + sum (map f (take index blocks)) + f block) (map f (drop (index + 1) blocks)) k (omega (arith, h, later_count)))
 
   pub sums_moved : take (index + 1) sums ++ map (λ start. start - f block + f fresh) (drop (index + 1) sums) ≡ sums_from 0 (map f (take index blocks ++ fresh ∷ drop (index + 1) blocks))
   sums_moved =
@@ -149,13 +149,13 @@ module _ (blocks : List (List ℕ)) (starts lines : List ℕ) (index : ℕ) (blo
       is_utf8-from_IsUtf8 (replace_range block (start - from) (stop - from) new)
       (IsUtf8-append (take (start - from) block ++ new) (drop (stop - from) block) (IsUtf8-append (take (start - from) block) new (IsUtf8-take block (start - from) block_utf8 put_start) put.new_utf8) (IsUtf8-drop block (stop - from) block_utf8 put_stop))
 
-  behind : (drop (index + 1) blocks ≡ []) ⊎ (AreFull (replace_range block (start - from) (stop - from) new ∷ []) × AreBlocks (drop (index + 1) blocks))
-  behind =
+  after : (drop (index + 1) blocks ≡ []) ⊎ (AreFull (replace_range block (start - from) (stop - from) new ∷ []) × AreBlocks (drop (index + 1) blocks))
+  after =
       ⊎_elim
       (λ (e : drop (index + 1) blocks ≡ []). inl e)
       (λ (e : EndsClear (get_or blocks index []) × AreBlocks (drop (index + 1) blocks)).
       inr ((fresh_utf8, fresh_ends (subst EndsClear same e.0) e.1, tt), e.1))
-      parts.behind
+      parts.after
     where
       inside_stop : AreBlocks (drop (index + 1) blocks) → stop - from < length block
       inside_stop are =
@@ -168,7 +168,7 @@ module _ (blocks : List (List ℕ)) (starts lines : List ℕ) (index : ℕ) (blo
       fresh_ends feed are = back_ends block (take (start - from) block ++ new) (stop - from) (inside_stop are) feed
 
   pub next_are : AreBlocks (take index blocks ++ replace_range block (start - from) (stop - from) new ∷ drop (index + 1) blocks)
-  next_are = joined_blocks (take index blocks) (replace_range block (start - from) (stop - from) new ∷ []) (drop (index + 1) blocks) parts.full fresh_utf8 behind
+  next_are = joined_blocks (take index blocks) (replace_range block (start - from) (stop - from) new ∷ []) (drop (index + 1) blocks) parts.full fresh_utf8 after
 
   pub next_ends : sum (map ends_of (take index blocks ++ replace_range block (start - from) (stop - from) new ∷ drop (index + 1) blocks)) ≤ 2147483648
   next_ends = omega (arith, put_size, blocks_ends (take index blocks ++ replace_range block (start - from) (stop - from) new ∷ drop (index + 1) blocks) next_are)

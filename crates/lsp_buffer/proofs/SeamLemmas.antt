@@ -60,10 +60,10 @@ find_front : (wanted : ℕ → Bool) (xs ys : List ℕ) → find wanted ys ≡ N
 find_front wanted [] ys none = none
 find_front wanted (x ∷ xs) ys none = ap (λ rest. cond (wanted x) (Some x) rest) (find_front wanted xs ys none)
 
-find_behind : (wanted test : ℕ → Bool) (low n : ℕ) (ys : List ℕ) → ((k : ℕ) → low ≤ k → k < low + n → test k ≡ true → wanted k ≡ false) → find wanted (filter test (numbers_from low n) ++ ys) ≡ find wanted ys
-find_behind wanted test low zero ys none = refl
-find_behind wanted test low (suc n) ys none =
-    let later : find wanted (filter test (numbers_from (suc low) n) ++ ys) ≡ find wanted ys = find_behind wanted test (suc low) n ys (λ k o w. none k (omega arith) (omega arith)) in
+find_after : (wanted test : ℕ → Bool) (low n : ℕ) (ys : List ℕ) → ((k : ℕ) → low ≤ k → k < low + n → test k ≡ true → wanted k ≡ false) → find wanted (filter test (numbers_from low n) ++ ys) ≡ find wanted ys
+find_after wanted test low zero ys none = refl
+find_after wanted test low (suc n) ys none =
+    let later : find wanted (filter test (numbers_from (suc low) n) ++ ys) ≡ find wanted ys = find_after wanted test (suc low) n ys (λ k o w. none k (omega arith) (omega arith)) in
     ⊎_elim
     (λ (e : test low ≡ true). let fails : wanted low ≡ false = none low (omega arith) (omega arith) e in rw (e, fails) later)
     (λ (e : test low ≡ false). rw e later)
@@ -77,7 +77,7 @@ find_none_moved by wanted (x ∷ xs) none = rw (none x) (find_none_moved by want
 abbrev pub head : (ℕ → ℕ) → List ℕ → ℕ
 head units text = units_between units text (line_start text (line_ends text)) (length text)
 
--- The first of a text, the second behind it.
+-- The first of a text, the second after it.
 module _ (a b : List ℕ) where
   pub left_at : (k : ℕ) → k < length a → slice_index (a ++ b) k ≡ slice_index a k
   left_at k h = get_or_append_left a b 0 k h
@@ -410,7 +410,7 @@ module _ (a b : List ℕ) (clear : EndsClear a) where
           (sym (find_front o (filter (is_in_content a p.line) (numbers_from 0 (length a))) (filter (is_in_content a p.line) (numbers_from (0 + length a) 1)) none) ∙
           ap (find o) (sym own)))))
 
-  -- A position of the second, moved behind the first.
+  -- A position of the second, moved after the first.
   pub denoted_right : (units : ℕ → ℕ) → ((c : ℕ) → 1 ≤ units c) → (line character : ℕ) →
       denoted units (a ++ b) (record { line = line_ends a + line; character = carried line (head units a) + character }) ≡ option_map (λ k. length a + k) (denoted units b (record { line = line; character = character }))
   denoted_right units some line character =
@@ -434,7 +434,7 @@ module _ (a b : List ℕ) (clear : EndsClear a) where
           let w = λ (k : ℕ). units_between units (a ++ b) (line_start (a ++ b) (line_ends a + line)) k == carried line (head units a) + character in
           let o = λ (k : ℕ). units_between units b (line_start b line) k == character in
           ap (find w) (row_right line) ∙
-          (find_behind w (is_in_content (a ++ b) (line_ends a + line)) 0 (length a) (map (λ k. length a + k) (line_content b line))
+          (find_after w (is_in_content (a ++ b) (line_ends a + line)) 0 (length a) (map (λ k. length a + k) (line_content b line))
           (λ k l g there.
           false_from_ne_true (units_between units (a ++ b) (line_start (a ++ b) (line_ends a + line)) k == carried line (head units a) + character)
           (λ e. omega (arith, eqb-true (units_between units (a ++ b) (line_start (a ++ b) (line_ends a + line)) k) (carried line (head units a) + character) e, units_before units some line k (omega arith) there))) ∙

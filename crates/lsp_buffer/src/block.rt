@@ -153,6 +153,15 @@ impl Block {
     }
 }
 
+/// The change of some blocks in which the ones from index `first` to index `past` become others.
+#[derive(Clone, Copy)]
+pub struct BlockSplice<'a> {
+    pub blocks: &'a [Block],
+    pub first: usize,
+    pub past: usize,
+    pub fresh: &'a [Block],
+}
+
 /// Copies some blocks. Fails only if it is out of memory.
 pub fn copied_blocks(alloc: Global, blocks: &[Block]) -> Result<Vec<Block>, AllocError>
     ensures { IfOk result (λ copies. copies.items ≡ blocks.now) }

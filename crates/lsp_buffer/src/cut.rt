@@ -49,10 +49,7 @@ fn feed_of(bytes: &[u8]) -> Option<usize>
     ensures front { IfSome result (λ at. at < CUT) }
 {
     let (front, _) = bytes.split_at(CUT);
-    match memrchr(b'\n', front) {
-        Some(at) => Some(at),
-        None => None,
-    }
+    memrchr(b'\n', front)
 }
 
 /// Returns where the first block of a text ends, if it isn't the last: after the last line feed of

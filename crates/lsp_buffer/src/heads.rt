@@ -1,11 +1,12 @@
 //! The units before each block in its line, for blocks that begin inside a line.
-ghost use Rattle.std.specs.Prelude.{◌≡◌, ◌+◌, ◌-◌, ◌++◌, ◌≤◌, ◌<◌, IfOk, OnOk, length, map, take, drop, vec_len};
+ghost use Rattle.std.specs.Prelude.{◌≡◌, ◌+◌, ◌-◌, ◌++◌, ◌≤◌, ◌<◌, IfOk, OnOk};
+ghost use Rattle.std.specs.Prelude.{length, map, take, drop, vec_len};
 ghost use Rattle.std.specs.List.{concat};
 ghost use Rattle.lsp_text.specs.Units.{units_in};
 ghost use Rattle.lsp_buffer.specs.Blocks.{AreBlocks, AreHeads, ends_of, heads_from, sums_from};
 ghost use Rattle.lsp_buffer.specs.inside.Seams.{WereHeads, WereSums, heads_end, row_of};
 
-use crate::block::Block;
+use crate::block::{Block, BlockSplice};
 use crate::sums::{line_blocks, move_part};
 use lsp_text::Encoding;
 use std::alloc::{AllocError, Global};
@@ -74,57 +75,28 @@ impl Heads {
         put_block(&mut self.utf32, Encoding::Utf32, lines, blocks, index);
     }
 
-    /// Returns those of the blocks of which the ones from index `first` to index `past` become
-    /// others.
+    /// Returns those of the blocks after a change.
     pub fn spliced(
         &self,
         alloc: Global,
         lines: &[u32],
-        blocks: &[Block],
-        first: usize,
-        past: usize,
-        fresh: &[Block],
+        change: BlockSplice<'_>,
     ) -> Result<Self, AllocError>
-        requires order { first < past }
-        requires within { past ≤ length blocks.now }
-        requires are { AreBlocks (take first blocks.now ++ (fresh.now ++ drop past blocks.now)) }
-        requires size { length
-            (concat (take first blocks.now ++ (fresh.now ++ drop past blocks.now))) ≤ 2147483648 }
-        requires lines_are { lines.now ≡ sums_from 0 (map ends_of blocks.now) }
-        requires heads_are { AreHeads blocks.now (row_of self.now) }
-        ensures { IfOk result (λ heads. AreHeads
-            (take first blocks.now ++ (fresh.now ++ drop past blocks.now)) (row_of heads)) }
+        requires order { change.first < change.past }
+        requires within { change.past ≤ length change.blocks.now }
+        requires are { AreBlocks (take change.first change.blocks.now
+            ++ (change.fresh.now ++ drop change.past change.blocks.now)) }
+        requires size { length (concat (take change.first change.blocks.now
+            ++ (change.fresh.now ++ drop change.past change.blocks.now))) ≤ 2147483648 }
+        requires lines_are { lines.now ≡ sums_from 0 (map ends_of change.blocks.now) }
+        requires heads_are { AreHeads change.blocks.now (row_of self.now) }
+        ensures { IfOk result (λ heads. AreHeads (take change.entry.first change.entry.blocks.now
+            ++ (change.entry.fresh.now ++ drop change.entry.past change.entry.blocks.now))
+            (row_of heads)) }
     {
-        let utf8 = splice(
-            alloc,
-            Encoding::Utf8,
-            &self.utf8,
-            lines,
-            blocks,
-            first,
-            past,
-            fresh,
-        )?;
-        let utf16 = splice(
-            alloc,
-            Encoding::Utf16,
-            &self.utf16,
-            lines,
-            blocks,
-            first,
-            past,
-            fresh,
-        )?;
-        let utf32 = splice(
-            alloc,
-            Encoding::Utf32,
-            &self.utf32,
-            lines,
-            blocks,
-            first,
-            past,
-            fresh,
-        )?;
+        let utf8 = splice(alloc, Encoding::Utf8, &self.utf8, lines, change)?;
+        let utf16 = splice(alloc, Encoding::Utf16, &self.utf16, lines, change)?;
+        let utf32 = splice(alloc, Encoding::Utf32, &self.utf32, lines, change)?;
         Ok(Heads { utf8, utf16, utf32 })
     }
 }
@@ -178,28 +150,32 @@ fn put_block(heads: &mut [u32], encoding: Encoding, lines: &[u32], blocks: &[Blo
     move_part(heads, next, count, old, new);
 }
 
-/// Returns the units before each block, if the ones from index `first` to index `past` become
-/// others.
+/// Returns the units before each block after a change.
 fn splice(
     alloc: Global,
     encoding: Encoding,
     heads: &[u32],
     lines: &[u32],
-    blocks: &[Block],
-    first: usize,
-    past: usize,
-    fresh: &[Block],
+    change: BlockSplice<'_>,
 ) -> Result<Vec<u32>, AllocError>
-    requires order { first < past }
-    requires within { past ≤ length blocks.now }
-    requires are { AreBlocks (take first blocks.now ++ (fresh.now ++ drop past blocks.now)) }
-    requires size { length (concat (take first blocks.now ++ (fresh.now ++ drop past blocks.now)))
-        ≤ 2147483648 }
-    requires lines_are { lines.now ≡ sums_from 0 (map ends_of blocks.now) }
-    requires heads_are { heads.now ≡ heads_from (units_in encoding) 0 blocks.now }
+    requires order { change.first < change.past }
+    requires within { change.past ≤ length change.blocks.now }
+    requires are { AreBlocks (take change.first change.blocks.now
+        ++ (change.fresh.now ++ drop change.past change.blocks.now)) }
+    requires size { length (concat (take change.first change.blocks.now
+        ++ (change.fresh.now ++ drop change.past change.blocks.now))) ≤ 2147483648 }
+    requires lines_are { lines.now ≡ sums_from 0 (map ends_of change.blocks.now) }
+    requires heads_are { heads.now ≡ heads_from (units_in encoding) 0 change.blocks.now }
     ensures { IfOk result (λ made. made.items ≡ heads_from (units_in encoding) 0
-        (take first blocks.now ++ (fresh.now ++ drop past blocks.now))) }
+        (take change.entry.first change.entry.blocks.now
+        ++ (change.entry.fresh.now ++ drop change.entry.past change.entry.blocks.now))) }
 {
+    let BlockSplice {
+        first,
+        past,
+        fresh,
+        ..
+    } = change;
     let (front, _) = heads.split_at(first);
     let (_, rest) = heads.split_at(past);
     let mut made = Vec::new(alloc);

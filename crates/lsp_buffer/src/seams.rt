@@ -2,7 +2,7 @@
 ghost use Rattle.std.specs.Prelude.{◌≡◌, ◌+◌, ◌<◌, ◌^◌, length, slice_index};
 ghost use Rattle.lsp_text.specs.Starts.{AreStarts, IsLineOf};
 ghost use Rattle.lsp_buffer.specs.Blocks.{carried};
-ghost use Rattle.lsp_buffer.specs.inside.Seams.{AreMarks, IsBehind, mark, marks_of, position_after, position_from};
+ghost use Rattle.lsp_buffer.specs.inside.Seams.{AreMarks, IsAtOrAfter, mark, marks_of, position_after, position_from};
 
 use lsp_text::{Position, Starts, line_of};
 
@@ -65,7 +65,7 @@ pub fn block_at(lines: &[u32], heads: &[u32], position: Position) -> usize
 /// Returns a position as it is counted from a block on that begins in this line, after so many
 /// units of it.
 pub fn position_after(line: u32, head: u32, position: Position) -> Position
-    requires { IsBehind line head position }
+    requires { IsAtOrAfter line head position }
     ensures { result ≡ position_after line head position }
 {
     if position.line == line {

@@ -9,8 +9,8 @@ use Rattle.lsp_text.specs.Units.{units_in}
 use Rattle.lsp_buffer.specs.Blocks.{AreBlocks, carried, ends_of, head_after, heads_from, sums_from}
 
 -- A position is at the end of a text or after it, if that is in this line, with so many units.
-abbrev pub IsBehind : ℕ → ℕ → Position → Type 0
-IsBehind line head p = (line < p.line) ⊎ ((p.line ≡ line) × (head ≤ p.character))
+abbrev pub IsAtOrAfter : ℕ → ℕ → Position → Type 0
+IsAtOrAfter line head p = (line < p.line) ⊎ ((p.line ≡ line) × (head ≤ p.character))
 
 -- It is before the end.
 abbrev pub IsBefore : ℕ → ℕ → Position → Type 0

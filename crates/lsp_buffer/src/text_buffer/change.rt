@@ -1,12 +1,14 @@
 //! A change of a text in blocks: inside a block, or across blocks, which are cut again.
-ghost use Rattle.std.specs.Prelude.{◌≡◌, ◌+◌, ◌-◌, ◌≤◌, ◌<◌, ◌++◌, ℕ, List, IsTrue, OnOk, OnErr, length, take, drop, set, vec_len, slice_index, string_bytes, IfOk, map, sum};
+ghost use Rattle.std.specs.Prelude.{◌≡◌, ◌+◌, ◌-◌, ◌≤◌, ◌<◌, ◌++◌, ℕ, List, IfOk, IsTrue, OnOk};
+ghost use Rattle.std.specs.Prelude.{OnErr, length, take, drop, set, map, sum, vec_len, slice_index};
+ghost use Rattle.std.specs.Prelude.{string_bytes};
 ghost use Rattle.std.specs.List.{concat, replace_range};
 ghost use Rattle.std.specs.Str.{IsCharBoundary};
 ghost use Rattle.lsp_text.specs.Starts.{IsLineOf};
 ghost use Rattle.lsp_buffer.specs.inside.Seams.{row_of};
 ghost use Rattle.lsp_buffer.specs.Blocks.{AreBlocks, IsBuffer, IsTextBuffer, ends_of, sums_from};
 
-use crate::block::Block;
+use crate::block::{Block, BlockSplice};
 use crate::cut::{CUT, LAST, blocks_of};
 use crate::heads::Heads;
 use crate::sums::{block_of, move_from, push_lines, push_starts};
@@ -190,25 +192,24 @@ fn replace_blocks(
     Ok(())
 }
 
-/// Returns the first bytes of all blocks, if those from index `first` to index `past` become
-/// others.
-fn starts_of(
-    alloc: Global,
-    starts: &[u32],
-    blocks: &[Block],
-    first: usize,
-    past: usize,
-    fresh: &[Block],
-) -> Result<Vec<u32>, AllocError>
-    requires first { first < length starts.now }
-    requires past { past ≤ length blocks.now }
-    requires room { slice_index starts.now first + sum (map length fresh.now)
-        + sum (map length (drop past blocks.now)) ≤ 2147483648 }
-    ensures { IfOk result (λ made. made.items ≡ take first starts.now
-        ++ (sums_from (slice_index starts.now first) (map length fresh.now)
-        ++ sums_from (slice_index starts.now first + sum (map length fresh.now))
-        (map length (drop past blocks.now)))) }
+/// Returns the first bytes of all blocks after a change.
+fn starts_of(alloc: Global, starts: &[u32], change: BlockSplice<'_>) -> Result<Vec<u32>, AllocError>
+    requires first { change.first < length starts.now }
+    requires past { change.past ≤ length change.blocks.now }
+    requires room { slice_index starts.now change.first + sum (map length change.fresh.now)
+        + sum (map length (drop change.past change.blocks.now)) ≤ 2147483648 }
+    ensures { IfOk result (λ made. made.items ≡ take change.entry.first starts.now
+        ++ (sums_from (slice_index starts.now change.entry.first)
+        (map length change.entry.fresh.now) ++ sums_from
+        (slice_index starts.now change.entry.first + sum (map length change.entry.fresh.now))
+        (map length (drop change.entry.past change.entry.blocks.now)))) }
 {
+    let BlockSplice {
+        blocks,
+        first,
+        past,
+        fresh,
+    } = change;
     let (front, _) = starts.split_at(first);
     let (_, rest) = blocks.split_at(past);
     let mut made = Vec::new(alloc);
@@ -218,25 +219,24 @@ fn starts_of(
     Ok(made)
 }
 
-/// Returns the first lines of all blocks, if those from index `first` to index `past` become
-/// others.
-fn lines_of(
-    alloc: Global,
-    lines: &[u32],
-    blocks: &[Block],
-    first: usize,
-    past: usize,
-    fresh: &[Block],
-) -> Result<Vec<u32>, AllocError>
-    requires first { first < length lines.now }
-    requires past { past ≤ length blocks.now }
-    requires room { slice_index lines.now first + sum (map ends_of fresh.now)
-        + sum (map ends_of (drop past blocks.now)) ≤ 2147483648 }
-    ensures { IfOk result (λ made. made.items ≡ take first lines.now
-        ++ (sums_from (slice_index lines.now first) (map ends_of fresh.now)
-        ++ sums_from (slice_index lines.now first + sum (map ends_of fresh.now))
-        (map ends_of (drop past blocks.now)))) }
+/// Returns the first lines of all blocks after a change.
+fn lines_of(alloc: Global, lines: &[u32], change: BlockSplice<'_>) -> Result<Vec<u32>, AllocError>
+    requires first { change.first < length lines.now }
+    requires past { change.past ≤ length change.blocks.now }
+    requires room { slice_index lines.now change.first + sum (map ends_of change.fresh.now)
+        + sum (map ends_of (drop change.past change.blocks.now)) ≤ 2147483648 }
+    ensures { IfOk result (λ made. made.items ≡ take change.entry.first lines.now
+        ++ (sums_from (slice_index lines.now change.entry.first)
+        (map ends_of change.entry.fresh.now) ++ sums_from
+        (slice_index lines.now change.entry.first + sum (map ends_of change.entry.fresh.now))
+        (map ends_of (drop change.entry.past change.entry.blocks.now)))) }
 {
+    let BlockSplice {
+        blocks,
+        first,
+        past,
+        fresh,
+    } = change;
     let (front, _) = lines.split_at(first);
     let (_, rest) = blocks.split_at(past);
     let mut made = Vec::new(alloc);
@@ -280,30 +280,15 @@ pub fn replace_across(
     let text = joined(alloc, &blocks[first], to, new, &blocks[last], from)?;
     let fresh = blocks_of(alloc, &text)?;
     let past = last + 1;
-    let next_starts = starts_of(
-        alloc,
-        starts.as_slice(),
-        blocks.as_slice(),
+    let change = BlockSplice {
+        blocks: blocks.as_slice(),
         first,
         past,
-        fresh.as_slice(),
-    )?;
-    let next_lines = lines_of(
-        alloc,
-        lines.as_slice(),
-        blocks.as_slice(),
-        first,
-        past,
-        fresh.as_slice(),
-    )?;
-    let next_heads = heads.spliced(
-        alloc,
-        lines.as_slice(),
-        blocks.as_slice(),
-        first,
-        past,
-        fresh.as_slice(),
-    )?;
+        fresh: fresh.as_slice(),
+    };
+    let next_starts = starts_of(alloc, starts.as_slice(), change)?;
+    let next_lines = lines_of(alloc, lines.as_slice(), change)?;
+    let next_heads = heads.spliced(alloc, lines.as_slice(), change)?;
     replace_blocks(blocks, first, past, fresh)?;
     *starts = next_starts;
     *lines = next_lines;

@@ -15,4 +15,4 @@ splice-requires-3-clause-heads_are c = c.deref-3.ensures.value ∙ (ap (λ (f : 
 
 pub returns : goal.returns
 returns c =
-    of_each (take c.args.first c.args.blocks.now ++ (c.args.fresh.now ++ drop c.args.past c.args.blocks.now)) c.in_ok-utf8.utf8.items c.in_ok-utf16.utf16.items c.in_ok-utf32.utf32.items c.in_ok-utf8.ensures c.in_ok-utf16.ensures c.in_ok-utf32.ensures
+    of_each (take c.args.change.first c.args.change.blocks.now ++ (c.args.change.fresh.now ++ drop c.args.change.past c.args.change.blocks.now)) c.in_ok-utf8.utf8.items c.in_ok-utf16.utf16.items c.in_ok-utf32.utf32.items c.in_ok-utf8.ensures c.in_ok-utf16.ensures c.in_ok-utf32.ensures
