@@ -64,6 +64,9 @@ returns-clause-exact c = λ k k_within k_at.
 pub returns-clause-resolves : goal.returns-clause-resolves
 returns-clause-resolves c = exact_resolves (units_in c.args.encoding) (units_some c.args.encoding) (chars c.args.self.now) c.args.offset _ c.requires (returns-clause-exact c)
 
+pub returns-clause-utf8 : goal.returns-clause-utf8
+returns-clause-utf8 c = bytes_utf8 c.self.inside.blocks.items c.self.inside.starts.items c.self.inside.lines.items c.args.self.now c.self.invariant.sums c.self.view_is
+
 pub bounds-of-index : goal.bounds-of-index
 bounds-of-index c =
     let within : c.block_of-index.result < length c.self.inside.blocks.items = omega (arith, c.block_of-index.ensures.within, ap length c.deref.ensures.value, starts_count c.self.inside.blocks.items c.self.inside.starts.items c.self.inside.lines.items c.self.invariant.sums) in
