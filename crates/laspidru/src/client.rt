@@ -12,7 +12,7 @@ ghost use Rattle.laspidru.specs.Objects.{IsCopy, in_use, rest_asked};
 ghost use Rattle.laspidru.specs.Servers.{IsOpened, text_of, uri_asked};
 
 use crate::answers::{Answer, Opened, limits_of};
-use crate::bytes::{copy_from, utf8_text};
+use crate::bytes::{copy_from, copy_text, utf8_text};
 use crate::changes::{changes_of, refusal_of};
 use crate::codes::{
     EMPTY, IN_USE, INSIDE_CHARACTER, NOT_OPEN, NOT_UTF8, OK, OTHER_KIND, OUT_OF_MEMORY,
@@ -611,7 +611,7 @@ fn object_client_text(
     let Some(document) = editor.client.store().get(uri) else {
         return NOT_OPEN;
     };
-    copy_from(document.text().as_bytes(), start, out, copied)
+    copy_text(document.text(), start, out, copied)
 }
 
 /// Copies the bytes of an open document's text from `start` on, as many as `out` has room for, and

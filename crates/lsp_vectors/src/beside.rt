@@ -43,7 +43,7 @@ pub fn left_by_kept_text(
     let mut kept = IndexedText::new(alloc, String::from_str(alloc, text)?)?;
     let canonical = kept.canonical(encoding, changes, usize::MAX)?;
     kept.change(encoding, changes, usize::MAX)?;
-    let text = String::from_str(alloc, kept.text())?;
+    let text = kept.text().to_string(alloc)?;
     Ok(Left { text, canonical })
 }
 
@@ -65,7 +65,7 @@ pub fn left_by_joining(
     joined.change(encoding, &mut reached, first, MAX_OLD_TEXT)?;
     joined.change(encoding, &mut reached, second, MAX_OLD_TEXT)?;
     let canonical = joined.canonical(encoding)?;
-    let text = String::from_str(alloc, reached.text())?;
+    let text = reached.text().to_string(alloc)?;
     Ok(Left { text, canonical })
 }
 
