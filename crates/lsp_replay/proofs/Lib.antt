@@ -31,3 +31,4 @@ pub mod SingleLemmas
 pub mod SquashedLogLemmas
 pub mod KeptLemmas
 pub mod PartLemmas
+pub mod TraceLemmas

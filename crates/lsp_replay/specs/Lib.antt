@@ -7,4 +7,6 @@ pub mod Laws
 pub mod AllRecords
 pub mod Run
 pub mod Parts
+pub mod Reasons
+pub mod Trace
 pub mod inside

@@ -13,6 +13,7 @@ ghost use Rattle.lsp_replay.specs.Run.{serve_engine, check_engine, replay_engine
 ghost use Rattle.lsp_replay.specs.inside.Run.{each_engine, squash_engine};
 
 mod parts;
+mod traced;
 
 use crate::commands::checking::Check;
 use crate::commands::converting::Convert;
@@ -22,6 +23,7 @@ use crate::commands::serving::Serve;
 use crate::commands::squashing::Squashing;
 use crate::engine::{InputRules, run_engine, run_on};
 pub use crate::engines::parts::{Part, replay_part};
+pub use crate::engines::traced::{Details, trace};
 use crate::outcome::Outcome;
 use lsp_frame::Limits;
 use lsp_server::{Config, EncodingChoice, Sync};

@@ -13,8 +13,8 @@ mod words;
 
 use lsp_frame::{Limits, frame};
 use lsp_replay::{
-    Call, EngineFault, Outcome, Part, Settings, Sink, Source, StopReader, StopWriter, Told, check,
-    convert, normalise, replay, replay_part, serve,
+    Call, Details, EngineFault, Outcome, Part, Settings, Sink, Source, StopReader, StopWriter,
+    Told, check, convert, normalise, replay, replay_part, serve, trace,
 };
 use lsp_server::{Config, EncodingChoice, Sync};
 use lsp_text::Encoding;
@@ -106,6 +106,8 @@ enum Command {
     Convert,
     /// `replay` of the last text of `file:///a`, up to a record or to the end.
     Text(Option<u64>),
+    /// `trace` with the texts.
+    Trace,
 }
 
 /// Some bytes of a row.
@@ -225,6 +227,13 @@ fn call<R: Source, W: Sink>(
         Command::Text(at) => {
             let uri = Some(String::from_str(alloc, "file:///a")?);
             replay_part(alloc, from, to, settings, Part { at, uri }, turns)
+        }
+        Command::Trace => {
+            let details = Details {
+                texts: true,
+                bodies: false,
+            };
+            trace(alloc, from, to, settings, details, turns)
         }
     }
 }

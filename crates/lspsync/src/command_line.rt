@@ -6,20 +6,20 @@ ghost use Rattle.clap.specs.Words.{app_of, rule_of, with_subcommand};
 ghost use Rattle.clap.specs.declared.builder.value_parser.ValueParser.TheVariants.{Names};
 ghost use Rattle.lspsync.specs.CommandLine.{IsProgram, encoding_rule, flag_rule, limit_rules};
 ghost use Rattle.lspsync.specs.CommandLine.{option_rule, part_rules, squash_rule, sync_rule};
-ghost use Rattle.lspsync.specs.CommandLine.{at_rule, uri_rule};
+ghost use Rattle.lspsync.specs.CommandLine.{at_rule, detail_rules, uri_rule};
 ghost use Rattle.lspsync.specs.Help.{rule_of_limit, rules_of_limits};
 ghost use Rattle.lspsync.specs.inside.Options.{AddsRules, IsCommand, shape_by, top_app};
-ghost use Rattle.lspsync.specs.Call.{AreLimits, AreSettings, HasNumber, IsCallNamed, IsConfig, IsLogPart, is_whole};
+ghost use Rattle.lspsync.specs.Call.{AreDetails, AreLimits, AreSettings, HasNumber, IsCallNamed, IsConfig, IsLogPart, is_whole};
 ghost use Rattle.lspsync.specs.Call.{IsFound, IsRead, encoding_given, sync_given};
 ghost use Rattle.lsp_frame.specs.Limits.{Bounds};
 
 mod help;
 
-use crate::command_line::help::{Limit, LimitOptions, Page, PartHelp};
+use crate::command_line::help::{DetailHelp, Limit, LimitOptions, Page, PartHelp};
 use clap::builder::ValueParser;
 use clap::{Arg, ArgAction, ArgMatches, Command, Error};
 use lsp_frame::Limits;
-use lsp_replay::{Part, Settings};
+use lsp_replay::{Details, Part, Settings};
 use lsp_server::{Config, EncodingChoice, Sync};
 use lsp_text::Encoding;
 use std::alloc::{AllocError, Global};
@@ -31,6 +31,8 @@ pub enum Call {
     Serve(Config),
     /// `check`: print what a server answers to each record of a log.
     Check(Settings),
+    /// `trace`: print a line of JSON for each record of a log.
+    Trace(Settings, Details),
     /// `replay`: print the documents that are open at the end of a log.
     Replay(Settings),
     /// `replay --at N --uri URI`: print the documents after a record, or a document's last text.
@@ -87,6 +89,7 @@ fn other_call(name: &str, options: &ArgMatches<'_>) -> Option<Call>
     match name {
         "serve" => Some(Call::Serve(config_of(options)?)),
         "check" => Some(Call::Check(settings_of(options, false)?)),
+        "trace" => Some(Call::Trace(settings_of(options, false)?, details_of(options))),
         "normalise" => {
             let squash = options.get_flag("squash");
             Some(Call::Normalise(settings_of(options, squash)?))
@@ -133,6 +136,16 @@ fn part_of(alloc: Global, options: &ArgMatches<'_>) -> Result<Part, AllocError>
         None => None,
     };
     Ok(Part { at, uri })
+}
+
+/// What `trace` is to write of each record.
+fn details_of(options: &ArgMatches<'_>) -> Details
+    ensures { AreDetails options.now result }
+{
+    Details {
+        texts: options.get_flag("texts"),
+        bodies: options.get_flag("bodies"),
+    }
 }
 
 fn config_of(options: &ArgMatches<'_>) -> Option<Config>
@@ -235,6 +248,7 @@ fn program<'a>(alloc: Global, limits: &'a LimitOptions) -> Result<Command<'a>, A
     };
     let program = with_command(alloc, top(alloc), help::serve(), values)?;
     let program = with_command(alloc, program, help::check(), values)?;
+    let program = with_command(alloc, program, help::trace(), values)?;
     let program = with_command(alloc, program, help::replay(), values)?;
     let program = with_command(alloc, program, help::normalise(), values)?;
     with_command(alloc, program, help::convert(), values)
@@ -273,6 +287,7 @@ fn command<'a>(alloc: Global, page: Page, values: Values<'a>) -> Result<Command<
     let command = with_sync(alloc, command, page.sync, values.kinds)?;
     let command = with_squash(alloc, command, page.squash)?;
     let command = with_part(alloc, command, page.part)?;
+    let command = with_details(alloc, command, page.details)?;
     with_limits(alloc, command, values.limits)
 }
 
@@ -334,6 +349,22 @@ fn with_part<'a>(
         .arg(uri_option(alloc, help.uri))
 }
 
+/// Adds `--texts` and `--bodies`, if there is help for them.
+fn with_details<'a>(
+    alloc: Global,
+    command: Command<'a>,
+    help: Option<DetailHelp>,
+) -> Result<Command<'a>, AllocError>
+    ensures { IfOk result (AddsRules command.entry (if is_some help then detail_rules else [])) }
+{
+    let Some(help) = help else {
+        return Ok(command);
+    };
+    command
+        .arg(detail(alloc, "texts", help.texts))?
+        .arg(detail(alloc, "bodies", help.bodies))
+}
+
 /// Adds the options that set limits.
 fn with_limits<'a>(
     alloc: Global,
@@ -391,6 +422,14 @@ fn flag<'a>(alloc: Global, name: &'a str) -> Arg<'a>
     ensures global { result.global ≡ false }
 {
     Arg::new(alloc, name).long(name).action(ArgAction::SetTrue)
+}
+
+/// A flag with its help.
+fn detail<'a>(alloc: Global, name: &'a str, help: &'a str) -> Arg<'a>
+    ensures rule { rule_of result ≡ flag_rule name.entry.now }
+    ensures global { result.global ≡ false }
+{
+    flag(alloc, name).help(help)
 }
 
 /// An option with a number in a range.

@@ -21,6 +21,8 @@ pub struct Page {
     pub squash: Option<&'static str>,
     /// The meaning of `--at` and `--uri`, if the command has them.
     pub part: Option<PartHelp>,
+    /// The meaning of `--texts` and `--bodies`, if the command has them.
+    pub details: Option<DetailHelp>,
 }
 
 /// The help of the options that name a part of a log.
@@ -28,6 +30,13 @@ pub struct Page {
 pub struct PartHelp {
     pub at: &'static str,
     pub uri: &'static str,
+}
+
+/// The help of the options that say what is written of each record.
+#[derive(Clone, Copy, Debug)]
+pub struct DetailHelp {
+    pub texts: &'static str,
+    pub bodies: &'static str,
 }
 
 /// An option that sets a limit.
@@ -52,7 +61,7 @@ pub fn notes() -> &'static str {
 }
 
 pub fn serve() -> Page
-    ensures { IsPage result (codes "serve") true false false }
+    ensures { IsPage result (codes "serve") true false false false }
 {
     Page {
         name: "serve",
@@ -62,17 +71,30 @@ pub fn serve() -> Page
         sync: Some(SYNC),
         squash: None,
         part: None,
+        details: None,
     }
 }
 
 pub fn check() -> Page
-    ensures { IsPage result (codes "check") false false false }
+    ensures { IsPage result (codes "check") false false false false }
 {
     log_page("check", CHECK, CHECK_EXAMPLE)
 }
 
+pub fn trace() -> Page
+    ensures { IsPage result (codes "trace") false false false true }
+{
+    Page {
+        details: Some(DetailHelp {
+            texts: TEXTS,
+            bodies: BODIES,
+        }),
+        ..log_page("trace", TRACE, TRACE_EXAMPLE)
+    }
+}
+
 pub fn replay() -> Page
-    ensures { IsPage result (codes "replay") false false true }
+    ensures { IsPage result (codes "replay") false false true false }
 {
     Page {
         part: Some(PartHelp { at: AT, uri: URI }),
@@ -81,7 +103,7 @@ pub fn replay() -> Page
 }
 
 pub fn normalise() -> Page
-    ensures { IsPage result (codes "normalise") false true false }
+    ensures { IsPage result (codes "normalise") false true false false }
 {
     Page {
         squash: Some(SQUASH),
@@ -90,14 +112,14 @@ pub fn normalise() -> Page
 }
 
 pub fn convert() -> Page
-    ensures { IsPage result (codes "convert") false false false }
+    ensures { IsPage result (codes "convert") false false false false }
 {
     log_page("convert", CONVERT, CONVERT_EXAMPLE)
 }
 
 /// The page of a command that reads a log.
 fn log_page(name: &'static str, about: &'static str, example: &'static str) -> Page
-    ensures { IsPage result name.now false false false }
+    ensures { IsPage result name.now false false false false }
 {
     Page {
         name,
@@ -107,6 +129,7 @@ fn log_page(name: &'static str, about: &'static str, example: &'static str) -> P
         sync: None,
         squash: None,
         part: None,
+        details: None,
     }
 }
 
@@ -195,6 +218,18 @@ what the server sent. The status is 1 where an error (other than -32601) or a re
 Example, a session with two changes that a server must refuse:
   ./lspsync check < examples/stale-version.log";
 
+static TRACE: &str =
+    "Print a line of JSON for each message of a log: what it is, what a server answers, and why";
+
+static TRACE_EXAMPLE: &str =
+    "A line has the record's `number` and `offset`, who it is `from`, its `method` and `id`, the document's `uri`,
+the `word` of `check`, the `reason` if it was refused, and the document's `version`
+after it. The status is that of `check`.
+
+Example, and the refused messages alone where `jq` is there:
+  ./lspsync trace < examples/stale-version.log
+  ./lspsync trace < examples/stale-version.log | jq -c 'select(.reason)'";
+
 static REPLAY: &str =
     "Print the documents that are open at the end of a log, a line of JSON for each";
 
@@ -253,6 +288,10 @@ static SQUASH: &str =
 static AT: &str = "Replay up to the Nth message alone, from 1";
 
 static URI: &str = "Print this document's last text alone, as it is, also if it was closed";
+
+static TEXTS: &str = "Print the document's text too, where a message opened or changed it";
+
+static BODIES: &str = "Print each message too, where it is JSON";
 
 const MAX_BODY: &str = "Greatest length of a message, in bytes, from 4096 to 1073741824";
 

@@ -1,0 +1,270 @@
+//! What a record is, whatever is answered: its number, its head, its method, its id and its
+//! document's URI.
+
+ghost use Rattle.std.specs.Prelude.{◌≡◌, ◌≢◌, ◌++◌, ◌⊎◌, IfErr, IfOk, OnOk, codes, decimal, option_map, string_bytes};
+ghost use Rattle.lsp_message.specs.Message.{reading};
+ghost use Rattle.lsp_message.specs.Seen.{id_view};
+ghost use Rattle.lsp_server.specs.Incoming.{incoming_of};
+ghost use Rattle.lsp_server.specs.Seen.{incoming_view};
+ghost use Rattle.lsp_stream.specs.Ports as ports;
+ghost use Rattle.lsp_replay.specs.Session.{bad, judge_at};
+ghost use Rattle.lsp_replay.specs.Trace.{document_of, first_members, id_json, id_member, id_of, is_json, json_string, method_of};
+ghost use Rattle.lsp_replay.specs.Trace.{side_word, text_member, uri_of};
+ghost use Rattle.lsp_replay.specs.inside.Bodies.{body_read, body_view};
+ghost use Rattle.lsp_replay.specs.inside.Verdicts.{verdict_view};
+
+use crate::commands::reasons::{push_number, push_signed};
+use crate::session::counting::one_more;
+use crate::session::{RecordBody, Session, Verdict, in_log};
+use json::Writer;
+use lsp_log::{Head, Side};
+use lsp_message::Id;
+use lsp_server::Incoming;
+use lsp_stream::EngineFault;
+use std::alloc::{AllocError, Global};
+use std::mem::replace;
+
+/// A record that was judged, and the URI of the document that it is about.
+#[derive(Drop)]
+pub struct Traced {
+    pub verdict: Verdict,
+    pub uri: Option<String>,
+    /// Is its body JSON?
+    pub is_json: bool,
+}
+
+impl Session {
+    /// Judges a record as [`Session::accept`] does. Before it writes the first members of its line.
+    pub fn accept_and_trace(
+        &mut self,
+        head: Head,
+        body: &[u8],
+        buffer: &mut Vec<u8>,
+    ) -> Result<Traced, EngineFault>
+        ensures verdict { IfOk result
+            (λ traced. verdict_view traced.verdict ≡ (judge_at self.old head body.now).verdict) }
+        ensures in_log { IfOk result (λ traced. verdict_view traced.verdict ≢ bad) }
+        ensures session { OnOk result (self.new ≡ (judge_at self.old head body.now).session) }
+        ensures uri { IfOk result (λ traced. option_map string_bytes traced.uri
+            ≡ document_of head.side (incoming_of (reading body.now))) }
+        ensures json { IfOk result
+            (λ traced. traced.is_json ≡ is_json (incoming_of (reading body.now))) }
+        ensures members { OnOk result (buffer.new.items ≡ buffer.old.items
+            ++ first_members (ports.one_more self.old.records) head
+            (incoming_of (reading body.now))) }
+        ensures error { IfErr result (λ fault. (fault ≡ EngineFault.NoMemory)
+            ⊎ ((fault ≡ EngineFault.BadLog head.place)
+            × ((judge_at self.old head body.now).verdict ≡ bad))) }
+    {
+        let traced = self.judge_and_trace(head, body, buffer)?;
+        in_log(&traced.verdict, head.place)?;
+        Ok(traced)
+    }
+
+    /// Judges a record as [`Session::judge`] does, and writes as [`Session::accept_and_trace`]
+    /// does.
+    fn judge_and_trace(
+        &mut self,
+        head: Head,
+        body: &[u8],
+        buffer: &mut Vec<u8>,
+    ) -> Result<Traced, AllocError>
+        ensures verdict { IfOk result
+            (λ traced. verdict_view traced.verdict ≡ (judge_at self.old head body.now).verdict) }
+        ensures session { OnOk result (self.new ≡ (judge_at self.old head body.now).session) }
+        ensures uri { IfOk result (λ traced. option_map string_bytes traced.uri
+            ≡ document_of head.side (incoming_of (reading body.now))) }
+        ensures json { IfOk result
+            (λ traced. traced.is_json ≡ is_json (incoming_of (reading body.now))) }
+        ensures members { OnOk result (buffer.new.items ≡ buffer.old.items
+            ++ first_members (ports.one_more self.old.records) head
+            (incoming_of (reading body.now))) }
+    {
+        let incoming = self.server.read(body)?;
+        let number = one_more(self.records);
+        let uri = document_of(head.side, &incoming);
+        push_first(self.alloc, buffer, number, head, &incoming, uri)?;
+        let uri = copied_text(self.alloc, uri)?;
+        let is_json = is_json(&incoming);
+        let verdict = self.take(record_body(head, body, incoming))?;
+        Ok(Traced {
+            verdict,
+            uri,
+            is_json,
+        })
+    }
+}
+
+/// The body of a record, by what it asks.
+fn record_body<'a>(head: Head, body: &'a [u8], incoming: Incoming) -> RecordBody<'a>
+    ensures { incoming_view incoming ≡ incoming_of (reading body.entry.now) →
+        body_view result ≡ body_read head.version head.side body.entry.now }
+{
+    match head.side {
+        Side::Client => RecordBody::Client(head.version, incoming),
+        Side::Server => RecordBody::Server(body),
+    }
+}
+
+/// Returns a copy of a text, if there is one.
+fn copied_text(alloc: Global, text: Option<&str>) -> Result<Option<String>, AllocError>
+    ensures { IfOk result
+        (λ copy. option_map string_bytes copy ≡ option_map (λ text. text.now) text) }
+{
+    match text {
+        Some(text) => Ok(Some(String::from_str(alloc, text)?)),
+        None => Ok(None),
+    }
+}
+
+/// Writes the first members of a record's line. `uri` is that of the document that it is about.
+fn push_first(
+    alloc: Global,
+    buffer: &mut Vec<u8>,
+    number: u64,
+    head: Head,
+    incoming: &Incoming,
+    uri: Option<&str>,
+) -> Result<(), AllocError>
+    ensures { option_map (λ uri. uri.now) uri
+        ≡ document_of head.side (incoming_view incoming.now) →
+        OnOk result (buffer.new.items ≡ buffer.old.items
+        ++ first_members number head (incoming_view incoming.now)) }
+{
+    push_head(buffer, number, head)?;
+    push_text(alloc, buffer, ",\"method\":", method_of(incoming))?;
+    push_id(alloc, buffer, id_of(incoming))?;
+    push_text(alloc, buffer, ",\"uri\":", uri)
+}
+
+/// Writes a record's number, its offset and its side.
+fn push_head(buffer: &mut Vec<u8>, number: u64, head: Head) -> Result<(), AllocError>
+    ensures { OnOk result (buffer.new.items ≡ buffer.old.items ++ codes "{\"number\":"
+        ++ decimal number ++ codes ",\"offset\":" ++ decimal head.place ++ codes ",\"from\":\""
+        ++ side_word head.side ++ codes "\"") }
+{
+    buffer.extend_from_slice(b"{\"number\":")?;
+    push_number(buffer, number)?;
+    buffer.extend_from_slice(b",\"offset\":")?;
+    push_number(buffer, head.place)?;
+    buffer.extend_from_slice(b",\"from\":\"")?;
+    buffer.extend_from_slice(side_word(head.side).as_bytes())?;
+    buffer.extend_from_slice(b"\"")
+}
+
+fn side_word(side: Side) -> &'static str
+    ensures { result.now ≡ side_word side }
+{
+    match side {
+        Side::Client => "editor",
+        Side::Server => "server",
+    }
+}
+
+/// Is a body JSON?
+fn is_json(incoming: &Incoming) -> bool
+    ensures { result ≡ is_json (incoming_view incoming.now) }
+{
+    !matches!(incoming, Incoming::NotJson)
+}
+
+/// The method of a request or a notification.
+fn method_of(incoming: &Incoming) -> Option<&str>
+    ensures { option_map (λ method. method.now) result ≡ method_of (incoming_view incoming.now) }
+{
+    match incoming {
+        Incoming::NotJson | Incoming::NotAMessage { .. } | Incoming::Response { .. } => None,
+        Incoming::Initialize { .. } => Some("initialize"),
+        Incoming::Shutdown { .. } => Some("shutdown"),
+        Incoming::Exit => Some("exit"),
+        Incoming::DidOpen(_) => Some("textDocument/didOpen"),
+        Incoming::DidChange(_) => Some("textDocument/didChange"),
+        Incoming::DidClose(_) => Some("textDocument/didClose"),
+        Incoming::OtherRequest { method, .. } => Some(method.as_str()),
+        Incoming::OtherNotification { method } => Some(method.as_str()),
+    }
+}
+
+/// The id of a request or a response, or the one that a body which is no message names.
+fn id_of(incoming: &Incoming) -> Option<&Id>
+    ensures { option_map (λ id. id_view id.now) result ≡ id_of (incoming_view incoming.now) }
+{
+    match incoming {
+        Incoming::NotAMessage { id } => id.as_ref(),
+        Incoming::Response { id } => id.as_ref(),
+        Incoming::Initialize { id, .. } => Some(id),
+        Incoming::Shutdown { id } => Some(id),
+        Incoming::OtherRequest { id, .. } => Some(id),
+        _ => None,
+    }
+}
+
+/// The URI that a client's message about a document names.
+fn document_of(side: Side, incoming: &Incoming) -> Option<&str>
+    ensures { option_map (λ uri. uri.now) result
+        ≡ document_of side (incoming_view incoming.now) }
+{
+    match side {
+        Side::Client => uri_of(incoming),
+        Side::Server => None,
+    }
+}
+
+/// The URI in valid parameters of a message about a document.
+fn uri_of(incoming: &Incoming) -> Option<&str>
+    ensures { option_map (λ uri. uri.now) result ≡ uri_of (incoming_view incoming.now) }
+{
+    match incoming {
+        Incoming::DidOpen(Some(params)) => Some(params.uri.as_str()),
+        Incoming::DidChange(Some(params)) => Some(params.uri.as_str()),
+        Incoming::DidClose(Some(params)) => Some(params.uri.as_str()),
+        _ => None,
+    }
+}
+
+/// Writes a member with a text, if there is one. `front` is the comma and the name.
+fn push_text(
+    alloc: Global,
+    buffer: &mut Vec<u8>,
+    front: &str,
+    text: Option<&str>,
+) -> Result<(), AllocError>
+    ensures { OnOk result (buffer.new.items ≡ buffer.old.items
+        ++ text_member front.now (option_map (λ text. text.now) text)) }
+{
+    let Some(text) = text else {
+        return Ok(());
+    };
+    buffer.extend_from_slice(front.as_bytes())?;
+    push_json_string(alloc, buffer, text)
+}
+
+fn push_id(alloc: Global, buffer: &mut Vec<u8>, id: Option<&Id>) -> Result<(), AllocError>
+    ensures { OnOk result (buffer.new.items ≡ buffer.old.items
+        ++ id_member (option_map (λ id. id_view id.now) id)) }
+{
+    let Some(id) = id else {
+        return Ok(());
+    };
+    buffer.extend_from_slice(b",\"id\":")?;
+    push_id_json(alloc, buffer, id)
+}
+
+fn push_id_json(alloc: Global, buffer: &mut Vec<u8>, id: &Id) -> Result<(), AllocError>
+    ensures { OnOk result (buffer.new.items ≡ buffer.old.items ++ id_json (id_view id.now)) }
+{
+    match id {
+        Id::Whole(number) => push_signed(buffer, *number),
+        Id::Text(text) => push_json_string(alloc, buffer, text.as_str()),
+    }
+}
+
+/// Writes a text as a JSON string.
+pub fn push_json_string(alloc: Global, buffer: &mut Vec<u8>, text: &str) -> Result<(), AllocError>
+    ensures { OnOk result (buffer.new.items ≡ buffer.old.items ++ json_string text.now) }
+{
+    let mut writer = Writer::new(replace(buffer, Vec::new(alloc)));
+    writer.string(text)?;
+    *buffer = writer.into_inner();
+    Ok(())
+}
