@@ -1,13 +1,14 @@
 -- A line of `trace`, and the output from it on.
-use Rattle.std.proofs.Common.{◌≡◌, ◌≢◌, ℕ, Bool, true, false, List, [], ◌∷◌, ◌++◌, Option, Some, None, refl, sym, ap, ◌∙◌}
+use Rattle.std.proofs.Common.{◌≡◌, ◌≢◌, ℕ, Bool, true, false, List, [], ◌∷◌, ◌++◌, length, le-ltb, lt-ltb, Option, Some, None, refl, sym, ap, ◌∙◌, subst}
 use Rattle.std.specs.Prelude.{if◌then◌else◌}
 use Rattle.serde_json.specs.Data.{Data}
 use Rattle.lsp_text.specs.declared.encoding.Encoding.{Encoding}
 use Rattle.lsp_message.specs.declared.agreement.Announced.{Announced}
 use Rattle.lsp_message.specs.Agreement.{announced_of}
 use Rattle.lsp_message.specs.Message.{IdData, reading}
+use Rattle.lsp_message.specs.Params.{ChangeData}
 use Rattle.lsp_server.specs.Answer.{as_sent}
-use Rattle.lsp_server.specs.Incoming.{IncomingData, incoming_of}
+use Rattle.lsp_server.specs.Incoming.{IncomingData, did_change, incoming_of}
 use Rattle.lsp_server.specs.Step.{step_on}
 use Rattle.lsp_stream.specs.Ports.{one_more}
 use Rattle.lsp_log.specs.declared.record.Version.{Version}
@@ -15,11 +16,20 @@ use Rattle.lsp_log.specs.declared.record.Side.{Side}
 use Rattle.lsp_log.specs.declared.record.Side.TheVariants.{Client, Server}
 use Rattle.lsp_log.specs.Log.{Record}
 use Rattle.lsp_replay.specs.declared.engines.traced.Details.{Details}
+use Rattle.lsp_replay.specs.declared.session.tracing.Traced.{Traced}
+use Rattle.lsp_replay.specs.declared.session.writing.Appended.{Appended}
+use Rattle.lsp_replay.specs.declared.session.writing.Appended.TheVariants.{Body, TooLong}
 use Rattle.lsp_replay.specs.RunOutput.{RunOutput, written_first}
-use Rattle.lsp_replay.specs.Engines.{RecordOutput, check_line, checking, continue_with, log_config, run_output_in, unless_bad, writes}
-use Rattle.lsp_replay.specs.Session.{Session, Verdict, answered, recorded, bad, opened, Judged, judged, judge, judge_from, judge_incoming, handled, hear_for, heard, settle_by, settle_in, result_for, is_ended, is_early}
-use Rattle.lsp_replay.specs.Trace.{TraceLaw, document_after, document_of, first_members, last_members, trace_line, tracing}
+use Rattle.lsp_replay.specs.Engines.{RecordOutput, canonical_of_record, check_line, checking, continue_with, log_config, run_output_in, unless_bad, writes}
+use Rattle.lsp_replay.specs.Session.{Session, Verdict, answered, recorded, bad, opened, Judged, counted, judged, judge, judge_from, judge_incoming, handled, hear_for, heard, settle_by, settle_in, result_for, is_ended, is_early}
+use Rattle.lsp_replay.specs.Trace.{TraceLaw, first_members, trace_line, tracing, within}
+use Rattle.lsp_replay.specs.inside.Bodies.{BodyData, IsChangeTaken, IsReceived, canonical_read, judge_read}
+use Rattle.lsp_replay.specs.inside.Joining.{change_body_if}
+use Rattle.lsp_replay.specs.inside.Tracing.{IsTraced, canonical_json, members_by}
+use Rattle.lsp_replay.specs.inside.Verdicts.{IsAppended}
+use Rattle.lsp_replay.proofs.BodyLemmas.{asked_in}
 use Rattle.lsp_replay.proofs.PartLemmas.{unless_not}
+use Rattle.lsp_replay.proofs.TakenLemmas.{change_canonical}
 
 -- ---- one record more was judged
 
@@ -56,30 +66,64 @@ of_body s version Server body = of_heard s s.expected body
 pub one_more_record : (s : Session) (r : Record) → (judge s r).session.records ≡ one_more s.records
 one_more_record s r = ap one_more (of_body s r.head.version r.head.side r.body)
 
+-- ---- a change that a running server receives, and its canonical body
+
+module _ (t : Session) (read : BodyData) (p : ChangeData) (received : IsReceived t read p) where
+  abbrev version : Version
+  version = (asked_in read p received.is).0
+
+  here : judge_read t read ≡ judge_incoming t version (did_change (Some p))
+  here = ap (judge_read t) (asked_in read p received.is).1
+
+  pub received_verdict : (v : Verdict) (u : Session) → IsChangeTaken t p v u → v ≡ (judge_read t read).verdict
+  received_verdict v u taken = taken.judged version ∙ ap (λ (j : Judged). j.verdict) (sym here)
+
+  pub received_session : (v : Verdict) (u : Session) → IsChangeTaken t p v u → u ≡ (counted (judge_read t read)).session
+  received_session v u taken = taken.session version ∙ ap (λ (j : Judged). (counted j).session) (sym here)
+
+  canonical_here : canonical_read t read ≡ change_body_if t.server p
+  canonical_here = ap (canonical_read t) (asked_in read p received.is).1 ∙ change_canonical t p received.running received.known version
+
+  pub received_written : (a : Option Appended) (old new : List ℕ) → IsAppended t.server.config.limits.max_body (change_body_if t.server p) a old new
+      → IsAppended t.server.config.limits.max_body (canonical_read t read) a old new
+  received_written a old new written = subst (λ (c : Option (List ℕ)). IsAppended t.server.config.limits.max_body c a old new) (sym canonical_here) written
+
+pub none_received : (t : Session) (read : BodyData) (old new : List ℕ) → canonical_read t read ≡ None → IsAppended t.server.config.limits.max_body (canonical_read t read) None old new
+none_received t read old new none = subst (λ (c : Option (List ℕ)). IsAppended t.server.config.limits.max_body c None old new) (sym none) refl
+
 -- ---- a line, and the output after it
 
-pub line_first : (details : Details) (s : Session) (r : Record) (t : Session) (verdict : Verdict) → verdict ≡ (judge s r).verdict → verdict ≢ bad → t ≡ (judge s r).session
-    → (bytes : List ℕ) → bytes ≡ trace_line details t r verdict → (more : List Record) → run_output_in (tracing details) s (r ∷ more) ≡ written_first bytes (run_output_in (tracing details) t more)
-line_first details s r t verdict is_judged not_bad session bytes is more =
-    ap (λ (given : RecordOutput). continue_with given.out given.end (run_output_in (tracing details) (judge s r).session more))
-    (unless_not r (judge s r).verdict (writes (trace_line details (judge s r).session r (judge s r).verdict)) (λ e. not_bad (is_judged ∙ e)))
-    ∙ ap (λ (v : Verdict). written_first (trace_line details (judge s r).session r v) (run_output_in (tracing details) (judge s r).session more)) (sym is_judged)
-    ∙ ap (λ (u : Session). written_first (trace_line details u r verdict) (run_output_in (tracing details) u more)) (sym session)
-    ∙ ap (λ (b : List ℕ). written_first b (run_output_in (tracing details) t more)) (sym is)
+pub canonical_is : (max_body : ℕ) (body : Option (List ℕ)) (a : Option Appended) (new : List ℕ) → IsAppended max_body body a [] new → canonical_json a new ≡ within max_body body
+canonical_is max_body None None new is = refl
+canonical_is max_body None (Some a) new is = absurd (let wrong : Some a ≡ None = is in cc)
+canonical_is max_body (Some body) None new is = absurd is
+canonical_is max_body (Some body) (Some Body) new is = rw (le-ltb max_body (length body) is.1, is.0) refl
+canonical_is max_body (Some body) (Some TooLong) new is = rw (lt-ltb max_body (length body) is) refl
 
--- The line by its two halves, as they are written one after the other.
-pub line_is : (details : Details) (s : Session) (r : Record) (t : Session) (verdict : Verdict) → t ≡ (judge s r).session
-    → (uri : Option (List ℕ)) → uri ≡ document_of r.head.side (incoming_of (reading r.body)) → (old first bytes : List ℕ) → old ≡ []
-    → first ≡ old ++ first_members (one_more s.records) r.head (incoming_of (reading r.body))
-    → bytes ≡ first ++ last_members details t r.body (incoming_of (reading r.body)) verdict (document_after t.server.table uri)
-    → bytes ≡ trace_line details t r verdict
-line_is details s r t verdict session uri uri_is old first bytes empty first_is bytes_is =
-    let m = incoming_of (reading r.body) in
-    let number : one_more s.records ≡ t.records = sym (ap (λ (u : Session). u.records) session ∙ one_more_record s r) in
-    bytes_is
-    ∙ ap (λ (bs : List ℕ). bs ++ last_members details t r.body m verdict (document_after t.server.table uri)) (first_is ∙ ap (λ (bs : List ℕ). bs ++ first_members (one_more s.records) r.head m) empty)
-    ∙ ap (λ (n : ℕ). first_members n r.head m ++ last_members details t r.body m verdict (document_after t.server.table uri)) number
-    ∙ ap (λ (u : Option (List ℕ)). first_members t.records r.head m ++ last_members details t r.body m verdict (document_after t.server.table u)) uri_is
+module _ (details : Details) (s : Session) (r : Record) (t : Session) (session : t ≡ (judge s r).session) where
+  abbrev m : IncomingData
+  m = incoming_of (reading r.body)
+
+  abbrev line : List ℕ
+  line = trace_line details s r (judge s r) m
+
+  pub line_first : (judge s r).verdict ≢ bad → (bytes : List ℕ) → bytes ≡ line → (more : List Record) → run_output_in (tracing details) s (r ∷ more) ≡ written_first bytes (run_output_in (tracing details) t more)
+  line_first not_bad bytes is more =
+      ap (λ (given : RecordOutput). continue_with given.out given.end (run_output_in (tracing details) (judge s r).session more)) (unless_not r (judge s r).verdict (writes line) not_bad)
+      ∙ ap (λ (u : Session). written_first line (run_output_in (tracing details) u more)) (sym session)
+      ∙ ap (λ (b : List ℕ). written_first b (run_output_in (tracing details) t more)) (sym is)
+
+  -- the line by its two halves, as they are written one after the other
+  module _ (traced : Traced) (new : List ℕ) (is : IsTraced s r.head r.body [] new traced) where
+    members_are : members_by details t m traced new r.body ≡ members_by details (judge s r).session m traced new r.body
+    members_are = ap (λ (u : Session). members_by details u m traced new r.body) session
+
+    pub line_is : (old first bytes : List ℕ) → old ≡ [] → first ≡ old ++ first_members (one_more s.records) r.head m → bytes ≡ first ++ members_by details t m traced new r.body → bytes ≡ line
+    line_is old first bytes empty first_is bytes_is =
+        bytes_is
+        ∙ ap (λ (bs : List ℕ). bs ++ members_by details t m traced new r.body) (first_is ∙ ap (λ (bs : List ℕ). bs ++ first_members (one_more s.records) r.head m) empty ∙ ap (λ (n : ℕ). first_members n r.head m) (sym (one_more_record s r)))
+        ∙ ap (λ (bs : List ℕ). first_members (judge s r).session.records r.head m ++ bs) members_are
+        ∙ rw (is.verdict, is.uri, is.is_json, canonical_is s.server.config.limits.max_body (canonical_of_record s r.body (judge s r).verdict) traced.canonical new is.canonical) refl
 
 -- ---- `trace` ends as `check` does
 
@@ -95,7 +139,7 @@ ends_alike r bad one two c d alike = (refl, refl)
 traced_alike : (details : Details) (s : Session) (rs : List Record) → EndAlike (run_output_in (tracing details) s rs) (run_output_in checking s rs)
 traced_alike details s [] = (refl, refl)
 traced_alike details s (r ∷ rs) =
-    ends_alike r (judge s r).verdict (trace_line details (judge s r).session r (judge s r).verdict) (check_line (judge s r).session.records (judge s r).verdict)
+    ends_alike r (judge s r).verdict (trace_line details s r (judge s r) (incoming_of (reading r.body))) (check_line (judge s r).session.records (judge s r).verdict)
     (run_output_in (tracing details) (judge s r).session rs) (run_output_in checking (judge s r).session rs) (traced_alike details (judge s r).session rs)
 
 pub trace_law : TraceLaw

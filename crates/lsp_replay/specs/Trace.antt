@@ -1,5 +1,5 @@
 -- `trace`: a line of JSON for each record of a log, with what a server answers to it and why.
-use Rattle.std.specs.Prelude.{ℕ, ◌≡◌, Bool, true, false, ◌&&◌, ◌||◌, ◌==◌, ◌∷◌, ◌++◌, if◌then◌else◌, List, [], Option, Some, None, option_and_then, codes, decimal}
+use Rattle.std.specs.Prelude.{ℕ, ◌≡◌, Bool, true, false, ◌&&◌, ◌||◌, ◌==◌, ◌∷◌, ◌++◌, if◌then◌else◌, nat_lt, length, List, [], Option, Some, None, option_and_then, option_map, codes, decimal}
 use Rattle.std.specs.Fmt.{signed_decimal}
 use Rattle.serde_json.specs.Data.{string}
 use Rattle.serde_json.specs.Written.{compact_text}
@@ -16,38 +16,35 @@ use Rattle.lsp_log.specs.Log.{Record}
 use Rattle.lsp_replay.specs.declared.engines.Settings.{Settings}
 use Rattle.lsp_replay.specs.declared.engines.traced.Details.{Details}
 use Rattle.lsp_replay.specs.RunOutput.{RunOutput}
-use Rattle.lsp_replay.specs.Engines.{View, as_log, log_config, run_output_in, unless_bad, verdict_word, verdicts, writes}
+use Rattle.lsp_replay.specs.Engines.{View, as_log, canonical_of_record, change_in, log_config, run_output_in, unless_bad, verdict_word, verdicts, writes}
 use Rattle.lsp_replay.specs.Reasons.{reason_words}
 use Rattle.lsp_replay.specs.Run.{Engine}
-use Rattle.lsp_replay.specs.Session.{Session, Verdict, answered, is_refused, opened, outcome_of}
+use Rattle.lsp_replay.specs.Session.{Session, Judged, Verdict, answered, is_refused, opened, outcome_of}
 
 -- ---- members of a line
+
+-- A member, if it has a value. `front` is the comma and the name.
+abbrev pub member : List ℕ → Option (List ℕ) → List ℕ
+member front None = []
+member front (Some value) = front ++ value
 
 -- A text as a JSON string, with the shortest escapes.
 unfoldable pub json_string : List ℕ → List ℕ
 json_string s = compact_text (string s)
-
--- A member with a text, if there is one. `front` is the comma and the name.
-abbrev pub text_member : List ℕ → Option (List ℕ) → List ℕ
-text_member front None = []
-text_member front (Some s) = front ++ json_string s
 
 -- An id as JSON: a number or a string.
 abbrev pub id_json : IdData → List ℕ
 id_json (whole n) = signed_decimal n
 id_json (text s) = json_string s
 
-abbrev pub id_member : Option IdData → List ℕ
-id_member None = []
-id_member (Some id) = codes ",\"id\":" ++ id_json id
-
 -- ---- what a record is, whatever is answered
+
+abbrev pub side_word : Side → List ℕ
+side_word Client = codes "editor"
+side_word Server = codes "server"
 
 -- The method of a request or a notification.
 abbrev pub method_of : IncomingData → Option (List ℕ)
-method_of not_json = None
-method_of (not_a_message id) = None
-method_of (response id) = None
 method_of (initialize id offers) = Some (codes "initialize")
 method_of (shutdown id) = Some (codes "shutdown")
 method_of (other_request id method) = Some method
@@ -56,6 +53,7 @@ method_of (did_open params) = Some (codes "textDocument/didOpen")
 method_of (did_change params) = Some (codes "textDocument/didChange")
 method_of (did_close params) = Some (codes "textDocument/didClose")
 method_of (other_notification method) = Some method
+method_of m = None
 
 -- The id of a request or a response, and the one that a body which is no message still names.
 abbrev pub id_of : IncomingData → Option IdData
@@ -66,61 +64,53 @@ id_of (shutdown id) = Some id
 id_of (other_request id method) = Some id
 id_of m = None
 
--- The URI in valid parameters of a message about a document.
-abbrev pub uri_of : IncomingData → Option (List ℕ)
-uri_of (did_open (Some p)) = Some p.uri
-uri_of (did_change (Some p)) = Some p.uri
-uri_of (did_close (Some p)) = Some p.uri
-uri_of m = None
-
--- The document that a record of this side is about.
-abbrev pub document_of : Side → IncomingData → Option (List ℕ)
-document_of Client m = uri_of m
-document_of Server m = None
-
-abbrev pub side_word : Side → List ℕ
-side_word Client = codes "editor"
-side_word Server = codes "server"
+-- The document that a record of one side is about: the URI in valid parameters of an editor's
+-- message.
+abbrev pub uri_of : Side → IncomingData → Option (List ℕ)
+uri_of Client (did_open (Some p)) = Some p.uri
+uri_of Client (did_change (Some p)) = Some p.uri
+uri_of Client (did_close (Some p)) = Some p.uri
+uri_of side m = None
 
 -- The first members of a line, by the record's number, its head and what its body asks.
 abbrev pub first_members : ℕ → Head → IncomingData → List ℕ
 first_members number head m =
     codes "{\"number\":" ++ decimal number ++ codes ",\"offset\":" ++ decimal head.place
     ++ codes ",\"from\":\"" ++ side_word head.side ++ codes "\""
-    ++ text_member (codes ",\"method\":") (method_of m) ++ id_member (id_of m)
-    ++ text_member (codes ",\"uri\":") (document_of head.side m)
+    ++ member (codes ",\"method\":") (option_map json_string (method_of m))
+    ++ member (codes ",\"id\":") (option_map id_json (id_of m))
+    ++ member (codes ",\"uri\":") (option_map json_string (uri_of head.side m))
 
 -- ---- what is answered
 
--- Why a record was refused, if it was.
-abbrev pub reason_member : Bounds → IncomingData → Verdict → List ℕ
-reason_member limits m (answered answer) = if is_refused answer then
-    codes ",\"reason\":\"" ++ reason_words limits m answer ++ codes "\"" else []
-reason_member limits m verdict = []
+-- Why a record was refused, if it counts as refused.
+abbrev pub reason_json : Bounds → IncomingData → Verdict → Option (List ℕ)
+reason_json limits m (answered answer) = if is_refused answer then
+    Some (codes "\"" ++ reason_words limits (change_in m) answer ++ codes "\"") else None
+reason_json limits m verdict = None
+
+-- A canonical message, unless it is over the limit.
+abbrev pub within : ℕ → Option (List ℕ) → Option (List ℕ)
+within max_body None = None
+within max_body (Some body) = if nat_lt max_body (length body) then None else Some body
 
 -- The document that a record is about, as it is afterwards, if it is open.
 abbrev pub document_after : List DocumentItem → Option (List ℕ) → Option DocumentItem
 document_after table uri = option_and_then (entry_at table) uri
 
 -- The version of an open document.
-abbrev pub version_member : Option DocumentItem → List ℕ
-version_member None = []
-version_member (Some entry) = codes ",\"version\":" ++ signed_decimal entry.version
+abbrev pub version_json : Option DocumentItem → Option (List ℕ)
+version_json document = option_map (λ entry. signed_decimal entry.version) document
 
 -- Were the documents changed?
 abbrev pub is_changed : Verdict → Bool
 is_changed (answered changed) = true
 is_changed verdict = false
 
--- The text of an open document.
-abbrev pub document_text : Option DocumentItem → List ℕ
-document_text None = []
-document_text (Some entry) = codes ",\"text\":" ++ json_string entry.text
-
 -- The document's text, if it is asked for and the record opened or changed the document.
-abbrev pub changed_text : Bool → Verdict → Option DocumentItem → List ℕ
-changed_text texts verdict document =
-    if texts && is_changed verdict then document_text document else []
+abbrev pub text_json : Bool → Option DocumentItem → Option (List ℕ)
+text_json is_asked document =
+    if is_asked then option_map (λ entry. json_string entry.text) document else None
 
 -- Is a body JSON?
 abbrev pub is_json : IncomingData → Bool
@@ -134,33 +124,41 @@ one_line [] = []
 one_line (byte ∷ bytes) = if byte == 10 || byte == 13 then one_line bytes else byte ∷ one_line bytes
 
 -- The body, if it is asked for and is JSON.
-abbrev pub body_member : Bool → Bool → List ℕ → List ℕ
-body_member bodies json body = if bodies && json then codes ",\"body\":" ++ one_line body else []
+abbrev pub body_json : Bool → List ℕ → Option (List ℕ)
+body_json is_asked body = if is_asked then Some (one_line body) else None
 
--- The other members, by the session after the record.
-abbrev pub last_members : Details → Session → List ℕ → IncomingData → Verdict
-    → Option DocumentItem → List ℕ
-last_members details s body m verdict document =
-    codes ",\"word\":\"" ++ verdict_word verdict ++ codes "\""
-    ++ reason_member s.server.config.limits m verdict ++ version_member document
-    ++ changed_text details.texts verdict document
-    ++ body_member details.bodies (is_json m) body
+-- The other members of a line: what is answered, and the document afterwards.
+abbrev pub last_members : List ℕ → Option (List ℕ) → Option (List ℕ) → Option (List ℕ)
+    → Option (List ℕ) → Option (List ℕ) → List ℕ
+last_members word reason version canonical text body =
+    codes ",\"word\":\"" ++ word ++ codes "\""
+    ++ member (codes ",\"reason\":") reason
+    ++ member (codes ",\"version\":") version
+    ++ member (codes ",\"canonical\":") canonical
+    ++ member (codes ",\"text\":") text
+    ++ member (codes ",\"body\":") body
     ++ codes "}\n"
 
 -- ---- the engine
 
--- A line of `trace`, by the session after the record and the judgement of it.
-abbrev pub trace_line : Details → Session → Record → Verdict → List ℕ
-trace_line details s r verdict =
-    first_members s.records r.head (incoming_of (reading r.body))
-    ++ last_members details s r.body (incoming_of (reading r.body)) verdict
-    (document_after s.server.table (document_of r.head.side (incoming_of (reading r.body))))
+-- A line of `trace`, from the session before the record and the judgement of it. `m` is what the
+-- record's body asks.
+abbrev pub trace_line : Details → Session → Record → Judged → IncomingData → List ℕ
+trace_line details s r j m =
+    first_members j.session.records r.head m
+    ++ last_members (verdict_word j.verdict)
+    (reason_json j.session.server.config.limits m j.verdict)
+    (version_json (document_after j.session.server.table (uri_of r.head.side m)))
+    (within s.server.config.limits.max_body (canonical_of_record s r.body j.verdict))
+    (text_json (details.texts && is_changed j.verdict)
+    (document_after j.session.server.table (uri_of r.head.side m)))
+    (body_json (details.bodies && is_json m) r.body)
 
 -- `trace` writes a line for each record, and nothing at the end.
 abbrev pub tracing : Details → View
 tracing details = record {
   record_output = λ s r j. unless_bad r j.verdict
-      (writes (trace_line details j.session r j.verdict));
+      (writes (trace_line details s r j (incoming_of (reading r.body))));
   end_output = λ s line_due. [];
   outcome = outcome_of;
 }

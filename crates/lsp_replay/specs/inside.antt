@@ -9,3 +9,4 @@ pub mod Engine
 pub mod Run
 pub mod RunOutput
 pub mod Squashed
+pub mod Tracing

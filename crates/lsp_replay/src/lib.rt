@@ -8,6 +8,7 @@
 //! - `session`: a server over the records of a log, and what is counted.
 //! - `commands`: the handlers, `serving`, `checking`, `tracing`, `replaying`, `partial` (of a part
 //!   of a log), `normalising`, `squashing` and `converting`.
+//! - `members`: what a line of JSON is put together from.
 //! - `outcome`: the status and the counts at the end of a run.
 //! - `laws`: what holds of the logs that are written.
 #![tactic(auto)]
@@ -17,6 +18,7 @@ mod engine;
 mod engines;
 mod handler;
 mod laws;
+mod members;
 mod outcome;
 mod session;
 

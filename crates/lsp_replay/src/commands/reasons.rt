@@ -1,37 +1,37 @@
 //! Why a record was refused, in words.
 
-ghost use Rattle.std.specs.Prelude.{◌≡◌, ◌++◌, OnOk, codes, decimal, map};
+ghost use Rattle.std.specs.Prelude.{◌≡◌, ◌++◌, OnOk, codes, decimal, option_map};
 ghost use Rattle.std.specs.Fmt.{signed_decimal};
-ghost use Rattle.lsp_message.specs.Seen.{edit_view};
-ghost use Rattle.lsp_server.specs.Seen.{answer_view, incoming_view};
+ghost use Rattle.lsp_message.specs.Seen.{change_view};
+ghost use Rattle.lsp_server.specs.Seen.{answer_view};
 ghost use Rattle.lsp_stream.specs.Ports as ports;
-ghost use Rattle.lsp_replay.specs.Reasons.{changes_of, edit_reason, end_words, error_reason, position_words, range_at};
-ghost use Rattle.lsp_replay.specs.Reasons.{reason_words, refusal_reason, side_words, start_words, store_reason, version_words};
+ghost use Rattle.lsp_replay.specs.Reasons.{edit_reason, end_words, error_reason, position_words, range_sent};
+ghost use Rattle.lsp_replay.specs.Reasons.{reason_words, refusal_reason, store_reason, version_words};
 
+use crate::members::{push_number, push_signed};
 use crate::session::counting::one_more;
-use itoa::Buffer;
-use lsp_edit::{Change, EditFault, Side};
+use lsp_edit::{EditFault, Side};
 use lsp_frame::Limits;
-use lsp_message::ErrorCode;
-use lsp_server::{Answer, Incoming, Refusal};
+use lsp_message::{ChangeParams, ErrorCode};
+use lsp_server::{Answer, Refusal};
 use lsp_store::StoreFault;
 use lsp_text::{Position, Range};
 use std::alloc::AllocError;
 
-/// Writes why a message was refused, by what it asks and the answer. An answer that doesn't count
-/// as refused has no words.
+/// Writes why a message was refused, by the answer and the change that it is the answer to. An
+/// answer that doesn't count as refused has no words.
 pub fn push_reason(
     buffer: &mut Vec<u8>,
     limits: Limits,
-    incoming: &Incoming,
+    change: Option<&ChangeParams>,
     answer: &Answer,
 ) -> Result<(), AllocError>
-    ensures { OnOk result (buffer.new.items ≡ buffer.old.items
-        ++ reason_words limits (incoming_view incoming.now) (answer_view answer.now)) }
+    ensures { OnOk result (buffer.new.items ≡ buffer.old.items ++ reason_words limits
+        (option_map (λ p. change_view p.now) change) (answer_view answer.now)) }
 {
     match answer {
         Answer::Reply { code, .. } => buffer.extend_from_slice(error_reason(*code).as_bytes()),
-        Answer::Refused(refusal) => push_refusal(buffer, limits, incoming, *refusal),
+        Answer::Refused(refusal) => push_refusal(buffer, limits, change, *refusal),
         Answer::Exit(_) => buffer.extend_from_slice(b"`exit` came without `shutdown`"),
         Answer::Changed | Answer::Dropped | Answer::Ignored => Ok(()),
     }
@@ -54,26 +54,26 @@ fn error_reason(code: Option<ErrorCode>) -> &'static str
 fn push_refusal(
     buffer: &mut Vec<u8>,
     limits: Limits,
-    incoming: &Incoming,
+    change: Option<&ChangeParams>,
     refusal: Refusal,
 ) -> Result<(), AllocError>
     ensures { OnOk result (buffer.new.items ≡ buffer.old.items
-        ++ refusal_reason limits (incoming_view incoming.now) refusal) }
+        ++ refusal_reason limits (option_map (λ p. change_view p.now) change) refusal) }
 {
     match refusal {
         Refusal::InvalidParams => buffer.extend_from_slice(b"the parameters can't be read"),
-        Refusal::Store(fault) => push_store_reason(buffer, limits, incoming, fault),
+        Refusal::Store(fault) => push_store_reason(buffer, limits, change, fault),
     }
 }
 
 fn push_store_reason(
     buffer: &mut Vec<u8>,
     limits: Limits,
-    incoming: &Incoming,
+    change: Option<&ChangeParams>,
     fault: StoreFault,
 ) -> Result<(), AllocError>
     ensures { OnOk result (buffer.new.items ≡ buffer.old.items
-        ++ store_reason limits (incoming_view incoming.now) fault) }
+        ++ store_reason limits (option_map (λ p. change_view p.now) change) fault) }
 {
     match fault {
         StoreFault::AlreadyOpen => buffer.extend_from_slice(b"the document is open already"),
@@ -86,126 +86,104 @@ fn push_store_reason(
             push_number(buffer, limits.max_text() as u64)
         }
         StoreFault::NotOpen => buffer.extend_from_slice(b"the document is not open"),
-        StoreFault::StaleVersion { held } => push_stale(buffer, incoming, held),
+        StoreFault::StaleVersion { held } => push_stale(buffer, change, held),
         StoreFault::TooManyChanges => {
             buffer.extend_from_slice(b"there are more changes than --max-changes allows, ")?;
             push_number(buffer, limits.max_changes() as u64)?;
             buffer.extend_from_slice(b", or their texts have more than 1 GiB")
         }
-        StoreFault::Edit(fault) => push_edit_reason(buffer, changes_of(incoming), fault),
+        StoreFault::Edit(fault) => push_edit_reason(buffer, change, fault),
         StoreFault::BodyTooLong { .. } | StoreFault::NoMemory => Ok(()),
     }
 }
 
 /// Writes the version that was sent, and the current one.
-fn push_stale(buffer: &mut Vec<u8>, incoming: &Incoming, held: i32) -> Result<(), AllocError>
+fn push_stale(
+    buffer: &mut Vec<u8>,
+    change: Option<&ChangeParams>,
+    held: i32,
+) -> Result<(), AllocError>
     ensures { OnOk result (buffer.new.items ≡ buffer.old.items ++ codes "version "
-        ++ version_words (incoming_view incoming.now)
+        ++ version_words (option_map (λ p. change_view p.now) change)
         ++ codes " was sent, and the current one is " ++ signed_decimal held) }
 {
     buffer.extend_from_slice(b"version ")?;
-    push_version(buffer, incoming)?;
+    push_version(buffer, change)?;
     buffer.extend_from_slice(b" was sent, and the current one is ")?;
     push_signed(buffer, i64::from(held))
 }
 
 /// Writes the version that a change sends.
-fn push_version(buffer: &mut Vec<u8>, incoming: &Incoming) -> Result<(), AllocError>
-    ensures { OnOk result
-        (buffer.new.items ≡ buffer.old.items ++ version_words (incoming_view incoming.now)) }
+fn push_version(buffer: &mut Vec<u8>, change: Option<&ChangeParams>) -> Result<(), AllocError>
+    ensures { OnOk result (buffer.new.items ≡ buffer.old.items
+        ++ version_words (option_map (λ p. change_view p.now) change)) }
 {
-    match incoming {
-        Incoming::DidChange(Some(params)) => push_signed(buffer, i64::from(params.version)),
-        _ => Ok(()),
+    match change {
+        Some(params) => push_signed(buffer, i64::from(params.version)),
+        None => Ok(()),
     }
 }
 
-/// The changes of a `didChange`.
-fn changes_of(incoming: &Incoming) -> &[Change]
-    ensures { map edit_view result.now ≡ changes_of (incoming_view incoming.now) }
+/// The range of one of the changes that were sent, by its index.
+fn range_sent(change: Option<&ChangeParams>, index: usize) -> Option<Range>
+    ensures { result ≡ range_sent (option_map (λ p. change_view p.now) change) index }
 {
-    match incoming {
-        Incoming::DidChange(Some(params)) => params.changes.as_slice(),
-        _ => &[],
-    }
-}
-
-/// The range of a change, by its index.
-fn range_at(changes: &[Change], index: usize) -> Option<Range>
-    ensures { result ≡ range_at (map edit_view changes.now) index }
-{
-    match changes.get(index) {
-        Some(change) => change.range,
-        None => None,
-    }
+    change?.changes.get(index)?.range
 }
 
 fn push_edit_reason(
     buffer: &mut Vec<u8>,
-    changes: &[Change],
+    change: Option<&ChangeParams>,
     fault: EditFault,
 ) -> Result<(), AllocError>
     ensures { OnOk result (buffer.new.items ≡ buffer.old.items
-        ++ edit_reason (map edit_view changes.now) fault) }
+        ++ edit_reason (option_map (λ p. change_view p.now) change) fault) }
 {
     match fault {
-        EditFault::InsideCharacter { change, side } => {
-            push_change(buffer, change)?;
-            push_side(buffer, side, range_at(changes, change))?;
+        EditFault::InsideCharacter {
+            change: index,
+            side,
+        } => {
+            push_change(buffer, index)?;
+            push_side(buffer, side, range_sent(change, index))?;
             buffer.extend_from_slice(b", inside a character")
         }
-        EditFault::ReversedRange { change } => {
-            let range = range_at(changes, change);
-            push_change(buffer, change)?;
-            buffer.extend_from_slice(b" starts at ")?;
-            push_start(buffer, range)?;
-            buffer.extend_from_slice(b", after its end at ")?;
-            push_end(buffer, range)
+        EditFault::ReversedRange { change: index } => {
+            let range = range_sent(change, index);
+            push_change(buffer, index)?;
+            push_side(buffer, Side::Start, range)?;
+            buffer.extend_from_slice(b", after it")?;
+            push_side(buffer, Side::Stop, range)
         }
         EditFault::NoMemory => Ok(()),
     }
 }
 
 /// Writes the number of a change, from 1.
-fn push_change(buffer: &mut Vec<u8>, change: usize) -> Result<(), AllocError>
+fn push_change(buffer: &mut Vec<u8>, index: usize) -> Result<(), AllocError>
     ensures { OnOk result (buffer.new.items ≡ buffer.old.items ++ codes "change "
-        ++ decimal (ports.one_more change)) }
+        ++ decimal (ports.one_more index)) }
 {
     buffer.extend_from_slice(b"change ")?;
-    push_number(buffer, one_more(change as u64))
+    push_number(buffer, one_more(index as u64))
 }
 
-/// Writes which end of a range is inside a character.
+/// Writes where an end of a range is.
 fn push_side(buffer: &mut Vec<u8>, side: Side, range: Option<Range>) -> Result<(), AllocError>
-    ensures { OnOk result (buffer.new.items ≡ buffer.old.items ++ side_words side range) }
+    ensures { OnOk result (buffer.new.items ≡ buffer.old.items ++ end_words side range) }
 {
+    let Some(range) = range else {
+        return Ok(());
+    };
     match side {
         Side::Start => {
             buffer.extend_from_slice(b" starts at ")?;
-            push_start(buffer, range)
+            push_position(buffer, range.start)
         }
         Side::Stop => {
             buffer.extend_from_slice(b" ends at ")?;
-            push_end(buffer, range)
+            push_position(buffer, range.stop)
         }
-    }
-}
-
-fn push_start(buffer: &mut Vec<u8>, range: Option<Range>) -> Result<(), AllocError>
-    ensures { OnOk result (buffer.new.items ≡ buffer.old.items ++ start_words range) }
-{
-    match range {
-        Some(range) => push_position(buffer, range.start),
-        None => Ok(()),
-    }
-}
-
-fn push_end(buffer: &mut Vec<u8>, range: Option<Range>) -> Result<(), AllocError>
-    ensures { OnOk result (buffer.new.items ≡ buffer.old.items ++ end_words range) }
-{
-    match range {
-        Some(range) => push_position(buffer, range.stop),
-        None => Ok(()),
     }
 }
 
@@ -216,20 +194,4 @@ fn push_position(buffer: &mut Vec<u8>, position: Position) -> Result<(), AllocEr
     push_number(buffer, u64::from(position.line))?;
     buffer.extend_from_slice(b", character ")?;
     push_number(buffer, u64::from(position.character))
-}
-
-/// Writes a number in decimal.
-pub fn push_number(buffer: &mut Vec<u8>, number: u64) -> Result<(), AllocError>
-    ensures { OnOk result (buffer.new.items ≡ buffer.old.items ++ decimal number) }
-{
-    let mut digits = Buffer::new();
-    buffer.extend_from_slice(digits.format(number).as_bytes())
-}
-
-/// Writes a whole number in decimal, with its sign if it is negative.
-pub fn push_signed(buffer: &mut Vec<u8>, number: i64) -> Result<(), AllocError>
-    ensures { OnOk result (buffer.new.items ≡ buffer.old.items ++ signed_decimal number) }
-{
-    let mut digits = Buffer::new();
-    buffer.extend_from_slice(digits.format(number).as_bytes())
 }

@@ -1,24 +1,29 @@
 //! `trace`: a line of JSON for each record of a log.
 
-ghost use Rattle.std.specs.Prelude.{◌≡◌, ◌++◌, refl, OnOk, true, false, option_map, string_bytes};
+ghost use Rattle.std.specs.Prelude.{◌≡◌, ◌++◌, refl, OnOk, codes, false, option_map, string_bytes};
 ghost use Rattle.lsp_message.specs.Message.{reading};
+ghost use Rattle.lsp_message.specs.Seen.{change_view};
 ghost use Rattle.lsp_server.specs.Incoming.{incoming_of};
-ghost use Rattle.lsp_server.specs.Seen.{answer_view, incoming_view};
-ghost use Rattle.lsp_replay.specs.Session.{answered, opened};
-ghost use Rattle.lsp_replay.specs.Engines.{run_output_in};
-ghost use Rattle.lsp_replay.specs.Trace.{body_member, changed_text, document_after, document_text, is_changed, is_json};
-ghost use Rattle.lsp_replay.specs.Trace.{last_members, one_line, reason_member, tracing, version_member};
+ghost use Rattle.lsp_server.specs.Seen.{incoming_view};
+ghost use Rattle.lsp_replay.specs.Session.{opened};
+ghost use Rattle.lsp_replay.specs.Engines.{change_in, run_output_in, verdict_word};
+ghost use Rattle.lsp_replay.specs.Trace.{body_json, document_after, is_changed, member, one_line, reason_json, text_json, tracing};
+ghost use Rattle.lsp_replay.specs.Trace.{version_json};
+ghost use Rattle.lsp_replay.specs.inside.Tracing.{canonical_json, members_by};
 ghost use Rattle.lsp_replay.specs.inside.Verdicts.{verdict_view};
 
 use crate::commands::checking::push_verdict;
-use crate::commands::reasons::{push_reason, push_signed};
+use crate::commands::reasons::push_reason;
 use crate::engines::Details;
 use crate::handler::{Given, Handler, Output};
+use crate::members::{push_json_string, push_signed};
 use crate::outcome::Outcome;
 use crate::session::counting::is_refused;
-use crate::session::tracing::{Traced, push_json_string};
+use crate::session::tracing::Traced;
+use crate::session::writing::Appended;
 use crate::session::{Session, Verdict};
 use lsp_log::Head;
+use lsp_message::ChangeParams;
 use lsp_server::{Answer, Config, Incoming};
 use lsp_store::Document;
 use lsp_stream::EngineFault;
@@ -30,6 +35,8 @@ pub struct Trace {
     pub session: Session,
     pub alloc: Global,
     pub details: Details,
+    /// The canonical message of the last record, if it was an accepted change.
+    pub canonical: Vec<u8>,
 }
 
 impl Trace {
@@ -43,6 +50,7 @@ impl Trace {
             session,
             alloc,
             details,
+            canonical: Vec::new(alloc),
         }
     }
 
@@ -53,18 +61,22 @@ impl Trace {
         body: &[u8],
         traced: &Traced,
     ) -> Result<(), AllocError>
-        ensures { traced.now.is_json ≡ is_json (incoming_of (reading body.now)) →
-            OnOk result (buffer.new.items ≡ buffer.old.items
-            ++ last_members self.now.details self.now.session body.now
-            (incoming_of (reading body.now)) (verdict_view traced.now.verdict)
-            (document_after self.now.session.server.table
-            (option_map string_bytes traced.now.uri))) }
+        ensures { OnOk result (buffer.new.items ≡ buffer.old.items
+            ++ members_by self.now.details self.now.session (incoming_of (reading body.now))
+            traced.now self.now.canonical.items body.now) }
     {
-        buffer.extend_from_slice(b",\"word\":\"")?;
-        push_verdict(buffer, &traced.verdict)?;
-        buffer.extend_from_slice(b"\"")?;
+        let document = self.document_after(&traced.uri);
+        let is_changed = is_changed(&traced.verdict);
+        push_word(buffer, &traced.verdict)?;
         self.push_why(buffer, body, &traced.verdict)?;
-        self.push_document(buffer, &traced.verdict, &traced.uri)?;
+        push_version(buffer, &document)?;
+        push_canonical(buffer, traced.canonical, &self.canonical)?;
+        push_text(
+            self.alloc,
+            buffer,
+            self.details.texts && is_changed,
+            &document,
+        )?;
         push_body(buffer, self.details.bodies && traced.is_json, body)?;
         buffer.extend_from_slice(b"}\n")
     }
@@ -77,8 +89,8 @@ impl Trace {
         verdict: &Verdict,
     ) -> Result<(), AllocError>
         ensures { OnOk result (buffer.new.items ≡ buffer.old.items
-            ++ reason_member self.now.session.server.config.limits
-            (incoming_of (reading body.now)) (verdict_view verdict.now)) }
+            ++ member (codes ",\"reason\":") (reason_json self.now.session.server.config.limits
+            (incoming_of (reading body.now)) (verdict_view verdict.now))) }
     {
         let Verdict::Answered(answer) = verdict else {
             return Ok(());
@@ -88,38 +100,21 @@ impl Trace {
         }
         let incoming = Incoming::read(self.alloc, body)?;
         let limits = self.session.server().store().limits();
-        buffer.extend_from_slice(b",\"reason\":\"")?;
-        push_reason(buffer, limits, &incoming, answer)?;
+        buffer.extend_from_slice(b",\"reason\":")?;
+        buffer.extend_from_slice(b"\"")?;
+        push_reason(buffer, limits, change_in(&incoming), answer)?;
         buffer.extend_from_slice(b"\"")
     }
 
-    /// Writes the version of the document with this URI, if it is open, and its text if it is asked
-    /// for.
-    fn push_document(
-        &self,
-        buffer: &mut Vec<u8>,
-        verdict: &Verdict,
-        uri: &Option<String>,
-    ) -> Result<(), AllocError>
-        ensures { OnOk result (buffer.new.items ≡ buffer.old.items
-            ++ version_member
-            (document_after self.now.session.server.table (option_map string_bytes uri.now))
-            ++ changed_text self.now.details.texts (verdict_view verdict.now)
-            (document_after self.now.session.server.table (option_map string_bytes uri.now))) }
+    /// The document with this URI, if it is open.
+    fn document_after(&self, uri: &Option<String>) -> Option<Document<'_>>
+        ensures { result
+            ≡ document_after self.now.session.server.table (option_map string_bytes uri.now) }
     {
-        let Some(uri) = uri else {
-            return Ok(());
-        };
-        let Some(document) = self.session.server().store().get(uri.as_str()) else {
-            return Ok(());
-        };
-        buffer.extend_from_slice(b",\"version\":")?;
-        push_signed(buffer, i64::from(document.version()))?;
-        if !self.details.texts || !is_changed(verdict) {
-            return Ok(());
+        match uri {
+            Some(uri) => self.session.server().store().get(uri.as_str()),
+            None => None,
         }
-        buffer.extend_from_slice(b",\"text\":")?;
-        push_json_string(self.alloc, buffer, document.text())
     }
 }
 
@@ -143,7 +138,10 @@ impl Handler for Trace {
         body: &[u8],
         buffer: &mut Vec<u8>,
     ) -> Result<Given, EngineFault> {
-        let traced = self.session.accept_and_trace(head, body, buffer)?;
+        self.canonical.clear();
+        let traced = self
+            .session
+            .accept_and_trace(head, body, buffer, &mut self.canonical)?;
         self.push_last(buffer, body, &traced)?;
         Ok(Given::more(Output::Bytes))
     }
@@ -164,12 +162,82 @@ fn is_changed(verdict: &Verdict) -> bool
     matches!(verdict, Verdict::Answered(Answer::Changed))
 }
 
-/// Writes a body, if it is asked for and is JSON.
-fn push_body(buffer: &mut Vec<u8>, is_written: bool, body: &[u8]) -> Result<(), AllocError>
-    ensures { OnOk result (buffer.new.items ≡ buffer.old.items
-        ++ body_member is_written true body.now) }
+/// The parameters of a `didChange`, if they are valid.
+fn change_in(incoming: &Incoming) -> Option<&ChangeParams>
+    ensures { option_map (λ p. change_view p.now) result ≡ change_in (incoming_view incoming.now) }
 {
-    if !is_written {
+    match incoming {
+        Incoming::DidChange(Some(params)) => Some(params),
+        _ => None,
+    }
+}
+
+/// Writes the word of `check`.
+fn push_word(buffer: &mut Vec<u8>, verdict: &Verdict) -> Result<(), AllocError>
+    ensures { OnOk result (buffer.new.items ≡ buffer.old.items ++ codes ",\"word\":\""
+        ++ verdict_word (verdict_view verdict.now) ++ codes "\"") }
+{
+    buffer.extend_from_slice(b",\"word\":\"")?;
+    push_verdict(buffer, verdict)?;
+    buffer.extend_from_slice(b"\"")
+}
+
+/// Writes the version of an open document.
+fn push_version(buffer: &mut Vec<u8>, document: &Option<Document<'_>>) -> Result<(), AllocError>
+    ensures { OnOk result (buffer.new.items ≡ buffer.old.items
+        ++ member (codes ",\"version\":") (version_json document.now)) }
+{
+    let Some(document) = document else {
+        return Ok(());
+    };
+    buffer.extend_from_slice(b",\"version\":")?;
+    push_signed(buffer, i64::from(document.version()))
+}
+
+/// Writes the canonical message, if its body was appended.
+fn push_canonical(
+    buffer: &mut Vec<u8>,
+    appended: Option<Appended>,
+    canonical: &[u8],
+) -> Result<(), AllocError>
+    ensures { OnOk result (buffer.new.items ≡ buffer.old.items
+        ++ member (codes ",\"canonical\":") (canonical_json appended canonical.now)) }
+{
+    match appended {
+        Some(Appended::Body) => {
+            buffer.extend_from_slice(b",\"canonical\":")?;
+            buffer.extend_from_slice(canonical)
+        }
+        Some(Appended::TooLong) | None => Ok(()),
+    }
+}
+
+/// Writes the text of an open document, if it is asked for.
+fn push_text(
+    alloc: Global,
+    buffer: &mut Vec<u8>,
+    is_asked: bool,
+    document: &Option<Document<'_>>,
+) -> Result<(), AllocError>
+    ensures { OnOk result (buffer.new.items ≡ buffer.old.items
+        ++ member (codes ",\"text\":") (text_json is_asked document.now)) }
+{
+    if !is_asked {
+        return Ok(());
+    }
+    let Some(document) = document else {
+        return Ok(());
+    };
+    buffer.extend_from_slice(b",\"text\":")?;
+    push_json_string(alloc, buffer, document.text())
+}
+
+/// Writes a body, if it is asked for.
+fn push_body(buffer: &mut Vec<u8>, is_asked: bool, body: &[u8]) -> Result<(), AllocError>
+    ensures { OnOk result (buffer.new.items ≡ buffer.old.items
+        ++ member (codes ",\"body\":") (body_json is_asked body.now)) }
+{
+    if !is_asked {
         return Ok(());
     }
     buffer.extend_from_slice(b",\"body\":")?;

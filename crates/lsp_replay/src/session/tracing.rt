@@ -1,5 +1,5 @@
 //! What a record is, whatever is answered: its number, its head, its method, its id and its
-//! document's URI.
+//! document's URI; and the canonical message of an accepted change.
 
 ghost use Rattle.std.specs.Prelude.{◌≡◌, ◌≢◌, ◌++◌, ◌⊎◌, IfErr, IfOk, OnOk, codes, decimal, option_map, string_bytes};
 ghost use Rattle.lsp_message.specs.Message.{reading};
@@ -7,48 +7,49 @@ ghost use Rattle.lsp_message.specs.Seen.{id_view};
 ghost use Rattle.lsp_server.specs.Incoming.{incoming_of};
 ghost use Rattle.lsp_server.specs.Seen.{incoming_view};
 ghost use Rattle.lsp_stream.specs.Ports as ports;
-ghost use Rattle.lsp_replay.specs.Session.{bad, judge_at};
-ghost use Rattle.lsp_replay.specs.Trace.{document_of, first_members, id_json, id_member, id_of, is_json, json_string, method_of};
-ghost use Rattle.lsp_replay.specs.Trace.{side_word, text_member, uri_of};
-ghost use Rattle.lsp_replay.specs.inside.Bodies.{body_read, body_view};
-ghost use Rattle.lsp_replay.specs.inside.Verdicts.{verdict_view};
+ghost use Rattle.lsp_replay.specs.Session.{bad, counted, judge_at};
+ghost use Rattle.lsp_replay.specs.Trace.{first_members, id_json, id_of, is_json, member, method_of};
+ghost use Rattle.lsp_replay.specs.Trace.{side_word, uri_of};
+ghost use Rattle.lsp_replay.specs.inside.Bodies.{body_read, body_view, canonical_read, judge_read};
+ghost use Rattle.lsp_replay.specs.inside.Tracing.{IsTraced};
+ghost use Rattle.lsp_replay.specs.inside.Verdicts.{IsAppended, verdict_view};
 
-use crate::commands::reasons::{push_number, push_signed};
+use crate::members::{push_json_string, push_number, push_signed, push_text};
 use crate::session::counting::one_more;
+use crate::session::writing::Appended;
 use crate::session::{RecordBody, Session, Verdict, in_log};
-use json::Writer;
 use lsp_log::{Head, Side};
 use lsp_message::Id;
 use lsp_server::Incoming;
 use lsp_stream::EngineFault;
 use std::alloc::{AllocError, Global};
-use std::mem::replace;
 
-/// A record that was judged, and the URI of the document that it is about.
+/// What of a record isn't in its line yet.
 #[derive(Drop)]
 pub struct Traced {
     pub verdict: Verdict,
+    /// What was appended of the canonical message of an accepted change.
+    pub canonical: Option<Appended>,
+    /// The URI of the document that it is about.
     pub uri: Option<String>,
     /// Is its body JSON?
     pub is_json: bool,
 }
 
 impl Session {
-    /// Judges a record as [`Session::accept`] does. Before it writes the first members of its line.
+    /// Judges a record as [`Session::accept`] does. Before it writes the first members of its line,
+    /// and appends the body of an accepted change's canonical message to another buffer.
     pub fn accept_and_trace(
         &mut self,
         head: Head,
         body: &[u8],
         buffer: &mut Vec<u8>,
+        canonical: &mut Vec<u8>,
     ) -> Result<Traced, EngineFault>
-        ensures verdict { IfOk result
-            (λ traced. verdict_view traced.verdict ≡ (judge_at self.old head body.now).verdict) }
+        ensures traced { IfOk result (IsTraced self.old head body.now canonical.old.items
+            canonical.new.items) }
         ensures in_log { IfOk result (λ traced. verdict_view traced.verdict ≢ bad) }
         ensures session { OnOk result (self.new ≡ (judge_at self.old head body.now).session) }
-        ensures uri { IfOk result (λ traced. option_map string_bytes traced.uri
-            ≡ document_of head.side (incoming_of (reading body.now))) }
-        ensures json { IfOk result
-            (λ traced. traced.is_json ≡ is_json (incoming_of (reading body.now))) }
         ensures members { OnOk result (buffer.new.items ≡ buffer.old.items
             ++ first_members (ports.one_more self.old.records) head
             (incoming_of (reading body.now))) }
@@ -56,7 +57,7 @@ impl Session {
             ⊎ ((fault ≡ EngineFault.BadLog head.place)
             × ((judge_at self.old head body.now).verdict ≡ bad))) }
     {
-        let traced = self.judge_and_trace(head, body, buffer)?;
+        let traced = self.judge_and_trace(head, body, buffer, canonical)?;
         in_log(&traced.verdict, head.place)?;
         Ok(traced)
     }
@@ -68,30 +69,59 @@ impl Session {
         head: Head,
         body: &[u8],
         buffer: &mut Vec<u8>,
+        canonical: &mut Vec<u8>,
     ) -> Result<Traced, AllocError>
-        ensures verdict { IfOk result
-            (λ traced. verdict_view traced.verdict ≡ (judge_at self.old head body.now).verdict) }
+        ensures traced { IfOk result (IsTraced self.old head body.now canonical.old.items
+            canonical.new.items) }
         ensures session { OnOk result (self.new ≡ (judge_at self.old head body.now).session) }
-        ensures uri { IfOk result (λ traced. option_map string_bytes traced.uri
-            ≡ document_of head.side (incoming_of (reading body.now))) }
-        ensures json { IfOk result
-            (λ traced. traced.is_json ≡ is_json (incoming_of (reading body.now))) }
         ensures members { OnOk result (buffer.new.items ≡ buffer.old.items
             ++ first_members (ports.one_more self.old.records) head
             (incoming_of (reading body.now))) }
     {
-        let incoming = self.server.read(body)?;
+        let incoming = self.read_incoming(body)?;
         let number = one_more(self.records);
-        let uri = document_of(head.side, &incoming);
+        let uri = uri_of(head.side, &incoming);
         push_first(self.alloc, buffer, number, head, &incoming, uri)?;
         let uri = copied_text(self.alloc, uri)?;
         let is_json = is_json(&incoming);
-        let verdict = self.take(record_body(head, body, incoming))?;
+        let read = record_body(head, body, incoming);
+        let (verdict, canonical) = self.take_and_write(read, canonical)?;
         Ok(Traced {
             verdict,
+            canonical,
             uri,
             is_json,
         })
+    }
+
+    /// Reads what a body asks, whoever sent it.
+    fn read_incoming(&mut self, body: &[u8]) -> Result<Incoming, AllocError>
+        ensures incoming { IfOk result
+            (λ incoming. incoming_view incoming ≡ incoming_of (reading body.now)) }
+        ensures unchanged { self.new ≡ self.old }
+    {
+        self.server.read(body)
+    }
+
+    /// Judges the record that was read. If it is an accepted change, the body of its canonical
+    /// message is appended.
+    fn take_and_write(
+        &mut self,
+        read: RecordBody<'_>,
+        output: &mut Vec<u8>,
+    ) -> Result<(Verdict, Option<Appended>), AllocError>
+        ensures verdict { IfOk result (λ judged.
+            verdict_view judged.0 ≡ (judge_read self.old (body_view read.entry)).verdict) }
+        ensures session { OnOk result
+            (self.new ≡ (counted (judge_read self.old (body_view read.entry))).session) }
+        ensures written { IfOk result (λ judged. IsAppended self.old.server.config.limits.max_body
+            (canonical_read self.old (body_view read.entry)) judged.1 output.old.items
+            output.new.items) }
+    {
+        match self.received_change(&read) {
+            Some(params) => self.change_and_write(params, output),
+            None => Ok((self.take(read)?, None)),
+        }
     }
 }
 
@@ -126,8 +156,7 @@ fn push_first(
     incoming: &Incoming,
     uri: Option<&str>,
 ) -> Result<(), AllocError>
-    ensures { option_map (λ uri. uri.now) uri
-        ≡ document_of head.side (incoming_view incoming.now) →
+    ensures { option_map (λ uri. uri.now) uri ≡ uri_of head.side (incoming_view incoming.now) →
         OnOk result (buffer.new.items ≡ buffer.old.items
         ++ first_members number head (incoming_view incoming.now)) }
 {
@@ -199,72 +228,29 @@ fn id_of(incoming: &Incoming) -> Option<&Id>
     }
 }
 
-/// The URI that a client's message about a document names.
-fn document_of(side: Side, incoming: &Incoming) -> Option<&str>
-    ensures { option_map (λ uri. uri.now) result
-        ≡ document_of side (incoming_view incoming.now) }
+/// The URI in valid parameters of an editor's message about a document.
+fn uri_of(side: Side, incoming: &Incoming) -> Option<&str>
+    ensures { option_map (λ uri. uri.now) result ≡ uri_of side (incoming_view incoming.now) }
 {
-    match side {
-        Side::Client => uri_of(incoming),
-        Side::Server => None,
-    }
-}
-
-/// The URI in valid parameters of a message about a document.
-fn uri_of(incoming: &Incoming) -> Option<&str>
-    ensures { option_map (λ uri. uri.now) result ≡ uri_of (incoming_view incoming.now) }
-{
-    match incoming {
-        Incoming::DidOpen(Some(params)) => Some(params.uri.as_str()),
-        Incoming::DidChange(Some(params)) => Some(params.uri.as_str()),
-        Incoming::DidClose(Some(params)) => Some(params.uri.as_str()),
+    match (side, incoming) {
+        (Side::Client, Incoming::DidOpen(Some(params))) => Some(params.uri.as_str()),
+        (Side::Client, Incoming::DidChange(Some(params))) => Some(params.uri.as_str()),
+        (Side::Client, Incoming::DidClose(Some(params))) => Some(params.uri.as_str()),
         _ => None,
     }
 }
 
-/// Writes a member with a text, if there is one. `front` is the comma and the name.
-fn push_text(
-    alloc: Global,
-    buffer: &mut Vec<u8>,
-    front: &str,
-    text: Option<&str>,
-) -> Result<(), AllocError>
-    ensures { OnOk result (buffer.new.items ≡ buffer.old.items
-        ++ text_member front.now (option_map (λ text. text.now) text)) }
-{
-    let Some(text) = text else {
-        return Ok(());
-    };
-    buffer.extend_from_slice(front.as_bytes())?;
-    push_json_string(alloc, buffer, text)
-}
-
+/// Writes the member `id`, if there is one.
 fn push_id(alloc: Global, buffer: &mut Vec<u8>, id: Option<&Id>) -> Result<(), AllocError>
-    ensures { OnOk result (buffer.new.items ≡ buffer.old.items
-        ++ id_member (option_map (λ id. id_view id.now) id)) }
+    ensures { OnOk result (buffer.new.items ≡ buffer.old.items ++ member (codes ",\"id\":")
+        (option_map id_json (option_map (λ id. id_view id.now) id))) }
 {
     let Some(id) = id else {
         return Ok(());
     };
     buffer.extend_from_slice(b",\"id\":")?;
-    push_id_json(alloc, buffer, id)
-}
-
-fn push_id_json(alloc: Global, buffer: &mut Vec<u8>, id: &Id) -> Result<(), AllocError>
-    ensures { OnOk result (buffer.new.items ≡ buffer.old.items ++ id_json (id_view id.now)) }
-{
     match id {
         Id::Whole(number) => push_signed(buffer, *number),
         Id::Text(text) => push_json_string(alloc, buffer, text.as_str()),
     }
-}
-
-/// Writes a text as a JSON string.
-pub fn push_json_string(alloc: Global, buffer: &mut Vec<u8>, text: &str) -> Result<(), AllocError>
-    ensures { OnOk result (buffer.new.items ≡ buffer.old.items ++ json_string text.now) }
-{
-    let mut writer = Writer::new(replace(buffer, Vec::new(alloc)));
-    writer.string(text)?;
-    *buffer = writer.into_inner();
-    Ok(())
 }

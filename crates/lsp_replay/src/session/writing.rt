@@ -76,7 +76,7 @@ impl Session {
 
     /// Judges a change that the server receives. If it is accepted, the body of its canonical
     /// message is appended.
-    fn change_and_write(
+    pub(super) fn change_and_write(
         &mut self,
         params: &ChangeParams,
         output: &mut Vec<u8>,

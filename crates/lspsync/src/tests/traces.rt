@@ -47,7 +47,7 @@ static REASONS: [(&str, &str); 12] = [
     ),
     (
         "\"method\":\"textDocument/didChange\",\"uri\":\"file:///a\",",
-        "change 1 starts at line 0, character 2, after its end at line 0, character 1\",\"version\":1",
+        "change 1 starts at line 0, character 2, after it ends at line 0, character 1\",\"version\":1",
     ),
     (
         "\"method\":\"textDocument/didChange\",",
@@ -120,7 +120,7 @@ fn both_sides_have_their_lines(rt: HostRuntime) -> Result<(), Fail> {
 }
 
 const TEXTS: &[u8] =
-    b"\"word\":\"changed\",\"version\":1,\"text\":\"abc\"}\n{\"number\":3,\"offset\":340,\"from\":\"editor\",\"method\":\"textDocument/didChange\",\"uri\":\"file:///a\",\"word\":\"changed\",\"version\":2,\"text\":\"aXc\"}\n{\"number\":4,\"offset\":506,\"from\":\"editor\",\"method\":\"textDocument/didClose\",\"uri\":\"file:///a\",\"word\":\"changed\"}\n";
+    b"\"word\":\"changed\",\"version\":1,\"text\":\"abc\"}\n{\"number\":3,\"offset\":340,\"from\":\"editor\",\"method\":\"textDocument/didChange\",\"uri\":\"file:///a\",\"word\":\"changed\",\"version\":2,\"canonical\":{\"jsonrpc\":\"2.0\",\"method\":\"textDocument/didChange\",\"params\":{\"contentChanges\":[{\"range\":{\"end\":{\"character\":3,\"line\":0},\"start\":{\"character\":0,\"line\":0}},\"text\":\"aXc\"}],\"textDocument\":{\"uri\":\"file:///a\",\"version\":2}}},\"text\":\"aXc\"}\n{\"number\":4,\"offset\":506,\"from\":\"editor\",\"method\":\"textDocument/didClose\",\"uri\":\"file:///a\",\"word\":\"changed\"}\n";
 
 #[test]
 fn texts_are_written_where_they_changed(rt: HostRuntime) -> Result<(), Fail> {

@@ -4,7 +4,7 @@ use Rattle.serde_json.specs.Data.{string}
 use Rattle.serde_json.proofs.Texts.{print-outline}
 use Rattle.lsp_message.specs.inside.Tokens.{tokens_of}
 use Rattle.lsp_replay.specs.Trace.{json_string}
-use Rattle.lsp_replay.proofs.session.tracing.push_json_string.Goals as goal
+use Rattle.lsp_replay.proofs.members.push_json_string.Goals as goal
 
 pub returns : goal.returns
 unfolding json_string
