@@ -114,7 +114,13 @@ module _ (details : Details) (s : Session) (r : Record) (t : Session) (session :
       ∙ ap (λ (b : List ℕ). written_first b (run_output_in (tracing details) t more)) (sym is)
 
   -- the line by its two halves, as they are written one after the other
-  module _ (traced : Traced) (new : List ℕ) (is : IsTraced s r.head r.body [] new traced) where
+  module _ (traced : Traced) (before new : List ℕ) (cleared : before ≡ []) (is : IsTraced s r.head r.body before new traced) where
+    abbrev max_body : ℕ
+    max_body = s.server.config.limits.max_body
+
+    abbrev canonical : Option (List ℕ)
+    canonical = canonical_of_record s r.body (judge s r).verdict
+
     members_are : members_by details t m traced new r.body ≡ members_by details (judge s r).session m traced new r.body
     members_are = ap (λ (u : Session). members_by details u m traced new r.body) session
 
@@ -123,7 +129,7 @@ module _ (details : Details) (s : Session) (r : Record) (t : Session) (session :
         bytes_is
         ∙ ap (λ (bs : List ℕ). bs ++ members_by details t m traced new r.body) (first_is ∙ ap (λ (bs : List ℕ). bs ++ first_members (one_more s.records) r.head m) empty ∙ ap (λ (n : ℕ). first_members n r.head m) (sym (one_more_record s r)))
         ∙ ap (λ (bs : List ℕ). first_members (judge s r).session.records r.head m ++ bs) members_are
-        ∙ rw (is.verdict, is.uri, is.is_json, canonical_is s.server.config.limits.max_body (canonical_of_record s r.body (judge s r).verdict) traced.canonical new is.canonical) refl
+        ∙ rw (is.verdict, is.uri, is.is_json, canonical_is max_body canonical traced.canonical new (subst (λ (b : List ℕ). IsAppended max_body canonical traced.canonical b new) cleared is.canonical)) refl
 
 -- ---- `trace` ends as `check` does
 

@@ -11,6 +11,6 @@ returns-clause-ok c = λ more.
     let session = c.in_ok-traced.ensures.session in
     let bytes = c.push_last.new.buffer.items in
     line_first details s r t session (λ e. c.in_ok-traced.ensures.in_log (c.in_ok-traced.ensures.traced.verdict ∙ e)) bytes
-    (line_is details s r t session c.in_ok-traced.traced _ c.in_ok-traced.ensures.traced c.args.buffer.now.items c.accept_and_trace.new.buffer.items bytes
+    (line_is details s r t session c.in_ok-traced.traced _ _ c.clear.ensures.items c.in_ok-traced.ensures.traced c.args.buffer.now.items c.accept_and_trace.new.buffer.items bytes
     c.requires.empty c.in_ok-traced.ensures.members c.in_ok-push_last.ensures)
     more
