@@ -31,4 +31,5 @@ pub mod SingleLemmas
 pub mod SquashedLogLemmas
 pub mod KeptLemmas
 pub mod PartLemmas
+pub mod MentionLemmas
 pub mod TraceLemmas

@@ -7,6 +7,7 @@ pub mod Laws
 pub mod AllRecords
 pub mod Run
 pub mod Parts
+pub mod Mentions
 pub mod Reasons
 pub mod Trace
 pub mod inside

@@ -1,5 +1,5 @@
 -- `trace`: a line of JSON for each record of a log, with what a server answers to it and why.
-use Rattle.std.specs.Prelude.{ℕ, ◌≡◌, Bool, true, false, ◌&&◌, ◌||◌, ◌==◌, ◌∷◌, ◌++◌, if◌then◌else◌, nat_lt, length, List, [], Option, Some, None, option_and_then, option_map, codes, decimal}
+use Rattle.std.specs.Prelude.{ℕ, ◌≡◌, Bool, true, false, not, ◌&&◌, ◌||◌, ◌==◌, ◌∷◌, ◌++◌, if◌then◌else◌, nat_lt, length, List, [], Option, Some, None, option_and_then, option_map, codes, decimal}
 use Rattle.std.specs.Fmt.{signed_decimal}
 use Rattle.serde_json.specs.Data.{string}
 use Rattle.serde_json.specs.Written.{compact_text}
@@ -8,7 +8,7 @@ use Rattle.lsp_message.specs.Message.{IdData, whole, text, reading}
 use Rattle.lsp_message.specs.Params.{DocumentItem}
 use Rattle.lsp_store.specs.Table.{entry_at}
 use Rattle.lsp_server.specs.Incoming.{IncomingData, not_json, not_a_message, response, initialize, shutdown, other_request, exit, did_open, did_change, did_close, other_notification, incoming_of}
-use Rattle.lsp_server.specs.Answer.{changed}
+use Rattle.lsp_server.specs.Answer.{changed, refused}
 use Rattle.lsp_log.specs.declared.record.Head.{Head}
 use Rattle.lsp_log.specs.declared.record.Side.{Side}
 use Rattle.lsp_log.specs.declared.record.Side.TheVariants.{Client, Server}
@@ -16,10 +16,11 @@ use Rattle.lsp_log.specs.Log.{Record}
 use Rattle.lsp_replay.specs.declared.engines.Settings.{Settings}
 use Rattle.lsp_replay.specs.declared.engines.traced.Details.{Details}
 use Rattle.lsp_replay.specs.RunOutput.{RunOutput}
-use Rattle.lsp_replay.specs.Engines.{View, as_log, canonical_of_record, change_in, log_config, run_output_in, unless_bad, verdict_word, verdicts, writes}
+use Rattle.lsp_replay.specs.Engines.{RecordOutput, as_log, canonical_of_record, change_in, continue_with, log_config, unless_bad, verdict_word, verdicts, writes}
+use Rattle.lsp_replay.specs.Mentions.{Mention, last_record, newest_first}
 use Rattle.lsp_replay.specs.Reasons.{reason_words}
 use Rattle.lsp_replay.specs.Run.{Engine}
-use Rattle.lsp_replay.specs.Session.{Session, Judged, Verdict, answered, is_refused, opened, outcome_of}
+use Rattle.lsp_replay.specs.Session.{Session, Judged, Verdict, answered, is_change, is_refused, judge, opened, outcome_of}
 
 -- ---- members of a line
 
@@ -129,43 +130,75 @@ body_json is_asked body = if is_asked then Some (one_line body) else None
 
 -- The other members of a line: what is answered, and the document afterwards.
 abbrev pub last_members : List ℕ → Option (List ℕ) → Option (List ℕ) → Option (List ℕ)
-    → Option (List ℕ) → Option (List ℕ) → List ℕ
-last_members word reason version canonical text body =
+    → Option (List ℕ) → Option (List ℕ) → Option (List ℕ) → List ℕ
+last_members word reason last version canonical text body =
     codes ",\"word\":\"" ++ word ++ codes "\""
     ++ member (codes ",\"reason\":") reason
+    ++ member (codes ",\"last\":") last
     ++ member (codes ",\"version\":") version
     ++ member (codes ",\"canonical\":") canonical
     ++ member (codes ",\"text\":") text
     ++ member (codes ",\"body\":") body
     ++ codes "}\n"
 
+-- ---- which record opened, closed or refused the document last
+
+-- A command that the documents refuse has the number of that record before it.
+abbrev pub last_json : List Mention → Option (List ℕ) → Verdict → Option (List ℕ)
+last_json mentions uri (answered (refused refusal)) =
+    option_map decimal (option_and_then (λ uri. last_record uri mentions) uri)
+last_json mentions uri verdict = None
+
+-- Does an answer open, close or refuse a document? `change` says whether it is to a `didChange`.
+abbrev pub is_mention : Bool → Verdict → Bool
+is_mention change (answered changed) = not change
+is_mention change (answered (refused refusal)) = true
+is_mention change verdict = false
+
+-- The documents that were opened, closed or refused last, after a record with this number.
+abbrev pub mentioned : Bool → Option (List ℕ) → ℕ → List Mention → List Mention
+mentioned true (Some uri) number mentions = newest_first uri number mentions
+mentioned is_mention uri number mentions = mentions
+
+-- The same by the judgement of a record. `m` is what its body asks.
+abbrev pub mentions_after : List Mention → Record → Judged → IncomingData → List Mention
+mentions_after mentions r j m =
+    mentioned (is_mention (is_change m) j.verdict) (uri_of r.head.side m) j.session.records mentions
+
 -- ---- the engine
 
 -- A line of `trace`, from the session before the record and the judgement of it. `m` is what the
 -- record's body asks.
-abbrev pub trace_line : Details → Session → Record → Judged → IncomingData → List ℕ
-trace_line details s r j m =
+abbrev pub trace_line : Details → List Mention → Session → Record → Judged → IncomingData → List ℕ
+trace_line details mentions s r j m =
     first_members j.session.records r.head m
     ++ last_members (verdict_word j.verdict)
     (reason_json j.session.server.config.limits m j.verdict)
+    (last_json mentions (uri_of r.head.side m) j.verdict)
     (version_json (document_after j.session.server.table (uri_of r.head.side m)))
     (within s.server.config.limits.max_body (canonical_of_record s r.body j.verdict))
     (text_json (details.texts && is_changed j.verdict)
     (document_after j.session.server.table (uri_of r.head.side m)))
     (body_json (details.bodies && is_json m) r.body)
 
--- `trace` writes a line for each record, and nothing at the end.
-abbrev pub tracing : Details → View
-tracing details = record {
-  record_output = λ s r j. unless_bad r j.verdict
-      (writes (trace_line details s r j (incoming_of (reading r.body))));
-  end_output = λ s line_due. [];
-  outcome = outcome_of;
-}
+-- The output for a record: its line.
+abbrev pub trace_output : Details → List Mention → Session → Record → Judged → RecordOutput
+trace_output details mentions s r j = unless_bad r j.verdict
+    (writes (trace_line details mentions s r j (incoming_of (reading r.body))))
+
+-- The output for records that a session judges one after another. At the end nothing is written.
+abbrev pub traced_in : Details → List Mention → Session → List Record → RunOutput
+traced_in details mentions s []
+    = record { out = []; stop = None; last = λ line_due. []; outcome = outcome_of s }
+traced_in details mentions s (r ∷ rs) =
+    continue_with (trace_output details mentions s r (judge s r)).out
+    (trace_output details mentions s r (judge s r)).end
+    (traced_in details (mentions_after mentions r (judge s r) (incoming_of (reading r.body)))
+    (judge s r).session rs)
 
 -- The output of `trace`.
 abbrev pub traced : Settings → Details → List Record → RunOutput
-traced settings details = run_output_in (tracing details) (opened (log_config settings))
+traced settings details = traced_in details [] (opened (log_config settings))
 
 abbrev pub trace_engine : Settings → Details → Engine
 trace_engine settings details

@@ -2,6 +2,7 @@
 pub mod Bodies
 pub mod Joining
 pub mod Kept
+pub mod Mentions
 pub mod Parts
 pub mod Progress
 pub mod Verdicts

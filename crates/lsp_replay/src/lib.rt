@@ -9,6 +9,7 @@
 //! - `commands`: the handlers, `serving`, `checking`, `tracing`, `replaying`, `partial` (of a part
 //!   of a log), `normalising`, `squashing` and `converting`.
 //! - `members`: what a line of JSON is put together from.
+//! - `mentions`: which record opened, closed or refused a document last.
 //! - `outcome`: the status and the counts at the end of a run.
 //! - `laws`: what holds of the logs that are written.
 #![tactic(auto)]
@@ -19,6 +20,7 @@ mod engines;
 mod handler;
 mod laws;
 mod members;
+mod mentions;
 mod outcome;
 mod session;
 

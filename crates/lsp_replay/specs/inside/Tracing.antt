@@ -9,8 +9,9 @@ use Rattle.lsp_replay.specs.declared.session.tracing.Traced.{Traced}
 use Rattle.lsp_replay.specs.declared.session.writing.Appended.{Appended}
 use Rattle.lsp_replay.specs.declared.session.writing.Appended.TheVariants.{Body}
 use Rattle.lsp_replay.specs.Engines.{canonical_of_record, verdict_word}
-use Rattle.lsp_replay.specs.Session.{Session, judge_at}
-use Rattle.lsp_replay.specs.Trace.{body_json, document_after, is_changed, is_json, last_members, reason_json, text_json, uri_of, version_json}
+use Rattle.lsp_replay.specs.Mentions.{Mention}
+use Rattle.lsp_replay.specs.Session.{Session, is_change, judge_at}
+use Rattle.lsp_replay.specs.Trace.{body_json, document_after, is_changed, is_json, is_mention, last_json, last_members, mentioned, reason_json, text_json, uri_of, version_json}
 use Rattle.lsp_replay.specs.inside.Verdicts.{IsAppended, verdict_view}
 
 -- Of a record with this head and body, before which the session was `s`. `old` and `new` are the
@@ -22,6 +23,7 @@ pub record IsTraced (s : Session) (head : Head) (body old new : List ℕ) (trace
       (canonical_of_record s body (judge_at s head body).verdict) traced.canonical old new
   pub uri : option_map string_bytes traced.uri ≡ uri_of head.side (incoming_of (reading body))
   pub is_json : traced.is_json ≡ is_json (incoming_of (reading body))
+  pub is_change : traced.is_change ≡ is_change (incoming_of (reading body))
 
 -- The canonical message, if its body was appended.
 abbrev pub canonical_json : Option Appended → List ℕ → Option (List ℕ)
@@ -29,12 +31,20 @@ canonical_json (Some Body) bytes = Some bytes
 canonical_json appended bytes = None
 
 -- The last members of a record's line by what was returned of it, and by the session afterwards.
-abbrev pub members_by : Details → Session → IncomingData → Traced → List ℕ → List ℕ → List ℕ
-members_by details t m traced canonical body =
+abbrev pub members_by : Details → List Mention → Session → IncomingData → Traced → List ℕ → List ℕ
+    → List ℕ
+members_by details mentions t m traced canonical body =
     last_members (verdict_word (verdict_view traced.verdict))
     (reason_json t.server.config.limits m (verdict_view traced.verdict))
+    (last_json mentions (option_map string_bytes traced.uri) (verdict_view traced.verdict))
     (version_json (document_after t.server.table (option_map string_bytes traced.uri)))
     (canonical_json traced.canonical canonical)
     (text_json (details.texts && is_changed (verdict_view traced.verdict))
     (document_after t.server.table (option_map string_bytes traced.uri)))
     (body_json (details.bodies && traced.is_json) body)
+
+-- The documents that were opened, closed or refused last, by what was returned of a record.
+abbrev pub mentions_by : List Mention → Session → Traced → List Mention
+mentions_by mentions t traced =
+    mentioned (is_mention traced.is_change (verdict_view traced.verdict))
+    (option_map string_bytes traced.uri) t.records mentions

@@ -1,22 +1,23 @@
 //! `trace`: a line of JSON for each record of a log.
 
-ghost use Rattle.std.specs.Prelude.{◌≡◌, ◌++◌, refl, OnOk, codes, false, option_map, string_bytes};
+ghost use Rattle.std.specs.Prelude.{◌≡◌, ◌++◌, [], refl, OnOk, codes, false, option_map, string_bytes};
 ghost use Rattle.lsp_message.specs.Message.{reading};
 ghost use Rattle.lsp_message.specs.Seen.{change_view};
 ghost use Rattle.lsp_server.specs.Incoming.{incoming_of};
 ghost use Rattle.lsp_server.specs.Seen.{incoming_view};
 ghost use Rattle.lsp_replay.specs.Session.{opened};
-ghost use Rattle.lsp_replay.specs.Engines.{change_in, run_output_in, verdict_word};
-ghost use Rattle.lsp_replay.specs.Trace.{body_json, document_after, is_changed, member, one_line, reason_json, text_json, tracing};
+ghost use Rattle.lsp_replay.specs.Engines.{change_in, verdict_word};
+ghost use Rattle.lsp_replay.specs.Trace.{body_json, document_after, is_changed, is_mention, last_json, member, one_line, reason_json, text_json, traced_in};
 ghost use Rattle.lsp_replay.specs.Trace.{version_json};
-ghost use Rattle.lsp_replay.specs.inside.Tracing.{canonical_json, members_by};
+ghost use Rattle.lsp_replay.specs.inside.Tracing.{canonical_json, members_by, mentions_by};
 ghost use Rattle.lsp_replay.specs.inside.Verdicts.{verdict_view};
 
 use crate::commands::checking::push_verdict;
 use crate::commands::reasons::push_reason;
 use crate::engines::Details;
 use crate::handler::{Given, Handler, Output};
-use crate::members::{push_json_string, push_signed};
+use crate::members::{push_json_string, push_number, push_signed};
+use crate::mentions::Mentions;
 use crate::outcome::Outcome;
 use crate::session::counting::is_refused;
 use crate::session::tracing::Traced;
@@ -35,6 +36,7 @@ pub struct Trace {
     pub session: Session,
     pub alloc: Global,
     pub details: Details,
+    pub mentions: Mentions,
     /// The canonical message of the last record, if it was an accepted change.
     pub canonical: Vec<u8>,
 }
@@ -42,14 +44,15 @@ pub struct Trace {
 impl Trace {
     /// Starts before the first record, over a new server.
     pub fn new(alloc: Global, config: Config, details: Details) -> Trace
-        ensures session { result.session ≡ opened config }
-        ensures details { result.details ≡ details }
+        ensures { traced_in result.details result.mentions result.session
+            ≡ traced_in details [] (opened config) }
     {
         let session = Session::new(alloc, config);
         Trace {
             session,
             alloc,
             details,
+            mentions: Mentions::new(alloc),
             canonical: Vec::new(alloc),
         }
     }
@@ -62,13 +65,14 @@ impl Trace {
         traced: &Traced,
     ) -> Result<(), AllocError>
         ensures { OnOk result (buffer.new.items ≡ buffer.old.items
-            ++ members_by self.now.details self.now.session (incoming_of (reading body.now))
-            traced.now self.now.canonical.items body.now) }
+            ++ members_by self.now.details self.now.mentions self.now.session
+            (incoming_of (reading body.now)) traced.now self.now.canonical.items body.now) }
     {
         let document = self.document_after(&traced.uri);
         let is_changed = is_changed(&traced.verdict);
         push_word(buffer, &traced.verdict)?;
         self.push_why(buffer, body, &traced.verdict)?;
+        self.push_mention(buffer, &traced.uri, &traced.verdict)?;
         push_version(buffer, &document)?;
         push_canonical(buffer, traced.canonical, &self.canonical)?;
         push_text(
@@ -106,6 +110,46 @@ impl Trace {
         buffer.extend_from_slice(b"\"")
     }
 
+    /// Writes which record opened, closed or refused the document of the last record before it, if
+    /// the documents refused that.
+    fn push_mention(
+        &self,
+        buffer: &mut Vec<u8>,
+        uri: &Option<String>,
+        verdict: &Verdict,
+    ) -> Result<(), AllocError>
+        ensures { OnOk result (buffer.new.items ≡ buffer.old.items
+            ++ member (codes ",\"last\":") (last_json self.now.mentions
+            (option_map string_bytes uri.now) (verdict_view verdict.now))) }
+    {
+        let Verdict::Answered(Answer::Refused(_)) = verdict else {
+            return Ok(());
+        };
+        let Some(uri) = uri else {
+            return Ok(());
+        };
+        let Some(number) = self.mentions.last(uri.as_str()) else {
+            return Ok(());
+        };
+        buffer.extend_from_slice(b",\"last\":")?;
+        push_number(buffer, number)
+    }
+
+    /// Keeps that the last record opened, closed or refused its document, if it did.
+    fn mention(&mut self, traced: &Traced) -> Result<(), AllocError>
+        ensures mentions { OnOk result (self.new.mentions
+            ≡ mentions_by self.old.mentions self.old.session traced.now) }
+        ensures others { self.new ≡ record self.old { mentions = self.new.mentions } }
+    {
+        if !is_mention(traced.is_change, &traced.verdict) {
+            return Ok(());
+        }
+        let Some(uri) = &traced.uri else {
+            return Ok(());
+        };
+        self.mentions.mention(uri.as_str(), self.session.records())
+    }
+
     /// The document with this URI, if it is open.
     fn document_after(&self, uri: &Option<String>) -> Option<Document<'_>>
         ensures { result
@@ -119,7 +163,7 @@ impl Trace {
 }
 
 impl Handler for Trace {
-    ghost run_output = { λ trace. run_output_in (tracing trace.details) trace.session };
+    ghost run_output = { λ trace. traced_in trace.details trace.mentions trace.session };
 
     ghost FLUSHES = { false };
 
@@ -143,6 +187,7 @@ impl Handler for Trace {
             .session
             .accept_and_trace(head, body, buffer, &mut self.canonical)?;
         self.push_last(buffer, body, &traced)?;
+        self.mention(&traced)?;
         Ok(Given::more(Output::Bytes))
     }
 
@@ -160,6 +205,17 @@ fn is_changed(verdict: &Verdict) -> bool
     ensures { result ≡ is_changed (verdict_view verdict.now) }
 {
     matches!(verdict, Verdict::Answered(Answer::Changed))
+}
+
+/// Does an answer open, close or refuse a document?
+fn is_mention(is_change: bool, verdict: &Verdict) -> bool
+    ensures { result ≡ is_mention is_change (verdict_view verdict.now) }
+{
+    match verdict {
+        Verdict::Answered(Answer::Changed) => !is_change,
+        Verdict::Answered(Answer::Refused(_)) => true,
+        _ => false,
+    }
 }
 
 /// The parameters of a `didChange`, if they are valid.

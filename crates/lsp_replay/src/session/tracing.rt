@@ -7,7 +7,7 @@ ghost use Rattle.lsp_message.specs.Seen.{id_view};
 ghost use Rattle.lsp_server.specs.Incoming.{incoming_of};
 ghost use Rattle.lsp_server.specs.Seen.{incoming_view};
 ghost use Rattle.lsp_stream.specs.Ports as ports;
-ghost use Rattle.lsp_replay.specs.Session.{bad, counted, judge_at};
+ghost use Rattle.lsp_replay.specs.Session.{bad, counted, is_change, judge_at};
 ghost use Rattle.lsp_replay.specs.Trace.{first_members, id_json, id_of, is_json, member, method_of};
 ghost use Rattle.lsp_replay.specs.Trace.{side_word, uri_of};
 ghost use Rattle.lsp_replay.specs.inside.Bodies.{body_read, body_view, canonical_read, judge_read};
@@ -34,6 +34,8 @@ pub struct Traced {
     pub uri: Option<String>,
     /// Is its body JSON?
     pub is_json: bool,
+    /// Is it a `didChange`?
+    pub is_change: bool,
 }
 
 impl Session {
@@ -84,6 +86,7 @@ impl Session {
         push_first(self.alloc, buffer, number, head, &incoming, uri)?;
         let uri = copied_text(self.alloc, uri)?;
         let is_json = is_json(&incoming);
+        let is_change = is_change(&incoming);
         let read = record_body(head, body, incoming);
         let (verdict, canonical) = self.take_and_write(read, canonical)?;
         Ok(Traced {
@@ -91,6 +94,7 @@ impl Session {
             canonical,
             uri,
             is_json,
+            is_change,
         })
     }
 
@@ -195,6 +199,13 @@ fn is_json(incoming: &Incoming) -> bool
     ensures { result ≡ is_json (incoming_view incoming.now) }
 {
     !matches!(incoming, Incoming::NotJson)
+}
+
+/// Does a body ask for a change?
+fn is_change(incoming: &Incoming) -> bool
+    ensures { result ≡ is_change (incoming_view incoming.now) }
+{
+    matches!(incoming, Incoming::DidChange(_))
 }
 
 /// The method of a request or a notification.

@@ -23,7 +23,7 @@ static REASONS: [(&str, &str); 12] = [
     ),
     (
         "\"method\":\"textDocument/didOpen\",\"uri\":\"file:///a\",",
-        "the document is open already\",\"version\":1",
+        "the document is open already\",\"last\":2,\"version\":1",
     ),
     (
         "\"method\":\"textDocument/didOpen\",\"uri\":\"file:///b\",",
@@ -31,7 +31,7 @@ static REASONS: [(&str, &str); 12] = [
     ),
     (
         "\"method\":\"textDocument/didChange\",\"uri\":\"file:///a\",",
-        "the text has more bytes than --max-text allows, 3\",\"version\":1",
+        "the text has more bytes than --max-text allows, 3\",\"last\":2,\"version\":1",
     ),
     (
         "\"method\":\"textDocument/didClose\",\"uri\":\"file:///b\",",
@@ -39,15 +39,15 @@ static REASONS: [(&str, &str); 12] = [
     ),
     (
         "\"method\":\"textDocument/didChange\",\"uri\":\"file:///a\",",
-        "version 1 was sent, and the current one is 1\",\"version\":1",
+        "version 1 was sent, and the current one is 1\",\"last\":2,\"version\":1",
     ),
     (
         "\"method\":\"textDocument/didChange\",\"uri\":\"file:///a\",",
-        "there are more changes than --max-changes allows, 1, or their texts have more than 1 GiB\",\"version\":1",
+        "there are more changes than --max-changes allows, 1, or their texts have more than 1 GiB\",\"last\":2,\"version\":1",
     ),
     (
         "\"method\":\"textDocument/didChange\",\"uri\":\"file:///a\",",
-        "change 1 starts at line 0, character 2, after it ends at line 0, character 1\",\"version\":1",
+        "change 1 starts at line 0, character 2, after it ends at line 0, character 1\",\"last\":2,\"version\":1",
     ),
     (
         "\"method\":\"textDocument/didChange\",",
@@ -90,7 +90,7 @@ const INSIDE: &str =
     r#"{"jsonrpc":"2.0","method":"textDocument/didChange","params":{"contentChanges":[{"text":"x😀"},{"range":{"start":{"line":0,"character":1},"end":{"line":0,"character":2}},"text":""}],"textDocument":{"uri":"file:///a","version":7}}}"#;
 
 const INSIDE_LINE: &[u8] =
-    b"\"word\":\"refused E1\",\"reason\":\"change 2 ends at line 0, character 2, inside a character\",\"version\":1}\n";
+    b"\"word\":\"refused E1\",\"reason\":\"change 2 ends at line 0, character 2, inside a character\",\"last\":2,\"version\":1}\n";
 
 #[test]
 fn a_range_that_ends_inside_a_character(rt: HostRuntime) -> Result<(), Fail> {
@@ -147,5 +147,50 @@ fn bodies_are_written_on_one_line(rt: HostRuntime) -> Result<(), Fail> {
             BODIES
         )?
     );
+    Ok(())
+}
+
+/// A change of the document that [`OPEN`] opens, under its own version.
+const STALE: &str =
+    r#"{"jsonrpc":"2.0","method":"textDocument/didChange","params":{"contentChanges":[],"textDocument":{"uri":"file:///a","version":1}}}"#;
+
+/// The end of the line of each record of a log, which says what the last record on its document was.
+static LASTS: [(&str, &str); 8] = [
+    (INITIALIZE, "\"word\":\"reply\"}"),
+    (STALE, "\"reason\":\"the document is not open\"}"),
+    (OPEN, "\"word\":\"changed\",\"version\":1}"),
+    (STALE, "the current one is 1\",\"last\":3,\"version\":1}"),
+    (OPEN, "the document is open already\",\"last\":4,\"version\":1}"),
+    (WHOLE, "\"version\":2}}}}"),
+    (CLOSE, "\"word\":\"changed\"}"),
+    (STALE, "\"reason\":\"the document is not open\",\"last\":7}"),
+];
+
+/// Do the lines of an output end so, one after another?
+fn ends_so(output: &[u8]) -> bool {
+    let Ok(text) = str::from_utf8(output) else {
+        return false;
+    };
+    let mut lines = text.lines();
+    for (_, end) in &LASTS {
+        let Some(line) = lines.next() else {
+            return false;
+        };
+        if !line.ends_with(*end) {
+            return false;
+        }
+    }
+    lines.next().is_none()
+}
+
+#[test]
+fn the_last_record_on_a_document_is_named(rt: HostRuntime) -> Result<(), Fail> {
+    let mut bodies = Vec::new(rt.alloc());
+    for (body, _) in &LASTS {
+        bodies.push(*body)?;
+    }
+    let input = log(rt.alloc(), &bodies)?;
+    let answer = ran(rt.alloc(), &["lspsync", "trace"], &input)?;
+    assert!(rt; answer.status == 1 && ends_so(&answer.output));
     Ok(())
 }
