@@ -1,5 +1,5 @@
 -- `trace`: a line of JSON for each record of a log, with what a server answers to it and why.
-use Rattle.std.specs.Prelude.{ℕ, ◌≡◌, Bool, true, false, not, ◌&&◌, ◌||◌, ◌==◌, ◌∷◌, ◌++◌, if◌then◌else◌, nat_lt, length, List, [], Option, Some, None, option_and_then, option_map, codes, decimal}
+use Rattle.std.specs.Prelude.{ℕ, ◌≡◌, Bool, true, false, not, ◌&&◌, ◌||◌, ◌==◌, ◌∷◌, ◌++◌, if◌then◌else◌, nat_lt, length, List, [], Option, Some, None, option_and_then, option_map, codes, decimal, flat_map}
 use Rattle.std.specs.Fmt.{signed_decimal}
 use Rattle.serde_json.specs.Data.{string}
 use Rattle.serde_json.specs.Written.{compact_text}
@@ -209,10 +209,33 @@ trace_engine settings details
       in_parts = false;
     }
 
--- `trace` ends where `check` does, and as it does. The words of its answers are those of `check`, by
--- definition.
+-- ---- `trace` beside `check`
+
+-- What a record's lines of `check` and of `trace` have in common, and the members of `trace` before
+-- and after its word.
+pub record Line : Type 0 where
+  pub number : ℕ
+  pub word : List ℕ
+  pub before : List ℕ
+  pub after : List ℕ
+
+abbrev pub checked_line : Line → List ℕ
+checked_line l = decimal l.number ++ codes " " ++ l.word ++ codes "\n"
+
+abbrev pub traced_line : Line → List ℕ
+traced_line l =
+    codes "{\"number\":" ++ decimal l.number ++ l.before
+    ++ codes ",\"word\":\"" ++ l.word ++ codes "\"" ++ l.after
+
+-- An output of `trace` ends where one of `check` does, and as it does. They have the same numbers
+-- and words.
+pub record IsTraceOf (trace check : RunOutput) : Type 0 where
+  pub stop : trace.stop ≡ check.stop
+  pub outcome : trace.outcome ≡ check.outcome
+  pub lines : List Line
+  pub traced : trace.out ≡ flat_map traced_line lines
+  pub checked : check.out ≡ flat_map checked_line lines
+
 abbrev pub TraceLaw : Type 0
-TraceLaw =
-    (settings : Settings) (details : Details) (records : List Record) →
-    ((traced settings details records).stop ≡ (verdicts settings records).stop)
-    × ((traced settings details records).outcome ≡ (verdicts settings records).outcome)
+TraceLaw = (settings : Settings) (details : Details) (records : List Record)
+    → IsTraceOf (traced settings details records) (verdicts settings records)

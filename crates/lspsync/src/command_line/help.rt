@@ -223,8 +223,9 @@ static TRACE: &str =
 
 static TRACE_EXAMPLE: &str =
     "A line has the record's `number` and `offset`, who it is `from`, its `method` and `id`, the document's
-`uri`, the `word` of `check`, the `reason` if it was refused, the document's `version` after it, and
-the `canonical` message of an accepted change. The status is that of `check`.
+`uri`, the `word` of `check`, the `reason` if it was refused and the `last` record that opened, closed
+or refused the document, the document's `version` after it, and the `canonical` message of an accepted
+change. The status is that of `check`.
 
 Example, and the refused messages alone where `jq` is there:
   ./lspsync trace < examples/stale-version.log
