@@ -32,4 +32,6 @@ pub mod SquashedLogLemmas
 pub mod KeptLemmas
 pub mod PartLemmas
 pub mod MentionLemmas
+pub mod TableLemmas
 pub mod TraceLemmas
+pub mod TraceLawLemmas

@@ -1,6 +1,6 @@
 -- A line of `trace`, and the output from it on.
-use Rattle.std.proofs.Common.{◌≡◌, ◌≢◌, ℕ, Bool, true, false, List, [], ◌∷◌, ◌++◌, length, le-ltb, lt-ltb, Option, Some, None, refl, sym, ap, ◌∙◌, subst, append_assoc}
-use Rattle.std.specs.Prelude.{Result, ◌&&◌, codes, decimal, if◌then◌else◌, option_map}
+use Rattle.std.proofs.Common.{◌≡◌, ◌≢◌, ℕ, Bool, true, false, List, [], ◌∷◌, ◌++◌, length, le-ltb, lt-ltb, Option, Some, None, refl, sym, ap, ◌∙◌, subst}
+use Rattle.std.specs.Prelude.{Result, if◌then◌else◌}
 use Rattle.serde_json.specs.Data.{Data}
 use Rattle.lsp_text.specs.declared.encoding.Encoding.{Encoding}
 use Rattle.lsp_message.specs.declared.agreement.Announced.{Announced}
@@ -22,12 +22,12 @@ use Rattle.lsp_replay.specs.declared.engines.traced.Details.{Details}
 use Rattle.lsp_replay.specs.declared.session.tracing.Traced.{Traced}
 use Rattle.lsp_replay.specs.declared.session.writing.Appended.{Appended}
 use Rattle.lsp_replay.specs.declared.session.writing.Appended.TheVariants.{Body, TooLong}
-use Rattle.lsp_replay.specs.RunOutput.{RunOutput, written_first}
-use Rattle.lsp_replay.specs.Engines.{RecordOutput, canonical_of_record, check_line, checking, continue_with, log_config, run_output_in, unless_bad, verdict_word, writes}
-use Rattle.lsp_replay.specs.Session.{Session, Verdict, answered, recorded, bad, opened, Judged, counted, judged, judge, judge_from, judge_incoming, handled, hear_for, heard, settle_by, settle_in, result_for, is_ended, is_early}
+use Rattle.lsp_replay.specs.RunOutput.{written_first}
+use Rattle.lsp_replay.specs.Engines.{RecordOutput, canonical_of_record, continue_with, writes}
+use Rattle.lsp_replay.specs.Session.{Session, Verdict, bad, Judged, counted, judged, judge, judge_from, judge_incoming, handled, hear_for, heard, settle_by, settle_in, result_for, is_ended, is_early}
 use Rattle.lsp_replay.specs.Mentions.{Mention}
 use Rattle.lsp_replay.specs.Run.{IsEngineRun}
-use Rattle.lsp_replay.specs.Trace.{IsTraceOf, Line, TraceLaw, body_json, checked_line, document_after, first_members, id_json, id_of, is_changed, is_json, json_string, last_json, member, mentions_after, method_of, reason_json, side_word, text_json, trace_line, trace_output, traced_in, traced_line, uri_of, version_json, within}
+use Rattle.lsp_replay.specs.Trace.{first_members, is_json, mentions_after, trace_line, trace_output, traced_in, within}
 use Rattle.lsp_replay.specs.inside.Engine.{IsLoopRun}
 use Rattle.lsp_replay.specs.inside.Bodies.{BodyData, IsChangeTaken, IsReceived, canonical_read, judge_read}
 use Rattle.lsp_replay.specs.inside.Joining.{change_body_if}
@@ -147,49 +147,6 @@ module _ (details : Details) (mentions : List Mention) (s : Session) (r : Record
         ∙ ap (λ (bs : List ℕ). bs ++ members_by details mentions t m traced new r.body) (first_is ∙ ap (λ (bs : List ℕ). bs ++ first_members (one_more s.records) r.head m) empty ∙ ap (λ (n : ℕ). first_members n r.head m) (sym (one_more_record s r)))
         ∙ ap (λ (bs : List ℕ). first_members (judge s r).session.records r.head m ++ bs) members_are
         ∙ rw (is.verdict, is.uri, is.is_json, canonical_is max_body canonical traced.canonical new (subst (λ (b : List ℕ). IsAppended max_body canonical traced.canonical b new) cleared is.canonical)) refl
-
--- ---- `trace` beside `check`
-
-line_beside : (details : Details) (mentions : List Mention) (s : Session) (r : Record) (m : IncomingData) → (l : Line) × (trace_line details mentions s r (judge s r) m ≡ traced_line l) × (check_line (judge s r).session.records (judge s r).verdict ≡ checked_line l)
-line_beside details mentions s r m =
-    let j = judge s r in
-    let number = j.session.records in
-    let word = verdict_word j.verdict in
-    let uri = uri_of r.head.side m in
-    let before =
-        codes ",\"offset\":" ++ decimal r.head.place ++ codes ",\"from\":\"" ++ side_word r.head.side ++ codes "\""
-        ++ member (codes ",\"method\":") (option_map json_string (method_of m)) ++ member (codes ",\"id\":") (option_map id_json (id_of m)) ++ member (codes ",\"uri\":") (option_map json_string uri)
-    in
-    let after =
-        member (codes ",\"reason\":") (reason_json j.session.server.config.limits m j.verdict) ++ member (codes ",\"last\":") (last_json mentions uri j.verdict)
-        ++ member (codes ",\"version\":") (version_json (document_after j.session.server.table uri)) ++ member (codes ",\"canonical\":") (within s.server.config.limits.max_body (canonical_of_record s r.body j.verdict))
-        ++ member (codes ",\"text\":") (text_json (details.texts && is_changed j.verdict) (document_after j.session.server.table uri)) ++ member (codes ",\"body\":") (body_json (details.bodies && is_json m) r.body) ++ codes "}\n"
-    in
-    (
-      record { number = number; word = word; before = before; after = after },
-      ap (λ (z : List ℕ). codes "{\"number\":" ++ z) (append_assoc (decimal number) before (codes ",\"word\":\"" ++ word ++ codes "\"" ++ after)),
-      refl,
-    )
-
-lines_beside : (r : Record) (verdict : Verdict) (one two : List ℕ) (l : Line) → one ≡ traced_line l → two ≡ checked_line l → (c d : RunOutput) → IsTraceOf c d
-    → IsTraceOf (continue_with (unless_bad r verdict (writes one)).out (unless_bad r verdict (writes one)).end c) (continue_with (unless_bad r verdict (writes two)).out (unless_bad r verdict (writes two)).end d)
-lines_beside r bad one two l a b c d is = record { stop = refl; outcome = refl; lines = []; traced = refl; checked = refl }
-lines_beside r recorded one two l a b c d is =
-    record { stop = is.stop; outcome = is.outcome; lines = l ∷ is.lines; traced = rw (a, is.traced) refl; checked = rw (b, is.checked) refl }
-lines_beside r (answered answer) one two l a b c d is =
-    record { stop = is.stop; outcome = is.outcome; lines = l ∷ is.lines; traced = rw (a, is.traced) refl; checked = rw (b, is.checked) refl }
-
-trace_beside : (details : Details) (mentions : List Mention) (s : Session) (rs : List Record) → IsTraceOf (traced_in details mentions s rs) (run_output_in checking s rs)
-trace_beside details mentions s [] = record { stop = refl; outcome = refl; lines = []; traced = refl; checked = refl }
-trace_beside details mentions s (r ∷ rs) =
-    let m = incoming_of (reading r.body) in
-    let next = mentions_after mentions r (judge s r) m in
-    let line = line_beside details mentions s r m in
-    lines_beside r (judge s r).verdict (trace_line details mentions s r (judge s r) m) (check_line (judge s r).session.records (judge s r).verdict) line.0 line.1.0 line.1.1
-    (traced_in details next (judge s r).session rs) (run_output_in checking (judge s r).session rs) (trace_beside details next (judge s r).session rs)
-
-pub trace_law : TraceLaw
-trace_law settings details records = trace_beside details [] (opened (log_config settings)) records
 
 -- ---- all records
 

@@ -3,7 +3,7 @@ use Rattle.lsp_replay.proofs.NormalisedLemmas.{canonical_log_law}
 use Rattle.lsp_replay.proofs.SquashedLemmas.{stops_alike}
 use Rattle.lsp_replay.proofs.SquashedLogLemmas.{squashed_law}
 use Rattle.lsp_replay.proofs.ConvertedLogLemmas.{converted_law}
-use Rattle.lsp_replay.proofs.TraceLemmas.{trace_law}
+use Rattle.lsp_replay.proofs.TraceLawLemmas.{trace_law}
 use Rattle.lsp_replay.proofs.laws.log_laws.Goals as goal
 
 pub returns : goal.returns
