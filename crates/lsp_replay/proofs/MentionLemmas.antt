@@ -32,15 +32,14 @@ module _ (uri : List ℕ) (mentions : List Mention) (index : ℕ) (d : Mention) 
   pub goes_on : bytes_eq here.uri uri ≡ false → Passed uri mentions (index + 1)
   goes_on other = (
     passed.0 ∙ ap (λ (ms : List Mention). take index mentions ++ without uri ms) rest ∙ rw other (sym (append_assoc (take index mentions) (here ∷ []) (without uri others)))
-    ∙ ap (λ (ms : List Mention). ms ++ without uri others) (sym (take_more mentions index d within)),
+        ∙ ap (λ (ms : List Mention). ms ++ without uri others) (sym (take_more mentions index d within)),
     passed.1 ∙ ap (last_record uri) rest ∙ rw other refl,
   )
 
 -- no document is this one
 pub none_found : (uri : List ℕ) (mentions : List Mention) (index : ℕ) → length mentions ≤ index → Passed uri mentions index → (without uri mentions ≡ mentions) × (last_record uri mentions ≡ None)
 none_found uri mentions index end passed =
-    let none : drop index mentions ≡ [] = drop_all index mentions end in
-    (
+    let none : drop index mentions ≡ [] = drop_all index mentions end in (
       passed.0 ∙ ap (λ (ms : List Mention). take index mentions ++ without uri ms) none ∙ append-nil (take index mentions) ∙ take_all index mentions end,
       passed.1 ∙ ap (last_record uri) none,
     )

@@ -4,6 +4,7 @@ mod documents;
 mod failing_runs;
 mod failures;
 mod in_time;
+mod mentions;
 mod pieces;
 mod refused;
 mod sessions;
@@ -85,6 +86,10 @@ const CHECK_1: &[u8] = b"1 reply\n2 changed\n3 changed\n";
 
 /// The output of `check` for [`CONVERTED`].
 const CHECK_2: &[u8] = b"1 reply\n2 server\n3 changed\n4 changed\n";
+
+/// The output of `trace` with texts for [`WORKED`].
+const TRACED: &[u8] =
+    b"{\"number\":1,\"offset\":0,\"from\":\"editor\",\"method\":\"initialize\",\"id\":1,\"word\":\"reply\"}\n{\"number\":2,\"offset\":172,\"from\":\"editor\",\"method\":\"textDocument/didOpen\",\"uri\":\"file:///a\",\"word\":\"changed\",\"version\":1,\"text\":\"abc\"}\n{\"number\":3,\"offset\":340,\"from\":\"editor\",\"method\":\"textDocument/didChange\",\"uri\":\"file:///a\",\"word\":\"changed\",\"version\":2,\"canonical\":{\"jsonrpc\":\"2.0\",\"method\":\"textDocument/didChange\",\"params\":{\"contentChanges\":[{\"range\":{\"end\":{\"character\":3,\"line\":0},\"start\":{\"character\":0,\"line\":0}},\"text\":\"aXc\"}],\"textDocument\":{\"uri\":\"file:///a\",\"version\":2}}},\"text\":\"aXc\"}\n";
 
 /// An editor's session.
 const SESSION: &[&str] = &[INITIALIZE, INITIALIZED, OPEN, EDITED, CLOSE, SHUTDOWN, EXIT];

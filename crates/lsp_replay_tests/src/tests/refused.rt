@@ -174,21 +174,21 @@ fn refused_replay_part(rt: HostRuntime) -> Result<(), Fail> {
 }
 
 /// The document is opened, and opened again.
-static TRACED: Wanted = Wanted {
+static OPENED_TWICE: Wanted = Wanted {
     command: Command::Trace,
     input: Bytes::Frames(&[SHORT, OPEN, OPEN]),
     parts: &[
         "{\"number\":1,\"offset\":0,\"from\":\"editor\",\"method\":\"initialize\",\"id\":1,\"word\":\"reply\"}\n",
         "{\"number\":2,\"offset\":80,\"from\":\"editor\",\"method\":\"textDocument/didOpen\",\"uri\":\"file:///a\",\"word\":\"changed\",\"version\":1,\"text\":\"abc\"}\n",
-        "{\"number\":3,\"offset\":248,\"from\":\"editor\",\"method\":\"textDocument/didOpen\",\"uri\":\"file:///a\",\"word\":\"refused S1\",\"reason\":\"the document is open already\",\"version\":1}\n",
+        "{\"number\":3,\"offset\":248,\"from\":\"editor\",\"method\":\"textDocument/didOpen\",\"uri\":\"file:///a\",\"word\":\"refused S1\",\"reason\":\"the document is open already\",\"last\":2,\"version\":1}\n",
     ],
-    lengths: &[84, 217, 381],
+    lengths: &[84, 217, 390],
     end: Ended(1, 3, 1),
 };
 
 #[test]
 fn refused_trace(rt: HostRuntime) -> Result<(), Fail> {
-    let refused = TRACED.runs_again(rt.alloc())?;
+    let refused = OPENED_TWICE.runs_again(rt.alloc())?;
     assert!(rt; refused.is_some());
     println!(rt; "refused {}", refused.unwrap_or(0))?;
     Ok(())

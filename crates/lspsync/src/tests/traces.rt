@@ -160,7 +160,10 @@ static LASTS: [(&str, &str); 8] = [
     (STALE, "\"reason\":\"the document is not open\"}"),
     (OPEN, "\"word\":\"changed\",\"version\":1}"),
     (STALE, "the current one is 1\",\"last\":3,\"version\":1}"),
-    (OPEN, "the document is open already\",\"last\":4,\"version\":1}"),
+    (
+        OPEN,
+        "the document is open already\",\"last\":4,\"version\":1}",
+    ),
     (WHOLE, "\"version\":2}}}}"),
     (CLOSE, "\"word\":\"changed\"}"),
     (STALE, "\"reason\":\"the document is not open\",\"last\":7}"),
