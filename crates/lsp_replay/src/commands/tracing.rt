@@ -44,7 +44,7 @@ pub struct Trace {
 impl Trace {
     /// Starts before the first record, over a new server.
     pub fn new(alloc: Global, config: Config, details: Details) -> Trace
-        ensures { traced_in result.details result.mentions result.session
+        ensures { traced_in result.details result.mentions.newest.items result.session
             ≡ traced_in details [] (opened config) }
     {
         let session = Session::new(alloc, config);
@@ -65,7 +65,7 @@ impl Trace {
         traced: &Traced,
     ) -> Result<(), AllocError>
         ensures { OnOk result (buffer.new.items ≡ buffer.old.items
-            ++ members_by self.now.details self.now.mentions self.now.session
+            ++ members_by self.now.details self.now.mentions.newest.items self.now.session
             (incoming_of (reading body.now)) traced.now self.now.canonical.items body.now) }
     {
         let document = self.document_after(&traced.uri);
@@ -119,7 +119,7 @@ impl Trace {
         verdict: &Verdict,
     ) -> Result<(), AllocError>
         ensures { OnOk result (buffer.new.items ≡ buffer.old.items
-            ++ member (codes ",\"last\":") (last_json self.now.mentions
+            ++ member (codes ",\"last\":") (last_json self.now.mentions.newest.items
             (option_map string_bytes uri.now) (verdict_view verdict.now))) }
     {
         let Verdict::Answered(Answer::Refused(_)) = verdict else {
@@ -137,8 +137,8 @@ impl Trace {
 
     /// Keeps that the last record opened, closed or refused its document, if it did.
     fn mention(&mut self, traced: &Traced) -> Result<(), AllocError>
-        ensures mentions { OnOk result (self.new.mentions
-            ≡ mentions_by self.old.mentions self.old.session traced.now) }
+        ensures mentions { OnOk result (self.new.mentions.newest.items
+            ≡ mentions_by self.old.mentions.newest.items self.old.session traced.now) }
         ensures others { self.new ≡ record self.old { mentions = self.new.mentions } }
     {
         if !is_mention(traced.is_change, &traced.verdict) {
@@ -163,7 +163,8 @@ impl Trace {
 }
 
 impl Handler for Trace {
-    ghost run_output = { λ trace. traced_in trace.details trace.mentions trace.session };
+    ghost run_output = { λ trace.
+        traced_in trace.details trace.mentions.newest.items trace.session };
 
     ghost FLUSHES = { false };
 

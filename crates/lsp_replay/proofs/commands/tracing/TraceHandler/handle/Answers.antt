@@ -7,7 +7,7 @@ pub returns-clause-ok : goal.returns-clause-ok
 returns-clause-ok c = λ more.
     let r = record { head = c.args.head; raw = c.args._raw.now; body = c.args.body.now } in
     let details = c.args.self.now.details in
-    let mentions = c.args.self.now.mentions in
+    let mentions = c.args.self.now.mentions.newest.items in
     let s = c.args.self.now.session in
     let t = c.accept_and_trace.new.self in
     let session = c.in_ok-traced.ensures.session in
