@@ -31,7 +31,6 @@ pub mod SingleLemmas
 pub mod SquashedLogLemmas
 pub mod KeptLemmas
 pub mod PartLemmas
-pub mod MentionLemmas
 pub mod TableLemmas
 pub mod TraceLemmas
 pub mod TraceLawLemmas

@@ -132,13 +132,13 @@ body_json is_asked body = if is_asked then Some (one_line body) else None
 -- The other members of a line: what is answered, and the document afterwards.
 abbrev pub last_members : List ℕ → Option (List ℕ) → Option (List ℕ) → Option (List ℕ)
     → Option (List ℕ) → Option (List ℕ) → Option (List ℕ) → List ℕ
-last_members word reason last version canonical text body =
+last_members word reason last version canonical shown body =
     codes ",\"word\":\"" ++ word ++ codes "\""
     ++ member (codes ",\"reason\":") reason
     ++ member (codes ",\"last\":") last
     ++ member (codes ",\"version\":") version
     ++ member (codes ",\"canonical\":") canonical
-    ++ member (codes ",\"text\":") text
+    ++ member (codes ",\"text\":") shown
     ++ member (codes ",\"body\":") body
     ++ codes "}\n"
 
@@ -238,13 +238,13 @@ abbrev pub is_document : List ℕ → Option (List ℕ) → Bool
 is_document uri None = false
 is_document uri (Some other) = bytes_eq uri other
 
--- The text of a document in the last line of a record that opened, changed or closed it. `text` is
+-- The text of a document in the last line of a record that opened, changed or closed it. `old` is
 -- the text before these lines.
 abbrev pub written_text : List ℕ → Option (List ℕ) → List Line → Option (List ℕ)
-written_text uri text [] = text
-written_text uri text (l ∷ lines) =
+written_text uri old [] = old
+written_text uri old (l ∷ lines) =
     written_text uri
-    (if bytes_eq l.word (codes "changed") && is_document uri l.uri then l.text else text) lines
+    (if bytes_eq l.word (codes "changed") && is_document uri l.uri then l.text else old) lines
 
 -- `replay` reports these documents, and the last texts in these lines are theirs.
 pub record AreTextsOf (report : RunOutput) (lines : List Line) : Type 0 where

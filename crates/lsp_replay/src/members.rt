@@ -17,7 +17,7 @@ pub fn push_text(
     text: Option<&str>,
 ) -> Result<(), AllocError>
     ensures { OnOk result (buffer.new.items ≡ buffer.old.items
-        ++ member front.now (option_map json_string (option_map (λ text. text.now) text))) }
+        ++ member front.now (option_map json_string (option_map (λ text. text.now) text.entry))) }
 {
     let Some(text) = text else {
         return Ok(());

@@ -27,7 +27,7 @@ pub fn push_reason(
     answer: &Answer,
 ) -> Result<(), AllocError>
     ensures { OnOk result (buffer.new.items ≡ buffer.old.items ++ reason_words limits
-        (option_map (λ p. change_view p.now) change) (answer_view answer.now)) }
+        (option_map (λ p. change_view p.now) change.entry) (answer_view answer.now)) }
 {
     match answer {
         Answer::Reply { code, .. } => buffer.extend_from_slice(error_reason(*code).as_bytes()),
@@ -58,7 +58,7 @@ fn push_refusal(
     refusal: Refusal,
 ) -> Result<(), AllocError>
     ensures { OnOk result (buffer.new.items ≡ buffer.old.items
-        ++ refusal_reason limits (option_map (λ p. change_view p.now) change) refusal) }
+        ++ refusal_reason limits (option_map (λ p. change_view p.now) change.entry) refusal) }
 {
     match refusal {
         Refusal::InvalidParams => buffer.extend_from_slice(b"the parameters can't be read"),
@@ -73,7 +73,7 @@ fn push_store_reason(
     fault: StoreFault,
 ) -> Result<(), AllocError>
     ensures { OnOk result (buffer.new.items ≡ buffer.old.items
-        ++ store_reason limits (option_map (λ p. change_view p.now) change) fault) }
+        ++ store_reason limits (option_map (λ p. change_view p.now) change.entry) fault) }
 {
     match fault {
         StoreFault::AlreadyOpen => buffer.extend_from_slice(b"the document is open already"),
@@ -104,7 +104,7 @@ fn push_stale(
     held: i32,
 ) -> Result<(), AllocError>
     ensures { OnOk result (buffer.new.items ≡ buffer.old.items ++ codes "version "
-        ++ version_words (option_map (λ p. change_view p.now) change)
+        ++ version_words (option_map (λ p. change_view p.now) change.entry)
         ++ codes " was sent, and the current one is " ++ signed_decimal held) }
 {
     buffer.extend_from_slice(b"version ")?;
@@ -116,7 +116,7 @@ fn push_stale(
 /// Writes the version that a change sends.
 fn push_version(buffer: &mut Vec<u8>, change: Option<&ChangeParams>) -> Result<(), AllocError>
     ensures { OnOk result (buffer.new.items ≡ buffer.old.items
-        ++ version_words (option_map (λ p. change_view p.now) change)) }
+        ++ version_words (option_map (λ p. change_view p.now) change.entry)) }
 {
     match change {
         Some(params) => push_signed(buffer, i64::from(params.version)),
@@ -126,7 +126,7 @@ fn push_version(buffer: &mut Vec<u8>, change: Option<&ChangeParams>) -> Result<(
 
 /// The range of one of the changes that were sent, by its index.
 fn range_sent(change: Option<&ChangeParams>, index: usize) -> Option<Range>
-    ensures { result ≡ range_sent (option_map (λ p. change_view p.now) change) index }
+    ensures { result ≡ range_sent (option_map (λ p. change_view p.now) change.entry) index }
 {
     change?.changes.get(index)?.range
 }
@@ -137,7 +137,7 @@ fn push_edit_reason(
     fault: EditFault,
 ) -> Result<(), AllocError>
     ensures { OnOk result (buffer.new.items ≡ buffer.old.items
-        ++ edit_reason (option_map (λ p. change_view p.now) change) fault) }
+        ++ edit_reason (option_map (λ p. change_view p.now) change.entry) fault) }
 {
     match fault {
         EditFault::InsideCharacter {

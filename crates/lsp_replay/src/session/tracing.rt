@@ -143,7 +143,7 @@ fn record_body<'a>(head: Head, body: &'a [u8], incoming: Incoming) -> RecordBody
 /// Returns a copy of a text, if there is one.
 fn copied_text(alloc: Global, text: Option<&str>) -> Result<Option<String>, AllocError>
     ensures { IfOk result
-        (λ copy. option_map string_bytes copy ≡ option_map (λ text. text.now) text) }
+        (λ copy. option_map string_bytes copy ≡ option_map (λ text. text.now) text.entry) }
 {
     match text {
         Some(text) => Ok(Some(String::from_str(alloc, text)?)),
@@ -160,7 +160,7 @@ fn push_first(
     incoming: &Incoming,
     uri: Option<&str>,
 ) -> Result<(), AllocError>
-    ensures { option_map (λ uri. uri.now) uri ≡ uri_of head.side (incoming_view incoming.now) →
+    ensures { option_map (λ uri. uri.now) uri.entry ≡ uri_of head.side (incoming_view incoming.now) →
         OnOk result (buffer.new.items ≡ buffer.old.items
         ++ first_members number head (incoming_view incoming.now)) }
 {
@@ -254,7 +254,7 @@ fn uri_of(side: Side, incoming: &Incoming) -> Option<&str>
 /// Writes the member `id`, if there is one.
 fn push_id(alloc: Global, buffer: &mut Vec<u8>, id: Option<&Id>) -> Result<(), AllocError>
     ensures { OnOk result (buffer.new.items ≡ buffer.old.items ++ member (codes ",\"id\":")
-        (option_map id_json (option_map (λ id. id_view id.now) id))) }
+        (option_map id_json (option_map (λ id. id_view id.now) id.entry))) }
 {
     let Some(id) = id else {
         return Ok(());
