@@ -1,5 +1,5 @@
 -- What a session returns of a record that it judged, for the record's line of `trace`.
-use Rattle.std.specs.Prelude.{ℕ, ◌≡◌, ◌&&◌, List, Option, Some, None, option_map}
+use Rattle.std.specs.Prelude.{ℕ, ◌≡◌, ◌&&◌, ◌++◌, List, Option, Some, None, codes, decimal, option_map}
 use Rattle.std.specs.String.{string_bytes}
 use Rattle.lsp_log.specs.declared.record.Head.{Head}
 use Rattle.lsp_message.specs.Message.{reading}
@@ -11,7 +11,7 @@ use Rattle.lsp_replay.specs.declared.session.writing.Appended.TheVariants.{Body}
 use Rattle.lsp_replay.specs.Engines.{canonical_of_record, verdict_word}
 use Rattle.lsp_replay.specs.Mentions.{Mention}
 use Rattle.lsp_replay.specs.Session.{Session, is_change, judge_at}
-use Rattle.lsp_replay.specs.Trace.{body_json, document_after, is_changed, is_json, is_mention, last_json, last_members, mentioned, reason_json, text_json, uri_of, version_json}
+use Rattle.lsp_replay.specs.Trace.{body_json, document_after, id_json, id_of, is_changed, is_json, is_mention, json_string, last_json, last_members, member, mentioned, method_of, reason_json, side_word, text_json, uri_of, version_json}
 use Rattle.lsp_replay.specs.inside.Verdicts.{IsAppended, verdict_view}
 
 -- Of a record with this head and body, before which the session was `s`. `old` and `new` are the
@@ -24,6 +24,15 @@ pub record IsTraced (s : Session) (head : Head) (body old new : List ℕ) (trace
   pub uri : option_map string_bytes traced.uri ≡ uri_of head.side (incoming_of (reading body))
   pub is_json : traced.is_json ≡ is_json (incoming_of (reading body))
   pub is_change : traced.is_change ≡ is_change (incoming_of (reading body))
+
+-- The first members of a record's line, with the URI of the document that it is about.
+abbrev pub first_by : ℕ → Head → IncomingData → Option (List ℕ) → List ℕ
+first_by number head m uri =
+    codes "{\"number\":" ++ decimal number ++ codes ",\"offset\":" ++ decimal head.place
+    ++ codes ",\"from\":\"" ++ side_word head.side ++ codes "\""
+    ++ member (codes ",\"method\":") (option_map json_string (method_of m))
+    ++ member (codes ",\"id\":") (option_map id_json (id_of m))
+    ++ member (codes ",\"uri\":") (option_map json_string uri)
 
 -- The canonical message, if its body was appended.
 abbrev pub canonical_json : Option Appended → List ℕ → Option (List ℕ)

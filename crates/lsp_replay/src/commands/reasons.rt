@@ -2,6 +2,7 @@
 
 ghost use Rattle.std.specs.Prelude.{◌≡◌, ◌++◌, OnOk, codes, decimal, option_map};
 ghost use Rattle.std.specs.Fmt.{signed_decimal};
+ghost use Rattle.lsp_edit.specs.declared.fault.Side.TheVariants.{Start, Stop};
 ghost use Rattle.lsp_message.specs.Seen.{change_view};
 ghost use Rattle.lsp_server.specs.Seen.{answer_view};
 ghost use Rattle.lsp_stream.specs.Ports as ports;
@@ -30,9 +31,9 @@ pub fn push_reason(
         (option_map (λ p. change_view p.now) change.entry) (answer_view answer.now)) }
 {
     match answer {
-        Answer::Reply { code, .. } => buffer.extend_from_slice(error_reason(*code).as_bytes()),
+        Answer::Reply { code, .. } => push_words(buffer, error_reason(*code)),
         Answer::Refused(refusal) => push_refusal(buffer, limits, change, *refusal),
-        Answer::Exit(_) => buffer.extend_from_slice(b"`exit` came without `shutdown`"),
+        Answer::Exit(_) => push_words(buffer, "`exit` came without `shutdown`"),
         Answer::Changed | Answer::Dropped | Answer::Ignored => Ok(()),
     }
 }
@@ -61,7 +62,7 @@ fn push_refusal(
         ++ refusal_reason limits (option_map (λ p. change_view p.now) change.entry) refusal) }
 {
     match refusal {
-        Refusal::InvalidParams => buffer.extend_from_slice(b"the parameters can't be read"),
+        Refusal::InvalidParams => push_words(buffer, "the parameters can't be read"),
         Refusal::Store(fault) => push_store_reason(buffer, limits, change, fault),
     }
 }
@@ -76,25 +77,51 @@ fn push_store_reason(
         ++ store_reason limits (option_map (λ p. change_view p.now) change.entry) fault) }
 {
     match fault {
-        StoreFault::AlreadyOpen => buffer.extend_from_slice(b"the document is open already"),
-        StoreFault::TooManyDocuments => {
-            buffer.extend_from_slice(b"as many documents are open as --max-docs allows, ")?;
-            push_number(buffer, limits.max_docs() as u64)
-        }
-        StoreFault::TextTooLong => {
-            buffer.extend_from_slice(b"the text has more bytes than --max-text allows, ")?;
-            push_number(buffer, limits.max_text() as u64)
-        }
-        StoreFault::NotOpen => buffer.extend_from_slice(b"the document is not open"),
+        StoreFault::AlreadyOpen => push_words(buffer, "the document is open already"),
+        StoreFault::TooManyDocuments => push_limit(
+            buffer,
+            "as many documents are open as --max-docs allows, ",
+            limits.max_docs(),
+        ),
+        StoreFault::TextTooLong => push_limit(
+            buffer,
+            "the text has more bytes than --max-text allows, ",
+            limits.max_text(),
+        ),
+        StoreFault::NotOpen => push_words(buffer, "the document is not open"),
         StoreFault::StaleVersion { held } => push_stale(buffer, change, held),
-        StoreFault::TooManyChanges => {
-            buffer.extend_from_slice(b"there are more changes than --max-changes allows, ")?;
-            push_number(buffer, limits.max_changes() as u64)?;
-            buffer.extend_from_slice(b", or their texts have more than 1 GiB")
-        }
+        StoreFault::TooManyChanges => push_change_limit(buffer, limits.max_changes()),
         StoreFault::Edit(fault) => push_edit_reason(buffer, change, fault),
         StoreFault::BodyTooLong { .. } | StoreFault::NoMemory => Ok(()),
     }
+}
+
+fn push_words(buffer: &mut Vec<u8>, words: &str) -> Result<(), AllocError>
+    ensures { OnOk result (buffer.new.items ≡ buffer.old.items ++ words.now) }
+{
+    buffer.extend_from_slice(words.as_bytes())
+}
+
+/// Writes words and a limit.
+fn push_limit(buffer: &mut Vec<u8>, words: &str, limit: usize) -> Result<(), AllocError>
+    ensures { OnOk result (buffer.new.items ≡ buffer.old.items ++ words.now ++ decimal limit) }
+{
+    push_words(buffer, words)?;
+    push_number(buffer, limit as u64)
+}
+
+/// Writes that there are more changes than the limit, or too long ones.
+fn push_change_limit(buffer: &mut Vec<u8>, limit: usize) -> Result<(), AllocError>
+    ensures { OnOk result (buffer.new.items ≡ buffer.old.items
+        ++ codes "there are more changes than --max-changes allows, " ++ decimal limit
+        ++ codes ", or their texts have more than 1 GiB") }
+{
+    push_limit(
+        buffer,
+        "there are more changes than --max-changes allows, ",
+        limit,
+    )?;
+    push_words(buffer, ", or their texts have more than 1 GiB")
 }
 
 /// Writes the version that was sent, and the current one.
@@ -143,20 +170,44 @@ fn push_edit_reason(
         EditFault::InsideCharacter {
             change: index,
             side,
-        } => {
-            push_change(buffer, index)?;
-            push_side(buffer, side, range_sent(change, index))?;
-            buffer.extend_from_slice(b", inside a character")
-        }
+        } => push_inside(buffer, index, side, range_sent(change, index)),
         EditFault::ReversedRange { change: index } => {
-            let range = range_sent(change, index);
-            push_change(buffer, index)?;
-            push_side(buffer, Side::Start, range)?;
-            buffer.extend_from_slice(b", after it")?;
-            push_side(buffer, Side::Stop, range)
+            push_reversed(buffer, index, range_sent(change, index))
         }
         EditFault::NoMemory => Ok(()),
     }
+}
+
+/// Writes that an end of a change's range is inside a character.
+fn push_inside(
+    buffer: &mut Vec<u8>,
+    index: usize,
+    side: Side,
+    range: Option<Range>,
+) -> Result<(), AllocError>
+    ensures { OnOk result (buffer.new.items ≡ buffer.old.items ++ codes "change "
+        ++ decimal (ports.one_more index) ++ end_words side range
+        ++ codes ", inside a character") }
+{
+    push_change(buffer, index)?;
+    push_side(buffer, side, range)?;
+    push_words(buffer, ", inside a character")
+}
+
+/// Writes that a change's range starts after its end.
+fn push_reversed(
+    buffer: &mut Vec<u8>,
+    index: usize,
+    range: Option<Range>,
+) -> Result<(), AllocError>
+    ensures { OnOk result (buffer.new.items ≡ buffer.old.items ++ codes "change "
+        ++ decimal (ports.one_more index) ++ end_words Start range ++ codes ", after it"
+        ++ end_words Stop range) }
+{
+    push_change(buffer, index)?;
+    push_side(buffer, Side::Start, range)?;
+    push_words(buffer, ", after it")?;
+    push_side(buffer, Side::Stop, range)
 }
 
 /// Writes the number of a change, from 1.

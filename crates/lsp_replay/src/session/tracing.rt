@@ -11,7 +11,7 @@ ghost use Rattle.lsp_replay.specs.Session.{bad, counted, is_change, judge_at};
 ghost use Rattle.lsp_replay.specs.Trace.{first_members, id_json, id_of, is_json, member, method_of};
 ghost use Rattle.lsp_replay.specs.Trace.{side_word, uri_of};
 ghost use Rattle.lsp_replay.specs.inside.Bodies.{body_read, body_view, canonical_read, judge_read};
-ghost use Rattle.lsp_replay.specs.inside.Tracing.{IsTraced};
+ghost use Rattle.lsp_replay.specs.inside.Tracing.{IsTraced, first_by};
 ghost use Rattle.lsp_replay.specs.inside.Verdicts.{IsAppended, verdict_view};
 
 use crate::members::{push_json_string, push_number, push_signed, push_text};
@@ -160,9 +160,9 @@ fn push_first(
     incoming: &Incoming,
     uri: Option<&str>,
 ) -> Result<(), AllocError>
-    ensures { option_map (λ uri. uri.now) uri.entry ≡ uri_of head.side (incoming_view incoming.now) →
-        OnOk result (buffer.new.items ≡ buffer.old.items
-        ++ first_members number head (incoming_view incoming.now)) }
+    ensures { OnOk result (buffer.new.items ≡ buffer.old.items
+        ++ first_by number head (incoming_view incoming.now)
+        (option_map (λ uri. uri.now) uri.entry)) }
 {
     push_head(buffer, number, head)?;
     push_text(alloc, buffer, ",\"method\":", method_of(incoming))?;
