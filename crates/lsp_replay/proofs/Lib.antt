@@ -32,5 +32,6 @@ pub mod SquashedLogLemmas
 pub mod KeptLemmas
 pub mod PartLemmas
 pub mod TableLemmas
+pub mod MemberLemmas
 pub mod TraceLemmas
 pub mod TraceLawLemmas

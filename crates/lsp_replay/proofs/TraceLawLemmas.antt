@@ -1,5 +1,5 @@
 -- `trace` beside `check` and `replay`.
-use Rattle.std.proofs.Common.{◌≡◌, ℕ, Bool, true, false, List, [], ◌∷◌, ◌++◌, Option, Some, None, refl, sym, ap, ◌∙◌, append_assoc}
+use Rattle.std.proofs.Common.{◌≡◌, ℕ, Bool, true, false, List, [], ◌∷◌, ◌++◌, Option, Some, None, refl, sym, ap, ◌∙◌}
 use Rattle.std.specs.Prelude.{Err, ◌&&◌, codes, decimal, flat_map, if◌then◌else◌, option_map}
 use Rattle.std.specs.Str.{bytes_eq}
 use Rattle.std.proofs.lemmas.Slice.Eq.{bytes_eq-Decides}
@@ -18,6 +18,7 @@ use Rattle.lsp_replay.specs.Engines.{canonical_of_record, check_line, checking, 
 use Rattle.lsp_replay.specs.Session.{Session, Verdict, answered, recorded, bad, opened, Judged, judge}
 use Rattle.lsp_replay.specs.Mentions.{Mention}
 use Rattle.lsp_replay.specs.Trace.{Line, TraceLaw, body_json, checked_line, document_after, id_json, id_of, is_changed, is_document, is_json, json_string, last_json, member, mentions_after, method_of, reason_json, side_word, text_json, trace_line, traced_in, traced_line, uri_of, version_json, within, written_text}
+use Rattle.lsp_replay.proofs.MemberLemmas.{line_parts}
 use Rattle.lsp_replay.proofs.TableLemmas.{record_keeps}
 
 -- ---- a line beside those of `check`
@@ -60,7 +61,13 @@ module _ (details : Details) (mentions : List Mention) (s : Session) (r : Record
   line_of = record { number = j.session.records; word = verdict_word j.verdict; uri = uri; text = text; before = before; between = between; after = after }
 
   line_of_trace : trace_line details mentions s r j m ≡ traced_line line_of
-  line_of_trace = rw (text_member (details.texts && is_changed j.verdict) document) (simp (append_assoc))
+  line_of_trace =
+      rw (text_member (details.texts && is_changed j.verdict) document)
+      (line_parts (codes "{\"number\":") (decimal j.session.records) (codes ",\"offset\":") (decimal r.head.place) (codes ",\"from\":\"") (side_word r.head.side) (codes "\"")
+      (member (codes ",\"method\":") (option_map json_string (method_of m))) (member (codes ",\"id\":") (option_map id_json (id_of m))) (member (codes ",\"uri\":") (option_map json_string uri))
+      (codes ",\"word\":\"") (verdict_word j.verdict) (codes "\"") (member (codes ",\"reason\":") (reason_json j.session.server.config.limits m j.verdict)) (member (codes ",\"last\":") (last_json mentions uri j.verdict))
+      (member (codes ",\"version\":") (version_json document)) (member (codes ",\"canonical\":") (within s.server.config.limits.max_body (canonical_of_record s r.body j.verdict)))
+      (member (codes ",\"text\":") (option_map json_string text)) (member (codes ",\"body\":") (body_json (details.bodies && is_json m) r.body)) (codes "}\n"))
 
 -- ---- the text after a record
 

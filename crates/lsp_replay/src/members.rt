@@ -51,3 +51,10 @@ pub fn push_signed(buffer: &mut Vec<u8>, number: i64) -> Result<(), AllocError>
     let mut digits = Buffer::new();
     buffer.extend_from_slice(digits.format(number).as_bytes())
 }
+
+/// Writes words as they are.
+pub fn push_words(buffer: &mut Vec<u8>, words: &str) -> Result<(), AllocError>
+    ensures { OnOk result (buffer.new.items ≡ buffer.old.items ++ words.now) }
+{
+    buffer.extend_from_slice(words.as_bytes())
+}

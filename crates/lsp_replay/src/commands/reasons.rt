@@ -9,7 +9,7 @@ ghost use Rattle.lsp_stream.specs.Ports as ports;
 ghost use Rattle.lsp_replay.specs.Reasons.{edit_reason, end_words, error_reason, position_words, range_sent};
 ghost use Rattle.lsp_replay.specs.Reasons.{reason_words, refusal_reason, store_reason, version_words};
 
-use crate::members::{push_number, push_signed};
+use crate::members::{push_number, push_signed, push_words};
 use crate::session::counting::one_more;
 use lsp_edit::{EditFault, Side};
 use lsp_frame::Limits;
@@ -96,15 +96,9 @@ fn push_store_reason(
     }
 }
 
-fn push_words(buffer: &mut Vec<u8>, words: &str) -> Result<(), AllocError>
-    ensures { OnOk result (buffer.new.items ≡ buffer.old.items ++ words.now) }
-{
-    buffer.extend_from_slice(words.as_bytes())
-}
-
 /// Writes words and a limit.
 fn push_limit(buffer: &mut Vec<u8>, words: &str, limit: usize) -> Result<(), AllocError>
-    ensures { OnOk result (buffer.new.items ≡ buffer.old.items ++ words.now ++ decimal limit) }
+    ensures { OnOk result (buffer.new.items ≡ buffer.old.items ++ (words.now ++ decimal limit)) }
 {
     push_words(buffer, words)?;
     push_number(buffer, limit as u64)

@@ -16,7 +16,7 @@ use crate::commands::checking::push_verdict;
 use crate::commands::reasons::push_reason;
 use crate::engines::Details;
 use crate::handler::{Given, Handler, Output};
-use crate::members::{push_json_string, push_number, push_signed};
+use crate::members::{push_json_string, push_number, push_signed, push_words};
 use crate::mentions::Mentions;
 use crate::outcome::Outcome;
 use crate::session::counting::is_refused;
@@ -82,7 +82,7 @@ impl Trace {
             &document,
         )?;
         push_body(buffer, self.details.bodies && traced.is_json, body)?;
-        buffer.extend_from_slice(b"}\n")
+        push_words(buffer, "}\n")
     }
 
     /// Writes why the last record was refused, if it was. Then its body is read once more.
