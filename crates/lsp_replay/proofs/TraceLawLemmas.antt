@@ -17,7 +17,7 @@ use Rattle.lsp_replay.specs.RunOutput.{RunOutput, written_first}
 use Rattle.lsp_replay.specs.Engines.{canonical_of_record, check_line, checking, code_word, continue_with, log_config, replaying, report_from, run_output_in, unless_bad, verdict_word, writes}
 use Rattle.lsp_replay.specs.Session.{Session, Verdict, answered, recorded, bad, opened, Judged, judge}
 use Rattle.lsp_replay.specs.Mentions.{Mention}
-use Rattle.lsp_replay.specs.Trace.{Line, TraceLaw, body_json, checked_line, document_after, id_json, id_of, is_changed, is_document, is_json, json_string, last_json, member, mentions_after, method_of, reason_json, side_word, text_json, trace_line, traced_in, traced_line, uri_of, version_json, within, written_text}
+use Rattle.lsp_replay.specs.Trace.{Line, TraceLaw, body_json, checked_line, document_after, first_members, id_json, id_of, is_changed, is_document, is_json, json_string, last_json, last_members, member, mentions_after, method_of, reason_json, side_word, text_json, trace_line, traced_in, traced_line, uri_of, version_json, within, written_text}
 use Rattle.lsp_replay.proofs.MemberLemmas.{line_parts}
 use Rattle.lsp_replay.proofs.TableLemmas.{record_keeps}
 
@@ -62,12 +62,13 @@ module _ (details : Details) (mentions : List Mention) (s : Session) (r : Record
 
   line_of_trace : trace_line details mentions s r j m ≡ traced_line line_of
   line_of_trace =
-      rw (text_member (details.texts && is_changed j.verdict) document)
-      (line_parts (codes "{\"number\":") (decimal j.session.records) (codes ",\"offset\":") (decimal r.head.place) (codes ",\"from\":\"") (side_word r.head.side) (codes "\"")
+      ap (λ (t : Option (List ℕ)). first_members j.session.records r.head m ++ last_members (verdict_word j.verdict) (reason_json j.session.server.config.limits m j.verdict) (last_json mentions uri j.verdict)
+      (version_json document) (within s.server.config.limits.max_body (canonical_of_record s r.body j.verdict)) t (body_json (details.bodies && is_json m) r.body)) (text_member (details.texts && is_changed j.verdict) document)
+      ∙ line_parts (codes "{\"number\":") (decimal j.session.records) (codes ",\"offset\":") (decimal r.head.place) (codes ",\"from\":\"") (side_word r.head.side) (codes "\"")
       (member (codes ",\"method\":") (option_map json_string (method_of m))) (member (codes ",\"id\":") (option_map id_json (id_of m))) (member (codes ",\"uri\":") (option_map json_string uri))
       (codes ",\"word\":\"") (verdict_word j.verdict) (codes "\"") (member (codes ",\"reason\":") (reason_json j.session.server.config.limits m j.verdict)) (member (codes ",\"last\":") (last_json mentions uri j.verdict))
       (member (codes ",\"version\":") (version_json document)) (member (codes ",\"canonical\":") (within s.server.config.limits.max_body (canonical_of_record s r.body j.verdict)))
-      (member (codes ",\"text\":") (option_map json_string text)) (member (codes ",\"body\":") (body_json (details.bodies && is_json m) r.body)) (codes "}\n"))
+      (member (codes ",\"text\":") (option_map json_string text)) (member (codes ",\"body\":") (body_json (details.bodies && is_json m) r.body)) (codes "}\n")
 
 -- ---- the text after a record
 
@@ -117,7 +118,7 @@ module _ (details : Details) (mentions : List Mention) (s : Session) (r : Record
   by_case old is false here = is ∙ ap (option_map (λ (entry : DocumentItem). entry.text)) (sym (record_keeps uri s r here))
 
   text_after : (old : Option (List ℕ)) → old ≡ text_in s.server.table uri → (if bytes_eq l.word (codes "changed") && is_document uri l.uri then l.text else old) ≡ text_in table_after uri
-  text_after old is = rw (word_changed (judge s r).verdict) (by_case old is is_changed_here refl)
+  text_after old is = ap (λ (b : Bool). if b && is_document uri l.uri then l.text else old) (word_changed (judge s r).verdict) ∙ by_case old is is_changed_here refl
 
 -- ---- `trace` beside `check` and `replay`
 
@@ -150,8 +151,8 @@ module _ (details : Details) (mentions : List Mention) (s : Session) (r : Record
     stop = is.stop;
     outcome = is.outcome;
     lines = this ∷ is.lines;
-    traced = rw (line_of_trace details mentions s r what, is.traced) refl;
-    checked = rw is.checked refl;
+    traced = ap (λ (bs : List ℕ). bs ++ c.out) (line_of_trace details mentions s r what) ∙ ap (λ (bs : List ℕ). traced_line this ++ bs) is.traced;
+    checked = ap (λ (bs : List ℕ). checked_line this ++ bs) is.checked;
     texts = λ asked none.
         let after = is.texts asked none in
         record { table = after.table; reported = after.reported; texts = λ uri old old_is. after.texts uri _ (text_after details mentions s r uri asked old old_is) };
