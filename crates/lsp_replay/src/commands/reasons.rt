@@ -189,11 +189,7 @@ fn push_inside(
 }
 
 /// Writes that a change's range starts after its end.
-fn push_reversed(
-    buffer: &mut Vec<u8>,
-    index: usize,
-    range: Option<Range>,
-) -> Result<(), AllocError>
+fn push_reversed(buffer: &mut Vec<u8>, index: usize, range: Option<Range>) -> Result<(), AllocError>
     ensures { OnOk result (buffer.new.items ≡ buffer.old.items ++ codes "change "
         ++ decimal (ports.one_more index) ++ end_words Start range ++ codes ", after it"
         ++ end_words Stop range) }

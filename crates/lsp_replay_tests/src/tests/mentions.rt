@@ -22,13 +22,25 @@ fn many(alloc: Global, again: u32) -> Result<Vec<u8>, AllocError> {
 
 /// Does the last line of such a log end so?
 fn ends_so(alloc: Global, again: u32, end: &str) -> Result<bool, Fail> {
-    let run = run_with(alloc, Command::Trace, &many(alloc, again)?, settings()?, SMOOTH)?;
+    let run = run_with(
+        alloc,
+        Command::Trace,
+        &many(alloc, again)?,
+        settings()?,
+        SMOOTH,
+    )?;
     Ok(run.output.ends_with(end.as_bytes()))
 }
 
 #[test]
 fn the_last_records_on_64_documents_are_known(rt: HostRuntime) -> Result<(), Fail> {
     assert!(rt; ends_so(rt.alloc(), 0, "is open already\",\"version\":1}\n")?);
-    assert!(rt; ends_so(rt.alloc(), 1, "is open already\",\"last\":3,\"version\":1}\n")?);
+    assert!(rt;
+        ends_so(
+            rt.alloc(),
+            1,
+            "is open already\",\"last\":3,\"version\":1}\n"
+        )?
+    );
     Ok(())
 }
