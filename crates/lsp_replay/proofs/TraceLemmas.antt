@@ -133,9 +133,9 @@ module _ (details : Details) (mentions : List Mention) (s : Session) (r : Record
     abbrev canonical : Option (List ℕ)
     canonical = canonical_of_record s r.body (judge s r).verdict
 
-    pub mentions_are : mentions_by mentions t traced ≡ next
+    pub mentions_are : mentions_by mentions t.records traced ≡ next
     mentions_are =
-        ap (λ (u : Session). mentions_by mentions u traced) session
+        ap (λ (u : Session). mentions_by mentions u.records traced) session
         ∙ rw (is.verdict, is.uri, is.is_change) refl
 
     members_are : members_by details mentions t m traced new r.body ≡ members_by details mentions (judge s r).session m traced new r.body

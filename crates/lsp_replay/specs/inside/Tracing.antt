@@ -52,8 +52,9 @@ members_by details mentions t m traced canonical body =
     (document_after t.server.table (option_map string_bytes traced.uri)))
     (body_json (details.bodies && traced.is_json) body)
 
--- The documents that were opened, closed or refused last, by what was returned of a record.
-abbrev pub mentions_by : List Mention → Session → Traced → List Mention
-mentions_by mentions t traced =
+-- The documents that were opened, closed or refused last, by a record's number and what was
+-- returned of it.
+abbrev pub mentions_by : List Mention → ℕ → Traced → List Mention
+mentions_by mentions number traced =
     mentioned (is_mention traced.is_change (verdict_view traced.verdict))
-    (option_map string_bytes traced.uri) t.records mentions
+    (option_map string_bytes traced.uri) number mentions

@@ -135,21 +135,6 @@ impl Trace {
         push_number(buffer, number)
     }
 
-    /// Keeps that the last record opened, closed or refused its document, if it did.
-    fn mention(&mut self, traced: &Traced) -> Result<(), AllocError>
-        ensures mentions { OnOk result (self.new.mentions.newest.items
-            ≡ mentions_by self.old.mentions.newest.items self.old.session traced.now) }
-        ensures others { self.new ≡ record self.old { mentions = self.new.mentions } }
-    {
-        if !is_mention(traced.is_change, &traced.verdict) {
-            return Ok(());
-        }
-        let Some(uri) = &traced.uri else {
-            return Ok(());
-        };
-        self.mentions.mention(uri.as_str(), self.session.records())
-    }
-
     /// The document with this URI, if it is open.
     fn document_after(&self, uri: &Option<String>) -> Option<Document<'_>>
         ensures { result
@@ -188,7 +173,8 @@ impl Handler for Trace {
             .session
             .accept_and_trace(head, body, buffer, &mut self.canonical)?;
         self.push_last(buffer, body, &traced)?;
-        self.mention(&traced)?;
+        let number = self.session.records();
+        mention(&mut self.mentions, number, &traced)?;
         Ok(Given::more(Output::Bytes))
     }
 
@@ -206,6 +192,20 @@ fn is_changed(verdict: &Verdict) -> bool
     ensures { result ≡ is_changed (verdict_view verdict.now) }
 {
     matches!(verdict, Verdict::Answered(Answer::Changed))
+}
+
+/// Keeps that a record with this number opened, closed or refused its document, if it did.
+fn mention(mentions: &mut Mentions, number: u64, traced: &Traced) -> Result<(), AllocError>
+    ensures { OnOk result (mentions.new.newest.items
+        ≡ mentions_by mentions.old.newest.items number traced.now) }
+{
+    if !is_mention(traced.is_change, &traced.verdict) {
+        return Ok(());
+    }
+    let Some(uri) = &traced.uri else {
+        return Ok(());
+    };
+    mentions.mention(uri.as_str(), number)
 }
 
 /// Does an answer open, close or refuse a document?

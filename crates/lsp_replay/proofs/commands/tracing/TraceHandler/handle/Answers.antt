@@ -1,5 +1,4 @@
-use Rattle.std.proofs.Common.{◌∙◌, ap}
-use Rattle.lsp_replay.specs.inside.Tracing.{mentions_by}
+use Rattle.std.proofs.Common.{◌∙◌}
 use Rattle.lsp_replay.proofs.TraceLemmas.{line_first, line_is, mentions_are}
 use Rattle.lsp_replay.proofs.commands.tracing.TraceHandler.handle.Goals as goal
 
@@ -15,5 +14,5 @@ returns-clause-ok c = λ more.
     line_first details mentions s r t session (λ e. c.in_ok-traced.ensures.in_log (c.in_ok-traced.ensures.traced.verdict ∙ e)) bytes
     (line_is details mentions s r t session c.in_ok-traced.traced _ _ c.clear.ensures.items c.in_ok-traced.ensures.traced c.args.buffer.now.items c.accept_and_trace.new.buffer.items bytes
     c.requires.empty c.in_ok-traced.ensures.members c.in_ok-push_last.ensures)
-    _ (c.in_ok-mention.ensures.mentions ∙ mentions_are details mentions s r t session c.in_ok-traced.traced _ _ c.clear.ensures.items c.in_ok-traced.ensures.traced)
+    _ ((rw c.records-number.ensures at c.in_ok-mention.ensures) ∙ mentions_are details mentions s r t session c.in_ok-traced.traced _ _ c.clear.ensures.items c.in_ok-traced.ensures.traced)
     more
