@@ -10,4 +10,5 @@ pub mod Parts
 pub mod Mentions
 pub mod Reasons
 pub mod Trace
+pub mod Explained
 pub mod inside

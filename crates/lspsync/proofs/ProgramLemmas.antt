@@ -8,7 +8,7 @@ use Rattle.clap.specs.Simple.{on_top}
 use Rattle.clap.specs.declared.builder.arg.Arg.{Arg}
 use Rattle.clap.specs.declared.builder.command.Command.{Command}
 use Rattle.clap.specs.declared.builder.command.Command.TheViews.{out-Command as fields_of}
-use Rattle.lspsync.specs.CommandLine.{detail_rules, encoding_rule, limit_rules, part_rules, squash_rule, sync_rule}
+use Rattle.lspsync.specs.CommandLine.{detail_rules, encoding_rule, explain_rule, limit_rules, part_rules, squash_rule, sync_rule}
 use Rattle.lspsync.specs.Help.{IsPage, rules_of_limits}
 use Rattle.lspsync.specs.inside.Options.{AddsRules, IsCommand, page_shape, shape_by}
 use Rattle.lspsync.specs.declared.command_line.help.Page.{Page}
@@ -51,27 +51,32 @@ adds_after old mid xs ys (Ok new) one two = adds_more old mid new xs ys one two
 adds_after old mid xs ys (Err e) one two = tt
 
 -- A command by its page: a new one, and then its options in turn.
-pub is_command : {E : Type 0} (page : Page) (values : Values) (new one two three four five : Command) (made : Result Command E)
+pub is_command : {E : Type 0} (page : Page) (values : Values) (new one two three four five six : Command) (made : Result Command E)
     → app_of new ≡ new_app page.name.now → (fields_of new).has_globals ≡ false
     → AddsRules new (encoding_rule values.encodings ∷ []) one
     → AddsRules one (if is_some page.sync then sync_rule values.kinds ∷ [] else []) two
     → AddsRules two (if is_some page.squash then squash_rule ∷ [] else []) three
-    → AddsRules three (if is_some page.part then part_rules else []) four
-    → AddsRules four (if is_some page.details then detail_rules else []) five
-    → IfOk made (AddsRules five (rules_of_limits values.limits.now)) → IfOk made (IsCommand page values)
-is_command page values new one two three four five (Err e) is local a b c d f g = tt
-is_command page values new one two three four five (Ok made) is local a b c d f g =
-    let all = adds_more new one made _ _ a (adds_more one two made _ _ b (adds_more two three made _ _ c (adds_more three four made _ _ d (adds_more four five made _ _ f g)))) in
+    → AddsRules three (if is_some page.explain then explain_rule ∷ [] else []) four
+    → AddsRules four (if is_some page.part then part_rules else []) five
+    → AddsRules five (if is_some page.details then detail_rules else []) six
+    → IfOk made (AddsRules six (rules_of_limits values.limits.now)) → IfOk made (IsCommand page values)
+is_command page values new one two three four five six (Err e) is local a b c d f g h = tt
+is_command page values new one two three four five six (Ok made) is local a b c d f g h =
+    let all = adds_more new one made _ _ a (adds_more one two made _ _ b (adds_more two three made _ _ c (adds_more three four made _ _ d (adds_more four five made _ _ f (adds_more five six made _ _ g h))))) in
     record { app = all.app ∙ ap (longer _) is; globals = all.globals ∙ local }
 
 -- The shape of a command, with what its page is known to have.
-pub shape_is : (page : Page) (values : Values) (name : Text) (sync squash part details : Bool) → IsPage page name sync squash part details
+pub shape_is : (page : Page) (values : Values) (name : Text) (sync squash explain part details : Bool) → IsPage page name sync squash explain part details
     → rules_of_limits values.limits.now ≡ limit_rules
-    → shape_by page values ≡ page_shape name sync squash part details values.encodings values.kinds limit_rules
-shape_is page values name sync squash part details p same =
-    ap (λ n. page_shape n (is_some page.sync) (is_some page.squash) (is_some page.part) (is_some page.details) values.encodings values.kinds (rules_of_limits values.limits.now)) p.named
-    ∙ (ap (λ b. page_shape name b (is_some page.squash) (is_some page.part) (is_some page.details) values.encodings values.kinds (rules_of_limits values.limits.now)) p.sync
-    ∙ (ap (λ b. page_shape name sync b (is_some page.part) (is_some page.details) values.encodings values.kinds (rules_of_limits values.limits.now)) p.squash
-    ∙ (ap (λ b. page_shape name sync squash b (is_some page.details) values.encodings values.kinds (rules_of_limits values.limits.now)) p.part
-    ∙ (ap (λ b. page_shape name sync squash part b values.encodings values.kinds (rules_of_limits values.limits.now)) p.details
-    ∙ ap (page_shape name sync squash part details values.encodings values.kinds) same))))
+    → shape_by page values ≡ page_shape name sync squash explain part details values.encodings values.kinds limit_rules
+shape_is page values name sync squash explain part details p same =
+    let e = values.encodings in
+    let k = values.kinds in
+    let l = rules_of_limits values.limits.now in
+    ap (λ n. page_shape n (is_some page.sync) (is_some page.squash) (is_some page.explain) (is_some page.part) (is_some page.details) e k l) p.named
+    ∙ (ap (λ b. page_shape name b (is_some page.squash) (is_some page.explain) (is_some page.part) (is_some page.details) e k l) p.sync
+    ∙ (ap (λ b. page_shape name sync b (is_some page.explain) (is_some page.part) (is_some page.details) e k l) p.squash
+    ∙ (ap (λ b. page_shape name sync squash b (is_some page.part) (is_some page.details) e k l) p.explain
+    ∙ (ap (λ b. page_shape name sync squash explain b (is_some page.details) e k l) p.part
+    ∙ (ap (λ b. page_shape name sync squash explain part b e k l) p.details
+    ∙ ap (page_shape name sync squash explain part details e k) same)))))

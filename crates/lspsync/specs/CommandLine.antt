@@ -59,6 +59,10 @@ sync_rule kinds = option_rule (codes "sync") (Names kinds) (codes "incremental")
 abbrev pub squash_rule : Rule
 squash_rule = flag_rule (codes "squash")
 
+-- `--explain`.
+abbrev pub explain_rule : Rule
+explain_rule = flag_rule (codes "explain")
+
 -- `--at` is a record's number, from 1.
 abbrev pub at_rule : Rule
 at_rule = number_rule (codes "at") 1 18446744073709551615
@@ -79,7 +83,7 @@ abbrev pub program_app : Choices → Choices → App
 program_app encodings kinds = record {
   top = record (new_shape (codes "lspsync")) { is_leaf = false; subcommand_required = true };
   subs = command_shape (codes "serve") (encoding_rule encodings ∷ sync_rule kinds ∷ [])
-      ∷ command_shape (codes "check") (encoding_rule encodings ∷ [])
+      ∷ command_shape (codes "check") (encoding_rule encodings ∷ explain_rule ∷ [])
       ∷ command_shape (codes "trace") (encoding_rule encodings ∷ detail_rules)
       ∷ command_shape (codes "replay") (encoding_rule encodings ∷ part_rules)
       ∷ command_shape (codes "normalise") (encoding_rule encodings ∷ squash_rule ∷ [])

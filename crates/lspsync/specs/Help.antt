@@ -8,10 +8,12 @@ use Rattle.lspsync.specs.declared.command_line.help.LimitOptions.{LimitOptions}
 use Rattle.lspsync.specs.declared.command_line.help.Page.{Page}
 
 -- What the help of a command says of its options.
-pub record IsPage (page : Page) (name : Text) (has_sync has_squash has_part has_details : Bool) : Type 0 where
+pub record IsPage (page : Page) (name : Text) (has_sync has_squash has_explain has_part has_details : Bool) :
+    Type 0 where
   pub named : page.name.now ≡ name
   pub sync : is_some page.sync ≡ has_sync
   pub squash : is_some page.squash ≡ has_squash
+  pub explain : is_some page.explain ≡ has_explain
   pub part : is_some page.part ≡ has_part
   pub details : is_some page.details ≡ has_details
 

@@ -5,7 +5,7 @@ ghost use Rattle.std.specs.Prelude.{IfOk, IfSome, IsSome, ℕ, map};
 ghost use Rattle.clap.specs.Words.{app_of, rule_of, with_subcommand};
 ghost use Rattle.clap.specs.declared.builder.value_parser.ValueParser.TheVariants.{Names};
 ghost use Rattle.lspsync.specs.CommandLine.{IsProgram, encoding_rule, flag_rule, limit_rules};
-ghost use Rattle.lspsync.specs.CommandLine.{option_rule, part_rules, squash_rule, sync_rule};
+ghost use Rattle.lspsync.specs.CommandLine.{option_rule, part_rules, sync_rule};
 ghost use Rattle.lspsync.specs.CommandLine.{at_rule, detail_rules, uri_rule};
 ghost use Rattle.lspsync.specs.Help.{rule_of_limit, rules_of_limits};
 ghost use Rattle.lspsync.specs.inside.Options.{AddsRules, IsCommand, shape_by, top_app};
@@ -31,6 +31,8 @@ pub enum Call {
     Serve(Config),
     /// `check`: print what a server answers to each record of a log.
     Check(Settings),
+    /// `check --explain`: print why it was refused too, and what to do next.
+    Explain(Settings),
     /// `trace`: print a line of JSON for each record of a log.
     Trace(Settings, Details),
     /// `replay`: print the documents that are open at the end of a log.
@@ -88,7 +90,7 @@ fn other_call(name: &str, options: &ArgMatches<'_>) -> Option<Call>
 {
     match name {
         "serve" => Some(Call::Serve(config_of(options)?)),
-        "check" => Some(Call::Check(settings_of(options, false)?)),
+        "check" => Some(checking(settings_of(options, false)?, options.get_flag("explain"))),
         "trace" => Some(Call::Trace(settings_of(options, false)?, details_of(options))),
         "normalise" => {
             let squash = options.get_flag("squash");
@@ -97,6 +99,16 @@ fn other_call(name: &str, options: &ArgMatches<'_>) -> Option<Call>
         "convert" => Some(Call::Convert(settings_of(options, false)?)),
         _ => None,
     }
+}
+
+/// The call of `check` with these settings.
+fn checking(settings: Settings, explain: bool) -> Call
+    ensures { result ≡ (if explain then Call.Explain settings else Call.Check settings) }
+{
+    if explain {
+        return Call::Explain(settings);
+    }
+    Call::Check(settings)
 }
 
 /// The call of `replay`, of a part of a log or of the whole.
@@ -285,7 +297,8 @@ fn command<'a>(alloc: Global, page: Page, values: Values<'a>) -> Result<Command<
         .after_help(page.example);
     let command = with_encoding(alloc, command, page.encoding, values.encodings)?;
     let command = with_sync(alloc, command, page.sync, values.kinds)?;
-    let command = with_squash(alloc, command, page.squash)?;
+    let command = with_flag(alloc, command, "squash", page.squash)?;
+    let command = with_flag(alloc, command, "explain", page.explain)?;
     let command = with_part(alloc, command, page.part)?;
     let command = with_details(alloc, command, page.details)?;
     with_limits(alloc, command, values.limits)
@@ -318,17 +331,18 @@ fn with_sync<'a>(
     }
 }
 
-/// Adds `--squash`, if there is help for it.
-fn with_squash<'a>(
+/// Adds a flag, if there is help for it.
+fn with_flag<'a>(
     alloc: Global,
     command: Command<'a>,
+    name: &'a str,
     help: Option<&'a str>,
 ) -> Result<Command<'a>, AllocError>
     ensures { IfOk result (AddsRules command.entry
-        (if is_some help.entry then squash_rule ∷ [] else [])) }
+        (if is_some help.entry then flag_rule name.entry.now ∷ [] else [])) }
 {
     match help {
-        Some(help) => command.arg(flag(alloc, "squash").help(help)),
+        Some(help) => command.arg(detail(alloc, name, help)),
         None => Ok(command),
     }
 }

@@ -15,8 +15,8 @@ use crate::command_line::{Call, parse};
 use crate::fault_text::FaultText;
 use clap::error as clap_error;
 use lsp_replay::{
-    EngineFault, NEVER_OPEN, NO_RECORD, Outcome, Sink, Source, check, convert, normalise, replay,
-    replay_part, serve, trace,
+    EngineFault, NEVER_OPEN, NO_RECORD, Outcome, Sink, Source, check, convert, explain, normalise,
+    replay, replay_part, serve, trace,
 };
 use lsp_stream::{Turns, flush_out, write_given};
 use std::alloc::Global;
@@ -163,6 +163,7 @@ fn obey<R: Source, W: Sink>(
     match call {
         Call::Serve(config) => serve(alloc, input, output, config, MAX_TURNS),
         Call::Check(settings) => check(alloc, input, output, settings, MAX_TURNS),
+        Call::Explain(settings) => explain(alloc, input, output, settings, MAX_TURNS),
         Call::Trace(settings, details) => {
             trace(alloc, input, output, settings, details, MAX_TURNS)
         }

@@ -19,6 +19,8 @@ pub struct Page {
     pub sync: Option<&'static str>,
     /// The meaning of `--squash`, if the command has it.
     pub squash: Option<&'static str>,
+    /// The meaning of `--explain`, if the command has it.
+    pub explain: Option<&'static str>,
     /// The meaning of `--at` and `--uri`, if the command has them.
     pub part: Option<PartHelp>,
     /// The meaning of `--texts` and `--bodies`, if the command has them.
@@ -61,7 +63,7 @@ pub fn notes() -> &'static str {
 }
 
 pub fn serve() -> Page
-    ensures { IsPage result (codes "serve") true false false false }
+    ensures { IsPage result (codes "serve") true false false false false }
 {
     Page {
         name: "serve",
@@ -70,19 +72,23 @@ pub fn serve() -> Page
         encoding: PREFERRED_ENCODING,
         sync: Some(SYNC),
         squash: None,
+        explain: None,
         part: None,
         details: None,
     }
 }
 
 pub fn check() -> Page
-    ensures { IsPage result (codes "check") false false false false }
+    ensures { IsPage result (codes "check") false false true false false }
 {
-    log_page("check", CHECK, CHECK_EXAMPLE)
+    Page {
+        explain: Some(EXPLAIN),
+        ..log_page("check", CHECK, CHECK_EXAMPLE)
+    }
 }
 
 pub fn trace() -> Page
-    ensures { IsPage result (codes "trace") false false false true }
+    ensures { IsPage result (codes "trace") false false false false true }
 {
     Page {
         details: Some(DetailHelp {
@@ -94,7 +100,7 @@ pub fn trace() -> Page
 }
 
 pub fn replay() -> Page
-    ensures { IsPage result (codes "replay") false false true false }
+    ensures { IsPage result (codes "replay") false false false true false }
 {
     Page {
         part: Some(PartHelp { at: AT, uri: URI }),
@@ -103,7 +109,7 @@ pub fn replay() -> Page
 }
 
 pub fn normalise() -> Page
-    ensures { IsPage result (codes "normalise") false true false false }
+    ensures { IsPage result (codes "normalise") false true false false false }
 {
     Page {
         squash: Some(SQUASH),
@@ -112,14 +118,14 @@ pub fn normalise() -> Page
 }
 
 pub fn convert() -> Page
-    ensures { IsPage result (codes "convert") false false false false }
+    ensures { IsPage result (codes "convert") false false false false false }
 {
     log_page("convert", CONVERT, CONVERT_EXAMPLE)
 }
 
 /// The page of a command that reads a log.
 fn log_page(name: &'static str, about: &'static str, example: &'static str) -> Page
-    ensures { IsPage result name.now false false false false }
+    ensures { IsPage result name.now false false false false false }
 {
     Page {
         name,
@@ -128,6 +134,7 @@ fn log_page(name: &'static str, about: &'static str, example: &'static str) -> P
         encoding: ENCODING,
         sync: None,
         squash: None,
+        explain: None,
         part: None,
         details: None,
     }
@@ -289,6 +296,9 @@ static SQUASH: &str =
 static AT: &str = "Replay up to the Nth message alone, from 1";
 
 static URI: &str = "Print this document's last text alone, as it is, also if it was closed";
+
+static EXPLAIN: &str =
+    "Print why a message was refused too, and at the end what to do next";
 
 static TEXTS: &str = "Print the document's text too, where a message opened or changed it";
 
