@@ -8,7 +8,7 @@ use Rattle.clap.specs.Simple.{on_top}
 use Rattle.clap.specs.declared.builder.arg.Arg.{Arg}
 use Rattle.clap.specs.declared.builder.command.Command.{Command}
 use Rattle.clap.specs.declared.builder.command.Command.TheViews.{out-Command as fields_of}
-use Rattle.lspsync.specs.CommandLine.{encoding_rule, limit_rules, part_rules, squash_rule, sync_rule}
+use Rattle.lspsync.specs.CommandLine.{encoding_rule, limit_rules, part_rules, sync_rule, writing_rules}
 use Rattle.lspsync.specs.Help.{IsPage, rules_of_limits}
 use Rattle.lspsync.specs.inside.Options.{AddsRules, IsCommand, page_shape, shape_by}
 use Rattle.lspsync.specs.declared.command_line.help.Page.{Page}
@@ -55,7 +55,7 @@ pub is_command : {E : Type 0} (page : Page) (values : Values) (new one two three
     → app_of new ≡ new_app page.name.now → (fields_of new).has_globals ≡ false
     → AddsRules new (encoding_rule values.encodings ∷ []) one
     → AddsRules one (if is_some page.sync then sync_rule values.kinds ∷ [] else []) two
-    → AddsRules two (if is_some page.squash then squash_rule ∷ [] else []) three
+    → AddsRules two (if is_some page.writing then writing_rules else []) three
     → AddsRules three (if is_some page.part then part_rules else []) four
     → IfOk made (AddsRules four (rules_of_limits values.limits.now)) → IfOk made (IsCommand page values)
 is_command page values new one two three four (Err e) is local a b c d f = tt
@@ -64,12 +64,12 @@ is_command page values new one two three four (Ok made) is local a b c d f =
     record { app = all.app ∙ ap (longer _) is; globals = all.globals ∙ local }
 
 -- The shape of a command, with what its page is known to have.
-pub shape_is : (page : Page) (values : Values) (name : Text) (sync squash part : Bool) → IsPage page name sync squash part
+pub shape_is : (page : Page) (values : Values) (name : Text) (sync writing part : Bool) → IsPage page name sync writing part
     → rules_of_limits values.limits.now ≡ limit_rules
-    → shape_by page values ≡ page_shape name sync squash part values.encodings values.kinds limit_rules
-shape_is page values name sync squash part p same =
-    ap (λ n. page_shape n (is_some page.sync) (is_some page.squash) (is_some page.part) values.encodings values.kinds (rules_of_limits values.limits.now)) p.named
-    ∙ (ap (λ b. page_shape name b (is_some page.squash) (is_some page.part) values.encodings values.kinds (rules_of_limits values.limits.now)) p.sync
-    ∙ (ap (λ b. page_shape name sync b (is_some page.part) values.encodings values.kinds (rules_of_limits values.limits.now)) p.squash
-    ∙ (ap (λ b. page_shape name sync squash b values.encodings values.kinds (rules_of_limits values.limits.now)) p.part
-    ∙ ap (page_shape name sync squash part values.encodings values.kinds) same)))
+    → shape_by page values ≡ page_shape name sync writing part values.encodings values.kinds limit_rules
+shape_is page values name sync writing part p same =
+    ap (λ n. page_shape n (is_some page.sync) (is_some page.writing) (is_some page.part) values.encodings values.kinds (rules_of_limits values.limits.now)) p.named
+    ∙ (ap (λ b. page_shape name b (is_some page.writing) (is_some page.part) values.encodings values.kinds (rules_of_limits values.limits.now)) p.sync
+    ∙ (ap (λ b. page_shape name sync b (is_some page.part) values.encodings values.kinds (rules_of_limits values.limits.now)) p.writing
+    ∙ (ap (λ b. page_shape name sync writing b values.encodings values.kinds (rules_of_limits values.limits.now)) p.part
+    ∙ ap (page_shape name sync writing part values.encodings values.kinds) same)))

@@ -8,10 +8,10 @@ use Rattle.lspsync.specs.declared.command_line.help.LimitOptions.{LimitOptions}
 use Rattle.lspsync.specs.declared.command_line.help.Page.{Page}
 
 -- What the help of a command says of its options.
-pub record IsPage (page : Page) (name : Text) (has_sync has_squash has_part : Bool) : Type 0 where
+pub record IsPage (page : Page) (name : Text) (has_sync has_writing has_part : Bool) : Type 0 where
   pub named : page.name.now ≡ name
   pub sync : is_some page.sync ≡ has_sync
-  pub squash : is_some page.squash ≡ has_squash
+  pub writing : is_some page.writing ≡ has_writing
   pub part : is_some page.part ≡ has_part
 
 -- The option of a limit.

@@ -5,7 +5,7 @@ ghost use Rattle.std.specs.Prelude.{IfOk, IfSome, IsSome, ℕ, map};
 ghost use Rattle.clap.specs.Words.{app_of, rule_of, with_subcommand};
 ghost use Rattle.clap.specs.declared.builder.value_parser.ValueParser.TheVariants.{Names};
 ghost use Rattle.lspsync.specs.CommandLine.{IsProgram, encoding_rule, flag_rule, limit_rules};
-ghost use Rattle.lspsync.specs.CommandLine.{option_rule, part_rules, squash_rule, sync_rule};
+ghost use Rattle.lspsync.specs.CommandLine.{option_rule, part_rules, sync_rule, writing_rules};
 ghost use Rattle.lspsync.specs.CommandLine.{at_rule, uri_rule};
 ghost use Rattle.lspsync.specs.Help.{rule_of_limit, rules_of_limits};
 ghost use Rattle.lspsync.specs.inside.Options.{AddsRules, IsCommand, shape_by, top_app};
@@ -15,7 +15,7 @@ ghost use Rattle.lsp_frame.specs.Limits.{Bounds};
 
 mod help;
 
-use crate::command_line::help::{Limit, LimitOptions, Page, PartHelp};
+use crate::command_line::help::{Limit, LimitOptions, Page, PartHelp, WritingHelp};
 use clap::builder::ValueParser;
 use clap::{Arg, ArgAction, ArgMatches, Command, Error};
 use lsp_frame::Limits;
@@ -37,6 +37,8 @@ pub enum Call {
     ReplayPart(Settings, Part),
     /// `normalise`: write a log with each accepted change as its canonical message.
     Normalise(Settings),
+    /// `normalise --documents`: write of it only what is about the session and the documents' texts.
+    NormaliseDocuments(Settings),
     /// `convert`: write a log of version 1 in version 2.
     Convert(Settings),
 }
@@ -87,13 +89,24 @@ fn other_call(name: &str, options: &ArgMatches<'_>) -> Option<Call>
     match name {
         "serve" => Some(Call::Serve(config_of(options)?)),
         "check" => Some(Call::Check(settings_of(options, false)?)),
-        "normalise" => {
-            let squash = options.get_flag("squash");
-            Some(Call::Normalise(settings_of(options, squash)?))
-        }
+        "normalise" => normalise_call(options),
         "convert" => Some(Call::Convert(settings_of(options, false)?)),
         _ => None,
     }
+}
+
+/// The call of `normalise`, of all messages or of those about the session and the texts.
+fn normalise_call(options: &ArgMatches<'_>) -> Option<Call>
+    ensures some { IfSome result (IsCallNamed (codes "normalise") options.now) }
+    ensures none { (call : Call) → IsCallNamed (codes "normalise") options.now call →
+        IsSome result }
+{
+    let squash = options.get_flag("squash");
+    let settings = settings_of(options, squash)?;
+    if options.get_flag("documents") {
+        return Some(Call::NormaliseDocuments(settings));
+    }
+    Some(Call::Normalise(settings))
 }
 
 /// The call of `replay`, of a part of a log or of the whole.
@@ -271,7 +284,7 @@ fn command<'a>(alloc: Global, page: Page, values: Values<'a>) -> Result<Command<
         .after_help(page.example);
     let command = with_encoding(alloc, command, page.encoding, values.encodings)?;
     let command = with_sync(alloc, command, page.sync, values.kinds)?;
-    let command = with_squash(alloc, command, page.squash)?;
+    let command = with_writing(alloc, command, page.writing)?;
     let command = with_part(alloc, command, page.part)?;
     with_limits(alloc, command, values.limits)
 }
@@ -303,19 +316,20 @@ fn with_sync<'a>(
     }
 }
 
-/// Adds `--squash`, if there is help for it.
-fn with_squash<'a>(
+/// Adds `--documents` and `--squash`, if there is help for them.
+fn with_writing<'a>(
     alloc: Global,
     command: Command<'a>,
-    help: Option<&'a str>,
+    help: Option<WritingHelp>,
 ) -> Result<Command<'a>, AllocError>
-    ensures { IfOk result (AddsRules command.entry
-        (if is_some help.entry then squash_rule ∷ [] else [])) }
+    ensures { IfOk result (AddsRules command.entry (if is_some help then writing_rules else [])) }
 {
-    match help {
-        Some(help) => command.arg(flag(alloc, "squash").help(help)),
-        None => Ok(command),
-    }
+    let Some(help) = help else {
+        return Ok(command);
+    };
+    command
+        .arg(flag(alloc, "documents").help(help.documents))?
+        .arg(flag(alloc, "squash").help(help.squash))
 }
 
 /// Adds `--at` and `--uri`, if there is help for them.

@@ -17,10 +17,17 @@ pub struct Page {
     pub encoding: &'static str,
     /// The meaning of `--sync`, if the command has it.
     pub sync: Option<&'static str>,
-    /// The meaning of `--squash`, if the command has it.
-    pub squash: Option<&'static str>,
+    /// The meanings of `--documents` and `--squash`, if the command has them.
+    pub writing: Option<WritingHelp>,
     /// The meaning of `--at` and `--uri`, if the command has them.
     pub part: Option<PartHelp>,
+}
+
+/// The help of the options that say how a log is written.
+#[derive(Clone, Copy, Debug)]
+pub struct WritingHelp {
+    pub documents: &'static str,
+    pub squash: &'static str,
 }
 
 /// The help of the options that name a part of a log.
@@ -60,7 +67,7 @@ pub fn serve() -> Page
         example: SERVE_EXAMPLE,
         encoding: PREFERRED_ENCODING,
         sync: Some(SYNC),
-        squash: None,
+        writing: None,
         part: None,
     }
 }
@@ -84,7 +91,10 @@ pub fn normalise() -> Page
     ensures { IsPage result (codes "normalise") false true false }
 {
     Page {
-        squash: Some(SQUASH),
+        writing: Some(WritingHelp {
+            documents: DOCUMENTS,
+            squash: SQUASH,
+        }),
         ..log_page("normalise", NORMALISE, NORMALISE_EXAMPLE)
     }
 }
@@ -105,7 +115,7 @@ fn log_page(name: &'static str, about: &'static str, example: &'static str) -> P
         example,
         encoding: ENCODING,
         sync: None,
-        squash: None,
+        writing: None,
         part: None,
     }
 }
@@ -224,8 +234,15 @@ was refused.
 Example, a change of the whole text, which becomes one with a range:
   ./lspsync normalise < examples/whole-text.log
 
+With `--documents` all messages are left out that are neither about the session nor about a document's
+text: requests for features and their answers, and most notifications. `didSave` stays, and so does
+what was refused. `replay` reports the same documents and the same status.
+
 Example, what a person typed, as one change:
-  ./lspsync normalise --squash < examples/typing.log";
+  ./lspsync normalise --squash < examples/typing.log
+
+Example, the same of a log in which requests come between the keys:
+  ./lspsync normalise --documents --squash < examples/typing-with-replies.log";
 
 static CONVERT: &str =
     "Write a log in the format of version 2, which holds the server's replies too";
@@ -246,6 +263,9 @@ static PREFERRED_ENCODING: &str =
     "What a position's character is to count, if the editor offers it; else utf-16";
 
 static SYNC: &str = "How the editor is asked to send changes: as whole texts or as ranges";
+
+static DOCUMENTS: &str =
+    "Leave out each message that is neither about the session nor about a document's text";
 
 static SQUASH: &str =
     "Write changes of one document that follow each other as one message, as between two saves";
