@@ -241,8 +241,8 @@ what was refused. `replay` reports the same documents and the same status.
 Example, what a person typed, as one change:
   ./lspsync normalise --squash < examples/typing.log
 
-Example, the same of a log in which requests come between the keys:
-  ./lspsync normalise --documents --squash < examples/typing-with-replies.log";
+Example, what was done between two saves, of a log with a request after each key:
+  ./lspsync normalise --documents --squash < examples/two-saves-with-requests.log";
 
 static CONVERT: &str =
     "Write a log in the format of version 2, which holds the server's replies too";
