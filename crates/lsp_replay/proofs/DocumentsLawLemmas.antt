@@ -9,13 +9,14 @@ use Rattle.lsp_log.specs.declared.record.Version.TheVariants.{One, Two}
 use Rattle.lsp_log.specs.Log.{Record, Log, IsReadAs, AreRecords, is_line_due, line_of, together}
 use Rattle.lsp_replay.specs.declared.engines.Settings.{Settings}
 use Rattle.lsp_replay.specs.declared.outcome.Outcome.{Outcome}
-use Rattle.lsp_replay.specs.Documents.{DocumentsLaw, DocumentsStopAlike, Kept, KeepsDocuments, WroteDocuments, documents, kept, nothing_selected}
+use Rattle.lsp_replay.specs.Documents.{DocumentsLaw, DocumentsStopAlike, Kept, KeepsDocuments, WroteDocuments, documents, kept, nothing_selected, output_of_kept}
 use Rattle.lsp_replay.specs.Engine.{AtEnd, PortState, Ran, Stopped}
 use Rattle.lsp_replay.specs.Engines.{as_log, canonical_log, log_config, report}
 use Rattle.lsp_replay.specs.Laws.{IsCanonicalLog, IsSquashed, LeavesAlike, all_of}
 use Rattle.lsp_replay.specs.RunOutput.{RunOutput}
 use Rattle.lsp_replay.specs.Session.{Session, opened}
-use Rattle.lsp_replay.specs.Squashed.{normalised, normalised_if, squashed}
+use Rattle.lsp_replay.specs.Squashed.{normalised_if, squashed}
+use Rattle.lsp_replay.specs.inside.Documents.{each_of_kept, squashed_of_kept}
 use Rattle.lsp_replay.proofs.KeptLogLemmas.{IsReportedAs, are_kept, each_located, kept_due, kept_stop, left_due, located_all, located_due, reported, squash_located}
 use Rattle.lsp_replay.proofs.NormalisedLemmas.{canonical_log_law, version_is}
 use Rattle.lsp_replay.proofs.NumberedLemmas.{alike_self}
@@ -168,3 +169,12 @@ module _ (settings : Settings) (ranges : AreInRange settings.limits) (left_old l
       absurd (stops_not_ok (documents settings stopped.log.records).stop outcome (documents_not_ok settings stopped.log.records) stopped.stops))
       (λ (end : (state.ended ≡ true) × AtEnd (as_log settings) (documents settings) ran.input received_old received_new outcome). documents_at_end ran.input outcome end.1 ran.read)
       ran.came
+
+-- ---- the engine, without squash and with it
+
+pub as_each : (settings : Settings) → settings.squash ≡ false → (P : (List Record → RunOutput) → Type 0) → P (each_of_kept (opened (log_config settings)) nothing_selected) → P (documents settings)
+as_each settings e P p = subst (λ (b : Bool). P (λ rs. output_of_kept (normalised_if b settings) (kept settings rs))) (sym e) p
+
+pub as_squashed : (settings : Settings) → settings.squash ≡ true → (P : (List Record → RunOutput) → Type 0)
+    → P (squashed_of_kept (record { session = opened (log_config settings); run = None }) nothing_selected) → P (documents settings)
+as_squashed settings e P p = subst (λ (b : Bool). P (λ rs. output_of_kept (normalised_if b settings) (kept settings rs))) (sym e) p
