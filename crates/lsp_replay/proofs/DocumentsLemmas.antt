@@ -1,6 +1,6 @@
 -- What `normalise` writes of the records that stay, a record at a time, and over all records.
 use Rattle.std.proofs.Common.{◌≡◌, ◌≢◌, ℕ, Bool, true, false, ◌||◌, List, [], ◌∷◌, ◌++◌, Option, Some, None, refl, sym, ap, ◌∙◌, subst}
-use Rattle.std.specs.Prelude.{Result, Ok, Err}
+use Rattle.std.specs.Prelude.{not, if◌then◌else◌, Result, Ok, Err}
 use Rattle.lsp_replay.specs.declared.outcome.Outcome.{Outcome}
 use Rattle.lsp_stream.specs.declared.fault.EngineFault.{EngineFault}
 use Rattle.lsp_stream.specs.declared.fault.EngineFault.TheVariants.{BadLog}
@@ -44,6 +44,18 @@ stays_at s waiting head body read is = ap (stays_read s waiting) is ∙ stays_of
 pub waiting_at : (waiting : Option IdData) (head : Head) (body : List ℕ) (read : BodyData) → read ≡ body_read head.version head.side body → waiting_read waiting read ≡ waiting_after waiting head.side body
 waiting_at waiting head body read is = ap (waiting_read waiting) is ∙ waiting_of waiting head.version head.side body
 
+-- what is known after a record that stays
+pub selected_kept : (s : Session) (old mid : Selection) (head : Head) (body : List ℕ) (read : BodyData) → read ≡ body_read head.version head.side body → (t : Session) → t ≡ s
+    → (stays : Bool) → stays ≡ stays_read t old.waiting read → mid ≡ record old { waiting = (if stays then waiting_read old.waiting read else old.waiting) } → stays ≡ true
+    → (waiting : Option IdData) → waiting ≡ mid.waiting → (line_due : Bool) → line_due ≡ is_due old head
+    → IsKept s old (record { waiting = waiting; due = false }) head body (record head { line_due = line_due })
+selected_kept s old mid head body read is t same false stays_is mid_is left waiting waiting_is line_due due_is = absurd (let wrong : false ≡ true = left in cc)
+selected_kept s old mid head body read is t same true stays_is mid_is yes waiting waiting_is line_due due_is = record {
+  stays = sym (stays_at s old.waiting head body read is) ∙ sym (ap (λ (u : Session). stays_read u old.waiting read) same) ∙ sym stays_is;
+  selection = ap (λ (w : Option IdData). record { waiting = w; due = false }) (waiting_is ∙ ap (λ (c : Selection). c.waiting) mid_is ∙ waiting_at old.waiting head body read is);
+  head_is = ap (λ (b : Bool). record head { line_due = b }) due_is;
+}
+
 -- ---- what a record gives without squash
 
 unless_not : (r : Record) (verdict : Verdict) (given : RecordOutput) → verdict ≢ bad → unless_bad r verdict given ≡ given
@@ -60,6 +72,19 @@ each_written s r verdict given is not_bad same =
 pub each_bad : (s : Session) (r : Record) (verdict : Verdict) → verdict ≡ (judge s r).verdict → verdict ≡ bad → each_output s r ≡ ends [] (Err (BadLog r.head.place))
 each_bad s r verdict is wrong =
     ap (λ (v : Verdict). unless_bad r v (written s.server.config.limits.max_body r (front_of r.head) (canonical_of_record s r.body (judge s r).verdict))) (sym is ∙ wrong)
+
+pub each_step : (s t u : Session) (r : Record) → t ≡ s → u ≡ (judge t r).session → (out : List ℕ) → each_output t r ≡ writes out
+    → (more : List Record) → run_output_in normalising s (r ∷ more) ≡ after out None (run_output_in normalising u more)
+each_step s t u r same session out gives more =
+    ap (λ (v : Session). run_output_in normalising v (r ∷ more)) (sym same)
+    ∙ ap (λ (g : RecordOutput). continue_with g.out g.end (run_output_in normalising (judge t r).session more)) gives
+    ∙ ap (λ (v : Session). written_first out (run_output_in normalising v more)) (sym session)
+
+pub each_step_ends : (s t : Session) (r : Record) → t ≡ s → (fault : EngineFault) → each_output t r ≡ ends [] (Err fault)
+    → (more : List Record) → run_output_in normalising s (r ∷ more) ≡ stopped [] (Err fault)
+each_step_ends s t r same fault gives more =
+    ap (λ (v : Session). run_output_in normalising v (r ∷ more)) (sym same)
+    ∙ ap (λ (g : RecordOutput). continue_with g.out g.end (run_output_in normalising (judge t r).session more)) gives
 
 -- ---- a record that is left out
 
@@ -151,20 +176,22 @@ step_ends q r fault is more = ap (λ (step : Step). continue_with step.out step.
 -- More records, of which more stay.
 kept_more : (s : Session) (c : Selection) (rs more : List Record) → (others : List Record) × ((kept_in s c (rs ++ more)).records ≡ (kept_in s c rs).records ++ others)
 kept_more s c [] more = ((kept_in s c more).records, refl)
-kept_more s c (r ∷ rs) more = by (record_stays s c.waiting r.head.side r.body) refl
+kept_more s c (q ∷ rs) more =
+    by (record_stays s c.waiting q.head.side q.body) refl (kept_more (judge s q).session (after_kept c q.head q.body) rs more) (kept_more s (after_left_out c q.head) rs more)
   where
-    by : (b : Bool) → record_stays s c.waiting r.head.side r.body ≡ b → (others : List Record) × ((kept_in s c (r ∷ rs ++ more)).records ≡ (kept_in s c (r ∷ rs)).records ++ others)
-    by true e =
-        let inner = kept_more (judge s r).session (after_kept c r.head r.body) rs more in (
-          inner.0,
-          ap (λ (k : Kept). k.records) (kept_true s c r (rs ++ more) e) ∙ ap (λ ks. with_line c r ∷ ks) inner.1
-              ∙ sym (ap (λ (k : Kept). k.records ++ inner.0) (kept_true s c r rs e)),
-        )
-    by false e =
-        let inner = kept_more s (after_left_out c r.head) rs more in (
-          inner.0,
-          ap (λ (k : Kept). k.records) (kept_false s c r (rs ++ more) e) ∙ inner.1 ∙ sym (ap (λ (k : Kept). k.records ++ inner.0) (kept_false s c r rs e)),
-        )
+    by : (b : Bool) → record_stays s c.waiting q.head.side q.body ≡ b
+        → (others : List Record) × ((kept_in (judge s q).session (after_kept c q.head q.body) (rs ++ more)).records ≡ (kept_in (judge s q).session (after_kept c q.head q.body) rs).records ++ others)
+        → (others : List Record) × ((kept_in s (after_left_out c q.head) (rs ++ more)).records ≡ (kept_in s (after_left_out c q.head) rs).records ++ others)
+        → (others : List Record) × ((kept_in s c (q ∷ rs ++ more)).records ≡ (kept_in s c (q ∷ rs)).records ++ others)
+    by true e inner left = (
+      inner.0,
+      ap (λ (k : Kept). k.records) (kept_true s c q (rs ++ more) e) ∙ ap (λ ks. with_line c q ∷ ks) inner.1
+          ∙ sym (ap (λ (k : Kept). k.records ++ inner.0) (kept_true s c q rs e)),
+    )
+    by false e stays inner = (
+      inner.0,
+      ap (λ (k : Kept). k.records) (kept_false s c q (rs ++ more) e) ∙ inner.1 ∙ sym (ap (λ (k : Kept). k.records ++ inner.0) (kept_false s c q rs e)),
+    )
 
 -- After a record that ended the run nothing is due.
 abbrev IsEven : RunOutput → Type 0

@@ -17,6 +17,7 @@ use Rattle.lsp_log.specs.Log.{Record, AreRecords, is_line_due, record_bytes}
 use Rattle.lsp_replay.specs.declared.outcome.Outcome.{Outcome}
 use Rattle.lsp_replay.specs.Documents.{Kept, Selection, after_kept, after_left_out, is_due, kept_first, kept_in, record_stays, with_line}
 use Rattle.lsp_replay.specs.Engines.{RecordOutput, canonical_change_body, canonical_if, change_in, continue_with, ends, front_of, normalising, replaying, run_output_in, unless_bad, writes, written}
+use Rattle.lsp_replay.specs.inside.Joining.{IsChange}
 use Rattle.lsp_replay.specs.RunOutput.{RunOutput}
 use Rattle.lsp_replay.specs.Session.{Session, Verdict, answered, bad, judge, recorded}
 use Rattle.lsp_replay.specs.Squashed.{Run, Step, squash_step, squashed_in}
@@ -73,7 +74,10 @@ goes_on_after out end c e = ap (λ (o : Option (Result Outcome EngineFault)). (c
 
 pub kept_stop : (s t : Session) (c : Selection) (rs : List Record) → IsAlike s t → (run_output_in normalising t (kept_in t c rs).records).stop ≡ (run_output_in normalising s rs).stop
 kept_stop s t c [] like = refl
-kept_stop s t c (r ∷ rs) like = by (record_stays t c.waiting r.head.side r.body) refl
+kept_stop s t c (r ∷ rs) like =
+    by (record_stays t c.waiting r.head.side r.body) refl
+    (kept_stop (judge s r).session (judge t r).session (after_kept c r.head r.body) rs (judged_alike s t r like).1)
+    (λ (also : IsAlike (judge s r).session t). kept_stop (judge s r).session t (after_left_out c r.head) rs also)
   where
     same : (judge t r).verdict ≡ (judge s r).verdict
     same = (judged_alike s t r like).0
@@ -81,30 +85,30 @@ kept_stop s t c (r ∷ rs) like = by (record_stays t c.waiting r.head.side r.bod
     there : t.server ≡ s.server
     there = ap (λ (u : Session). u.server) like.2
 
-    next : IsAlike (judge s r).session (judge t r).session
-    next = (judged_alike s t r like).1
-
     same_end : (single t.server (with_line c r) (judge t r).verdict).end ≡ (single s.server r (judge s r).verdict).end
     same_end =
         line_end t.server c r (judge t r).verdict ∙ ap (λ (server : State). (single server r (judge t r).verdict).end) there
         ∙ ap (λ (v : Verdict). (single s.server r v).end) same
 
-    by : (b : Bool) → record_stays t c.waiting r.head.side r.body ≡ b → (run_output_in normalising t (kept_in t c (r ∷ rs)).records).stop ≡ (run_output_in normalising s (r ∷ rs)).stop
-    by true e =
+    by : (b : Bool) → record_stays t c.waiting r.head.side r.body ≡ b
+        → (run_output_in normalising (judge t r).session (kept_in (judge t r).session (after_kept c r.head r.body) rs).records).stop ≡ (run_output_in normalising (judge s r).session rs).stop
+        → (IsAlike (judge s r).session t → (run_output_in normalising t (kept_in t (after_left_out c r.head) rs).records).stop ≡ (run_output_in normalising (judge s r).session rs).stop)
+        → (run_output_in normalising t (kept_in t c (r ∷ rs)).records).stop ≡ (run_output_in normalising s (r ∷ rs)).stop
+    by true e stays left =
         ap (λ (k : Kept). (run_output_in normalising t k.records).stop) (kept_true t c r rs e)
-        ∙ stop_on _ _ _ _ _ _ same_end (kept_stop (judge s r).session (judge t r).session (after_kept c r.head r.body) rs next)
-    by false e =
+        ∙ stop_on _ _ _ _ _ _ same_end stays
+    by false e stays left =
         let h = harmless s c.waiting r (sym (stays_alike s t c.waiting r.head.side r.body like) ∙ e) in
         ap (λ (k : Kept). (run_output_in normalising t k.records).stop) (kept_false t c r rs e)
-        ∙ kept_stop (judge s r).session t (after_left_out c r.head) rs (alike_both s (judge s r).session t h.alike like)
+        ∙ left (alike_both s (judge s r).session t h.alike like)
         ∙ sym (goes_on_after _ (single s.server r (judge s r).verdict).end (run_output_in normalising (judge s r).session rs) (single_none s.server r (judge s r).verdict h.not_bad h.none))
 
 -- ---- records at other places
 
-pub located : ℕ → Record → Record
+abbrev pub located : ℕ → Record → Record
 located at r = record r { head = record r.head { place = place_after 0 at } }
 
-pub located_all : ℕ → Version → List Record → List Record
+abbrev pub located_all : ℕ → Version → List Record → List Record
 located_all at version [] = []
 located_all at version (r ∷ rs) = located at r ∷ located_all (at + length (record_bytes version r)) version rs
 
@@ -116,24 +120,29 @@ or_false false = refl
 pub are_kept : (max_body : ℕ) (version : Version) (rs : List Record) (s : Session) (c : Selection) (at before : ℕ) (due : Bool) → AreRecords max_body version before due rs
     → AreRecords max_body version at (c.due || due) (located_all at version (kept_in s c rs).records)
 are_kept max_body version [] s c at before due each = tt
-are_kept max_body version (r ∷ rs) s c at before due each = by (record_stays s c.waiting r.head.side r.body) refl
+are_kept max_body version (r ∷ rs) s c at before due each =
+    by (record_stays s c.waiting r.head.side r.body) refl
+    (are_kept max_body version rs (judge s r).session (after_kept c r.head r.body) (at + length (record_bytes version r)) (before + length (record_bytes version r)) false each.1)
+    (are_kept max_body version rs s (after_left_out c r.head) at (before + length (record_bytes version r)) false each.1)
   where
     same_due : is_due c r.head ≡ (c.due || due)
     same_due = ap (λ b. c.due || b) each.0.due
 
-    by : (b : Bool) → record_stays s c.waiting r.head.side r.body ≡ b → AreRecords max_body version at (c.due || due) (located_all at version (kept_in s c (r ∷ rs)).records)
-    by true e =
+    by : (b : Bool) → record_stays s c.waiting r.head.side r.body ≡ b
+        → AreRecords max_body version (at + length (record_bytes version r)) false (located_all (at + length (record_bytes version r)) version (kept_in (judge s r).session (after_kept c r.head r.body) rs).records)
+        → AreRecords max_body version at (is_due c r.head || false) (located_all at version (kept_in s (after_left_out c r.head) rs).records)
+        → AreRecords max_body version at (c.due || due) (located_all at version (kept_in s c (r ∷ rs)).records)
+    by true e stays left =
         subst (λ (k : Kept). AreRecords max_body version at (c.due || due) (located_all at version k.records)) (sym (kept_true s c r rs e)) (
           record { is_frame_of = each.0.is_frame_of; side = each.0.side; of_version = each.0.of_version; placed = refl; due = same_due },
-          are_kept max_body version rs (judge s r).session (after_kept c r.head r.body) (at + length (record_bytes version r)) (before + length (record_bytes version r)) false each.1,
+          stays,
         )
-    by false e =
+    by false e stays left =
         subst (λ (k : Kept). AreRecords max_body version at (c.due || due) (located_all at version k.records)) (sym (kept_false s c r rs e))
-        (subst (λ (b : Bool). AreRecords max_body version at b (located_all at version (kept_in s (after_left_out c r.head) rs).records)) (or_false (is_due c r.head) ∙ same_due)
-        (are_kept max_body version rs s (after_left_out c r.head) at (before + length (record_bytes version r)) false each.1))
+        (subst (λ (b : Bool). AreRecords max_body version at b (located_all at version (kept_in s (after_left_out c r.head) rs).records)) (or_false (is_due c r.head) ∙ same_due) left)
 
 -- Whether the line of version 2 is still to be written after records.
-pub left_due : Bool → List Record → Bool
+abbrev pub left_due : Bool → List Record → Bool
 left_due due [] = due
 left_due due (r ∷ rs) = false
 
@@ -144,21 +153,27 @@ none_due (r ∷ rs) = refl
 pub kept_due : (max_body : ℕ) (version : Version) (rs : List Record) (s : Session) (c : Selection) (before : ℕ) (due : Bool) → AreRecords max_body version before due rs → ((rs ≡ []) → due ≡ false)
     → (kept_in s c rs).due ≡ left_due (c.due || due) (kept_in s c rs).records
 kept_due max_body version [] s c before due each none = sym (or_false c.due) ∙ ap (λ b. c.due || b) (sym (none refl))
-kept_due max_body version (r ∷ rs) s c before due each none = by (record_stays s c.waiting r.head.side r.body) refl
+kept_due max_body version (r ∷ rs) s c before due each none =
+    by (record_stays s c.waiting r.head.side r.body) refl
+    (kept_due max_body version rs (judge s r).session (after_kept c r.head r.body) (before + length (record_bytes version r)) false each.1 (λ _. refl))
+    (kept_due max_body version rs s (after_left_out c r.head) (before + length (record_bytes version r)) false each.1 (λ _. refl))
   where
     same_due : is_due c r.head ≡ (c.due || due)
     same_due = ap (λ b. c.due || b) each.0.due
 
-    by : (b : Bool) → record_stays s c.waiting r.head.side r.body ≡ b → (kept_in s c (r ∷ rs)).due ≡ left_due (c.due || due) (kept_in s c (r ∷ rs)).records
-    by true e =
+    by : (b : Bool) → record_stays s c.waiting r.head.side r.body ≡ b
+        → (kept_in (judge s r).session (after_kept c r.head r.body) rs).due ≡ left_due false (kept_in (judge s r).session (after_kept c r.head r.body) rs).records
+        → (kept_in s (after_left_out c r.head) rs).due ≡ left_due (is_due c r.head || false) (kept_in s (after_left_out c r.head) rs).records
+        → (kept_in s c (r ∷ rs)).due ≡ left_due (c.due || due) (kept_in s c (r ∷ rs)).records
+    by true e stays left =
         let inner = kept_in (judge s r).session (after_kept c r.head r.body) rs in
         ap (λ (k : Kept). k.due) (kept_true s c r rs e)
-        ∙ kept_due max_body version rs (judge s r).session (after_kept c r.head r.body) (before + length (record_bytes version r)) false each.1 (λ _. refl)
+        ∙ stays
         ∙ none_due inner.records
         ∙ sym (ap (λ (k : Kept). left_due (c.due || due) k.records) (kept_true s c r rs e))
-    by false e =
+    by false e stays left =
         ap (λ (k : Kept). k.due) (kept_false s c r rs e)
-        ∙ kept_due max_body version rs s (after_left_out c r.head) (before + length (record_bytes version r)) false each.1 (λ _. refl)
+        ∙ left
         ∙ ap (λ b. left_due b (kept_in s (after_left_out c r.head) rs).records) (or_false (is_due c r.head) ∙ same_due)
         ∙ sym (ap (λ (k : Kept). left_due (c.due || due) k.records) (kept_false s c r rs e))
 
@@ -204,7 +219,7 @@ module _ (s : Session) (run : Option Run) (at : ℕ) (r : Record) where
       step_other s.server (located at r) (front_of r.head) run change (judge s r).verdict kind.0 kind.1
       ∙ sym (step_other s.server r (front_of r.head) run change (judge s r).verdict kind.0 kind.1))
       (λ (kind : IsChangeKind s.server change (judge s r).verdict).
-      let is = record { params = kind.0; is = kind.1; accepted = kind.2; framed = record { is = refl; within = kind.3 } } in
+      let is : IsChange s.server change (judge s r).verdict (frame (canonical_change_body s.server kind.0)) = record { params = kind.0; is = kind.1; accepted = kind.2; framed = record { is = refl; within = kind.3 } } in
       step_changed s.server (located at r) (front_of r.head) (frame (canonical_change_body s.server kind.0)) run change (judge s r).verdict is
       ∙ sym (step_changed s.server r (front_of r.head) (frame (canonical_change_body s.server kind.0)) run change (judge s r).verdict is))
       (kind_of s.server r (front_of r.head) run change (judge s r).verdict e)
@@ -251,31 +266,28 @@ reported version [] s t c at like goes = record {
   status = ap (λ (u : Session). (run_output_in replaying u []).outcome.status) like.2;
   refused = ap (λ (u : Session). (run_output_in replaying u []).outcome.refused) like.2;
 }
-reported version (r ∷ rs) s t c at like goes = by (record_stays t c.waiting r.head.side r.body) refl
+reported version (r ∷ rs) s t c at like goes =
+    let given = single s.server r (judge s r).verdict in
+    let on = went_on given.out given.end (run_output_in normalising (judge s r).session rs) goes in
+    by (record_stays t c.waiting r.head.side r.body) refl on.0
+    (reported version rs (judge s r).session (judge t r).session (after_kept c r.head r.body) (at + length (record_bytes version r)) (judged_alike s t r like).1 on.1)
+    (λ (also : IsAlike (judge s r).session t). reported version rs (judge s r).session t (after_left_out c r.head) at also on.1)
   where
-    given : RecordOutput
-    given = single s.server r (judge s r).verdict
-
-    on : (given.end ≡ None) × ((run_output_in normalising (judge s r).session rs).stop ≡ None)
-    on = went_on given.out given.end (run_output_in normalising (judge s r).session rs) goes
-
-    not_bad : (judge s r).verdict ≢ bad
-    not_bad = verdict_not_bad r (judge s r).verdict _ on.0
-
-    first : run_output_in replaying s (r ∷ rs) ≡ run_output_in replaying (judge s r).session rs
-    first = report_on s r rs not_bad
-
-    by : (b : Bool) → record_stays t c.waiting r.head.side r.body ≡ b → IsReportedAs s (r ∷ rs) t (located_all at version (kept_in t c (r ∷ rs)).records)
-    by true e =
+    by : (b : Bool) → record_stays t c.waiting r.head.side r.body ≡ b → (single s.server r (judge s r).verdict).end ≡ None
+        → IsReportedAs (judge s r).session rs (judge t r).session (located_all (at + length (record_bytes version r)) version (kept_in (judge t r).session (after_kept c r.head r.body) rs).records)
+        → (IsAlike (judge s r).session t → IsReportedAs (judge s r).session rs t (located_all at version (kept_in t (after_left_out c r.head) rs).records))
+        → IsReportedAs s (r ∷ rs) t (located_all at version (kept_in t c (r ∷ rs)).records)
+    by true e ended stays left =
+        let not_bad : (judge s r).verdict ≢ bad = verdict_not_bad r (judge s r).verdict _ ended in
         let q = located at (with_line c r) in
         let later = located_all (at + length (record_bytes version r)) version (kept_in (judge t r).session (after_kept c r.head r.body) rs).records in
         let also : (judge t q).verdict ≢ bad = λ (wrong : (judge t q).verdict ≡ bad). not_bad (sym (judged_alike s t r like).0 ∙ wrong) in
         subst (λ (k : Kept). IsReportedAs s (r ∷ rs) t (located_all at version k.records)) (sym (kept_true t c r rs e))
-        (same_report s (judge s r).session (r ∷ rs) rs t (q ∷ later) first
-        (same_kept (judge s r).session rs t (judge t q).session (q ∷ later) later (report_on t q later also)
-        (reported version rs (judge s r).session (judge t r).session (after_kept c r.head r.body) (at + length (record_bytes version r)) (judged_alike s t r like).1 on.1)))
-    by false e =
+        (same_report s (judge s r).session (r ∷ rs) rs t (q ∷ later) (report_on s r rs not_bad)
+        (same_kept (judge s r).session rs t (judge t q).session (q ∷ later) later (report_on t q later also) stays))
+    by false e ended stays left =
+        let not_bad : (judge s r).verdict ≢ bad = verdict_not_bad r (judge s r).verdict _ ended in
         let h = harmless s c.waiting r (sym (stays_alike s t c.waiting r.head.side r.body like) ∙ e) in
         subst (λ (k : Kept). IsReportedAs s (r ∷ rs) t (located_all at version k.records)) (sym (kept_false t c r rs e))
-        (same_report s (judge s r).session (r ∷ rs) rs t (located_all at version (kept_in t (after_left_out c r.head) rs).records) first
-        (reported version rs (judge s r).session t (after_left_out c r.head) at (alike_both s (judge s r).session t h.alike like) on.1))
+        (same_report s (judge s r).session (r ∷ rs) rs t (located_all at version (kept_in t (after_left_out c r.head) rs).records) (report_on s r rs not_bad)
+        (left (alike_both s (judge s r).session t h.alike like)))

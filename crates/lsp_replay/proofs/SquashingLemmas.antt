@@ -106,6 +106,12 @@ module _ (s : Session) (front singles : List ℕ) (run : Option SquashData) (r :
       → squash_step s here r (judge s r) ≡ record { out = end_bytes here; end = None; run = run_of its_front (its_front ++ canonical) (Some batches) }
   gives_next canonical batches is other begun = changes canonical is ∙ gives_begun s.server is.params its_front (its_front ++ canonical) front singles run batches other begun
 
+  pub told_too_long : (p : ChangeData) → change_in (incoming_of (reading r.body)) ≡ Some p → verdict ≡ answered changed → s.server.config.limits.max_body < length (canonical_change_body s.server p)
+      → squash_step s here r (judge s r) ≡ faulty (BodyTooLong r.head.place)
+  told_too_long p is accepted over =
+      ap (λ v. step_if s.server r its_front here (change_in (incoming_of (reading r.body))) v) (sym error)
+      ∙ step_too_long s.server r its_front here (change_in (incoming_of (reading r.body))) verdict p is accepted over
+
   -- ---- the same, by what the texts and the output are after the calls that write them
 
   module _ (begun_with : Option SquashData) (taken : begun_with ≡ run) (buffer : List ℕ) (nothing : buffer ≡ []) where

@@ -13,7 +13,7 @@ use Rattle.lsp_replay.specs.Documents.{Selection, after_kept, after_left_out, is
 use Rattle.lsp_replay.specs.Engines.{canonical_of_record, change_in}
 use Rattle.lsp_replay.specs.Session.{Session, bad, judge_at, same_id}
 use Rattle.lsp_replay.specs.inside.Bodies.{BodyData, body_read, body_view, from_client, from_server}
-use Rattle.lsp_replay.specs.inside.Joining.{IsOpenAfter, IsWriting}
+use Rattle.lsp_replay.specs.inside.Joining.{IsWriting}
 use Rattle.lsp_replay.specs.inside.Verdicts.{IsAppended, verdict_view}
 
 -- This was read of a record's body.
@@ -27,7 +27,6 @@ pub record IsJoined (old new : Session) (run : Option SquashData) (head : Head) 
   pub session : new ≡ (judge_at old head body).session
   pub writing : verdict_view verdict ≢ bad →
       IsWriting old.server run (change_in (incoming_of (reading body))) (verdict_view verdict) how
-  pub reached : IsOpenAfter new.server how
 
 -- A record was judged, and the canonical body of an accepted change appended.
 pub record IsWritten (old new : Session) (before after : List ℕ) (head : Head) (body : List ℕ)

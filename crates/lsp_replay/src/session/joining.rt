@@ -1,15 +1,13 @@
 //! How records are joined to the open run of accepted changes.
 
-ghost use Rattle.std.specs.Prelude.{◌≡◌, ◌≢◌, IfOk, OnOk, None};
-ghost use Rattle.lsp_message.specs.Message.{reading};
+ghost use Rattle.std.specs.Prelude.{ℕ, ◌≡◌, List, IfOk, None};
+ghost use Rattle.lsp_log.specs.declared.record.Head.{Head};
 ghost use Rattle.lsp_message.specs.Seen.{change_view};
 ghost use Rattle.lsp_server.specs.declared.phase.Phase.TheVariants.{Running};
-ghost use Rattle.lsp_server.specs.Incoming.{incoming_of};
 ghost use Rattle.lsp_server.specs.Planned.{IsPlanOfChange};
-ghost use Rattle.lsp_replay.specs.Session.{bad, judge_at};
-ghost use Rattle.lsp_replay.specs.Engines.{change_in};
 ghost use Rattle.lsp_replay.specs.inside.Bodies.{IsChangeTaken};
-ghost use Rattle.lsp_replay.specs.inside.Joining.{MayBeOpenIn, IsOpenIn, IsOpenAfter, IsWriting, IsChangeWriting, IsBegun, server_after};
+ghost use Rattle.lsp_replay.specs.inside.Joining.{MayBeOpenIn, IsOpenIn, IsOpenAfter, IsChangeWriting, IsBegun, server_after};
+ghost use Rattle.lsp_replay.specs.inside.Reads.{IsJoined, IsReadOf};
 ghost use Rattle.lsp_replay.specs.inside.Verdicts.{verdict_view};
 
 use crate::session::planning::unless_refused;
@@ -45,9 +43,10 @@ impl Session {
         run: Option<Batches>,
     ) -> Result<(Verdict, Writing), AllocError>
         requires { MayBeOpenIn self.old.server run }
-        ensures { (head : Head) (body : List ℕ) → IsReadOf head body read.entry →
+        ensures joined { (head : Head) (body : List ℕ) → IsReadOf head body read.entry →
             IfOk result
             (λ judged. IsJoined self.old self.new run head body judged.0 judged.1) }
+        ensures reached { IfOk result (λ judged. IsOpenAfter self.new.server judged.1) }
     {
         match self.received_change(&read) {
             Some(params) => self.change_and_join(params, run),

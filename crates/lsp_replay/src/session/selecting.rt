@@ -4,7 +4,7 @@ ghost use Rattle.std.specs.Prelude.{◌≡◌, Bool, IfOk, OnOk, MatchOption, No
 ghost use Rattle.lsp_message.specs.Message.{IdData, message, reading};
 ghost use Rattle.lsp_message.specs.Seen.{id_view, message_view};
 ghost use Rattle.lsp_server.specs.Seen.{incoming_view};
-ghost use Rattle.lsp_replay.specs.Documents.{is_answer_to, is_kept_method, message_stays, nothing_selected, waiting_for};
+ghost use Rattle.lsp_replay.specs.Documents.{is_answer_to, is_due, is_kept_method, message_stays, nothing_selected, waiting_for};
 ghost use Rattle.lsp_replay.specs.inside.Bodies.{body_view, from_server};
 ghost use Rattle.lsp_replay.specs.inside.Reads.{IsSelection, asked_id, is_waited, stays_read, waiting_read};
 
@@ -62,6 +62,13 @@ impl Selection {
         self.due
     }
 
+    /// Is the line of version 2 to be written before a record, if that stays?
+    fn is_due_before(&self, head: Head) -> bool
+        ensures { result ≡ is_due self.now head }
+    {
+        self.due || head.line_due
+    }
+
     /// Reads the body of the next record, and returns `None` if the record is left out.
     pub fn select<'a>(
         &mut self,
@@ -74,7 +81,7 @@ impl Selection {
             (IsSelection session.old self.old self.new head body.now) }
     {
         let read = session.read(head, body)?;
-        let line_due = self.due || head.line_due;
+        let line_due = self.is_due_before(head);
         if !self.stays(session, &read)? {
             self.due = line_due;
             return Ok(None);
@@ -191,12 +198,12 @@ fn answered_id(alloc: Global, body: &[u8]) -> Result<Option<Id>, AllocError>
 }
 
 /// The id of a response.
-fn response_id(message: Message) -> Option<Id>
+fn response_id(answer: Message) -> Option<Id>
     ensures { (waiting : Option IdData) →
-        is_answer_to waiting (message (message_view message)) ≡ is_waited waiting
+        is_answer_to waiting (message (message_view answer)) ≡ is_waited waiting
         (option_map id_view result) }
 {
-    match message {
+    match answer {
         Message::Response { id, .. } => id,
         _ => None,
     }

@@ -1,6 +1,7 @@
 //! The canonical bodies of accepted changes, as they are appended to an output.
 
-ghost use Rattle.std.specs.Prelude.{ℕ, ℤ, ◌≡◌, ◌≤◌, vec_len, List, IfOk, OnOk, None, Some};
+ghost use Rattle.std.specs.Prelude.{ℕ, ℤ, ◌≡◌, ◌≤◌, vec_len, List, IfOk, None, Some};
+ghost use Rattle.lsp_log.specs.declared.record.Head.{Head};
 ghost use Rattle.lsp_text.specs.Units.{units_in};
 ghost use Rattle.lsp_text.specs.declared.encoding.Encoding.{Encoding};
 ghost use Rattle.lsp_edit.specs.Batch.{Edit};
@@ -8,10 +9,9 @@ ghost use Rattle.lsp_message.specs.Seen.{change_view};
 ghost use Rattle.lsp_store.specs.Message.{canonical_body};
 ghost use Rattle.lsp_store.specs.Plan.{IsPlanOf, IsPlanOn};
 ghost use Rattle.lsp_server.specs.declared.phase.Phase.TheVariants.{Running};
-ghost use Rattle.lsp_replay.specs.Session.{judge_at};
-ghost use Rattle.lsp_replay.specs.Engines.{canonical_of_record};
 ghost use Rattle.lsp_replay.specs.inside.Bodies.{IsChangeTaken};
 ghost use Rattle.lsp_replay.specs.inside.Joining.{change_body_if};
+ghost use Rattle.lsp_replay.specs.inside.Reads.{IsReadOf, IsWritten};
 ghost use Rattle.lsp_replay.specs.inside.Verdicts.{IsAppended, verdict_view};
 
 use crate::session::planning::unless_refused;

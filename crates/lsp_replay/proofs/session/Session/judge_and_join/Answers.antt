@@ -8,7 +8,9 @@ use Rattle.lsp_replay.specs.inside.Bodies.{body_view}
 use Rattle.lsp_replay.specs.inside.Joining.{IsOpenAfter, IsWriting}
 use Rattle.lsp_replay.specs.inside.Verdicts.{verdict_view}
 use Rattle.lsp_replay.proofs.BodyLemmas.{judged_at}
-use Rattle.lsp_replay.proofs.TakenLemmas.{change_open_at, change_writing_at, if_both, none_writing, taken_session, taken_verdict}
+use Rattle.lsp_log.specs.declared.record.Version.TheVariants.{One}
+use Rattle.lsp_replay.proofs.JoiningLemmas.{change_open}
+use Rattle.lsp_replay.proofs.TakenLemmas.{change_writing_at, if_both, none_writing, taken_session, taken_verdict}
 use Rattle.lsp_replay.specs.declared.session.joining.Writing.TheVariants.{AsItIs}
 use Rattle.lsp_replay.proofs.session.Session.judge_and_join.Goals as goal
 
@@ -18,8 +20,8 @@ change_and_join-requires-clause-running c = c.in-Some.ensures.running
 pub change_and_join-requires-clause-known : goal.change_and_join-requires-clause-known
 change_and_join-requires-clause-known c = c.in-Some.ensures.known
 
-pub returns-in-Some : goal.returns-in-Some
-returns-in-Some c = λ head body is.
+pub returns-in-Some-clause-joined : goal.returns-in-Some-clause-joined
+returns-in-Some-clause-joined c = λ head body is.
     if_both c.change_and_join.result
     (λ judged taken writing.
     let verdict = taken_verdict c.args.self.now head body c.args.self.now (body_view c.args.read) refl is (change_view c.in-Some.params.now) c.in-Some.ensures (verdict_view judged.0) c.change_and_join.new.self taken in
@@ -30,15 +32,21 @@ returns-in-Some c = λ head body is.
       writing = λ not_bad.
           subst (λ (v : Verdict). IsWriting c.args.self.now.server c.args.run (change_in (incoming_of (reading body))) v judged.1) (sym verdict)
           (change_writing_at c.args.self.now head body c.args.self.now (body_view c.args.read) refl is (change_view c.in-Some.params.now) c.in-Some.ensures c.args.run judged.1 writing);
-      reached =
-          subst (λ (u : Session). IsOpenAfter u.server judged.1) (sym session)
-          (change_open_at c.args.self.now head body c.args.self.now (body_view c.args.read) refl is (change_view c.in-Some.params.now) c.in-Some.ensures c.args.run judged.1 writing);
     })
     c.change_and_join.ensures.taken
     c.change_and_join.ensures.writing
 
-pub returns-in_ok-take-in-None : goal.returns-in_ok-take-in-None
-returns-in_ok-take-in-None c = λ head body is.
+pub returns-in-Some-clause-reached : goal.returns-in-Some-clause-reached
+returns-in-Some-clause-reached c =
+    if_both c.change_and_join.result
+    (λ judged taken writing.
+    subst (λ (u : Session). IsOpenAfter u.server judged.1) (sym (taken.session One))
+    (change_open c.args.self.now One c.args.run (change_view c.in-Some.params.now) judged.1 c.in-Some.ensures.running c.in-Some.ensures.known writing))
+    c.change_and_join.ensures.taken
+    c.change_and_join.ensures.writing
+
+pub returns-in_ok-take-in-None-clause-joined : goal.returns-in_ok-take-in-None-clause-joined
+returns-in_ok-take-in-None-clause-joined c = λ head body is.
     let same = judged_at c.args.self.now head body c.args.self.now (body_view c.args.read) refl is in
     let verdict = rw same at c.in_ok-take-in-None.ensures.verdict in
     record {
@@ -46,5 +54,4 @@ returns-in_ok-take-in-None c = λ head body is.
       session = rw same at c.in_ok-take-in-None.ensures.session;
       writing = λ not_bad.
           rw verdict (none_writing c.args.self.now head body c.args.self.now (body_view c.args.read) refl is c.in-None.ensures c.args.run (AsItIs c.args.run) (c.in-None.ensures, refl));
-      reached = tt;
     }

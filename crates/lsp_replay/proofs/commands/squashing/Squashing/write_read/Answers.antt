@@ -1,14 +1,14 @@
-use Rattle.std.proofs.Common.{◌≢◌}
+use Rattle.std.proofs.Common.{◌≢◌, inr}
 use Rattle.lsp_replay.specs.Session.{bad}
 use Rattle.lsp_replay.specs.inside.Verdicts.{verdict_view}
-use Rattle.lsp_replay.proofs.SquashingLemmas.{told_as_it_is, told_more, told_next}
+use Rattle.lsp_replay.proofs.SquashingLemmas.{told_as_it_is, told_more, told_next, told_too_long}
 use Rattle.lsp_replay.proofs.commands.squashing.Squashing.write_read.Goals as goal
 
-pub returns-in_ok-extend_from_slice-in-AsItIs-clause-ok : goal.returns-in_ok-extend_from_slice-in-AsItIs-clause-ok
-returns-in_ok-extend_from_slice-in-AsItIs-clause-ok c = λ body is.
+pub returns-in-AsItIs-clause-ok : goal.returns-in-AsItIs-clause-ok
+returns-in-AsItIs-clause-ok c = λ body is.
     rw (← c.self.view_is)
     (let not_bad : verdict_view c.in_ok-verdict.verdict ≢ bad = c.in_ok-in_log.ensures.in_log in
-    let joined = c.in_ok-verdict.ensures c.args.head body is in
+    let joined = c.in_ok-verdict.ensures.joined c.args.head body is in
     let writing = rw c.in-AsItIs.is at (joined.writing not_bad) in
     record {
       session = joined.session;
@@ -22,11 +22,24 @@ returns-in_ok-extend_from_slice-in-AsItIs-clause-ok c = λ body is.
           c.take-run.new.self c.take-run.ensures.after _ _;
     })
 
+pub returns-in-TooLong-clause-error : goal.returns-in-TooLong-clause-error
+returns-in-TooLong-clause-error c = λ body is.
+    rw (← c.self.view_is)
+    (let not_bad : verdict_view c.in_ok-verdict.verdict ≢ bad = c.in_ok-in_log.ensures.in_log in
+    let joined = c.in_ok-verdict.ensures.joined c.args.head body is in
+    let writing = rw c.in-TooLong.is at (joined.writing not_bad) in
+    inr (
+      tt,
+      told_too_long c.self.inside.session c.self.inside.texts.front.items c.self.inside.texts.singles.items c.self.inside.batches
+          (record { head = c.args.head; raw = c.args.raw.now; body = body })
+          (verdict_view c.in_ok-verdict.verdict) joined.judged writing.0 writing.1 writing.2 writing.3,
+    ))
+
 pub returns-in-Continues-clause-ok : goal.returns-in-Continues-clause-ok
 returns-in-Continues-clause-ok c = λ body is.
     rw (← c.self.view_is)
     (let not_bad : verdict_view c.in_ok-verdict.verdict ≢ bad = c.in_ok-in_log.ensures.in_log in
-    let joined = c.in_ok-verdict.ensures c.args.head body is in
+    let joined = c.in_ok-verdict.ensures.joined c.args.head body is in
     let writing = rw c.in-Continues.is at (joined.writing not_bad) in
     record {
       session = joined.session;
@@ -43,7 +56,7 @@ pub returns-clause-ok : goal.returns-clause-ok
 returns-clause-ok c = λ body is.
     rw (← c.self.view_is)
     (let not_bad : verdict_view c.in_ok-verdict.verdict ≢ bad = c.in_ok-in_log.ensures.in_log in
-    let joined = c.in_ok-verdict.ensures c.args.head body is in
+    let joined = c.in_ok-verdict.ensures.joined c.args.head body is in
     let writing = rw c.in-Begins.is at (joined.writing not_bad) in
     record {
       session = joined.session;
