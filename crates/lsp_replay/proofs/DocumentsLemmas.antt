@@ -1,9 +1,9 @@
 -- What `normalise` writes of the records that stay, a record at a time, and over all records.
-use Rattle.std.proofs.Common.{◌≡◌, ◌≢◌, ℕ, Bool, true, false, ◌||◌, List, [], ◌∷◌, ◌++◌, Option, Some, None, refl, sym, ap, ◌∙◌, subst}
+use Rattle.std.proofs.Common.{◌≡◌, ◌≢◌, ◌⊎◌, inl, inr, ℕ, Bool, true, false, ◌||◌, List, [], ◌∷◌, ◌++◌, Option, Some, None, refl, sym, ap, ◌∙◌, subst}
 use Rattle.std.specs.Prelude.{not, if◌then◌else◌, Result, Ok, Err}
 use Rattle.lsp_replay.specs.declared.outcome.Outcome.{Outcome}
 use Rattle.lsp_stream.specs.declared.fault.EngineFault.{EngineFault}
-use Rattle.lsp_stream.specs.declared.fault.EngineFault.TheVariants.{BadLog}
+use Rattle.lsp_stream.specs.declared.fault.EngineFault.TheVariants.{BadLog, NoMemory}
 use Rattle.lsp_stream.specs.Ports.{Ports}
 use Rattle.lsp_log.specs.declared.record.Head.{Head}
 use Rattle.lsp_log.specs.declared.record.Side.{Side}
@@ -16,14 +16,14 @@ use Rattle.lsp_replay.specs.Documents.{Kept, Selection, after_kept, after_left_o
 use Rattle.lsp_replay.specs.Engines.{RecordOutput, canonical_of_record, continue_with, ends, front_of, normalising, run_output_in, unless_bad, writes, written}
 use Rattle.lsp_replay.specs.Run.{IsEngineRun}
 use Rattle.lsp_replay.specs.RunOutput.{RunOutput, stopped, written_first}
-use Rattle.lsp_replay.specs.Session.{Session, Verdict, answered, bad, judge, recorded}
+use Rattle.lsp_replay.specs.Session.{Session, Verdict, answered, bad, judge, judge_at, recorded}
 use Rattle.lsp_replay.specs.Squashed.{Run, Squashing, Step, faulty, squash_step, squashed_in}
 use Rattle.lsp_replay.specs.inside.Bodies.{BodyData, body_read}
 use Rattle.lsp_replay.specs.inside.Documents.{each_of_kept, squashed_of_kept}
 use Rattle.lsp_replay.specs.inside.Engine.{IsLoopRun}
 use Rattle.lsp_replay.specs.inside.Engines.{each_output}
 use Rattle.lsp_replay.specs.inside.Reads.{IsKept, IsLeftOut, stays_read, waiting_read}
-use Rattle.lsp_replay.specs.inside.RunOutput.{after}
+use Rattle.lsp_replay.specs.inside.RunOutput.{IsRecordFault, after}
 use Rattle.lsp_replay.specs.inside.Squashed.{IsSquashStep, step_at}
 use Rattle.lsp_replay.proofs.KeptLogLemmas.{kept_false, kept_true}
 use Rattle.lsp_replay.proofs.RunReportLemmas.{Grows, GrowsAll, NoneCut, Settles, grows, run_of_course, settled, squashed_grows, squashed_settled}
@@ -160,6 +160,64 @@ module _ (s : Session) (c d : Selection) (head : Head) (raw body : List ℕ) (wr
       ap (output_of_kept (squashed_in s run)) (kept_true s c r more stays.stays)
       ∙ ap (λ (step : Step). with_due (later more).due (continue_with step.out step.end (squashed_in (judge s r).session step.run (later more).records)))
       (ap (λ (q : Record). squash_step s run q (judge s q)) (sym its_is) ∙ gives)
+
+-- ---- the same, by what the calls of a handler are known to do
+
+-- what was read of a record is read of it under the head that it is written with, too
+module _ (s : Session) (c d : Selection) (head : Head) (raw body : List ℕ) (written_head : Head) (stays : IsKept s c d head body written_head) (read : BodyData) (is : read ≡ body_read head.version head.side body) where
+  abbrev given : Record
+  given = record { head = head; raw = raw; body = body }
+
+  read_again : read ≡ body_read written_head.version written_head.side body
+  read_again = is ∙ sym (version_same s c d head raw body written_head stays)
+
+  module _ (u : Session) (same : u ≡ s) where
+    pub each_handled : (t : Session) (out : List ℕ)
+        → ((b : List ℕ) → read ≡ body_read written_head.version written_head.side b → t ≡ (judge_at u written_head b).session)
+        → ((b : List ℕ) → read ≡ body_read written_head.version written_head.side b → each_output u (record { head = written_head; raw = raw; body = b }) ≡ writes out)
+        → (more : List Record) → each_of_kept s c (given ∷ more) ≡ after out None (each_of_kept t d more)
+    each_handled t out session gives more =
+        each_stays s c d head raw body written_head stays t (subst (λ (v : Session). t ≡ (judge_at v written_head body).session) same (session body read_again)) out
+        (subst (λ (v : Session). each_output v (record { head = written_head; raw = raw; body = body }) ≡ writes out) same (gives body read_again)) more
+
+    pub each_failed : (fault : EngineFault)
+        → ((b : List ℕ) → read ≡ body_read written_head.version written_head.side b
+        → (fault ≡ NoMemory) ⊎ (IsRecordFault fault × (each_output u (record { head = written_head; raw = raw; body = b }) ≡ ends [] (Err fault))))
+        → (fault ≡ NoMemory) ⊎ (IsRecordFault fault × ((more : List Record) → each_of_kept s c (given ∷ more) ≡ stopped [] (Err fault)))
+    each_failed fault gives = by (gives body read_again)
+      where
+        by : (fault ≡ NoMemory) ⊎ (IsRecordFault fault × (each_output u (record { head = written_head; raw = raw; body = body }) ≡ ends [] (Err fault)))
+            → (fault ≡ NoMemory) ⊎ (IsRecordFault fault × ((more : List Record) → each_of_kept s c (given ∷ more) ≡ stopped [] (Err fault)))
+        by (inl memory) = inl memory
+        by (inr ended) =
+            inr (
+              ended.0,
+              λ more. each_ends s c d head raw body written_head stays fault (subst (λ (v : Session). each_output v (record { head = written_head; raw = raw; body = body }) ≡ ends [] (Err fault)) same ended.1) more,
+            )
+
+module _ (q : Squashing) (c d : Selection) (head : Head) (raw body : List ℕ) (written_head : Head) (stays : IsKept q.session c d head body written_head) (read : BodyData) (is : read ≡ body_read head.version head.side body)
+    (p : Squashing) (same : p ≡ q) where
+  pub squashed_handled : (next : Squashing) (out : List ℕ)
+      → ((b : List ℕ) → read ≡ body_read written_head.version written_head.side b → IsSquashStep p (record { head = written_head; raw = raw; body = b }) out next)
+      → (more : List Record) → squashed_of_kept q c (record { head = head; raw = raw; body = body } ∷ more) ≡ after out None (squashed_of_kept next d more)
+  squashed_handled next out gives more =
+      let step = subst (λ (x : Squashing). IsSquashStep x (record { head = written_head; raw = raw; body = body }) out next) same (gives body (read_again q.session c d head raw body written_head stays read is)) in
+      squashed_stays q.session c d head raw body written_head stays next.session step.session q.run next.run out step.step more
+
+  pub squashed_failed : (fault : EngineFault)
+      → ((b : List ℕ) → read ≡ body_read written_head.version written_head.side b
+      → (fault ≡ NoMemory) ⊎ (IsRecordFault fault × (step_at p (record { head = written_head; raw = raw; body = b }) ≡ faulty fault)))
+      → (fault ≡ NoMemory) ⊎ (IsRecordFault fault × ((more : List Record) → squashed_of_kept q c (record { head = head; raw = raw; body = body } ∷ more) ≡ stopped [] (Err fault)))
+  squashed_failed fault gives = by (gives body (read_again q.session c d head raw body written_head stays read is))
+    where
+      by : (fault ≡ NoMemory) ⊎ (IsRecordFault fault × (step_at p (record { head = written_head; raw = raw; body = body }) ≡ faulty fault))
+          → (fault ≡ NoMemory) ⊎ (IsRecordFault fault × ((more : List Record) → squashed_of_kept q c (record { head = head; raw = raw; body = body } ∷ more) ≡ stopped [] (Err fault)))
+      by (inl memory) = inl memory
+      by (inr ended) =
+          inr (
+            ended.0,
+            λ more. squashed_ends q.session c d head raw body written_head stays q.run fault (subst (λ (x : Squashing). step_at x (record { head = written_head; raw = raw; body = body }) ≡ faulty fault) same ended.1) more,
+          )
 
 -- ---- with squash, where no record is left out
 
