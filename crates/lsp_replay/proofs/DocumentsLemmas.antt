@@ -229,6 +229,11 @@ step_writes q next r out is more =
 pub step_ends : (q : Squashing) (r : Record) (fault : EngineFault) → step_at q r ≡ faulty fault → (more : List Record) → squashed_in q.session q.run (r ∷ more) ≡ stopped [] (Err fault)
 step_ends q r fault is more = ap (λ (step : Step). continue_with step.out step.end (squashed_in (judge q.session r).session step.run more)) is
 
+pub step_failed : (q p : Squashing) (r : Record) → p ≡ q → (fault : EngineFault) → (fault ≡ NoMemory) ⊎ (IsRecordFault fault × (step_at p r ≡ faulty fault))
+    → (fault ≡ NoMemory) ⊎ (IsRecordFault fault × ((more : List Record) → squashed_in q.session q.run (r ∷ more) ≡ stopped [] (Err fault)))
+step_failed q p r same fault (inl memory) = inl memory
+step_failed q p r same fault (inr ended) = inr (ended.0, step_ends q r fault (subst (λ (x : Squashing). step_at x r ≡ faulty fault) same ended.1))
+
 -- ---- all records
 
 -- More records, of which more stay.
