@@ -50,7 +50,7 @@ pub selected_kept : (s : Session) (old mid : Selection) (head : Head) (body : Li
     → (waiting : Option IdData) → waiting ≡ mid.waiting → (line_due : Bool) → line_due ≡ is_due old head
     → IsKept s old (record { waiting = waiting; due = false }) head body (record head { line_due = line_due })
 selected_kept s old mid head body read is t same false stays_is mid_is left waiting waiting_is line_due due_is = absurd (let wrong : false ≡ true = left in cc)
-selected_kept s old mid head body read is t same true stays_is mid_is yes waiting waiting_is line_due due_is = record {
+selected_kept s old mid head body read is t same true stays_is mid_is staying waiting waiting_is line_due due_is = record {
   stays = sym (stays_at s old.waiting head body read is) ∙ sym (ap (λ (u : Session). stays_read u old.waiting read) same) ∙ sym stays_is;
   selection = ap (λ (w : Option IdData). record { waiting = w; due = false }) (waiting_is ∙ ap (λ (c : Selection). c.waiting) mid_is ∙ waiting_at old.waiting head body read is);
   head_is = ap (λ (b : Bool). record head { line_due = b }) due_is;
@@ -228,6 +228,9 @@ step_writes q next r out is more =
 
 pub step_ends : (q : Squashing) (r : Record) (fault : EngineFault) → step_at q r ≡ faulty fault → (more : List Record) → squashed_in q.session q.run (r ∷ more) ≡ stopped [] (Err fault)
 step_ends q r fault is more = ap (λ (step : Step). continue_with step.out step.end (squashed_in (judge q.session r).session step.run more)) is
+
+abbrev pub squashing_at : Session → Option Run → Squashing
+squashing_at s run = record { session = s; run = run }
 
 pub step_failed : (q p : Squashing) (r : Record) → p ≡ q → (fault : EngineFault) → (fault ≡ NoMemory) ⊎ (IsRecordFault fault × (step_at p r ≡ faulty fault))
     → (fault ≡ NoMemory) ⊎ (IsRecordFault fault × ((more : List Record) → squashed_in q.session q.run (r ∷ more) ≡ stopped [] (Err fault)))
