@@ -4,7 +4,8 @@
 //! The plain programs go character by character, as the definitions do. Both are proved to mean the
 //! same; each case shows it.
 
-ghost use Rattle.std.specs.Prelude.{◌≡◌, ◌≤◌, IfOk, length, encode_utf8_all, map, string_len, sum_by};
+ghost use Rattle.std.specs.Prelude.{◌≡◌, ◌≤◌, IfOk, length, map, string_len, sum_by};
+ghost use Rattle.std.specs.Prelude.{encode_utf8_all};
 ghost use Rattle.lsp_text.specs.LineStarts.{Indexes};
 ghost use Rattle.lsp_text.specs.Units.{units_in};
 ghost use Rattle.lsp_edit.specs.Edited.{edit_of};
