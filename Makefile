@@ -58,7 +58,7 @@ $(SHARED): $(ARCHIVE) $(BUILD)/heap.o bindings/exports.map
 	mv "$@.new" "$@"
 
 $(ARCHIVE):
-	@echo "$@ isn't built: .ci/c proves and builds it ($$(cat install/kit); README.md, What is needed)" >&2; exit 1
+	@echo "$@ isn't built: tools/c proves and builds it ($$(cat install/kit); README.md, What is needed)" >&2; exit 1
 
 needed:
 	@install/needed "$(SYNC_PROGRAM)" "$(SIMULATE_PROGRAM)" "$(ARCHIVE)" "$(STATIC)" "$(SHARED)"
