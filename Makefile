@@ -64,7 +64,7 @@ To test what the gate doesn't
   make check-install   this Makefile, with stand-ins for what is built                     cc, git                     a minute
 
 To measure (bench/README.md)
-  make bench           layers, logs and bindings (BENCH), with logs so long (SCALE=0.1)    rt, bindings also make c    some minutes
+  make bench           layers, logs and bindings (BENCH), with logs so long (SCALE=0.1)    rt, bindings also make c    minutes, once built
 endef
 
 help:
