@@ -31,7 +31,7 @@ PACKAGES = packages
 KINDS = wheel npm crate deb lua
 SUMS = $(wildcard $(RELEASES)/laspidru-$(VERSION).sha256 $(PACKAGES)/laspidru-$(VERSION)-packages.sha256)
 
-define FOR_USERS
+define IN_A_RELEASE_TOO
 Each line: what the target does, what it needs, and about how long that takes.
 
 To use Laspidru
@@ -42,7 +42,7 @@ To use Laspidru
   make check-packages  installs each in a root without compilers                           root, debootstrap or ROOT   some minutes
 endef
 
-define FOR_DEVELOPERS
+define IN_THE_REPOSITORY
   make release         a tarball and its sums in release/, of a clone without changes      rt, git, cc                 about an hour
   make verify          builds it again in a new clone, and compares (SUMS="file ..")       rt, git, cc                 about an hour
 
@@ -68,7 +68,7 @@ To measure (bench/README.md)
 endef
 
 help:
-	@: $(info $(FOR_USERS))$(if $(wildcard launch),$(info $(FOR_DEVELOPERS)))
+	@: $(info $(IN_A_RELEASE_TOO))$(if $(wildcard launch),$(info $(IN_THE_REPOSITORY)))
 
 library: $(STATIC) $(SHARED)
 
@@ -159,8 +159,7 @@ refused:
 	@tools/refused $(CRATE)
 
 pages:
-	@tools/links
-	@tools/definitions --check
+	@status=0; tools/links || status=1; tools/definitions --check || status=1; exit $$status
 
 definitions:
 	@tools/definitions $(if $(OF),--of "$(OF)",--pages)
@@ -184,6 +183,7 @@ check-install:
 	@install/test
 
 bench:
+	$(if $(filter-out layers logs bindings,$(BENCH)),$(error BENCH names some of layers, logs and bindings))
 	$(if $(filter layers,$(BENCH)),cd crates/lsp_bench && rt run)
 	$(if $(filter logs,$(BENCH)),bench/end-to-end --scale $(SCALE))
 	$(if $(filter bindings,$(BENCH)),bench/bindings)
