@@ -1,4 +1,5 @@
-# Installs what was built and proved, and makes and verifies releases. `make` alone says what there is.
+# The one door to all that can be made, installed, tested and tried here: `make` alone lists it. A release, where there is no `launch`, has
+# only what its users need.
 VERSION := $(shell cat VERSION)
 SONAME = liblaspidru.so.$(firstword $(subst ., ,$(VERSION)))
 
@@ -30,15 +31,44 @@ PACKAGES = packages
 KINDS = wheel npm crate deb lua
 SUMS = $(wildcard $(RELEASES)/laspidru-$(VERSION).sha256 $(PACKAGES)/laspidru-$(VERSION)-packages.sha256)
 
+define IN_A_RELEASE_TOO
+Each line: what the target does, what it needs, and about how long that takes.
+
+To use Laspidru
+  make library         both libraries for C, with their heap, in build/                    cc, the archive for C       seconds
+  make install         programs, library, man pages and so on (PREFIX, DESTDIR)            it says what                seconds
+  make uninstall       takes them away again (PREFIX, DESTDIR)                                                         seconds
+  make packages        wheel, npm, crate, deb and lua (KINDS) in packages/; no network     a release, their tools      a minute
+  make check-packages  installs each in a root without compilers                           root, debootstrap or ROOT   some minutes
+endef
+
+define IN_THE_REPOSITORY
+  make release         a tarball and its sums in release/, of a clone without changes      rt, git, cc                 about an hour
+  make verify          builds it again in a new clone, and compares (SUMS="file ..")       rt, git, cc                 about an hour
+
+To change it (docs/DEVELOPING.md)
+  make ready           what is to be mended before a push (CRATE="lsp_store ..")           rt                          under a minute
+  make pages           its part on pages: links, files, versions, definitions that grew    python3                     seconds
+  make gate            .ci/run: all proofs, tests, programs and must-fail edits            rt                          45 minutes, later less
+  make minutes         the gate, and where its minutes and its memory go                   rt, python3                 as the gate
+  make edits           must-fail edits, also those that the gate leaves out (CRATE)        rt, python3                 minutes a crate
+  make refused         out of memory at each request that a test makes (CRATE)             rt, after the gate          seconds
+  make definitions     what a clause speaks of (OF=Pair::step.history), or all such pages  python3                     seconds
+  make c               the archive for C, and its test in C                                rt                          up to an hour
+
+To test what the gate doesn't
+  make test            each of these that this machine can run (PART="examples ..")        python3                     some minutes
+  make conformance     the vectors, by a plain program and its mistakes                    python3                     half a minute
+  make examples        scripts, servers, and plugins of editors                            python3, most make library  a minute or more
+  make bindings        C, Python, Rust, Node and Lua, and what their pages say             cc, make c                  some minutes
+  make check-install   this Makefile, with stand-ins for what is built                     cc, git                     a minute
+
+To measure (bench/README.md)
+  make bench           layers, logs and bindings (BENCH), with logs so long (SCALE=0.1)    rt, bindings also make c    minutes, once built
+endef
+
 help:
-	@echo 'make library        the library with its heap: $(STATIC) and $(SHARED); needs a C compiler'
-	@echo 'make install        installs programs, library, header, man pages and completions (PREFIX, DESTDIR); builds nothing'
-	@echo 'make uninstall      takes them away again'
-	@echo 'make release        $(RELEASES)/laspidru-$(VERSION).tar.gz and its SHA-256 sums; builds what is not current; needs rt'
-	@echo 'make packages       packages of the release: wheel, npm, crate, deb, lua (KINDS) in $(PACKAGES)/; needs their tools, no network'
-	@echo 'make verify         builds what has the sums again in a new clone, and compares (SUMS=file ..); needs rt, about an hour'
-	@echo 'make check-install  tests all this with small stand-ins for what is built'
-	@echo 'make check-packages tests $(PACKAGES)/ in a root without compilers, as docs/PACKAGES.md says; needs root'
+	@: $(info $(IN_A_RELEASE_TOO))$(if $(wildcard launch),$(info $(IN_THE_REPOSITORY)))
 
 library: $(STATIC) $(SHARED)
 
@@ -58,7 +88,7 @@ $(SHARED): $(ARCHIVE) $(BUILD)/heap.o bindings/exports.map
 	mv "$@.new" "$@"
 
 $(ARCHIVE):
-	@echo "$@ isn't built: .ci/c proves and builds it ($$(cat install/kit); README.md, What is needed)" >&2; exit 1
+	@echo "$@ isn't built: tools/c proves and builds it ($$(cat install/kit); README.md, What is needed)" >&2; exit 1
 
 needed:
 	@install/needed "$(SYNC_PROGRAM)" "$(SIMULATE_PROGRAM)" "$(ARCHIVE)" "$(STATIC)" "$(SHARED)"
@@ -92,19 +122,71 @@ uninstall:
 	    "$(DESTDIR)$(DATADIR)/bash-completion/completions/lspsync" "$(DESTDIR)$(DATADIR)/zsh/site-functions/_lspsync" \
 	    "$(DESTDIR)$(DATADIR)/fish/vendor_completions.d/lspsync.fish"
 
-release:
-	@install/release "$(VERSION)" "$(RELEASES)"
-
 packages:
 	@install/packages "$(VERSION)" "$(RELEASE)" "$(PACKAGES)" $(KINDS)
-
-verify:
-	@install/verify "$(VERSION)" $(or $(SUMS),"$(RELEASES)/laspidru-$(VERSION).sha256")
 
 check-packages:
 	@install/test_packages "$(VERSION)" "$(PACKAGES)"
 
+.PHONY: help library needed install uninstall packages check-packages
+
+ifneq ($(wildcard launch),)
+CRATE =
+OF =
+PART =
+BENCH = layers logs bindings
+SCALE = 0.1
+
+release:
+	@install/release "$(VERSION)" "$(RELEASES)"
+
+verify:
+	@install/verify "$(VERSION)" $(or $(SUMS),"$(RELEASES)/laspidru-$(VERSION).sha256")
+
+ready:
+	@tools/ready $(CRATE)
+
+gate:
+	@.ci/run
+
+minutes:
+	@tools/minutes
+
+edits:
+	@tools/edits $(CRATE)
+
+refused:
+	@tools/refused $(CRATE)
+
+pages:
+	@status=0; tools/links || status=1; tools/definitions --check || status=1; exit $$status
+
+definitions:
+	@tools/definitions $(if $(OF),--of "$(OF)",--pages)
+
+test:
+	@tools/test $(PART)
+
+conformance:
+	@conformance/test
+
+examples:
+	@tools/test examples
+
+bindings:
+	@tools/bindings
+
+c:
+	@tools/c
+
 check-install:
 	@install/test
 
-.PHONY: help library needed install uninstall release packages verify check-install check-packages
+bench:
+	$(if $(filter-out layers logs bindings,$(BENCH)),$(error BENCH names some of layers, logs and bindings))
+	$(if $(filter layers,$(BENCH)),cd crates/lsp_bench && rt run)
+	$(if $(filter logs,$(BENCH)),bench/end-to-end --scale $(SCALE))
+	$(if $(filter bindings,$(BENCH)),bench/bindings)
+
+.PHONY: release verify ready gate minutes edits refused pages definitions test conformance examples bindings c check-install bench
+endif

@@ -1,4 +1,4 @@
-"""The pages of .ci/pages: a sentence, the clauses that say it, what is told elsewhere, and how long the page may be."""
+"""The pages of tools/pages: a sentence, the clauses that say it, what is told elsewhere, and how long the page may be."""
 import configparser
 import re
 
@@ -13,7 +13,7 @@ def words_of(text):
 
 
 class Page:
-    """A row of .ci/pages."""
+    """A row of tools/pages."""
 
     def __init__(self, title, row):
         self.title, self.sentence = title, row.get("sentence")
@@ -102,7 +102,7 @@ class Pages:
                 yield f"README.md says under \"What is proved\" \"{sentence}\", and no page has it as its sentence"
         for sentence, page in said.items():
             if sentence not in points:
-                yield f".ci/pages: no point under \"What is proved\" of README.md begins with \"{sentence}\""
+                yield f"tools/pages: no point under \"What is proved\" of README.md begins with \"{sentence}\""
             elif f"(`{page.of[0]}`: {page.most} lines)" not in points[sentence]:
                 yield f"README.md doesn't say \"(`{page.of[0]}`: {page.most} lines)\" at \"{sentence}\""
 
@@ -128,7 +128,7 @@ class Pages:
                 yield f"the clause {clause} reaches specs/inside/: {names}"
         for clause in self.known:
             if clause not in inside:
-                yield f".ci/pages: the clause {clause} is listed under [inside], and reaches nothing there"
+                yield f"tools/pages: the clause {clause} is listed under [inside], and reaches nothing there"
 
 
 def points_of(readme):

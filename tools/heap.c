@@ -1,4 +1,4 @@
-/* The heap of a test program for .ci/refused. It refuses the one request whose number is in the variable REFUSE,
+/* The heap of a test program for tools/refused. It refuses the one request whose number is in the variable REFUSE,
    counted from 1; 0 refuses none. At its end the program prints how many requests it made. The kit's compiler has
    no headers of C, so what is called is declared here. */
 typedef __SIZE_TYPE__ size_t;

@@ -1,4 +1,4 @@
-"""What `.ci/definitions` prints: a page, and the tables of docs/DEFINITIONS.md."""
+"""What `tools/definitions` prints: a page, and the tables of docs/DEFINITIONS.md."""
 import collections
 import os
 
@@ -49,7 +49,7 @@ def print_rest(pages, closure, page):
         heading("given")
     for name in sorted(closure.given):
         token, teller = pages.tokens.get(name), pages.teller_of(name, page)
-        print(f"`{name}`: " + (token.told() if token else f".ci/definitions --of {teller.of[0]}" if teller else "on no page"))
+        print(f"`{name}`: " + (token.told() if token else f"tools/definitions --of {teller.of[0]}" if teller else "on no page"))
     kit = closure.kit_definitions
     if kit:
         heading("of Rattle's crates")
@@ -68,7 +68,7 @@ def print_rest(pages, closure, page):
 
 def pages_table(pages):
     """Returns the table of docs/DEFINITIONS.md."""
-    rows = ["| page | printed by `.ci/definitions --of` | lines | types | of Rattle's crates |", "|---|---|---|---|---|"]
+    rows = ["| page | printed by `tools/definitions --of` | lines | types | of Rattle's crates |", "|---|---|---|---|---|"]
     for page in pages.pages:
         closure = pages.closure_of(page)
         types, kit = sum(it.size for it in closure.types), sum(it.size for it in closure.kit_definitions)

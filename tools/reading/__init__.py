@@ -1,0 +1,1 @@
+"""How `tools/definitions` reads the sources: which definitions a clause speaks of, as pages to read."""
