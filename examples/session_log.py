@@ -1,4 +1,4 @@
-"""Frames and logs, read as docs/FORMATS.md says: what log-lines, record and why share."""
+"""Frames and logs, read as docs/PROTOCOL.md and docs/LOGS.md say: what log-lines, record and why share."""
 import json
 import os
 import re

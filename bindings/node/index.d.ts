@@ -121,7 +121,7 @@ export class FrameFault<Event = unknown> extends Error {
   readonly code: 'BAD_FRAME';
   /** The byte offset in the stream on which the fault was decided. */
   readonly place: number;
-  /** 1 to 7, for F1 to F7 of docs/FORMATS.md. */
+  /** 1 to 7, for F1 to F7 of docs/PROTOCOL.md. */
   readonly frame: number;
   readonly events: Event[];
 }
@@ -230,7 +230,7 @@ export class LogFault extends Error {
   readonly code: 'CUT' | 'BAD_FRAME' | 'BODY_TOO_LONG' | 'BAD_LOG';
   /** A byte offset in the log. */
   readonly place: number;
-  /** `BAD_FRAME`: 1 to 7, for F1 to F7 of docs/FORMATS.md; else 0. */
+  /** `BAD_FRAME`: 1 to 7, for F1 to F7 of docs/PROTOCOL.md; else 0. */
   readonly frame: number;
   readonly output: Buffer;
 }

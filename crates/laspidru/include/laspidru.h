@@ -168,7 +168,7 @@ typedef struct laspidru_taken {
     laspidru_size bytes;    /* how many bytes of the piece */
     laspidru_size body_len; /* how many bytes the body has, once the message is whole */
     laspidru_u64 place;     /* BAD_FRAME: the byte offset in the stream on which the fault was decided */
-    laspidru_u32 frame;     /* BAD_FRAME: 1 to 7, for F1 to F7 of docs/FORMATS.md */
+    laspidru_u32 frame;     /* BAD_FRAME: 1 to 7, for F1 to F7 of docs/PROTOCOL.md */
     laspidru_bool is_whole; /* whether the message is whole */
 } laspidru_taken;
 
@@ -196,7 +196,7 @@ typedef struct laspidru_opened {
     laspidru_size bytes;
 } laspidru_opened;
 
-/* How a log is read (docs/FORMATS.md, Logs). */
+/* How a log is read (docs/LOGS.md). */
 typedef struct laspidru_log_settings {
     laspidru_size max_body;    /* 4,096 to 1,073,741,824 bytes of a message */
     laspidru_size max_text;    /* up to 1,073,741,824 bytes */
@@ -209,7 +209,7 @@ typedef struct laspidru_log_settings {
 /* How a command on a log ended. A member that isn't of the code is 0. */
 typedef struct laspidru_ending {
     laspidru_u32 status;     /* OK: 1 where something was refused, else 0 */
-    laspidru_u32 frame;      /* BAD_FRAME: 1 to 7, for F1 to F7 of docs/FORMATS.md */
+    laspidru_u32 frame;      /* BAD_FRAME: 1 to 7, for F1 to F7 of docs/PROTOCOL.md */
     laspidru_u64 messages;   /* OK: how many messages were handled */
     laspidru_u64 refused;    /* OK: how many of them were refused */
     laspidru_u64 place;      /* CUT, BAD_FRAME, BODY_TOO_LONG, BAD_LOG: a byte offset in the log */
