@@ -59,6 +59,7 @@ To change it (docs/DEVELOPING.md)
 To test what the gate doesn't
   make test            each of these that this machine can run (PART="examples ..")        python3                     some minutes
   make conformance     the vectors, by a plain program and its mistakes                    python3                     half a minute
+  make callers         the program on each crate's page (CRATE="lsp_text ..")              rt                          some minutes
   make examples        scripts, servers, and plugins of editors                            python3, most make library  a minute or more
   make bindings        C, Python, Rust, Node and Lua, and what their pages say             cc, make c                  some minutes
   make check-install   this Makefile, with stand-ins for what is built                     cc, git                     a minute
@@ -170,6 +171,9 @@ test:
 conformance:
 	@conformance/test
 
+callers:
+	@tools/callers $(CRATE)
+
 examples:
 	@tools/test examples
 
@@ -188,5 +192,5 @@ bench:
 	$(if $(filter logs,$(BENCH)),bench/end-to-end --scale $(SCALE))
 	$(if $(filter bindings,$(BENCH)),bench/bindings)
 
-.PHONY: release verify ready gate minutes edits refused pages definitions test conformance examples bindings c check-install bench
+.PHONY: release verify ready gate minutes edits refused pages definitions test conformance callers examples bindings c check-install bench
 endif
