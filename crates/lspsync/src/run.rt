@@ -2,6 +2,7 @@
 
 ghost use Rattle.std.specs.Prelude.{◌≡◌, ◌≢◌, ◌⊎◌, ◌++◌, OnOk, true, codes, List, ℕ, Result, Err, map};
 ghost use Rattle.std.specs.Io.KnownBytes.{Appends, Keeps};
+ghost use Rattle.std.specs.Process.{exit_status};
 ghost use Rattle.clap.specs.Values.{kind_of};
 ghost use Rattle.clap.specs.declared.error.kind.ErrorKind.TheVariants.{OutOfMemory};
 ghost use Rattle.clap.specs.declared.error.kind.ErrorKind.TheVariants.{DisplayHelp, DisplayVersion};
@@ -21,6 +22,7 @@ use lsp_replay::{
 use lsp_stream::{Turns, flush_out, write_given};
 use std::alloc::Global;
 use std::io::{self, ErrorKind, Write};
+use std::process::ExitCode;
 
 /// How many reads, writes and flushes an engine may make. The last flush may be tried as often.
 const MAX_TURNS: u64 = 1_099_511_627_776;
@@ -241,6 +243,13 @@ pub fn refuse<E: Write>(kind: ErrorKind, errors: &mut E) -> Ending
         status: USAGE,
         printed,
     }
+}
+
+/// Returns the code with which the process ends.
+pub fn exit_code(ending: &Ending) -> ExitCode
+    ensures { exit_status result ≡ ending.now.status }
+{
+    ExitCode::from(ending.status)
 }
 
 /// Prints the line of a fault, and ends with its status.
