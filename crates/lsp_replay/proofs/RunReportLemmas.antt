@@ -15,8 +15,8 @@ use Rattle.lsp_stream.specs.Turns.{AppendsFront, AppendsShort}
 use Rattle.lsp_log.specs.Log.{LogRules, Record, Log, IsVersion, IsReadAs, HasNoRecord, IsCut, IsMalformed, IsBadMark, mark_of}
 use Rattle.lsp_replay.specs.RunOutput.{RunOutput}
 use Rattle.lsp_replay.specs.Session.{Session, judge}
-use Rattle.lsp_replay.specs.Engine.{Ran, Stopped, Reached, Broken, RanOut, RanOutAtEnd, AtEnd, BreaksAtEnd, PortState, IsRunFault, RefusesInput, WroteRecords}
-use Rattle.lsp_replay.specs.inside.Engine.{IsLoopRun}
+use Rattle.lsp_replay.specs.Engine.{Reached, PortState, WroteRecords}
+use Rattle.lsp_replay.specs.inside.Engine.{IsLoopRun, Ran, Stopped, Broken, RanOut, RanOutAtEnd, AtEnd, BreaksAtEnd, IsRunFault, RefusesInput}
 use Rattle.lsp_replay.specs.Engines.{View, continue_with, run_output_in}
 use Rattle.lsp_replay.specs.Squashed.{Run, squash_step, squashed_in}
 use Rattle.lsp_replay.specs.Run.{IsEngineRun}
