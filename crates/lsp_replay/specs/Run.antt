@@ -62,6 +62,7 @@ serve_engine config
       in_parts = false;
     }
 
+-- `check` reads logs of both versions.
 abbrev pub check_engine : Settings → Engine
 check_engine settings
     = record {
@@ -81,6 +82,7 @@ replay_engine settings
       in_parts = true;
     }
 
+-- So does `normalise`.
 abbrev pub normalise_engine : Settings → Engine
 normalise_engine settings
     = record {
