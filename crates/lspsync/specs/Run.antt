@@ -59,7 +59,7 @@ answer_of (Ok outcome) (Err fault) = Err fault
 answer_of (Err fault) flushed = Err fault
 
 -- The engine of a call ran, and then its output was flushed, whatever the engine answered. The
--- answer is the outcome's status, or the first fault.
+-- answer is the outcome's status, or the first fault. With a status all output was flushed.
 pub record IsPerformed (asked : Call) (before after : Ports)
     (answer : Result ℕ EngineFault) : Type 0 where
   pub result : Result Outcome EngineFault
@@ -111,12 +111,10 @@ pub record Streams : Type 0 where
   pub errors_before : Option (List ℕ)
   pub errors : Option (List ℕ)
 
--- The engine of a call ran, and the program ends with its status or reports its fault. With a
--- status all output was flushed.
+-- The engine of a call ran, and the program ends with its status or reports its fault.
 pub record IsCalled (asked : Call) (s : Streams) (ending : Ending) : Type 0 where
   pub answer : Result ℕ EngineFault
   pub performed : IsPerformed asked s.before s.after answer
-  pub passed_on : OnOk answer (s.after.writer.flushed ≡ true)
   pub ends : IsEnding answer s.errors_before s.errors ending
 
 -- A text of help was written and flushed, with status 0. Else memory ran out and nothing was

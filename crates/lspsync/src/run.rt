@@ -1,6 +1,6 @@
 //! The program over any reader and writers.
 
-ghost use Rattle.std.specs.Prelude.{◌≡◌, ◌≢◌, ◌⊎◌, ◌++◌, OnOk, true, codes, List, ℕ, Result, Err, map};
+ghost use Rattle.std.specs.Prelude.{◌≡◌, ◌≢◌, ◌⊎◌, ◌++◌, OnOk, codes, List, ℕ, Result, Err, map};
 ghost use Rattle.std.specs.Io.KnownBytes.{Appends, Keeps};
 ghost use Rattle.std.specs.Process.{exit_status};
 ghost use Rattle.clap.specs.Values.{kind_of};
@@ -129,8 +129,6 @@ pub fn perform<R: Source, W: Sink>(
     ensures performed { IsPerformed call
         (ports (R.seen input.old) (W.seen output.old))
         (ports (R.seen input.new) (W.seen output.new)) result }
-    // Where a status is answered all that was written is flushed.
-    ensures passed_on { OnOk result ((W.seen output.new).flushed ≡ true) }
 {
     let ran = obey(alloc, call, input, output);
     let flushed = flush(output);
@@ -220,7 +218,6 @@ fn print_help<W: Sink>(alloc: Global, help: &clap::Error, output: &mut W) -> Res
 fn flush<W: Sink>(output: &mut W) -> Result<(), EngineFault>
     ensures kept { Keeps (W.seen output.old).written (W.seen output.new).written }
     ensures flushed { IsFlushed (W.seen output.old) (W.seen output.new) result }
-    ensures passed_on { OnOk result ((W.seen output.new).flushed ≡ true) }
 {
     flush_out(output, &mut Turns::new(MAX_TURNS))
 }
