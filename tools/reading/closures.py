@@ -73,6 +73,9 @@ class Closure:
         spoken = set(re.findall(rf"(?<![\w.']){NAME}", text))
         for name in sorted(spoken & set(types)):
             queue += (((it, False), "the clause") for it in self.repository.types_in(types[name], function.file))
+        # (a clause names a constant as the code does)
+        constants = (self.repository.type_of(it, function.file) for it in sorted(spoken) if it.isupper())
+        queue += (((it, False), "the clause") for it in constants if it and it.kind == "const")
 
     def follow(self, queue):
         while queue:

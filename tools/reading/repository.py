@@ -115,12 +115,10 @@ class Repository:
         return Module(name, path, read(path)) if os.path.isfile(path) else None
 
     def declared(self, module, name):
-        """Returns the type of src/ that `Rattle.CRATE.specs.declared..` speaks of."""
+        """Returns the type or the constant of src/ that `Rattle.CRATE.specs.declared..` speaks of."""
         parts = module.split(".")
         if parts[-1] == "TheVariants":
             name = parts[-2]
-        elif parts[-1] == "TheConstants":
-            return None
         return next((it for it in self.types.get(name, []) if it.crate == parts[1]), None)
 
     def find(self, module, name, seen=()):

@@ -7,6 +7,7 @@ FUNCTION = re.compile(rf"(\s*)((?:pub(?:\(\w+\))? )?)(?:const |final |unsafe )*(
 ITEM = re.compile(r"((?:pub(?:\(\w+\))? )?)(?:unsafe )?(impl|trait|struct|enum)\b(.*)")
 CLAUSE = re.compile(r"\s*(ensures|requires)\b\*? ?(\w*) ?\{")
 GHOST = re.compile(r"    ghost (\w+) = \{")
+CONSTANT = re.compile(rf"((?:pub(?:\(\w+\))? )?)const ({NAME}): .*;$")
 
 
 def code_of(line):
@@ -67,7 +68,7 @@ class Function:
 
 
 class RustType:
-    """A struct, an enum or a trait, and what clauses see of it where it has a model."""
+    """A struct, an enum or a trait, and what clauses see of it where it has a model; or a constant on one line."""
 
     def __init__(self, file, kind, name, line, comment, block):
         self.file, self.kind, self.name, self.line, self.comment, self.block = file, kind, name, line, comment, block
@@ -106,6 +107,10 @@ class File:
                 at = self.read_item(at, item)
             elif head := FUNCTION.match(self.lines[at]):
                 at = self.read_function(at, head, None)
+            elif constant := CONSTANT.match(self.lines[at]):
+                name = constant[2]
+                self.types[name] = RustType(self, "const", name, at + 1, self.comment_before(at), self.lines[at : at + 1])
+                at += 1
             else:
                 at += 1
 

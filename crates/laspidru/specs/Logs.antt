@@ -9,7 +9,7 @@ use Rattle.lsp_log.specs.Log.{LogRules, Record}
 use Rattle.lsp_replay.specs.declared.engines.Settings.{Settings}
 use Rattle.lsp_replay.specs.declared.outcome.Outcome.{Outcome}
 use Rattle.lsp_replay.specs.RunOutput.{RunOutput}
-use Rattle.lsp_replay.specs.Engine.{Ran, state_of}
+use Rattle.lsp_replay.specs.Engine.{state_of}
 use Rattle.lsp_replay.specs.Engines.{as_converted, as_log, converted, report, verdicts}
 use Rattle.lsp_replay.specs.Laws.{IsConverted, IsCanonicalLog, IsSquashed, Wrote}
 use Rattle.lsp_replay.specs.Squashed.{normalised}
@@ -89,10 +89,8 @@ pub record RanOn (command : Command) (settings : Settings) (log output : List �
   -- Did it come to the end of the log?
   pub ended : Bool
   pub all_read : answer ≢ Err TooManyTurns → ended ≡ true → left ≡ []
-  -- by some records of what it read, and by all of them
-  pub ran : Ran (reading_of command settings) (command_output command settings)
-      (state_of false ended false) (Some log) (Some left) (Some []) (Some output) answer
-  pub error : RanOver (reading_of command settings) (command_output command settings)
+  -- by all records that are whole in what it read
+  pub ran : RanOver (reading_of command settings) (command_output command settings)
       (state_of false ended false) (Some log) (Some left) (Some []) (Some output) answer
   pub lawful : IsLawful command settings (Some log) (Some left) (Some []) (Some output) answer
   -- No read fails.

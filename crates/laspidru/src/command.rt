@@ -1,7 +1,7 @@
 //! The commands on logs, over bytes in memory.
 
 ghost use Rattle.std.specs.Prelude.{◌≡◌, ◌≢◌, Err, Some, [], false, true};
-ghost use Rattle.lsp_replay.specs.Engine.{Called, Ran, state_of};
+ghost use Rattle.lsp_replay.specs.Engine.{Called, state_of};
 ghost use Rattle.lsp_replay.specs.AllRecords.{RanOver};
 ghost use Rattle.lsp_stream.specs.declared.fault.EngineFault.TheVariants.{Read, TooManyTurns};
 ghost use Rattle.laspidru.specs.Logs.{IsLawful, RanOn, allowed_turns, command_output, reading_of};
@@ -38,11 +38,7 @@ fn run_between(
     reader: &mut LogReader,
     writer: &mut Told<Vec<u8>>,
 ) -> Result<Outcome, EngineFault>
-    ensures ran { Ran (reading_of command settings) (command_output command settings)
-        (state_of reader.old.ended reader.new.ended false)
-        (Some reader.old.rest.now) (Some reader.new.rest.now)
-        (Some writer.old.inner.items) (Some writer.new.inner.items) result }
-    ensures all_records { RanOver (reading_of command settings) (command_output command settings)
+    ensures ran { RanOver (reading_of command settings) (command_output command settings)
         (state_of reader.old.ended reader.new.ended false)
         (Some reader.old.rest.now) (Some reader.new.rest.now)
         (Some writer.old.inner.items) (Some writer.new.inner.items) result }

@@ -13,6 +13,7 @@ pub mod NormalisedLemmas
 pub mod WroteLemmas
 pub mod ConvertedLemmas
 pub mod RunReportLemmas
+pub mod SomeRecordsLemmas
 pub mod QuietLemmas
 pub mod ConvertedLogLemmas
 pub mod SquashingLemmas

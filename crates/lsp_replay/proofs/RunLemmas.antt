@@ -20,8 +20,8 @@ use Rattle.lsp_log.specs.Opening.{IsLineFront, IsBelowLine, IsUnfinished}
 use Rattle.lsp_log.specs.Splitting.{IsReady, IsOpen, IsAfter, buffered_of}
 use Rattle.lsp_log.specs.Laws.{RestLaw}
 use Rattle.lsp_replay.specs.RunOutput.{RunOutput}
-use Rattle.lsp_replay.specs.Engine.{Stopped, Reached, AtEnd, Ran, Called, NonePassedOver, PortState, WroteRecords, IsRunFault}
-use Rattle.lsp_replay.specs.inside.Engine.{IsPieceFault}
+use Rattle.lsp_replay.specs.Engine.{Reached, Called, NonePassedOver, PortState, WroteRecords}
+use Rattle.lsp_replay.specs.inside.Engine.{IsPieceFault, Stopped, AtEnd, Ran, IsRunFault}
 use Rattle.lsp_replay.specs.inside.Progress.{IsProgress, Runs, IsEndFault, BothSpend}
 use Rattle.lsp_stream.specs.Ports.{Rose}
 use Rattle.lsp_stream.specs.Turns.{Spends, StaysWell, StaysFlushed}

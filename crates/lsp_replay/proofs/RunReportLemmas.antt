@@ -12,11 +12,11 @@ use Rattle.lsp_log.specs.declared.record.Side.{Side}
 use Rattle.lsp_log.specs.declared.record.Side.TheVariants.{Client, Server}
 use Rattle.lsp_stream.specs.Ports.{Ports}
 use Rattle.lsp_stream.specs.Turns.{AppendsFront, AppendsShort}
-use Rattle.lsp_log.specs.Log.{LogRules, Record, Log, IsReadAs, HasNoRecord, IsCut, IsMalformed, IsBadMark, mark_of}
+use Rattle.lsp_log.specs.Log.{LogRules, Record, Log, IsVersion, IsReadAs, HasNoRecord, IsCut, IsMalformed, IsBadMark, mark_of}
 use Rattle.lsp_replay.specs.RunOutput.{RunOutput}
 use Rattle.lsp_replay.specs.Session.{Session, judge}
-use Rattle.lsp_replay.specs.Engine.{Ran, Stopped, Reached, Broken, RanOut, RanOutAtEnd, AtEnd, BreaksAtEnd, PortState, IsRunFault, RefusesInput, WroteRecords}
-use Rattle.lsp_replay.specs.inside.Engine.{IsLoopRun}
+use Rattle.lsp_replay.specs.Engine.{Reached, PortState, WroteRecords}
+use Rattle.lsp_replay.specs.inside.Engine.{IsLoopRun, Ran, Stopped, Broken, RanOut, RanOutAtEnd, AtEnd, BreaksAtEnd, IsRunFault, RefusesInput}
 use Rattle.lsp_replay.specs.Engines.{View, continue_with, run_output_in}
 use Rattle.lsp_replay.specs.Squashed.{Run, squash_step, squashed_in}
 use Rattle.lsp_replay.specs.Run.{IsEngineRun}
@@ -196,13 +196,49 @@ module _ (first_of : FirstLaw) (same_version : VersionLaw) (reading : LogRules) 
   is_told (Ok outcome) came = ok_told outcome came
   is_told (Err fault) came = fault_told fault came
 
+-- ---- version 2, where it is refused
+
+abbrev IsBadFromStart : Option (List ℕ) → Option (List ℕ) → Result Outcome EngineFault → Type 0
+IsBadFromStart received_old received_new result = (result ≡ Err (BadLog 0)) × Appends received_old received_new []
+
+module _ (same_version : VersionLaw) (reading : LogRules) (run_output : List Record → RunOutput) (state : PortState) (input : List ℕ) (received_old received_new : Option (List ℕ)) (only_one : reading.only_one ≡ true) (two : IsVersion reading.versions Two input) where
+  unread : (log : Log) → IsReadAs reading input log → ⊥
+  unread log reads = let one : Two ≡ One = same_version reading.versions Two log.version input two reads.version ∙ reads.accepted only_one in absurd (cc)
+
+  fault_answered : (fault : EngineFault) → IsRunFault reading run_output state input received_old received_new fault → IsBadFromStart received_old received_new (Err fault)
+  fault_answered Read r = absurd (unread r.log r.reads)
+  fault_answered Write (inl b) = absurd (unread b.log b.reads)
+  fault_answered Write (inr b) = absurd (unread b.1.log b.1.reads)
+  fault_answered (Frame fault) r = absurd (unread r.log r.reads)
+  fault_answered (Truncated place) r = absurd (unread r.2.log r.2.reads)
+  fault_answered (BodyTooLong place) stopped = absurd (unread stopped.log stopped.reads)
+  fault_answered NoMemory (inl r) = absurd (unread r.log r.reads)
+  fault_answered NoMemory (inr b) = absurd (unread b.1.log b.1.reads)
+  fault_answered TooManyTurns (inl r) = absurd (unread r.log r.reads)
+  fault_answered TooManyTurns (inr (inl b)) = absurd (unread b.1.broken.log b.1.broken.reads)
+  fault_answered TooManyTurns (inr (inr r)) = absurd (unread r.1.log r.1.reads)
+  fault_answered (BadLog place) (inl stopped) = absurd (unread stopped.log stopped.reads)
+  fault_answered (BadLog place) (inr (inl r)) = absurd (unread r.log r.reads)
+  fault_answered (BadLog place) (inr (inr is)) = (ap (λ (p : ℕ). Err (BadLog p)) is.placed, is.wrote)
+
+  ok_answered : (outcome : Outcome) → (Stopped reading run_output input received_old received_new (Ok outcome) ⊎ ((state.ended ≡ true) × AtEnd reading run_output input received_old received_new outcome)) → IsBadFromStart received_old received_new (Ok outcome)
+  ok_answered outcome (inl stopped) = absurd (unread stopped.log stopped.reads)
+  ok_answered outcome (inr at) = absurd (unread at.1.log at.1.reads)
+
+  is_answered : (result : Result Outcome EngineFault)
+      → MatchResult result (λ outcome. Stopped reading run_output input received_old received_new (Ok outcome) ⊎ ((state.ended ≡ true) × AtEnd reading run_output input received_old received_new outcome))
+      (IsRunFault reading run_output state input received_old received_new) → IsBadFromStart received_old received_new result
+  is_answered (Ok outcome) came = ok_answered outcome came
+  is_answered (Err fault) came = fault_answered fault came
+
 -- What is told by some records of the input is told by all.
 over_course : FirstLaw → VersionLaw → (reading : LogRules) (run_output : List Record → RunOutput) → Settles run_output → GrowsAll run_output → (state : PortState) (left_old left_new received_old received_new : Option (List ℕ)) (result : Result Outcome EngineFault)
     → Ran reading run_output state left_old left_new received_old received_new result → RanOver reading run_output state left_old left_new received_old received_new result
 over_course first version reading run_output settles grows_all state left_old left_new received_old received_new result ran = record {
   input = ran.input;
   read = ran.read;
-  error = λ all reads ends. is_told first version reading run_output settles grows_all state ran.input received_old received_new all reads ends result ran.came;
+  reported = λ all reads ends. is_told first version reading run_output settles grows_all state ran.input received_old received_new all reads ends result ran.came;
+  refused = λ only_one two. is_answered version reading run_output state ran.input received_old received_new only_one two result ran.came;
 }
 
 pub ran_over : FirstLaw → VersionLaw → (reading : LogRules) (view : View) (s : Session) (state : PortState) (left_old left_new received_old received_new : Option (List ℕ)) (result : Result Outcome EngineFault)
@@ -225,7 +261,6 @@ pub run_of : FirstLaw → VersionLaw → (view : View) (s : Session) (in_parts :
     → IsLoopRun reading (run_output_in view s) flushes max_turns before after result → NoneCut in_parts reading (run_output_in view s) before after result
     → IsEngineRun (record { reading = reading; run_output = run_output_in view s; flushes = flushes; in_parts = in_parts }) max_turns before after result
 run_of first version view s in_parts {reading} {flushes} {max_turns} {before} {after} {result} run whole = record {
-  ran = run.ran;
   all_records = ran_over first version reading view s _ _ _ _ _ result run.ran;
   whole = whole;
   called = run.called;
@@ -237,7 +272,6 @@ pub run_of_squashed : FirstLaw → VersionLaw → (s : Session) (run_now : Optio
     → IsLoopRun reading (squashed_in s run_now) flushes max_turns before after result → NoneCut false reading (squashed_in s run_now) before after result
     → IsEngineRun (record { reading = reading; run_output = squashed_in s run_now; flushes = flushes; in_parts = false }) max_turns before after result
 run_of_squashed first version s run_now {reading} {flushes} {max_turns} {before} {after} {result} run whole = record {
-  ran = run.ran;
   all_records = ran_over_squashed first version reading s run_now _ _ _ _ _ result run.ran;
   whole = whole;
   called = run.called;
@@ -250,7 +284,6 @@ pub run_of_course : FirstLaw → VersionLaw → (run_output : List Record → Ru
     → IsLoopRun reading run_output flushes max_turns before after result → NoneCut in_parts reading run_output before after result
     → IsEngineRun (record { reading = reading; run_output = run_output; flushes = flushes; in_parts = in_parts }) max_turns before after result
 run_of_course first version run_output settles grows_all in_parts {reading} {flushes} {max_turns} {before} {after} {result} run whole = record {
-  ran = run.ran;
   all_records = over_course first version reading run_output settles grows_all _ _ _ _ _ result run.ran;
   whole = whole;
   called = run.called;

@@ -11,7 +11,8 @@ use Rattle.lsp_stream.specs.declared.fault.EngineFault.TheVariants.{BodyTooLong}
 use Rattle.lsp_log.specs.Log.{Record}
 use Rattle.lsp_replay.specs.RunOutput.{RunOutput}
 use Rattle.lsp_replay.specs.Session.{Session, Verdict, answered, recorded, bad, judge, opened}
-use Rattle.lsp_replay.specs.Engine.{PortState, Ran, AtEnd, Stopped}
+use Rattle.lsp_replay.specs.Engine.{PortState}
+use Rattle.lsp_replay.specs.inside.Engine.{Ran, AtEnd, Stopped}
 use Rattle.lsp_replay.specs.Engines.{RecordOutput, writes, ends, continue_with, unless_bad, run_output_in, normalising, written, canonical_of_record, front_of, canonical_output, converting, line_before, reply_record, as_log, as_converted, log_config, canonical_log, converted}
 use Rattle.lsp_replay.specs.Laws.{IsCanonicalLog, IsConverted, IsSquashed, Wrote, all_of}
 use Rattle.lsp_replay.specs.Squashed.{squashed}

@@ -6,8 +6,9 @@ use Rattle.lsp_frame.specs.Faults.{place_after}
 use Rattle.lsp_replay.specs.declared.outcome.Outcome.{Outcome}
 use Rattle.lsp_stream.specs.declared.fault.EngineFault.{EngineFault}
 use Rattle.lsp_stream.specs.declared.fault.EngineFault.TheVariants.{Read, Write, Frame, Truncated, BodyTooLong, NoMemory, TooManyTurns, BadLog}
+use Rattle.lsp_log.specs.declared.record.Version.TheVariants.{Two}
 use Rattle.lsp_stream.specs.Turns.{AppendsFront, AppendsShort}
-use Rattle.lsp_log.specs.Log.{LogRules, Record, Log, IsReadAs, HasNoRecord, IsCut, IsMalformed, IsBadMark}
+use Rattle.lsp_log.specs.Log.{LogRules, Record, Log, IsVersion, IsReadAs, HasNoRecord, IsCut, IsMalformed, IsBadMark}
 use Rattle.lsp_log.specs.Opening.{IsUnfinished}
 use Rattle.lsp_replay.specs.RunOutput.{RunOutput}
 use Rattle.lsp_replay.specs.Engine.{PortState}
@@ -100,11 +101,14 @@ IsRunReport reading run_output state input received_old received_new all (Err fa
     = IsFaultReported reading run_output state input received_old received_new all fault
 
 -- An engine ran. Whatever records are all that are complete in the bytes that it read, they decide
--- its output and its result.
+-- its output and its result. An input of version 2, where that is refused, has no such records.
 pub record RanOver (reading : LogRules) (run_output : List Record → RunOutput) (state : PortState)
     (left_old left_new received_old received_new : Option (List ℕ))
     (result : Result Outcome EngineFault) : Type 0 where
   pub input : List ℕ
   pub read : Consumes left_old left_new input
-  pub error : (all : Log) → IsReadAs reading input all → HasNoRecord reading.max_body all →
+  pub reported : (all : Log) → IsReadAs reading input all → HasNoRecord reading.max_body all →
       IsRunReport reading run_output state input received_old received_new all result
+  -- it is a bad log from its first byte on, and nothing is written
+  pub refused : reading.only_one ≡ true → IsVersion reading.versions Two input →
+      (result ≡ Err (BadLog 0)) × Appends received_old received_new []

@@ -7,7 +7,6 @@ use Rattle.lsp_log.specs.Log.{Record}
 use Rattle.lsp_replay.specs.declared.engines.parts.Part.{Part}
 use Rattle.lsp_replay.specs.declared.engines.Settings.{Settings}
 use Rattle.lsp_replay.specs.declared.outcome.Outcome.{Outcome}
-use Rattle.lsp_replay.specs.declared.outcome.TheConstants.{NEVER_OPEN, NO_RECORD}
 use Rattle.lsp_replay.specs.RunOutput.{RunOutput}
 use Rattle.lsp_replay.specs.Engines.{RecordOutput, writes, ends, continue_with, unless_bad, report_from, as_log, log_config}
 use Rattle.lsp_replay.specs.Run.{Engine}
@@ -20,6 +19,7 @@ pub record PartData : Type 0 where
   -- the document whose text is printed; without one it is all that are open
   pub uri : Option (List ℕ)
 
+-- A part, with its URI as bytes.
 abbrev pub part_of : Part → PartData
 part_of part = record { at = part.at; uri = option_map string_bytes part.uri }
 
@@ -43,10 +43,17 @@ part_bytes None last table = report_from 0 table
 part_bytes (Some uri) None table = []
 part_bytes (Some uri) (Some text) table = text
 
+-- The statuses of a part whose last record isn't in the log, and of a document that was never open.
+abbrev pub no_record : ℕ
+no_record = 6
+
+abbrev pub never_open : ℕ
+never_open = 7
+
 -- The outcome is that of `replay`. A document that was never open has a status of its own.
 abbrev pub part_outcome : Option (List ℕ) → Option (List ℕ) → Outcome → Outcome
 part_outcome None last outcome = outcome
-part_outcome (Some uri) None outcome = record outcome { status = NEVER_OPEN }
+part_outcome (Some uri) None outcome = record outcome { status = never_open }
 part_outcome (Some uri) (Some text) outcome = outcome
 
 -- Is this the number of the part's last record?
@@ -66,9 +73,10 @@ abbrev pub end_bytes : PartData → Option (List ℕ) → Session → List ℕ
 end_bytes part last s =
     if is_some part.at then [] else part_bytes part.uri last s.server.table
 
+-- The outcome then.
 abbrev pub end_outcome : PartData → Option (List ℕ) → Session → Outcome
 end_outcome part last s =
-    if is_some part.at then record (outcome_of s) { status = NO_RECORD }
+    if is_some part.at then record (outcome_of s) { status = no_record }
     else part_outcome part.uri last (outcome_of s)
 
 -- ---- all records

@@ -9,7 +9,7 @@ use Rattle.lsp_log.specs.Log.{LogRules, Record}
 use Rattle.lsp_replay.specs.declared.engines.Settings.{Settings}
 use Rattle.lsp_replay.specs.declared.outcome.Outcome.{Outcome}
 use Rattle.lsp_replay.specs.RunOutput.{RunOutput}
-use Rattle.lsp_replay.specs.Engine.{Called, NonePassedOver, Ran, WroteRecords, state_of}
+use Rattle.lsp_replay.specs.Engine.{Called, NonePassedOver, WroteRecords, state_of}
 use Rattle.lsp_replay.specs.Engines.{as_converted, as_log, as_stream, converted, replies, report, verdicts}
 use Rattle.lsp_replay.specs.Laws.{Wrote}
 use Rattle.lsp_replay.specs.Squashed.{normalised}
@@ -29,11 +29,7 @@ pub record Engine : Type 0 where
 -- An engine that ran between a reader and a writer.
 pub record IsEngineRun (engine : Engine) (max_turns : ℕ) (before after : Ports)
     (result : Result Outcome EngineFault) : Type 0 where
-  -- What was written and answered, by some first records of the bytes that were read.
-  pub ran : Ran engine.reading engine.run_output
-      (state_of before.reader.ended after.reader.ended (engine.flushes && not after.writer.flushed))
-      before.reader.left after.reader.left before.writer.written after.writer.written result
-  -- The same, by all records that are whole in these bytes.
+  -- What was written and answered, by all records that are whole in the bytes that were read.
   pub all_records : RanOver engine.reading engine.run_output
       (state_of before.reader.ended after.reader.ended (engine.flushes && not after.writer.flushed))
       before.reader.left after.reader.left before.writer.written after.writer.written result
@@ -66,6 +62,7 @@ serve_engine config
       in_parts = false;
     }
 
+-- `check` reads logs of both versions.
 abbrev pub check_engine : Settings → Engine
 check_engine settings
     = record {
@@ -85,6 +82,7 @@ replay_engine settings
       in_parts = true;
     }
 
+-- So does `normalise`.
 abbrev pub normalise_engine : Settings → Engine
 normalise_engine settings
     = record {

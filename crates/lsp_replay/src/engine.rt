@@ -10,8 +10,8 @@ ghost use Rattle.lsp_log.specs.Log.{LogRules, Record};
 ghost use Rattle.lsp_log.specs.Splitting.{IsReady, IsFed};
 ghost use Rattle.lsp_log.specs.Laws.{VersionLaw, FirstLaw};
 ghost use Rattle.lsp_replay.specs.RunOutput.{RunOutput};
-ghost use Rattle.lsp_replay.specs.Engine.{AtEnd, Reached, Stopped, WroteRecords};
-ghost use Rattle.lsp_replay.specs.inside.Engine.{IsLoopRun, IsPieceFault, reading_by};
+ghost use Rattle.lsp_replay.specs.Engine.{Reached, WroteRecords};
+ghost use Rattle.lsp_replay.specs.inside.Engine.{IsLoopRun, IsPieceFault, reading_by, AtEnd, Stopped};
 ghost use Rattle.lsp_replay.specs.inside.Progress.{IsHandled, IsHandleFault, IsLastFault, IsEndFault, IsProgress};
 
 use crate::handler::{Handler, Output};

@@ -1,7 +1,7 @@
 //! The engines: from a reader to a writer, over a server.
 //!
-//! Each contract says twice what the output and the result are. `ran` says it by some first records
-//! of the bytes that were read, `all_records` by all that are complete in them.
+//! Each contract says what the output and the result are by all records that are complete in the
+//! bytes that were read (`all_records`).
 
 ghost use Rattle.std.specs.Prelude.{◌≡◌, true, false};
 ghost use Rattle.lsp_frame.specs.Limits.{AreInRange};

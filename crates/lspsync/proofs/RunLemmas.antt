@@ -1,12 +1,11 @@
 -- What the last flush answered.
 use Rattle.std.specs.Prelude.{ℕ, ◌≡◌, ◌⊎◌, true, false, Result, Ok, Err, OnOk, IfErr}
 use Rattle.std.proofs.Common.{inl, inr, subst}
-use Rattle.lsp_replay.specs.declared.outcome.Outcome.{Outcome}
 use Rattle.lsp_stream.specs.declared.fault.EngineFault.{EngineFault}
 use Rattle.lsp_stream.specs.declared.fault.EngineFault.TheVariants.{TooManyTurns, Write}
 use Rattle.lsp_stream.specs.Ports.{Rose, WriterState}
 use Rattle.lsp_stream.specs.Turns.{Spends, WritesWithin}
-use Rattle.lspsync.specs.Run.{IsFlushed, allowed_turns, answer_of}
+use Rattle.lspsync.specs.Run.{IsFlushed, allowed_turns}
 
 pub flushed_of : (before after : WriterState) (most left : ℕ) (answer : Result (Unit {0}) EngineFault) → most ≡ allowed_turns
     → OnOk answer ((after.failed ≡ false) × Rose before.calls after.calls) → OnOk answer (after.flushed ≡ true)
@@ -20,9 +19,3 @@ flushed_of before after most left (Err _) all ok passed (inr is) calls =
       subst (λ n. Spends before.calls after.calls allowed_turns n) (calls.none_left is)
           (subst (λ n. Spends before.calls after.calls n left) all calls.spent),
     )
-
--- A status is answered only after a flush that succeeded.
-pub status_after : (P : Type 0) (ran : Result Outcome EngineFault) (flushed : Result (Unit {0}) EngineFault) → OnOk flushed P → OnOk (answer_of ran flushed) P
-status_after P (Ok outcome) (Ok _) holds = holds
-status_after P (Ok outcome) (Err fault) holds = tt
-status_after P (Err fault) flushed holds = tt

@@ -50,12 +50,15 @@ number_rule name least greatest = record (text_rule name) {
 abbrev pub command_shape : Text → List Rule → Shape
 command_shape name own = record (new_shape name) { rules = own ++ limit_rules }
 
+-- Each command has `--encoding`.
 abbrev pub encoding_rule : Choices → Rule
 encoding_rule encodings = option_rule (codes "encoding") (Names encodings) (codes "utf-16")
 
+-- `serve` has `--sync`.
 abbrev pub sync_rule : Choices → Rule
 sync_rule kinds = option_rule (codes "sync") (Names kinds) (codes "incremental")
 
+-- `normalise` has `--squash`.
 abbrev pub squash_rule : Rule
 squash_rule = flag_rule (codes "squash")
 
@@ -63,6 +66,7 @@ squash_rule = flag_rule (codes "squash")
 abbrev pub at_rule : Rule
 at_rule = number_rule (codes "at") 1 18446744073709551615
 
+-- `--uri` is any text.
 abbrev pub uri_rule : Rule
 uri_rule = text_rule (codes "uri")
 

@@ -10,8 +10,7 @@ use Rattle.lsp_stream.specs.declared.fault.EngineFault.TheVariants.{Read, Write,
 use Rattle.lsp_stream.specs.Ports.{Ports, Rose, WriterState, ports}
 use Rattle.lsp_stream.specs.Turns.{Spends}
 use Rattle.lsp_replay.specs.declared.outcome.Outcome.{Outcome}
-use Rattle.lsp_replay.specs.declared.outcome.TheConstants.{NEVER_OPEN, NO_RECORD}
-use Rattle.lsp_replay.specs.Parts.{part_engine}
+use Rattle.lsp_replay.specs.Parts.{never_open, no_record, part_engine}
 use Rattle.lsp_replay.specs.Run.{Engine, IsEngineRun, check_engine, convert_engine, normalise_engine, replay_engine, serve_engine}
 use Rattle.lspsync.specs.declared.command_line.Call.{Call}
 use Rattle.lspsync.specs.declared.command_line.Call.TheVariants as call
@@ -30,7 +29,7 @@ status_of NoMemory = 4
 status_of TooManyTurns = 3
 status_of (BadLog place) = 5
 
--- the engine that a call names
+-- The engine that a call names.
 abbrev pub engine_of : Call → Engine
 engine_of (call.Serve config) = serve_engine config
 engine_of (call.Check settings) = check_engine settings
@@ -60,7 +59,7 @@ answer_of (Ok outcome) (Err fault) = Err fault
 answer_of (Err fault) flushed = Err fault
 
 -- The engine of a call ran, and then its output was flushed, whatever the engine answered. The
--- answer is the outcome's status, or the first fault.
+-- answer is the outcome's status, or the first fault. With a status all output was flushed.
 pub record IsPerformed (asked : Call) (before after : Ports)
     (answer : Result ℕ EngineFault) : Type 0 where
   pub result : Result Outcome EngineFault
@@ -86,8 +85,8 @@ IsReported fault before after ending = (ending.status ≡ status_of fault)
 -- that was open. The line that says so.
 abbrev pub missing_line : ℕ → Option (List ℕ)
 missing_line status =
-    if status == NO_RECORD then Some (codes "lspsync: the log has no message of this number\n")
-    else if status == NEVER_OPEN then Some (codes "lspsync: the document was never open\n")
+    if status == no_record then Some (codes "lspsync: the log has no message of this number\n")
+    else if status == never_open then Some (codes "lspsync: the document was never open\n")
     else None
 
 -- A status ends the program, with nothing on standard error. Where something is missing its line is
@@ -112,12 +111,10 @@ pub record Streams : Type 0 where
   pub errors_before : Option (List ℕ)
   pub errors : Option (List ℕ)
 
--- The engine of a call ran, and the program ends with its status or reports its fault. With a
--- status all output was flushed.
+-- The engine of a call ran, and the program ends with its status or reports its fault.
 pub record IsCalled (asked : Call) (s : Streams) (ending : Ending) : Type 0 where
   pub answer : Result ℕ EngineFault
   pub performed : IsPerformed asked s.before s.after answer
-  pub passed_on : OnOk answer (s.after.writer.flushed ≡ true)
   pub ends : IsEnding answer s.errors_before s.errors ending
 
 -- A text of help was written and flushed, with status 0. Else memory ran out and nothing was

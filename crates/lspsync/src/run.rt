@@ -1,7 +1,8 @@
 //! The program over any reader and writers.
 
-ghost use Rattle.std.specs.Prelude.{◌≡◌, ◌≢◌, ◌⊎◌, ◌++◌, OnOk, true, codes, List, ℕ, Result, Err, map};
+ghost use Rattle.std.specs.Prelude.{◌≡◌, ◌≢◌, ◌⊎◌, ◌++◌, OnOk, codes, List, ℕ, Result, Err, map};
 ghost use Rattle.std.specs.Io.KnownBytes.{Appends, Keeps};
+ghost use Rattle.std.specs.Process.{exit_status};
 ghost use Rattle.clap.specs.Values.{kind_of};
 ghost use Rattle.clap.specs.declared.error.kind.ErrorKind.TheVariants.{OutOfMemory};
 ghost use Rattle.clap.specs.declared.error.kind.ErrorKind.TheVariants.{DisplayHelp, DisplayVersion};
@@ -21,6 +22,7 @@ use lsp_replay::{
 use lsp_stream::{Turns, flush_out, write_given};
 use std::alloc::Global;
 use std::io::{self, ErrorKind, Write};
+use std::process::ExitCode;
 
 /// How many reads, writes and flushes an engine may make. The last flush may be tried as often.
 const MAX_TURNS: u64 = 1_099_511_627_776;
@@ -127,8 +129,6 @@ pub fn perform<R: Source, W: Sink>(
     ensures performed { IsPerformed call
         (ports (R.seen input.old) (W.seen output.old))
         (ports (R.seen input.new) (W.seen output.new)) result }
-    // Where a status is answered all that was written is flushed.
-    ensures passed_on { OnOk result ((W.seen output.new).flushed ≡ true) }
 {
     let ran = obey(alloc, call, input, output);
     let flushed = flush(output);
@@ -218,7 +218,6 @@ fn print_help<W: Sink>(alloc: Global, help: &clap::Error, output: &mut W) -> Res
 fn flush<W: Sink>(output: &mut W) -> Result<(), EngineFault>
     ensures kept { Keeps (W.seen output.old).written (W.seen output.new).written }
     ensures flushed { IsFlushed (W.seen output.old) (W.seen output.new) result }
-    ensures passed_on { OnOk result ((W.seen output.new).flushed ≡ true) }
 {
     flush_out(output, &mut Turns::new(MAX_TURNS))
 }
@@ -241,6 +240,13 @@ pub fn refuse<E: Write>(kind: ErrorKind, errors: &mut E) -> Ending
         status: USAGE,
         printed,
     }
+}
+
+/// Returns the code with which the process ends.
+pub fn exit_code(ending: &Ending) -> ExitCode
+    ensures { exit_status result ≡ ending.now.status }
+{
+    ExitCode::from(ending.status)
 }
 
 /// Prints the line of a fault, and ends with its status.

@@ -13,4 +13,7 @@ returns-clause-run g c =
     run_of c.run_engine.ensures.first c.run_engine.ensures.version converting (opened (log_config c.args.settings)) false run (λ _. whole (λ _. refl))
 
 pub returns-clause-converted : goal.returns-clause-converted
-returns-clause-converted g c = let run = returns-clause-run g c in wrote_converted c.args.settings c.config.ensures.in_range _ _ _ _ _ c.run_engine.result run.ran
+returns-clause-converted g c =
+    let run_output = rw c.config.ensures.value at c.new-convert.ensures.session in
+    let run = rw (c.rules-rules.ensures, run_output) at c.run_engine.ensures.run in
+    wrote_converted c.args.settings c.config.ensures.in_range _ _ _ _ _ c.run_engine.result run.ran

@@ -14,4 +14,7 @@ returns-clause-run g c =
     run_of_squashed c.run_engine.ensures.first c.run_engine.ensures.version (opened (log_config c.args.settings)) None run (λ _. whole (λ _. refl))
 
 pub returns-clause-squashed : goal.returns-clause-squashed
-returns-clause-squashed g c = let run = returns-clause-run g c in wrote_squashed c.args.settings c.config.ensures.in_range _ _ _ _ _ c.run_engine.result run.ran
+returns-clause-squashed g c =
+    let run_output = rw c.config.ensures.value at c.new-squashing.ensures in
+    let run = rw (c.rules-rules.ensures, run_output) at c.run_engine.ensures.run in
+    wrote_squashed c.args.settings c.config.ensures.in_range _ _ _ _ _ c.run_engine.result run.ran
