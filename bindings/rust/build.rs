@@ -36,7 +36,11 @@ fn folder() -> Option<PathBuf> {
 fn main() {
     println!("cargo:rerun-if-env-changed=LASPIDRU_LIB_DIR");
     println!("cargo:rerun-if-env-changed=PKG_CONFIG_PATH");
-    if let Some(folder) = folder() {
+    let folder = folder();
+    if !folder.as_ref().is_some_and(|it| it.join(ARCHIVE).exists()) {
+        println!("cargo:warning=no {ARCHIVE}: set LASPIDRU_LIB_DIR to its folder, or install the library (docs/rust.md, Install)");
+    }
+    if let Some(folder) = folder {
         println!("cargo:rustc-link-search=native={}", folder.display());
     }
     println!("cargo:rustc-link-lib=static=laspidru");

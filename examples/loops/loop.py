@@ -23,7 +23,7 @@ def reply(server, event):
         return frame(answer)
     if request["method"] == "textDocument/hover":
         text = server.text(request["params"]["textDocument"]["uri"])
-        return frame({"jsonrpc": "2.0", "id": request["id"], "result": text and {"contents": [text]}})
+        return frame({"jsonrpc": "2.0", "id": request["id"], "result": None if text is None else {"contents": [text]}})
     return event.frame
 
 

@@ -45,8 +45,8 @@ M.KINDS = {
     { name = "LF, emoji and combining marks", text = function(random) return lines(random, any(random), "\n", true) end },
     { name = "no last line end", text = function(random) return lines(random, any(random), "\n", false) end },
     { name = "CRLF", text = function(random) return lines(random, any(random), "\r\n", true) end },
-    { name = "lone CR", text = function(random) return lines(random, odd(random), "\n", true) end },
-    { name = "CR alone ends lines", text = function(random) return lines(random, any(random), "\r", true) end },
+    { name = "a CR inside lines", text = function(random) return lines(random, odd(random), "\n", true) end },
+    { name = "files whose lines end with CR", text = function(random) return lines(random, any(random), "\r", true) end },
     { name = "NUL", text = function(random) return lines(random, function() return ({ "a\0b", "\0", "z" })[random(3)] end, "\n", true) end },
     { name = "empty", text = function() return "" end },
 }

@@ -77,6 +77,7 @@ pub enum Delivered {
 
 /// Why a call was refused. Then nothing changed.
 #[derive(Clone, Copy, Debug, PartialEq, Eq)]
+#[non_exhaustive]
 pub enum ClientError {
     /// The call isn't allowed in this phase.
     WrongPhase,

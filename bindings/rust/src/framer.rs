@@ -20,6 +20,7 @@ pub struct Framer {
 
 /// Why there is no framer, or no message.
 #[derive(Clone, Copy, Debug, PartialEq, Eq)]
+#[non_exhaustive]
 pub enum FrameError {
     /// The same call can be made again.
     OutOfMemory,

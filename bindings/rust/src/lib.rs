@@ -78,7 +78,9 @@ pub struct TextEdit {
 
 /// Why a call was refused. It changed nothing.
 #[derive(Clone, Copy, Debug, PartialEq, Eq)]
+#[non_exhaustive]
 pub enum Error {
+    /// The same call can be made again.
     OutOfMemory,
     /// A text has more than 1,073,741,824 bytes.
     TooLong,
@@ -103,7 +105,7 @@ impl fmt::Display for Error {
             }
             Error::ReversedRange { change } => write!(f, "change {change}: the range is reversed"),
             Error::Overlap { first, second } => write!(f, "text edits {first} and {second} overlap"),
-            Error::NoPlace => write!(f, "no place of the text"),
+            Error::NoPlace => write!(f, "no position of the text"),
         }
     }
 }

@@ -33,7 +33,9 @@ pub struct Output {
 
 /// Why a command came to no end.
 #[derive(Clone, Debug, PartialEq, Eq)]
+#[non_exhaustive]
 pub enum LogError {
+    /// The same call can be made again.
     OutOfMemory,
     /// A limit is out of its range.
     BadLimit,
@@ -45,6 +47,7 @@ pub enum LogError {
 
 /// What is wrong with a log.
 #[derive(Clone, Copy, Debug, PartialEq, Eq)]
+#[non_exhaustive]
 pub enum LogFault {
     /// The log ends inside a record.
     Cut,

@@ -81,6 +81,7 @@ pub enum Refusal {
 
 /// Why there is no server, or no answer. Then nothing changed.
 #[derive(Clone, Copy, Debug, PartialEq, Eq)]
+#[non_exhaustive]
 pub enum ServerError {
     /// The same body can be passed again.
     OutOfMemory,
@@ -107,6 +108,7 @@ impl std::error::Error for ServerError {}
 
 /// Why there is no canonical message.
 #[derive(Clone, Copy, Debug, PartialEq, Eq)]
+#[non_exhaustive]
 pub enum MessageError {
     /// The documents refuse the changes, or their message would be too long.
     Refused(Refusal),
