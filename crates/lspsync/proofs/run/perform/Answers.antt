@@ -1,12 +1,14 @@
 use Rattle.lspsync.proofs.run.perform.Goals as goal
 
-pub returns-clause-performed : goal.returns-clause-performed
-returns-clause-performed g c = record {
-  result = c.obey-ran.result;
-  flushed = c.flush-flushed.result;
-  writer = g.W.Sink.seen c.obey-ran.new.output;
-  ran = c.obey-ran.ensures;
-  kept = c.flush-flushed.ensures.kept;
-  flush = c.flush-flushed.ensures.flushed;
-  answered = c.answer_with.ensures;
+pub returns : goal.returns
+returns g c = record {
+  performed = record {
+    result = c.obey-ran.result;
+    flushed = c.flush-flushed.result;
+    writer = g.W.Sink.seen c.obey-ran.new.output;
+    ran = c.obey-ran.ensures;
+    kept = c.flush-flushed.ensures.kept;
+    flush = c.flush-flushed.ensures.flushed;
+    answered = c.answer_with.ensures;
+  };
 }
