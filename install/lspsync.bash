@@ -19,7 +19,7 @@ _lspsync() {
             words="--encoding --max-body --max-text --max-docs --max-changes --help"
             case $command in
                 serve) words="$words --sync" ;;
-                normalise) words="$words --squash" ;;
+                normalise) words="$words --documents --squash" ;;
                 replay) words="$words --at --uri" ;;
                 check | convert) ;;
                 help) words=$commands ;;

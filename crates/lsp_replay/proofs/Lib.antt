@@ -31,3 +31,7 @@ pub mod SingleLemmas
 pub mod SquashedLogLemmas
 pub mod KeptLemmas
 pub mod PartLemmas
+pub mod LeftOutLemmas
+pub mod KeptLogLemmas
+pub mod DocumentsLemmas
+pub mod DocumentsLawLemmas

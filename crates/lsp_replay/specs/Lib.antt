@@ -7,4 +7,5 @@ pub mod Laws
 pub mod AllRecords
 pub mod Run
 pub mod Parts
+pub mod Documents
 pub mod inside

@@ -5,7 +5,10 @@ pub mod Kept
 pub mod Parts
 pub mod Progress
 pub mod Verdicts
+pub mod Documents
 pub mod Engine
+pub mod Engines
 pub mod Run
+pub mod Reads
 pub mod RunOutput
 pub mod Squashed

@@ -3,6 +3,7 @@
 
 pub(crate) mod checking;
 pub(crate) mod converting;
+pub(crate) mod documents;
 mod front;
 pub(crate) mod normalising;
 pub(crate) mod partial;

@@ -12,6 +12,7 @@ ghost use Rattle.lsp_replay.specs.Run.{IsEngineRun, WritesLog};
 ghost use Rattle.lsp_replay.specs.Run.{serve_engine, check_engine, replay_engine, normalise_engine, convert_engine};
 ghost use Rattle.lsp_replay.specs.inside.Run.{each_engine, squash_engine};
 
+mod documents;
 mod parts;
 
 use crate::commands::checking::Check;
@@ -21,6 +22,7 @@ use crate::commands::replaying::Replay;
 use crate::commands::serving::Serve;
 use crate::commands::squashing::Squashing;
 use crate::engine::{InputRules, run_engine, run_on};
+pub use crate::engines::documents::normalise_documents;
 pub use crate::engines::parts::{Part, replay_part};
 use crate::outcome::Outcome;
 use lsp_frame::Limits;

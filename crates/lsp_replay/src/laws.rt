@@ -1,6 +1,7 @@
 //! Laws over the definitions alone, which no single call has in its contract.
 
 ghost use Rattle.lsp_log.specs.Laws.{UniqueLaw};
+ghost use Rattle.lsp_replay.specs.Documents.{DocumentsLaw, DocumentsStopAlike};
 ghost use Rattle.lsp_replay.specs.Laws.{ReportLaw, CanonicalLogLaw, SquashedLaw, StopsAlike, ConvertedLaw};
 
 use lsp_log::reading_laws;
@@ -26,3 +27,14 @@ pub fn log_laws()
 {
     reading_laws();
 }
+
+/// States what holds where records are left out that are neither about the session nor about a
+/// document's text. It does nothing; its contract says:
+///
+/// - The log ends as it does where no record is left out: at the same record, for the same cause.
+/// - What is written is a log of which `replay` reports the same documents, with the same status
+///   and as many refusals.
+pub fn documents_laws()
+    ensures stops { DocumentsStopAlike }
+    ensures documents { DocumentsLaw }
+{}

@@ -2,12 +2,12 @@
 //! server's end. The streams (`lsp_stream`) are re-exported.
 //!
 //! - `engines`: `serve` and `serve_on`, `check`, `replay` and `replay_part`, `normalise` and
-//!   `convert`.
+//!   `normalise_documents`, and `convert`.
 //! - `engine`: the one loop from a reader to a writer; a `handler` makes the output of each record
 //!   and of the end.
 //! - `session`: a server over the records of a log, and what is counted.
 //! - `commands`: the handlers, `serving`, `checking`, `replaying`, `partial` (of a part of a log),
-//!   `normalising`, `squashing` and `converting`.
+//!   `normalising`, `squashing`, `documents` (of records that stay) and `converting`.
 //! - `outcome`: the status and the counts at the end of a run.
 //! - `laws`: what holds of the logs that are written.
 #![tactic(auto)]
@@ -21,8 +21,9 @@ mod outcome;
 mod session;
 
 pub use engines::{
-    Part, Settings, check, convert, normalise, replay, replay_part, serve, serve_on,
+    Part, Settings, check, convert, normalise, normalise_documents, replay, replay_part, serve,
+    serve_on,
 };
-pub use laws::log_laws;
+pub use laws::{documents_laws, log_laws};
 pub use lsp_stream::{Call, Duplex, EngineFault, Sink, Source, StopReader, StopWriter, Told};
 pub use outcome::{NEVER_OPEN, NO_RECORD, Outcome};

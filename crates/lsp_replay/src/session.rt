@@ -3,6 +3,7 @@
 //! - `planning`: changes, each of which is planned once.
 //! - `writing`: the canonical bodies of accepted changes.
 //! - `joining`: the open run of accepted changes.
+//! - `selecting`: the records that stay where others are left out.
 //! - `results`: the result of `initialize`.
 //! - `counting`: what counts as refused.
 //! - `keeping`: the text of a document, kept when it is closed.
@@ -19,6 +20,7 @@ pub(crate) mod joining;
 mod keeping;
 pub(crate) mod planning;
 mod results;
+pub(crate) mod selecting;
 pub(crate) mod writing;
 
 use crate::outcome::Outcome;
@@ -44,7 +46,7 @@ pub enum Verdict {
 
 /// The body of a record, read once.
 #[derive(Drop)]
-enum RecordBody<'a> {
+pub(crate) enum RecordBody<'a> {
     /// What a client's record in a log of this version asks of the server.
     Client(Version, Incoming),
     /// The body of a server's record.
@@ -161,7 +163,11 @@ impl Session {
     }
 
     /// Reads the body of the next record.
-    fn read<'a>(&mut self, head: Head, body: &'a [u8]) -> Result<RecordBody<'a>, AllocError>
+    pub(crate) fn read<'a>(
+        &mut self,
+        head: Head,
+        body: &'a [u8],
+    ) -> Result<RecordBody<'a>, AllocError>
         ensures body { IfOk result
             (λ read. body_view read ≡ body_read head.version head.side body.now) }
         ensures unchanged { self.new ≡ self.old }

@@ -4,6 +4,7 @@ mod documents;
 mod failing_runs;
 mod failures;
 mod in_time;
+mod left_out;
 mod pieces;
 mod refused;
 mod sessions;
@@ -14,7 +15,7 @@ mod words;
 use lsp_frame::{Limits, frame};
 use lsp_replay::{
     Call, EngineFault, Outcome, Part, Settings, Sink, Source, StopReader, StopWriter, Told, check,
-    convert, normalise, replay, replay_part, serve,
+    convert, normalise, normalise_documents, replay, replay_part, serve,
 };
 use lsp_server::{Config, EncodingChoice, Sync};
 use lsp_text::Encoding;
@@ -103,6 +104,9 @@ enum Command {
     Normalise,
     /// `normalise` with squash.
     Squash,
+    /// `normalise` of what is about the session and the documents' texts, and that with squash.
+    Documents,
+    SquashDocuments,
     Convert,
     /// `replay` of the last text of `file:///a`, up to a record or to the end.
     Text(Option<u64>),
@@ -220,6 +224,14 @@ fn call<R: Source, W: Sink>(
                 ..settings
             };
             normalise(alloc, from, to, settings, turns)
+        }
+        Command::Documents => normalise_documents(alloc, from, to, settings, turns),
+        Command::SquashDocuments => {
+            let settings = Settings {
+                squash: true,
+                ..settings
+            };
+            normalise_documents(alloc, from, to, settings, turns)
         }
         Command::Convert => convert(alloc, from, to, settings, turns),
         Command::Text(at) => {

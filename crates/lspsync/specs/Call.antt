@@ -99,6 +99,10 @@ IsCallNamed name options (call.ReplayPart settings part) = (name ≡ codes "repl
     × AreSettings options settings × IsLogPart options part × (is_whole part ≡ false)
 IsCallNamed name options (call.Normalise settings) = (name ≡ codes "normalise")
     × AreSettings options settings × IsFlag options (codes "squash") settings.squash
+    × IsFlag options (codes "documents") false
+IsCallNamed name options (call.NormaliseDocuments settings) = (name ≡ codes "normalise")
+    × AreSettings options settings × IsFlag options (codes "squash") settings.squash
+    × IsFlag options (codes "documents") true
 IsCallNamed name options (call.Convert settings) = (name ≡ codes "convert")
     × AreSettings options settings
 

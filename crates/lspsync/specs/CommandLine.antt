@@ -56,8 +56,9 @@ encoding_rule encodings = option_rule (codes "encoding") (Names encodings) (code
 abbrev pub sync_rule : Choices → Rule
 sync_rule kinds = option_rule (codes "sync") (Names kinds) (codes "incremental")
 
-abbrev pub squash_rule : Rule
-squash_rule = flag_rule (codes "squash")
+-- The options of `normalise` that say how a log is written.
+abbrev pub writing_rules : List Rule
+writing_rules = flag_rule (codes "documents") ∷ flag_rule (codes "squash") ∷ []
 
 -- `--at` is a record's number, from 1.
 abbrev pub at_rule : Rule
@@ -77,7 +78,7 @@ program_app encodings kinds = record {
   subs = command_shape (codes "serve") (encoding_rule encodings ∷ sync_rule kinds ∷ [])
       ∷ command_shape (codes "check") (encoding_rule encodings ∷ [])
       ∷ command_shape (codes "replay") (encoding_rule encodings ∷ part_rules)
-      ∷ command_shape (codes "normalise") (encoding_rule encodings ∷ squash_rule ∷ [])
+      ∷ command_shape (codes "normalise") (encoding_rule encodings ∷ writing_rules)
       ∷ command_shape (codes "convert") (encoding_rule encodings ∷ []) ∷ [];
 }
 

@@ -11,6 +11,7 @@ use Rattle.lsp_stream.specs.Ports.{Ports, Rose, WriterState, ports}
 use Rattle.lsp_stream.specs.Turns.{Spends}
 use Rattle.lsp_replay.specs.declared.outcome.Outcome.{Outcome}
 use Rattle.lsp_replay.specs.declared.outcome.TheConstants.{NEVER_OPEN, NO_RECORD}
+use Rattle.lsp_replay.specs.Documents.{documents_engine}
 use Rattle.lsp_replay.specs.Parts.{part_engine}
 use Rattle.lsp_replay.specs.Run.{Engine, IsEngineRun, check_engine, convert_engine, normalise_engine, replay_engine, serve_engine}
 use Rattle.lspsync.specs.declared.command_line.Call.{Call}
@@ -37,6 +38,7 @@ engine_of (call.Check settings) = check_engine settings
 engine_of (call.Replay settings) = replay_engine settings
 engine_of (call.ReplayPart settings part) = part_engine settings part
 engine_of (call.Normalise settings) = normalise_engine settings
+engine_of (call.NormaliseDocuments settings) = documents_engine settings
 engine_of (call.Convert settings) = convert_engine settings
 
 -- How many reads, writes and flushes an engine may make. The last flush may be tried as often.

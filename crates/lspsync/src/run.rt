@@ -15,8 +15,8 @@ use crate::command_line::{Call, parse};
 use crate::fault_text::FaultText;
 use clap::error as clap_error;
 use lsp_replay::{
-    EngineFault, NEVER_OPEN, NO_RECORD, Outcome, Sink, Source, check, convert, normalise, replay,
-    replay_part, serve,
+    EngineFault, NEVER_OPEN, NO_RECORD, Outcome, Sink, Source, check, convert, normalise,
+    normalise_documents, replay, replay_part, serve,
 };
 use lsp_stream::{Turns, flush_out, write_given};
 use std::alloc::Global;
@@ -168,6 +168,9 @@ fn obey<R: Source, W: Sink>(
             replay_part(alloc, input, output, settings, part, MAX_TURNS)
         }
         Call::Normalise(settings) => normalise(alloc, input, output, settings, MAX_TURNS),
+        Call::NormaliseDocuments(settings) => {
+            normalise_documents(alloc, input, output, settings, MAX_TURNS)
+        }
         Call::Convert(settings) => convert(alloc, input, output, settings, MAX_TURNS),
     }
 }

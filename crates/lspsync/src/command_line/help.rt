@@ -1,7 +1,7 @@
 //! The texts of help. They are in functions, so that proofs don't unfold them.
 
-ghost use Rattle.std.specs.Prelude.{◌≡◌, codes, true, false};
-ghost use Rattle.lspsync.specs.CommandLine.{limit_rules};
+ghost use Rattle.std.specs.Prelude.{◌≡◌, ◌∷◌, [], codes};
+ghost use Rattle.lspsync.specs.CommandLine.{limit_rules, part_rules, sync_rule, writing_rules};
 ghost use Rattle.lspsync.specs.Help.{IsPage, rules_of_limits};
 
 use lsp_frame::Limits;
@@ -15,12 +15,28 @@ pub struct Page {
     pub example: &'static str,
     /// The meaning of `--encoding`.
     pub encoding: &'static str,
-    /// The meaning of `--sync`, if the command has it.
-    pub sync: Option<&'static str>,
-    /// The meaning of `--squash`, if the command has it.
-    pub squash: Option<&'static str>,
-    /// The meaning of `--at` and `--uri`, if the command has them.
-    pub part: Option<PartHelp>,
+    /// The options that the command has beside those of all.
+    pub own: OwnHelp,
+}
+
+/// The options that a command has beside those of all, with their meanings.
+#[derive(Clone, Copy, Debug)]
+pub enum OwnHelp {
+    /// There are none.
+    Nothing,
+    /// `--sync`.
+    Sync(&'static str),
+    /// `--at` and `--uri`.
+    Part(PartHelp),
+    /// `--documents` and `--squash`.
+    Writing(WritingHelp),
+}
+
+/// The help of the options that say how a log is written.
+#[derive(Clone, Copy, Debug)]
+pub struct WritingHelp {
+    pub documents: &'static str,
+    pub squash: &'static str,
 }
 
 /// The help of the options that name a part of a log.
@@ -52,61 +68,60 @@ pub fn notes() -> &'static str {
 }
 
 pub fn serve() -> Page
-    ensures { IsPage result (codes "serve") true false false }
+    ensures { IsPage result (codes "serve") (λ kinds. sync_rule kinds ∷ []) }
 {
     Page {
         name: "serve",
         about: SERVE,
         example: SERVE_EXAMPLE,
         encoding: PREFERRED_ENCODING,
-        sync: Some(SYNC),
-        squash: None,
-        part: None,
+        own: OwnHelp::Sync(SYNC),
     }
 }
 
 pub fn check() -> Page
-    ensures { IsPage result (codes "check") false false false }
+    ensures { IsPage result (codes "check") (λ _. []) }
 {
     log_page("check", CHECK, CHECK_EXAMPLE)
 }
 
 pub fn replay() -> Page
-    ensures { IsPage result (codes "replay") false false true }
+    ensures { IsPage result (codes "replay") (λ _. part_rules) }
 {
     Page {
-        part: Some(PartHelp { at: AT, uri: URI }),
+        own: OwnHelp::Part(PartHelp { at: AT, uri: URI }),
         ..log_page("replay", REPLAY, REPLAY_EXAMPLE)
     }
 }
 
 pub fn normalise() -> Page
-    ensures { IsPage result (codes "normalise") false true false }
+    ensures { IsPage result (codes "normalise") (λ _. writing_rules) }
 {
     Page {
-        squash: Some(SQUASH),
+        own: OwnHelp::Writing(WritingHelp {
+            documents: DOCUMENTS,
+            squash: SQUASH,
+        }),
         ..log_page("normalise", NORMALISE, NORMALISE_EXAMPLE)
     }
 }
 
 pub fn convert() -> Page
-    ensures { IsPage result (codes "convert") false false false }
+    ensures { IsPage result (codes "convert") (λ _. []) }
 {
     log_page("convert", CONVERT, CONVERT_EXAMPLE)
 }
 
 /// The page of a command that reads a log.
 fn log_page(name: &'static str, about: &'static str, example: &'static str) -> Page
-    ensures { IsPage result name.now false false false }
+    ensures { IsPage result name.now (λ _. []) }
 {
     Page {
         name,
         about,
         example,
         encoding: ENCODING,
-        sync: None,
-        squash: None,
-        part: None,
+        own: OwnHelp::Nothing,
     }
 }
 
@@ -224,8 +239,15 @@ was refused.
 Example, a change of the whole text, which becomes one with a range:
   ./lspsync normalise < examples/whole-text.log
 
+With `--documents` all messages are left out that are neither about the session nor about a document's
+text: requests for features and their answers, and most notifications. `didSave` stays, and so does
+what was refused. `replay` reports the same documents and the same status.
+
 Example, what a person typed, as one change:
-  ./lspsync normalise --squash < examples/typing.log";
+  ./lspsync normalise --squash < examples/typing.log
+
+Example, what was done between two saves, of a log with a request after each key:
+  ./lspsync normalise --documents --squash < examples/two-saves-with-requests.log";
 
 static CONVERT: &str =
     "Write a log in the format of version 2, which holds the server's replies too";
@@ -246,6 +268,9 @@ static PREFERRED_ENCODING: &str =
     "What a position's character is to count, if the editor offers it; else utf-16";
 
 static SYNC: &str = "How the editor is asked to send changes: as whole texts or as ranges";
+
+static DOCUMENTS: &str =
+    "Leave out each message that is neither about the session nor about a document's text";
 
 static SQUASH: &str =
     "Write changes of one document that follow each other as one message, as between two saves";

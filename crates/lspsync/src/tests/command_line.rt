@@ -7,7 +7,7 @@ use lsp_server::Config;
 use std::str;
 use std::test::Fail;
 
-static WRONG: [&[&str]; 33] = [
+static WRONG: [&[&str]; 36] = [
     &["lspsync"],
     &["lspsync", "rewrite"],
     &["lspsync", "--max-body", "4096", "check"],
@@ -16,6 +16,9 @@ static WRONG: [&[&str]; 33] = [
     &["lspsync", "check", "--sync", "full"],
     &["lspsync", "normalise", "--squash", "--squash"],
     &["lspsync", "normalise", "--squash=yes"],
+    &["lspsync", "normalise", "--documents", "--documents"],
+    &["lspsync", "normalise", "--documents=yes"],
+    &["lspsync", "replay", "--documents"],
     &["lspsync", "serve", "--squash"],
     &["lspsync", "check", "--squash"],
     &["lspsync", "replay", "--squash"],
@@ -122,6 +125,9 @@ fn is_call<'a>(alloc: Global, words: &'a [&'a str], wanted: command_line::Call) 
 fn a_call_without_options_has_the_defaults(rt: HostRuntime) -> Result<(), Fail> {
     let serve = command_line::Call::Serve(Config::default());
     assert!(rt; is_call(rt.alloc(), &["lspsync", "serve"], serve));
+    let documents = command_line::Call::NormaliseDocuments(Settings::default());
+    let words = ["lspsync", "normalise", "--documents"];
+    assert!(rt; is_call(rt.alloc(), &words, documents));
     let check = command_line::Call::Check(Settings::default());
     assert!(rt; is_call(rt.alloc(), &["lspsync", "check"], check));
     Ok(())

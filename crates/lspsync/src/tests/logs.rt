@@ -139,6 +139,33 @@ fn what_is_not_known_is_no_refusal(rt: HostRuntime) -> Result<(), Fail> {
     Ok(())
 }
 
+/// A request between the changes of a document, and a save.
+const HOVER: &str = r#"{"id":7,"jsonrpc":"2.0","method":"textDocument/hover","params":{}}"#;
+
+const SAVED: &str = r#"{"jsonrpc":"2.0","method":"textDocument/didSave","params":{}}"#;
+
+/// Does `normalise` with these options write the frames of these bodies?
+fn writes(
+    alloc: Global,
+    words: &[&str],
+    bodies: &[&str],
+    written: &[&str],
+) -> Result<bool, AllocError> {
+    answers(alloc, words, &log(alloc, bodies)?, 0, &log(alloc, written)?)
+}
+
+static WITH_HOVER: [&str; 6] = [INITIALIZE, OPEN, HOVER, WHOLE, HOVER, SAVED];
+
+#[test]
+fn what_is_not_about_documents_is_left_out(rt: HostRuntime) -> Result<(), Fail> {
+    let (alloc, left) = (rt.alloc(), [INITIALIZE, OPEN, CANONICAL, SAVED]);
+    let words = ["lspsync", "normalise", "--documents"];
+    assert!(rt; writes(alloc, &words, &WITH_HOVER, &left)?);
+    let words = ["lspsync", "normalise", "--squash", "--documents"];
+    assert!(rt; writes(alloc, &words, &WITH_HOVER, &left)?);
+    Ok(())
+}
+
 /// An option, a character of the line that has one character of four bytes, and the status of a
 /// change there.
 static ENCODINGS: [(&str, u32, u8); 5] = [
