@@ -1,7 +1,7 @@
 # Completion of lspsync for bash.
 _lspsync() {
     local word=${COMP_WORDS[COMP_CWORD]} before=${COMP_WORDS[COMP_CWORD - 1]} command=${COMP_WORDS[1]}
-    local commands="serve check replay normalise convert help" words
+    local commands="serve check trace replay normalise convert help" words
     # bash cuts `--name=value` at the `=`
     if [ "$word" = = ]; then
         word=
@@ -20,6 +20,7 @@ _lspsync() {
             case $command in
                 serve) words="$words --sync" ;;
                 normalise) words="$words --documents --squash" ;;
+                trace) words="$words --texts --bodies" ;;
                 replay) words="$words --at --uri" ;;
                 check | convert) ;;
                 help) words=$commands ;;

@@ -26,6 +26,7 @@ use Rattle.lsp_replay.specs.inside.Reads.{IsKept, IsLeftOut, stays_read, waiting
 use Rattle.lsp_replay.specs.inside.RunOutput.{IsRecordFault, after}
 use Rattle.lsp_replay.specs.inside.Squashed.{IsSquashStep, step_at}
 use Rattle.lsp_replay.proofs.KeptLogLemmas.{kept_false, kept_true}
+use Rattle.lsp_replay.proofs.PartLemmas.{unless_not}
 use Rattle.lsp_replay.proofs.RunReportLemmas.{Grows, GrowsAll, NoneCut, Settles, grows, run_of_course, settled, squashed_grows, squashed_settled}
 
 -- ---- what was read of a record decides whether it stays
@@ -57,11 +58,6 @@ selected_kept s old mid head body read is t same true stays_is mid_is staying wa
 }
 
 -- ---- what a record gives without squash
-
-unless_not : (r : Record) (verdict : Verdict) (given : RecordOutput) → verdict ≢ bad → unless_bad r verdict given ≡ given
-unless_not r (answered answer) given not_bad = refl
-unless_not r recorded given not_bad = refl
-unless_not r bad given not_bad = absurd (not_bad refl)
 
 pub each_written : (s : Session) (r : Record) (verdict : Verdict) (given : RecordOutput) → verdict ≡ (judge s r).verdict → verdict ≢ bad
     → written s.server.config.limits.max_body r (front_of r.head) (canonical_of_record s r.body (judge s r).verdict) ≡ given → each_output s r ≡ given

@@ -35,3 +35,7 @@ pub mod LeftOutLemmas
 pub mod KeptLogLemmas
 pub mod DocumentsLemmas
 pub mod DocumentsLawLemmas
+pub mod TableLemmas
+pub mod MemberLemmas
+pub mod TraceLemmas
+pub mod TraceLawLemmas

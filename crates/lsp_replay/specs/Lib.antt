@@ -8,4 +8,7 @@ pub mod AllRecords
 pub mod Run
 pub mod Parts
 pub mod Documents
+pub mod Mentions
+pub mod Reasons
+pub mod Trace
 pub mod inside

@@ -2,6 +2,7 @@
 pub mod Bodies
 pub mod Joining
 pub mod Kept
+pub mod Mentions
 pub mod Parts
 pub mod Progress
 pub mod Verdicts
@@ -12,3 +13,4 @@ pub mod Run
 pub mod Reads
 pub mod RunOutput
 pub mod Squashed
+pub mod Tracing

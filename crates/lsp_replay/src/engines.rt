@@ -14,6 +14,7 @@ ghost use Rattle.lsp_replay.specs.inside.Run.{each_engine, squash_engine};
 
 mod documents;
 mod parts;
+mod traced;
 
 use crate::commands::checking::Check;
 use crate::commands::converting::Convert;
@@ -24,6 +25,7 @@ use crate::commands::squashing::Squashing;
 use crate::engine::{InputRules, run_engine, run_on};
 pub use crate::engines::documents::normalise_documents;
 pub use crate::engines::parts::{Part, replay_part};
+pub use crate::engines::traced::{Details, trace};
 use crate::outcome::Outcome;
 use lsp_frame::Limits;
 use lsp_server::{Config, EncodingChoice, Sync};

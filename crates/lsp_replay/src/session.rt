@@ -7,6 +7,7 @@
 //! - `results`: the result of `initialize`.
 //! - `counting`: what counts as refused.
 //! - `keeping`: the text of a document, kept when it is closed.
+//! - `tracing`: what a record is, whatever is answered.
 
 ghost use Rattle.std.specs.Prelude.{◌≡◌, ◌≢◌, ◌⊎◌, IfErr, IfOk, OnErr, OnOk, MatchOption, Some, None};
 ghost use Rattle.lsp_message.specs.Seen.{change_view, id_view};
@@ -15,12 +16,13 @@ ghost use Rattle.lsp_replay.specs.Session.{bad, counted, opened, judge_at, judge
 ghost use Rattle.lsp_replay.specs.inside.Bodies.{IsReceived, body_read, body_view, canonical_read, judge_read};
 ghost use Rattle.lsp_replay.specs.inside.Verdicts.{verdict_view};
 
-mod counting;
+pub(crate) mod counting;
 pub(crate) mod joining;
 mod keeping;
 pub(crate) mod planning;
 mod results;
 pub(crate) mod selecting;
+pub(crate) mod tracing;
 pub(crate) mod writing;
 
 use crate::outcome::Outcome;

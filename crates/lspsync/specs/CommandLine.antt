@@ -71,12 +71,17 @@ uri_rule = text_rule (codes "uri")
 abbrev pub part_rules : List Rule
 part_rules = at_rule ∷ uri_rule ∷ []
 
+-- The options of `trace` that say what it writes of each record.
+abbrev pub detail_rules : List Rule
+detail_rules = flag_rule (codes "texts") ∷ flag_rule (codes "bodies") ∷ []
+
 -- The program: its commands, with their options.
 abbrev pub program_app : Choices → Choices → App
 program_app encodings kinds = record {
   top = record (new_shape (codes "lspsync")) { is_leaf = false; subcommand_required = true };
   subs = command_shape (codes "serve") (encoding_rule encodings ∷ sync_rule kinds ∷ [])
       ∷ command_shape (codes "check") (encoding_rule encodings ∷ [])
+      ∷ command_shape (codes "trace") (encoding_rule encodings ∷ detail_rules)
       ∷ command_shape (codes "replay") (encoding_rule encodings ∷ part_rules)
       ∷ command_shape (codes "normalise") (encoding_rule encodings ∷ writing_rules)
       ∷ command_shape (codes "convert") (encoding_rule encodings ∷ []) ∷ [];

@@ -6,20 +6,22 @@ ghost use Rattle.clap.specs.Words.{app_of, rule_of, with_subcommand};
 ghost use Rattle.clap.specs.declared.builder.value_parser.ValueParser.TheVariants.{Names};
 ghost use Rattle.lspsync.specs.CommandLine.{IsProgram, encoding_rule, flag_rule, limit_rules};
 ghost use Rattle.lspsync.specs.CommandLine.{option_rule, part_rules, sync_rule, writing_rules};
-ghost use Rattle.lspsync.specs.CommandLine.{at_rule, uri_rule};
+ghost use Rattle.lspsync.specs.CommandLine.{at_rule, detail_rules, uri_rule};
 ghost use Rattle.lspsync.specs.Help.{own_rules, rule_of_limit, rules_of_limits};
 ghost use Rattle.lspsync.specs.inside.Options.{AddsRules, IsCommand, shape_by, top_app};
-ghost use Rattle.lspsync.specs.Call.{AreLimits, AreSettings, HasNumber, IsCallNamed, IsConfig, IsLogPart, is_whole};
+ghost use Rattle.lspsync.specs.Call.{AreDetails, AreLimits, AreSettings, HasNumber, IsCallNamed, IsConfig, IsLogPart, is_whole};
 ghost use Rattle.lspsync.specs.Call.{IsFound, IsRead, encoding_given, sync_given};
 ghost use Rattle.lsp_frame.specs.Limits.{Bounds};
 
 mod help;
 
-use crate::command_line::help::{Limit, LimitOptions, OwnHelp, Page, PartHelp, WritingHelp};
+use crate::command_line::help::{
+    DetailHelp, Limit, LimitOptions, OwnHelp, Page, PartHelp, WritingHelp,
+};
 use clap::builder::ValueParser;
 use clap::{Arg, ArgAction, ArgMatches, Command, Error};
 use lsp_frame::Limits;
-use lsp_replay::{Part, Settings};
+use lsp_replay::{Details, Part, Settings};
 use lsp_server::{Config, EncodingChoice, Sync};
 use lsp_text::Encoding;
 use std::alloc::{AllocError, Global};
@@ -31,6 +33,8 @@ pub enum Call {
     Serve(Config),
     /// `check`: print what a server answers to each record of a log.
     Check(Settings),
+    /// `trace`: print a line of JSON for each record of a log.
+    Trace(Settings, Details),
     /// `replay`: print the documents that are open at the end of a log.
     Replay(Settings),
     /// `replay --at N --uri URI`: print the documents after a record, or a document's last text.
@@ -89,6 +93,7 @@ fn other_call(name: &str, options: &ArgMatches<'_>) -> Option<Call>
     match name {
         "serve" => Some(Call::Serve(config_of(options)?)),
         "check" => Some(Call::Check(settings_of(options, false)?)),
+        "trace" => Some(Call::Trace(settings_of(options, false)?, details_of(options))),
         "normalise" => normalise_call(options),
         "convert" => Some(Call::Convert(settings_of(options, false)?)),
         _ => None,
@@ -146,6 +151,16 @@ fn part_of(alloc: Global, options: &ArgMatches<'_>) -> Result<Part, AllocError>
         None => None,
     };
     Ok(Part { at, uri })
+}
+
+/// What `trace` is to write of each record.
+fn details_of(options: &ArgMatches<'_>) -> Details
+    ensures { AreDetails options.now result }
+{
+    Details {
+        texts: options.get_flag("texts"),
+        bodies: options.get_flag("bodies"),
+    }
 }
 
 fn config_of(options: &ArgMatches<'_>) -> Option<Config>
@@ -248,6 +263,7 @@ fn program<'a>(alloc: Global, limits: &'a LimitOptions) -> Result<Command<'a>, A
     };
     let program = with_command(alloc, top(alloc), help::serve(), values)?;
     let program = with_command(alloc, program, help::check(), values)?;
+    let program = with_command(alloc, program, help::trace(), values)?;
     let program = with_command(alloc, program, help::replay(), values)?;
     let program = with_command(alloc, program, help::normalise(), values)?;
     with_command(alloc, program, help::convert(), values)
@@ -310,6 +326,7 @@ fn with_own<'a>(
     match own {
         OwnHelp::Nothing => Ok(command),
         OwnHelp::Sync(help) => with_sync(alloc, command, help, kinds),
+        OwnHelp::Details(help) => with_details(alloc, command, help),
         OwnHelp::Part(help) => with_part(alloc, command, help),
         OwnHelp::Writing(help) => with_writing(alloc, command, help),
     }
@@ -351,6 +368,19 @@ fn with_part<'a>(
     command
         .arg(at_option(alloc, help.at))?
         .arg(uri_option(alloc, help.uri))
+}
+
+/// Adds `--texts` and `--bodies`.
+fn with_details<'a>(
+    alloc: Global,
+    command: Command<'a>,
+    help: DetailHelp,
+) -> Result<Command<'a>, AllocError>
+    ensures { IfOk result (AddsRules command.entry detail_rules) }
+{
+    command
+        .arg(flag(alloc, "texts", help.texts))?
+        .arg(flag(alloc, "bodies", help.bodies))
 }
 
 /// Adds the options that set limits.

@@ -7,6 +7,7 @@ mod logs;
 mod parts;
 mod sessions;
 mod streams;
+mod traces;
 
 use crate::run::run;
 use lsp_replay::{Call, StopReader, StopWriter, Told};

@@ -89,7 +89,8 @@ fn push_verdict_line(buffer: &mut Vec<u8>, number: u64, verdict: &Verdict) -> Re
     Ok(())
 }
 
-fn push_verdict(buffer: &mut Vec<u8>, verdict: &Verdict) -> Result<(), AllocError>
+/// Writes a record's word.
+pub fn push_verdict(buffer: &mut Vec<u8>, verdict: &Verdict) -> Result<(), AllocError>
     ensures { OnOk result
         (buffer.new.items ≡ buffer.old.items ++ verdict_word (verdict_view verdict.now)) }
 {

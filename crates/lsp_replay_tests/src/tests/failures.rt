@@ -25,13 +25,23 @@ static SERVED: [Case; 1] = [Case {
 }];
 
 /// The log commands over a log of version 1.
-static OVER_1: [Case; 5] = [
+static OVER_1: [Case; 6] = [
     Case {
         command: Command::Check,
         input: Bytes::Frames(WORKED),
         output: Bytes::Plain(CHECK_1),
         end: Ended(0, 3, 0),
         records: &[(172, 8), (340, 18), (506, 28)],
+        flushes: &[],
+        reads: &[],
+        order: b"RWWWR",
+    },
+    Case {
+        command: Command::Trace,
+        input: Bytes::Frames(WORKED),
+        output: Bytes::Plain(TRACED),
+        end: Ended(0, 3, 0),
+        records: &[(172, 84), (340, 218), (506, 584)],
         flushes: &[],
         reads: &[],
         order: b"RWWWR",

@@ -173,6 +173,27 @@ fn refused_replay_part(rt: HostRuntime) -> Result<(), Fail> {
     Ok(())
 }
 
+/// The document is opened, and opened again.
+static OPENED_TWICE: Wanted = Wanted {
+    command: Command::Trace,
+    input: Bytes::Frames(&[SHORT, OPEN, OPEN]),
+    parts: &[
+        "{\"number\":1,\"offset\":0,\"from\":\"editor\",\"method\":\"initialize\",\"id\":1,\"word\":\"reply\"}\n",
+        "{\"number\":2,\"offset\":80,\"from\":\"editor\",\"method\":\"textDocument/didOpen\",\"uri\":\"file:///a\",\"word\":\"changed\",\"version\":1,\"text\":\"abc\"}\n",
+        "{\"number\":3,\"offset\":248,\"from\":\"editor\",\"method\":\"textDocument/didOpen\",\"uri\":\"file:///a\",\"word\":\"refused S1\",\"reason\":\"the document is open already\",\"last\":2,\"version\":1}\n",
+    ],
+    lengths: &[84, 217, 390],
+    end: Ended(1, 3, 1),
+};
+
+#[test]
+fn refused_trace(rt: HostRuntime) -> Result<(), Fail> {
+    let refused = OPENED_TWICE.runs_again(rt.alloc())?;
+    assert!(rt; refused.is_some());
+    println!(rt; "refused {}", refused.unwrap_or(0))?;
+    Ok(())
+}
+
 /// The whole of an empty text is replaced by nothing, which is no change.
 static NORMALISED: Wanted = Wanted {
     command: Command::Normalise,

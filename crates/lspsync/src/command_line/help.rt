@@ -1,7 +1,7 @@
 //! The texts of help. They are in functions, so that proofs don't unfold them.
 
 ghost use Rattle.std.specs.Prelude.{◌≡◌, ◌∷◌, [], codes};
-ghost use Rattle.lspsync.specs.CommandLine.{limit_rules, part_rules, sync_rule, writing_rules};
+ghost use Rattle.lspsync.specs.CommandLine.{detail_rules, limit_rules, part_rules, sync_rule, writing_rules};
 ghost use Rattle.lspsync.specs.Help.{IsPage, rules_of_limits};
 
 use lsp_frame::Limits;
@@ -26,6 +26,8 @@ pub enum OwnHelp {
     Nothing,
     /// `--sync`.
     Sync(&'static str),
+    /// `--texts` and `--bodies`.
+    Details(DetailHelp),
     /// `--at` and `--uri`.
     Part(PartHelp),
     /// `--documents` and `--squash`.
@@ -37,6 +39,13 @@ pub enum OwnHelp {
 pub struct WritingHelp {
     pub documents: &'static str,
     pub squash: &'static str,
+}
+
+/// The help of the options that say what is written of each record.
+#[derive(Clone, Copy, Debug)]
+pub struct DetailHelp {
+    pub texts: &'static str,
+    pub bodies: &'static str,
 }
 
 /// The help of the options that name a part of a log.
@@ -83,6 +92,18 @@ pub fn check() -> Page
     ensures { IsPage result (codes "check") (λ _. []) }
 {
     log_page("check", CHECK, CHECK_EXAMPLE)
+}
+
+pub fn trace() -> Page
+    ensures { IsPage result (codes "trace") (λ _. detail_rules) }
+{
+    Page {
+        own: OwnHelp::Details(DetailHelp {
+            texts: TEXTS,
+            bodies: BODIES,
+        }),
+        ..log_page("trace", TRACE, TRACE_EXAMPLE)
+    }
 }
 
 pub fn replay() -> Page
@@ -210,6 +231,19 @@ what the server sent. The status is 1 where an error (other than -32601) or a re
 Example, a session with two changes that a server must refuse:
   ./lspsync check < examples/stale-version.log";
 
+static TRACE: &str =
+    "Print a line of JSON for each message of a log: what it is, what a server answers, and why";
+
+static TRACE_EXAMPLE: &str =
+    "A line has the record's `number` and `offset`, who it is `from`, its `method` and `id`, the document's
+`uri`, the `word` of `check`, the `reason` if it was refused and the `last` record that opened, closed
+or refused the document, the document's `version` after it, and the `canonical` message of an accepted
+change. The status is that of `check`.
+
+Example, and the refused messages alone where `jq` is there:
+  ./lspsync trace < examples/stale-version.log
+  ./lspsync trace < examples/stale-version.log | jq -c 'select(.reason)'";
+
 static REPLAY: &str =
     "Print the documents that are open at the end of a log, a line of JSON for each";
 
@@ -278,6 +312,10 @@ static SQUASH: &str =
 static AT: &str = "Replay up to the Nth message alone, from 1";
 
 static URI: &str = "Print this document's last text alone, as it is, also if it was closed";
+
+static TEXTS: &str = "Print the document's text too, where a message opened or changed it";
+
+static BODIES: &str = "Print each message too, where it is JSON";
 
 const MAX_BODY: &str = "Greatest length of a message, in bytes, from 4096 to 1073741824";
 

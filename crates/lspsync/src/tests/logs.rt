@@ -61,7 +61,7 @@ fn a_whole_session_ends_at_exit(rt: HostRuntime) -> Result<(), Fail> {
 }
 
 /// Options of `check`, a third message after `initialize` and the opening of `abc`, and its word.
-static THIRD: [(&str, &str, &str); 12] = [
+pub(super) static THIRD: [(&str, &str, &str); 12] = [
     ("--max-docs=2", "[", "error -32700"),
     ("--max-docs=2", "[]", "error -32600"),
     ("--max-docs=2", INITIALIZE, "error -32600"),
