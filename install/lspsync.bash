@@ -19,10 +19,11 @@ _lspsync() {
             words="--encoding --max-body --max-text --max-docs --max-changes --help"
             case $command in
                 serve) words="$words --sync" ;;
+                check) words="$words --explain" ;;
                 normalise) words="$words --documents --squash" ;;
                 trace) words="$words --texts --bodies" ;;
                 replay) words="$words --at --uri" ;;
-                check | convert) ;;
+                convert) ;;
                 help) words=$commands ;;
                 *) words="$commands --help" ;;
             esac

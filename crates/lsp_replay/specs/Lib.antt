@@ -11,4 +11,5 @@ pub mod Documents
 pub mod Mentions
 pub mod Reasons
 pub mod Trace
+pub mod Explained
 pub mod inside

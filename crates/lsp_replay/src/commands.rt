@@ -4,6 +4,7 @@
 pub(crate) mod checking;
 pub(crate) mod converting;
 pub(crate) mod documents;
+pub(crate) mod explaining;
 mod front;
 pub(crate) mod normalising;
 pub(crate) mod partial;

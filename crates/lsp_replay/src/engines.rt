@@ -13,6 +13,7 @@ ghost use Rattle.lsp_replay.specs.Run.{serve_engine, check_engine, replay_engine
 ghost use Rattle.lsp_replay.specs.inside.Run.{each_engine, squash_engine};
 
 mod documents;
+mod explained;
 mod parts;
 mod traced;
 
@@ -24,6 +25,7 @@ use crate::commands::serving::Serve;
 use crate::commands::squashing::Squashing;
 use crate::engine::{InputRules, run_engine, run_on};
 pub use crate::engines::documents::normalise_documents;
+pub use crate::engines::explained::explain;
 pub use crate::engines::parts::{Part, replay_part};
 pub use crate::engines::traced::{Details, trace};
 use crate::outcome::Outcome;

@@ -1,13 +1,14 @@
 //! The engines of the log commands and of a server: each runs from a reader to a writer, over a
 //! server's end. The streams (`lsp_stream`) are re-exported.
 //!
-//! - `engines`: `serve` and `serve_on`, `check`, `trace`, `replay` and `replay_part`, `normalise`
-//!   and `normalise_documents`, and `convert`.
+//! - `engines`: `serve` and `serve_on`, `check` and `explain`, `trace`, `replay` and `replay_part`,
+//!   `normalise` and `normalise_documents`, and `convert`.
 //! - `engine`: the one loop from a reader to a writer; a `handler` makes the output of each record
 //!   and of the end.
 //! - `session`: a server over the records of a log, and what is counted.
-//! - `commands`: the handlers, `serving`, `checking`, `tracing`, `replaying`, `partial` (of a part
-//!   of a log), `normalising`, `squashing`, `documents` (of records that stay) and `converting`.
+//! - `commands`: the handlers, `serving`, `checking`, `explaining`, `tracing`, `replaying`, `partial`
+//!   (of a part of a log), `normalising`, `squashing`, `documents` (of records that stay) and
+//!   `converting`.
 //! - `members`: what a line of JSON is put together from.
 //! - `mentions`: which record opened, closed or refused a document last.
 //! - `outcome`: the status and the counts at the end of a run.
@@ -25,8 +26,8 @@ mod outcome;
 mod session;
 
 pub use engines::{
-    Details, Part, Settings, check, convert, normalise, normalise_documents, replay, replay_part,
-    serve, serve_on, trace,
+    Details, Part, Settings, check, convert, explain, normalise, normalise_documents, replay,
+    replay_part, serve, serve_on, trace,
 };
 pub use laws::{documents_laws, log_laws};
 pub use lsp_stream::{Call, Duplex, EngineFault, Sink, Source, StopReader, StopWriter, Told};

@@ -98,7 +98,9 @@ pub record AreDetails (options : ArgMatches) (details : Details) : Type 0 where
 abbrev pub IsCallNamed : List ℕ → ArgMatches → Call → Type 0
 IsCallNamed name options (call.Serve config) = (name ≡ codes "serve") × IsConfig options config
 IsCallNamed name options (call.Check settings) = (name ≡ codes "check")
-    × AreSettings options settings
+    × AreSettings options settings × IsFlag options (codes "explain") false
+IsCallNamed name options (call.Explain settings) = (name ≡ codes "check")
+    × AreSettings options settings × IsFlag options (codes "explain") true
 IsCallNamed name options (call.Trace settings details) = (name ≡ codes "trace")
     × AreSettings options settings × AreDetails options details
 IsCallNamed name options (call.Replay settings) = (name ≡ codes "replay")

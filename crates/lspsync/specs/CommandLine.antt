@@ -56,6 +56,10 @@ encoding_rule encodings = option_rule (codes "encoding") (Names encodings) (code
 abbrev pub sync_rule : Choices → Rule
 sync_rule kinds = option_rule (codes "sync") (Names kinds) (codes "incremental")
 
+-- `--explain`: reasons too.
+abbrev pub explain_rule : Rule
+explain_rule = flag_rule (codes "explain")
+
 -- The options of `normalise` that say how a log is written.
 abbrev pub writing_rules : List Rule
 writing_rules = flag_rule (codes "documents") ∷ flag_rule (codes "squash") ∷ []
@@ -80,7 +84,7 @@ abbrev pub program_app : Choices → Choices → App
 program_app encodings kinds = record {
   top = record (new_shape (codes "lspsync")) { is_leaf = false; subcommand_required = true };
   subs = command_shape (codes "serve") (encoding_rule encodings ∷ sync_rule kinds ∷ [])
-      ∷ command_shape (codes "check") (encoding_rule encodings ∷ [])
+      ∷ command_shape (codes "check") (encoding_rule encodings ∷ explain_rule ∷ [])
       ∷ command_shape (codes "trace") (encoding_rule encodings ∷ detail_rules)
       ∷ command_shape (codes "replay") (encoding_rule encodings ∷ part_rules)
       ∷ command_shape (codes "normalise") (encoding_rule encodings ∷ writing_rules)

@@ -12,6 +12,7 @@ use Rattle.lsp_stream.specs.Turns.{Spends}
 use Rattle.lsp_replay.specs.declared.outcome.Outcome.{Outcome}
 use Rattle.lsp_replay.specs.declared.outcome.TheConstants.{NEVER_OPEN, NO_RECORD}
 use Rattle.lsp_replay.specs.Documents.{documents_engine}
+use Rattle.lsp_replay.specs.Explained.{explain_engine}
 use Rattle.lsp_replay.specs.Parts.{part_engine}
 use Rattle.lsp_replay.specs.Trace.{trace_engine}
 use Rattle.lsp_replay.specs.Run.{Engine, IsEngineRun, check_engine, convert_engine, normalise_engine, replay_engine, serve_engine}
@@ -36,6 +37,7 @@ status_of (BadLog place) = 5
 abbrev pub engine_of : Call → Engine
 engine_of (call.Serve config) = serve_engine config
 engine_of (call.Check settings) = check_engine settings
+engine_of (call.Explain settings) = explain_engine settings
 engine_of (call.Trace settings details) = trace_engine settings details
 engine_of (call.Replay settings) = replay_engine settings
 engine_of (call.ReplayPart settings part) = part_engine settings part

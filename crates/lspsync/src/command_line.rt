@@ -6,7 +6,7 @@ ghost use Rattle.clap.specs.Words.{app_of, rule_of, with_subcommand};
 ghost use Rattle.clap.specs.declared.builder.value_parser.ValueParser.TheVariants.{Names};
 ghost use Rattle.lspsync.specs.CommandLine.{IsProgram, encoding_rule, flag_rule, limit_rules};
 ghost use Rattle.lspsync.specs.CommandLine.{option_rule, part_rules, sync_rule, writing_rules};
-ghost use Rattle.lspsync.specs.CommandLine.{at_rule, detail_rules, uri_rule};
+ghost use Rattle.lspsync.specs.CommandLine.{at_rule, detail_rules, explain_rule, uri_rule};
 ghost use Rattle.lspsync.specs.Help.{own_rules, rule_of_limit, rules_of_limits};
 ghost use Rattle.lspsync.specs.inside.Options.{AddsRules, IsCommand, shape_by, top_app};
 ghost use Rattle.lspsync.specs.Call.{AreDetails, AreLimits, AreSettings, HasNumber, IsCallNamed, IsConfig, IsLogPart, is_whole};
@@ -33,6 +33,8 @@ pub enum Call {
     Serve(Config),
     /// `check`: print what a server answers to each record of a log.
     Check(Settings),
+    /// `check --explain`: print of each record why it was refused too, and what to do next.
+    Explain(Settings),
     /// `trace`: print a line of JSON for each record of a log.
     Trace(Settings, Details),
     /// `replay`: print the documents that are open at the end of a log.
@@ -92,12 +94,24 @@ fn other_call(name: &str, options: &ArgMatches<'_>) -> Option<Call>
 {
     match name {
         "serve" => Some(Call::Serve(config_of(options)?)),
-        "check" => Some(Call::Check(settings_of(options, false)?)),
+        "check" => check_call(options),
         "trace" => Some(Call::Trace(settings_of(options, false)?, details_of(options))),
         "normalise" => normalise_call(options),
         "convert" => Some(Call::Convert(settings_of(options, false)?)),
         _ => None,
     }
+}
+
+/// The call of `check`, with reasons or without.
+fn check_call(options: &ArgMatches<'_>) -> Option<Call>
+    ensures some { IfSome result (IsCallNamed (codes "check") options.now) }
+    ensures none { (call : Call) → IsCallNamed (codes "check") options.now call → IsSome result }
+{
+    let settings = settings_of(options, false)?;
+    if options.get_flag("explain") {
+        return Some(Call::Explain(settings));
+    }
+    Some(Call::Check(settings))
 }
 
 /// The call of `normalise`, of all messages or of those about the session and the texts.
@@ -326,6 +340,7 @@ fn with_own<'a>(
     match own {
         OwnHelp::Nothing => Ok(command),
         OwnHelp::Sync(help) => with_sync(alloc, command, help, kinds),
+        OwnHelp::Explain(help) => with_explain(alloc, command, help),
         OwnHelp::Details(help) => with_details(alloc, command, help),
         OwnHelp::Part(help) => with_part(alloc, command, help),
         OwnHelp::Writing(help) => with_writing(alloc, command, help),
@@ -368,6 +383,17 @@ fn with_part<'a>(
     command
         .arg(at_option(alloc, help.at))?
         .arg(uri_option(alloc, help.uri))
+}
+
+/// Adds `--explain`.
+fn with_explain<'a>(
+    alloc: Global,
+    command: Command<'a>,
+    help: &'a str,
+) -> Result<Command<'a>, AllocError>
+    ensures { IfOk result (AddsRules command.entry (explain_rule ∷ [])) }
+{
+    command.arg(flag(alloc, "explain", help))
 }
 
 /// Adds `--texts` and `--bodies`.

@@ -163,6 +163,9 @@ fn obey<R: Source, W: Sink>(
     match call {
         Call::Serve(config) => serve(alloc, input, output, config, MAX_TURNS),
         Call::Check(settings) => check(alloc, input, output, settings, MAX_TURNS),
+        Call::Explain(settings) => {
+            lsp_replay::explain(alloc, input, output, settings, MAX_TURNS)
+        }
         Call::Trace(settings, details) => {
             trace(alloc, input, output, settings, details, MAX_TURNS)
         }

@@ -2,6 +2,7 @@
 
 mod command_line;
 mod converted;
+mod explained;
 mod faults;
 mod logs;
 mod parts;

@@ -220,7 +220,7 @@ fn is_mention(is_change: bool, verdict: &Verdict) -> bool
 }
 
 /// The parameters of a `didChange`, if they are valid.
-fn change_in(incoming: &Incoming) -> Option<&ChangeParams>
+pub fn change_in(incoming: &Incoming) -> Option<&ChangeParams>
     ensures { option_map (λ p. change_view p.now) result ≡ change_in (incoming_view incoming.now) }
 {
     match incoming {

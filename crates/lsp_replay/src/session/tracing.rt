@@ -219,7 +219,7 @@ fn id_of(incoming: &Incoming) -> Option<&Id>
 }
 
 /// The URI in valid parameters of an editor's message about a document.
-fn uri_of(side: Side, incoming: &Incoming) -> Option<&str>
+pub fn uri_of(side: Side, incoming: &Incoming) -> Option<&str>
     ensures { option_map (λ uri. uri.now) result ≡ uri_of side (incoming_view incoming.now) }
 {
     match (side, incoming) {

@@ -1,7 +1,7 @@
 //! The texts of help. They are in functions, so that proofs don't unfold them.
 
 ghost use Rattle.std.specs.Prelude.{◌≡◌, ◌∷◌, [], codes};
-ghost use Rattle.lspsync.specs.CommandLine.{detail_rules, limit_rules, part_rules, sync_rule, writing_rules};
+ghost use Rattle.lspsync.specs.CommandLine.{detail_rules, explain_rule, limit_rules, part_rules, sync_rule, writing_rules};
 ghost use Rattle.lspsync.specs.Help.{IsPage, rules_of_limits};
 
 use lsp_frame::Limits;
@@ -26,6 +26,8 @@ pub enum OwnHelp {
     Nothing,
     /// `--sync`.
     Sync(&'static str),
+    /// `--explain`.
+    Explain(&'static str),
     /// `--texts` and `--bodies`.
     Details(DetailHelp),
     /// `--at` and `--uri`.
@@ -89,9 +91,12 @@ pub fn serve() -> Page
 }
 
 pub fn check() -> Page
-    ensures { IsPage result (codes "check") (λ _. []) }
+    ensures { IsPage result (codes "check") (λ _. explain_rule ∷ []) }
 {
-    log_page("check", CHECK, CHECK_EXAMPLE)
+    Page {
+        own: OwnHelp::Explain(EXPLAIN),
+        ..log_page("check", CHECK, CHECK_EXAMPLE)
+    }
 }
 
 pub fn trace() -> Page
@@ -228,8 +233,12 @@ static CHECK_EXAMPLE: &str =
 `dropped`, `ignored` or `refused CAUSE` for a notification, `exit 0` or `exit 1`, and `server` for
 what the server sent. The status is 1 where an error (other than -32601) or a refusal is among them.
 
+With `--explain` a line of an error, a refusal or `exit 1` also has the document and the reason, and a
+last line says what to do next.
+
 Example, a session with two changes that a server must refuse:
-  ./lspsync check < examples/stale-version.log";
+  ./lspsync check < examples/stale-version.log
+  ./lspsync check --explain < examples/stale-version.log";
 
 static TRACE: &str =
     "Print a line of JSON for each message of a log: what it is, what a server answers, and why";
@@ -312,6 +321,8 @@ static SQUASH: &str =
 static AT: &str = "Replay up to the Nth message alone, from 1";
 
 static URI: &str = "Print this document's last text alone, as it is, also if it was closed";
+
+static EXPLAIN: &str = "Print why a message was refused too, and at the end what to do next";
 
 static TEXTS: &str = "Print the document's text too, where a message opened or changed it";
 

@@ -7,7 +7,7 @@ use lsp_server::Config;
 use std::str;
 use std::test::Fail;
 
-static WRONG: [&[&str]; 36] = [
+static WRONG: [&[&str]; 43] = [
     &["lspsync"],
     &["lspsync", "rewrite"],
     &["lspsync", "--max-body", "4096", "check"],
@@ -19,6 +19,13 @@ static WRONG: [&[&str]; 36] = [
     &["lspsync", "normalise", "--documents", "--documents"],
     &["lspsync", "normalise", "--documents=yes"],
     &["lspsync", "replay", "--documents"],
+    &["lspsync", "check", "--explain", "--explain"],
+    &["lspsync", "check", "--explain=yes"],
+    &["lspsync", "trace", "--explain"],
+    &["lspsync", "trace", "--texts", "--texts"],
+    &["lspsync", "trace", "--bodies", "--bodies"],
+    &["lspsync", "trace", "--bodies=yes"],
+    &["lspsync", "check", "--texts"],
     &["lspsync", "serve", "--squash"],
     &["lspsync", "check", "--squash"],
     &["lspsync", "replay", "--squash"],
@@ -67,7 +74,7 @@ fn a_wrong_command_line_has_a_text_and_status_2(rt: HostRuntime) -> Result<(), F
     Ok(())
 }
 
-static COMMANDS: [&str; 5] = ["serve", "check", "replay", "normalise", "convert"];
+static COMMANDS: [&str; 6] = ["serve", "check", "trace", "replay", "normalise", "convert"];
 
 /// An option, its least value, and the greatest one.
 static ENDS: [(&str, &str, &str); 5] = [
@@ -128,6 +135,8 @@ fn a_call_without_options_has_the_defaults(rt: HostRuntime) -> Result<(), Fail> 
     let documents = command_line::Call::NormaliseDocuments(Settings::default());
     let words = ["lspsync", "normalise", "--documents"];
     assert!(rt; is_call(rt.alloc(), &words, documents));
+    let explain = command_line::Call::Explain(Settings::default());
+    assert!(rt; is_call(rt.alloc(), &["lspsync", "check", "--explain"], explain));
     let check = command_line::Call::Check(Settings::default());
     assert!(rt; is_call(rt.alloc(), &["lspsync", "check"], check));
     Ok(())
