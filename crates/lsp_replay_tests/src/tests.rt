@@ -16,7 +16,8 @@ mod words;
 use lsp_frame::{Limits, frame};
 use lsp_replay::{
     Call, Details, EngineFault, Outcome, Part, Settings, Sink, Source, StopReader, StopWriter,
-    Told, check, convert, normalise, normalise_documents, replay, replay_part, serve, trace,
+    Told, check, convert, explain, normalise, normalise_documents, replay, replay_part, serve,
+    trace,
 };
 use lsp_server::{Config, EncodingChoice, Sync};
 use lsp_text::Encoding;
@@ -85,6 +86,10 @@ const NORMAL_CONVERTED: &[(&str, &str)] = &[
 /// The output of `check` for [`WORKED`].
 const CHECK_1: &[u8] = b"1 reply\n2 changed\n3 changed\n";
 
+/// The same with reasons.
+const EXPLAINED: &[u8] =
+    b"1 reply\n2 changed\n3 changed\nNothing was refused. Compare `lspsync replay --uri URI` with the editor's text.\n";
+
 /// The output of `check` for [`CONVERTED`].
 const CHECK_2: &[u8] = b"1 reply\n2 server\n3 changed\n4 changed\n";
 
@@ -117,6 +122,8 @@ enum Command {
     Text(Option<u64>),
     /// `trace` with the texts.
     Trace,
+    /// `check` with reasons.
+    Explain,
 }
 
 /// Some bytes of a row.
@@ -245,6 +252,7 @@ fn call<R: Source, W: Sink>(
             let uri = Some(String::from_str(alloc, "file:///a")?);
             replay_part(alloc, from, to, settings, Part { at, uri }, turns)
         }
+        Command::Explain => explain(alloc, from, to, settings, turns),
         Command::Trace => {
             let details = Details {
                 texts: true,

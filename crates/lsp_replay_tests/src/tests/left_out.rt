@@ -4,7 +4,7 @@ use super::squashed::{BOTH, SAVE, TYPED};
 use super::*;
 
 /// A request that no server of documents knows, and the answer of one that does.
-const HOVER: &str =
+pub(super) const HOVER: &str =
     r#"{"id":3,"jsonrpc":"2.0","method":"textDocument/hover","params":{"position":{"character":1,"line":0},"textDocument":{"uri":"file:///a"}}}"#;
 
 const HOVERED: &str = r#"{"id":3,"jsonrpc":"2.0","result":null}"#;
