@@ -83,7 +83,7 @@ static OVER_1: [Case; 8] = [
         input: Bytes::Frames(&[INITIALIZE, OPEN, HOVER, WHOLE]),
         output: Bytes::Frames(NORMAL),
         end: Ended(0, 3, 0),
-        records: &[(172, 172), (340, 340), (499, 340), (665, 580)],
+        records: &[(172, 172), (340, 340), (665, 580)],
         flushes: &[],
         reads: &[],
         order: b"RWWWR",
