@@ -10,6 +10,11 @@ pub on_ok : {A E P Q : Type 0} (r : Result A E) → (P → Q) → OnOk r P → O
 on_ok (Ok a) then p = then p
 on_ok (Err e) then p = tt
 
+-- a name and a value, as they are written one after the other
+pub one_member : {A E : Type 0} (r : Result A E) (new old front value : List ℕ) → OnOk r (new ≡ (old ++ front) ++ value) → OnOk r (new ≡ old ++ (front ++ value))
+one_member (Ok a) new old front value is = is ∙ append_assoc old front value
+one_member (Err e) new old front value is = tt
+
 -- ---- the first members
 
 first_parts : (old a d b p c s q m i u : List ℕ) → old ++ a ++ d ++ b ++ p ++ c ++ s ++ q ++ m ++ i ++ u ≡ old ++ (a ++ d ++ b ++ p ++ c ++ s ++ q ++ m ++ i ++ u)

@@ -32,19 +32,21 @@ differs uri other entry differ same = ap (bytes_eq uri) (sym ((bytes_eq-Decides 
 
 same_changed : (units : ℕ → ℕ) (table : List DocumentItem) (other : List ℕ) (version : ℤ) (batch : List Edit) (uri : List ℕ) → bytes_eq uri other ≡ false → entry_at (after_change units table other version batch) uri ≡ entry_at table uri
 same_changed units [] other version batch uri differ = refl
-same_changed units (x ∷ table) other version batch uri differ = by (bytes_eq other x.uri) refl
+same_changed units (x ∷ table) other version batch uri differ = by (same_changed units table other version batch uri differ) (bytes_eq other x.uri) refl
   where
-    by : (b : Bool) → bytes_eq other x.uri ≡ b → entry_at (if b then changed units x version batch ∷ table else x ∷ after_change units table other version batch) uri ≡ entry_at (x ∷ table) uri
-    by true same = rw (differs uri other x.uri differ same) refl
-    by false same = ap (λ (found : Option DocumentItem). if bytes_eq uri x.uri then Some x else found) (same_changed units table other version batch uri differ)
+    by : entry_at (after_change units table other version batch) uri ≡ entry_at table uri
+        → (b : Bool) → bytes_eq other x.uri ≡ b → entry_at (if b then changed units x version batch ∷ table else x ∷ after_change units table other version batch) uri ≡ entry_at (x ∷ table) uri
+    by later true same = rw (differs uri other x.uri differ same) refl
+    by later false same = ap (λ (found : Option DocumentItem). if bytes_eq uri x.uri then Some x else found) later
 
 same_closed : (table : List DocumentItem) (other uri : List ℕ) → bytes_eq uri other ≡ false → entry_at (after_close table other) uri ≡ entry_at table uri
 same_closed [] other uri differ = refl
-same_closed (x ∷ table) other uri differ = by (bytes_eq other x.uri) refl
+same_closed (x ∷ table) other uri differ = by (same_closed table other uri differ) (bytes_eq other x.uri) refl
   where
-    by : (b : Bool) → bytes_eq other x.uri ≡ b → entry_at (if b then table else x ∷ after_close table other) uri ≡ entry_at (x ∷ table) uri
-    by true same = rw (differs uri other x.uri differ same) refl
-    by false same = ap (λ (found : Option DocumentItem). if bytes_eq uri x.uri then Some x else found) (same_closed table other uri differ)
+    by : entry_at (after_close table other) uri ≡ entry_at table uri
+        → (b : Bool) → bytes_eq other x.uri ≡ b → entry_at (if b then table else x ∷ after_close table other) uri ≡ entry_at (x ∷ table) uri
+    by later true same = rw (differs uri other x.uri differ same) refl
+    by later false same = ap (λ (found : Option DocumentItem). if bytes_eq uri x.uri then Some x else found) later
 
 -- ---- a step
 

@@ -110,11 +110,8 @@ fn push_change_limit(buffer: &mut Vec<u8>, limit: usize) -> Result<(), AllocErro
         ++ codes "there are more changes than --max-changes allows, " ++ decimal limit
         ++ codes ", or their texts have more than 1 GiB") }
 {
-    push_limit(
-        buffer,
-        "there are more changes than --max-changes allows, ",
-        limit,
-    )?;
+    buffer.extend_from_slice(b"there are more changes than --max-changes allows, ")?;
+    push_number(buffer, limit as u64)?;
     push_words(buffer, ", or their texts have more than 1 GiB")
 }
 

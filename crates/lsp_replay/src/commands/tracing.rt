@@ -1,6 +1,7 @@
 //! `trace`: a line of JSON for each record of a log.
 
-ghost use Rattle.std.specs.Prelude.{◌≡◌, ◌++◌, [], refl, OnOk, codes, false, option_map, string_bytes};
+ghost use Rattle.std.specs.Prelude.{◌≡◌, ◌&&◌, ◌++◌, [], refl, OnOk, codes, false, option_map, string_bytes};
+ghost use Rattle.std.specs.Fmt.{signed_decimal};
 ghost use Rattle.lsp_message.specs.Message.{reading};
 ghost use Rattle.lsp_message.specs.Seen.{change_view};
 ghost use Rattle.lsp_server.specs.Incoming.{incoming_of};
@@ -69,19 +70,15 @@ impl Trace {
             (incoming_of (reading body.now)) traced.now self.now.canonical.items body.now) }
     {
         let document = self.document_after(&traced.uri);
-        let is_changed = is_changed(&traced.verdict);
+        let has_text = self.has_text(&traced.verdict);
+        let has_body = self.has_body(traced.is_json);
         push_word(buffer, &traced.verdict)?;
         self.push_why(buffer, body, &traced.verdict)?;
         self.push_mention(buffer, &traced.uri, &traced.verdict)?;
         push_version(buffer, &document)?;
         push_canonical(buffer, traced.canonical, &self.canonical)?;
-        push_text(
-            self.alloc,
-            buffer,
-            self.details.texts && is_changed,
-            &document,
-        )?;
-        push_body(buffer, self.details.bodies && traced.is_json, body)?;
+        push_text(self.alloc, buffer, has_text, &document)?;
+        push_body(buffer, has_body, body)?;
         push_words(buffer, "}\n")
     }
 
@@ -133,6 +130,21 @@ impl Trace {
         };
         buffer.extend_from_slice(b",\"last\":")?;
         push_number(buffer, number)
+    }
+
+    /// Has the last record's line the document's text, if the document is open?
+    fn has_text(&self, verdict: &Verdict) -> bool
+        ensures { result
+            ≡ (self.now.details.texts && is_changed (verdict_view verdict.now)) }
+    {
+        self.details.texts && is_changed(verdict)
+    }
+
+    /// Has the last record's line its body?
+    fn has_body(&self, is_json: bool) -> bool
+        ensures { result ≡ (self.now.details.bodies && is_json) }
+    {
+        self.details.bodies && is_json
     }
 
     /// The document with this URI, if it is open.
@@ -244,11 +256,19 @@ fn push_version(buffer: &mut Vec<u8>, document: &Option<Document<'_>>) -> Result
     ensures { OnOk result (buffer.new.items ≡ buffer.old.items
         ++ member (codes ",\"version\":") (version_json document.now)) }
 {
-    let Some(document) = document else {
-        return Ok(());
-    };
+    match document {
+        Some(document) => push_current(buffer, document.version()),
+        None => Ok(()),
+    }
+}
+
+/// Writes the member `version`.
+fn push_current(buffer: &mut Vec<u8>, version: i32) -> Result<(), AllocError>
+    ensures { OnOk result (buffer.new.items ≡ buffer.old.items
+        ++ codes ",\"version\":" ++ signed_decimal version) }
+{
     buffer.extend_from_slice(b",\"version\":")?;
-    push_signed(buffer, i64::from(document.version()))
+    push_signed(buffer, i64::from(version))
 }
 
 /// Writes the canonical message, if its body was appended.
@@ -261,12 +281,18 @@ fn push_canonical(
         ++ member (codes ",\"canonical\":") (canonical_json appended canonical.now)) }
 {
     match appended {
-        Some(Appended::Body) => {
-            buffer.extend_from_slice(b",\"canonical\":")?;
-            buffer.extend_from_slice(canonical)
-        }
+        Some(Appended::Body) => push_message(buffer, canonical),
         Some(Appended::TooLong) | None => Ok(()),
     }
+}
+
+/// Writes the member `canonical`.
+fn push_message(buffer: &mut Vec<u8>, canonical: &[u8]) -> Result<(), AllocError>
+    ensures { OnOk result (buffer.new.items ≡ buffer.old.items
+        ++ codes ",\"canonical\":" ++ canonical.now) }
+{
+    buffer.extend_from_slice(b",\"canonical\":")?;
+    buffer.extend_from_slice(canonical)
 }
 
 /// Writes the text of an open document, if it is asked for.

@@ -1,6 +1,6 @@
 //! `normalise` of the records that are about the session and the documents' texts.
 
-ghost use Rattle.std.specs.Prelude.{◌≡◌};
+ghost use Rattle.std.specs.Prelude.{◌≡◌, false, true};
 ghost use Rattle.lsp_stream.specs.Ports.{ports};
 ghost use Rattle.lsp_replay.specs.Documents.{WritesDocuments, documents_engine};
 ghost use Rattle.lsp_replay.specs.Run.{IsEngineRun};

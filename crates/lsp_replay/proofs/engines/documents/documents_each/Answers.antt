@@ -1,11 +1,8 @@
-use Rattle.std.proofs.Common.{◌≡◌, Option, List, ℕ, refl, false}
-use Rattle.lsp_log.specs.Log.{Record}
+use Rattle.std.proofs.Common.{refl}
 use Rattle.lsp_replay.specs.Documents.{nothing_selected}
-use Rattle.lsp_replay.specs.Engine.{Ran}
-use Rattle.lsp_replay.specs.Engines.{as_log, log_config}
-use Rattle.lsp_replay.specs.RunOutput.{RunOutput}
+use Rattle.lsp_replay.specs.Engines.{log_config}
 use Rattle.lsp_replay.specs.Session.{opened}
-use Rattle.lsp_replay.proofs.DocumentsLawLemmas.{as_each, wrote_documents}
+use Rattle.lsp_replay.proofs.DocumentsLawLemmas.{wrote_each}
 use Rattle.lsp_replay.proofs.DocumentsLemmas.{run_of_each_kept}
 use Rattle.lsp_replay.proofs.engines.documents.documents_each.Goals as goal
 
@@ -19,5 +16,4 @@ returns-clause-run g c =
 pub returns-clause-documents : goal.returns-clause-documents
 returns-clause-documents g c = λ squash.
     let run = returns-clause-run g c in
-    wrote_documents c.args.settings c.config.ensures.in_range _ _ _ _ _ c.run_engine.result
-    (as_each c.args.settings squash (λ (f : List Record → RunOutput). Ran (as_log c.args.settings) f _ _ _ _ _ c.run_engine.result) run.ran)
+    wrote_each c.args.settings c.config.ensures.in_range _ _ _ _ _ c.run_engine.result squash run.ran
