@@ -5,7 +5,7 @@ ghost use Rattle.std.specs.Result.{result_ok};
 ghost use Rattle.std.specs.Str.{IsCharBoundary, IsUtf8, chars};
 ghost use Rattle.lsp_text.specs.Text.{place_of};
 ghost use Rattle.lsp_text.specs.TextLines.{line_ends};
-ghost use Rattle.lsp_text.specs.LineStarts.{IsPlace};
+ghost use Rattle.lsp_text.specs.LineStarts.{Indexes, IsPlace};
 ghost use Rattle.lsp_text.specs.Units.{units_in};
 ghost use Rattle.lsp_text.specs.Positions.{exact_position, denoted};
 ghost use Rattle.lsp_buffer.specs.Blocks.{head_of, head_after};
@@ -41,6 +41,14 @@ impl Block {
     {
         let lines = Lines::new(alloc, &text)?;
         Ok(Block { text, lines })
+    }
+
+    /// Takes a text with its lines.
+    pub fn with_lines(text: String, lines: Lines) -> Self
+        requires { Indexes lines (string_bytes text) }
+        ensures { result ≡ string_bytes text }
+    {
+        Block { text, lines }
     }
 
     /// Copies a text and finds its lines. Fails only if it is out of memory.

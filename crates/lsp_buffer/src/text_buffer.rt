@@ -1,12 +1,12 @@
 //! `TextBuffer`, a text in blocks.
 ghost use Rattle.std.specs.Prelude.{◌≡◌, ◌+◌, ◌-◌, ◌≤◌, ◌<◌, ◌↔◌, ◌++◌, ℕ, List, Some, IsTrue, IfOk, IfSome};
-ghost use Rattle.std.specs.Prelude.{IfNone, OnOk, OnErr, OnSome, length, take, drop, option_map, string_bytes, string_len};
+ghost use Rattle.std.specs.Prelude.{IfNone, OnOk, OnErr, OnSome, length, take, drop, min, option_map, string_bytes, string_len};
 ghost use Rattle.std.specs.List.{concat, replace_range, slice_range};
 ghost use Rattle.std.specs.Result.{result_ok};
 ghost use Rattle.std.specs.Str.{IsCharBoundary, IsUtf8, chars};
 ghost use Rattle.lsp_text.specs.Text.{place_of};
 ghost use Rattle.lsp_text.specs.TextLines.{line_ends, line_start, line_stop};
-ghost use Rattle.lsp_text.specs.LineStarts.{IsPlace};
+ghost use Rattle.lsp_text.specs.LineStarts.{Indexes, IsPlace};
 ghost use Rattle.lsp_text.specs.Units.{units_in};
 ghost use Rattle.lsp_text.specs.Positions.{exact_position, denoted};
 ghost use Rattle.lsp_buffer.specs.Contents.{IsContentOf};
@@ -20,7 +20,7 @@ use crate::heads::Heads;
 use crate::seams::{block_at, position_after, position_from};
 use crate::sums::{block_of, push_lines, push_starts};
 use crate::text_buffer::change::{fits, joins, replace_across, replace_inside, replace_joined};
-use lsp_text::{Encoding, InsideCharacter, Position};
+use lsp_text::{Encoding, InsideCharacter, Lines, Position};
 use std::alloc::{AllocError, Global};
 use std::fmt;
 use std::marker::Model;
@@ -61,8 +61,18 @@ impl TextBuffer {
         requires { string_len text ≤ 2147483648 }
         ensures { IfOk result (λ buffer. buffer ≡ string_bytes text) }
     {
+        let lines = Lines::new(alloc, &text)?;
+        TextBuffer::with_lines(alloc, text, lines)
+    }
+
+    /// Takes a text and its lines, without a copy. Fails only if it is out of memory. Costs three
+    /// binary searches, and the text's last line.
+    pub fn with_lines(alloc: Global, text: String, lines: Lines) -> Result<Self, AllocError>
+        requires { Indexes lines (string_bytes text) }
+        ensures { IfOk result (λ buffer. buffer ≡ string_bytes text) }
+    {
         let mut blocks = Vec::with_capacity(alloc, 1)?;
-        blocks.push(Block::new(alloc, text)?)?;
+        blocks.push(Block::with_lines(text, lines))?;
         TextBuffer::of_blocks(alloc, blocks)
     }
 
@@ -110,6 +120,11 @@ impl TextBuffer {
             lines,
             heads,
         })
+    }
+
+    /// Returns what the text takes its memory of.
+    pub fn allocator(&self) -> &Global {
+        self.blocks.allocator()
     }
 
     /// Returns how many bytes the text has. In constant time.
@@ -245,7 +260,7 @@ impl TextBuffer {
     }
 
     /// Returns the part of the text from `offset` to `end`, or to the end of the chunk before it.
-    fn chunk_to(&self, offset: usize, end: usize) -> &str
+    pub fn chunk_to(&self, offset: usize, end: usize) -> &str
         requires order { offset ≤ end }
         requires at_offset { IsCharBoundary self.now offset }
         requires at_end { IsCharBoundary self.now end }
@@ -311,6 +326,27 @@ impl TextBuffer {
         are_text(&self.blocks, text.as_bytes())
     }
 
+    /// Copies the bytes from `start` on, as many as `out` has room for, and returns how many.
+    pub fn copy_to(&self, start: usize, out: &mut [u8]) -> usize
+        requires { start ≤ length self.now }
+        ensures count { result ≡ min (length out.old) (length self.now - start) }
+        ensures bytes { out.new ≡ take result (drop start self.now) ++ drop result out.old }
+    {
+        let mut copied = 0;
+        let mut skipped = start;
+        for block in &self.blocks {
+            let bytes = block.text().as_bytes();
+            if skipped >= bytes.len() {
+                skipped -= bytes.len();
+                continue;
+            }
+            let (_, rest) = bytes.split_at(skipped);
+            copied += copy_front(rest, &mut out[copied..]);
+            skipped = 0;
+        }
+        copied
+    }
+
     /// Copies the text into one string. Fails only if it is out of memory. Linear in the text.
     pub fn to_string(&self, alloc: Global) -> Result<String, AllocError>
         ensures { IfOk result (λ text. string_bytes text ≡ self.now) }
@@ -347,6 +383,16 @@ impl TextBuffer {
             replace_across(blocks, starts, lines, heads, first, last, start, end, new)
         }
     }
+}
+
+/// Copies the first bytes, as many as `out` has room for, and returns how many.
+fn copy_front(bytes: &[u8], out: &mut [u8]) -> usize
+    ensures count { result ≡ min (length bytes.now) (length out.old) }
+    ensures bytes { out.new ≡ take result bytes.now ++ drop result out.old }
+{
+    let len = bytes.len().min(out.len());
+    out[..len].copy_from_slice(&bytes[..len]);
+    len
 }
 
 impl fmt::Display for TextBuffer {

@@ -15,7 +15,6 @@ ghost use Rattle.lsp_edit.specs.Indexed.{IsCanonicalBatch, alone, text_fault_of,
 ghost use Rattle.lsp_edit.specs.TextEdits.{IsBatchOfEdits, IsEditsFault};
 
 pub(crate) mod draft;
-pub(crate) mod in_place;
 
 use crate::change::{Change, MAX_NEW_TEXT};
 use crate::composed::{MAX_OLD_TEXT, compose_old};
@@ -23,14 +22,14 @@ use crate::delta::Delta;
 use crate::ends::ends;
 use crate::fault::EditFault;
 use crate::indexed::draft::Draft;
-use crate::indexed::in_place::put_in_place;
 use crate::joined::delta::Delta as Layer;
 use crate::joined::{Joined, RUN};
 use crate::old_text::OldText;
 use crate::pieces::canonical::canonical_of;
 use crate::pieces::{MAX_TEXT, Pieces};
 use crate::text_edits::{TextEdit, TextEditFault, spans_of_edits};
-use lsp_text::{Encoding, Lines, Range};
+use lsp_buffer::TextBuffer;
+use lsp_text::{Encoding, Range};
 use std::alloc::{AllocError, Global};
 use std::marker::Model;
 use thiserror::Error;
@@ -69,23 +68,19 @@ impl From<AllocError> for TextFault {
     }
 }
 
-/// A text with its lines, so that a change needs no search for them. Clauses see the bytes of the
+/// A text in blocks with their lines, so that a change costs its block. Clauses see the bytes of the
 /// text.
 #[derive(Debug, Drop)]
 pub struct IndexedText {
-    text: String,
-    lines: Lines,
+    text: TextBuffer,
 }
 
 impl Model for IndexedText {
-    ghost use Rattle.std.specs.Prelude.{ℕ, List, string_bytes};
-    ghost use Rattle.lsp_text.specs.LineStarts.{Indexes};
+    ghost use Rattle.std.specs.Prelude.{ℕ, List};
 
     ghost Value = { List ℕ };
 
-    ghost view = { λ kept. string_bytes kept.text };
-
-    ghost invariant = { λ kept. Indexes kept.lines (string_bytes kept.text) };
+    ghost view = { λ kept. kept.text };
 }
 
 impl IndexedText {
@@ -95,22 +90,15 @@ impl IndexedText {
         requires { string_len text ≤ MAX_TEXT }
         ensures { IfOk result (λ kept. kept ≡ string_bytes text) }
     {
-        let lines = Lines::new(alloc, &text)?;
-        Ok(IndexedText { text, lines })
+        let text = TextBuffer::new(alloc, text)?;
+        Ok(IndexedText { text })
     }
 
     /// Returns the text.
-    pub fn text(&self) -> &str
+    pub fn text(&self) -> &TextBuffer
         ensures { result.now ≡ self.now }
     {
         &self.text
-    }
-
-    /// Returns the lines of the text.
-    pub fn lines(&self) -> &Lines
-        ensures { Indexes result.now self.now }
-    {
-        &self.lines
     }
 
     /// Returns how many bytes the text has. In constant time.
@@ -125,7 +113,7 @@ impl IndexedText {
     pub(crate) fn as_old(&self) -> OldText<'_>
         ensures { result ≡ self.now }
     {
-        OldText::with_lines(&self.text, &self.lines)
+        OldText::in_blocks(&self.text)
     }
 
     /// Copies the text and its lines. Fails only if it is out of memory. Costs the copies, and no
@@ -134,9 +122,8 @@ impl IndexedText {
         ensures copy { IfOk result (λ copy. copy ≡ self.now) }
         ensures utf8 { OnOk result (IsUtf8 self.now) }
     {
-        let text = String::from_str(alloc, &self.text)?;
-        let lines = self.lines.copied(alloc)?;
-        Ok(IndexedText { text, lines })
+        let text = self.text.copied(alloc)?;
+        Ok(IndexedText { text })
     }
 
     /// Applies a batch to the text as pieces, if the result has at most `max_len` bytes.
@@ -184,7 +171,7 @@ impl IndexedText {
             (meaning (units_in encoding) (chars self.now) (map edit_of changes.now)) ≡ Err fault)) }
     {
         let alloc = *self.text.allocator();
-        let draft = Draft::left_by(alloc, &self.text, &self.lines, encoding, changes)?;
+        let draft = Draft::left_by(alloc, &self.as_old(), encoding, changes)?;
         may_be_left(&draft, max_len)?;
         Ok(draft)
     }
@@ -277,7 +264,9 @@ impl IndexedText {
             (meaning (units_in encoding) (chars self.now) (map edit_of changes.now)) ≡ Err fault)) }
     {
         let (text, lines) = self.draft(encoding, changes, max_len)?.into_text()?;
-        let left = IndexedText { text, lines };
+        let alloc = *self.text.allocator();
+        let text = TextBuffer::with_lines(alloc, text, lines)?;
+        let left = IndexedText { text };
         Ok(Delta::Left {
             encoding,
             changes,
@@ -328,7 +317,7 @@ impl IndexedText {
                 stop,
                 new,
                 ..
-            } => put_in_place(&mut self.text, &mut self.lines, start, stop, new),
+            } => self.text.replace_range(start, stop, new),
             Delta::Left { left, .. } => {
                 *self = left;
                 Ok(())

@@ -1,7 +1,7 @@
 //! `OldText`, the text before any change, as one string or in blocks.
 
 ghost use Rattle.std.specs.Prelude.{◌≡◌, ◌++◌, ◌≤◌, ℕ, IfOk, OnOk, Some, length, option_map, string_bytes};
-ghost use Rattle.std.specs.List.{slice_range};
+ghost use Rattle.std.specs.List.{replace_range, slice_range};
 ghost use Rattle.std.specs.Result.{result_ok};
 ghost use Rattle.std.specs.Str.{IsCharBoundary, IsUtf8, chars};
 ghost use Rattle.lsp_text.specs.LineStarts.{Indexes, IsPlace};
@@ -17,7 +17,7 @@ use crate::old_text::form::Form;
 use crate::old_text::indexed_str::IndexedStr;
 use crate::old_text::kept_lines::KeptLines;
 use lsp_buffer::TextBuffer;
-use lsp_text::{Encoding, InsideCharacter, Lines, Position};
+use lsp_text::{Encoding, GapText, InsideCharacter, Lines, Position};
 use std::alloc::{AllocError, Global};
 use std::marker::Model;
 
@@ -116,6 +116,41 @@ impl<'a> OldText<'a> {
         }
     }
 
+    /// Copies the text for many changes, with room for `room` more bytes. Fails only if it is out of
+    /// memory. A text in blocks is also searched for its lines.
+    pub fn gap_text(&self, alloc: Global, room: usize) -> Result<GapText, AllocError>
+        requires { room ≤ 1073741824 }
+        ensures { IfOk result (λ gapped. gapped ≡ self.now) }
+    {
+        match &self.form {
+            Form::Str(text) => text.gap_text(alloc, room),
+            Form::Buffer(buffer) => gap_text_of(alloc, buffer, room),
+        }
+    }
+
+    /// Returns the text with the bytes from `start` to `end` replaced. Fails only if it is out of
+    /// memory. Costs one copy of the result.
+    pub fn replaced(
+        &self,
+        alloc: Global,
+        start: usize,
+        end: usize,
+        new: &str,
+    ) -> Result<String, AllocError>
+        requires order { start ≤ end }
+        requires at_start { IsCharBoundary self.now start }
+        requires at_end { IsCharBoundary self.now end }
+        ensures { IfOk result (λ text.
+            string_bytes text ≡ replace_range self.now start end new.now) }
+    {
+        let len = self.len();
+        let mut text = String::with_capacity(alloc, len - (end - start) + new.len())?;
+        self.push_range(&mut text, 0, start)?;
+        text.push_str(new)?;
+        self.push_range(&mut text, end, len)?;
+        Ok(text)
+    }
+
     /// Appends the bytes from `start` to `end` to a string. Fails only if it is out of memory.
     pub fn push_range(&self, out: &mut String, start: usize, end: usize) -> Result<(), AllocError>
         requires order { start ≤ end }
@@ -145,4 +180,16 @@ fn of_buffer<'c>(buffer: &'c &TextBuffer) -> OldText<'c>
     ensures { result ≡ buffer.now.now }
 {
     OldText::in_blocks(buffer)
+}
+
+/// Joins a text in blocks, and finds its lines again.
+fn gap_text_of(alloc: Global, buffer: &TextBuffer, room: usize) -> Result<GapText, AllocError>
+    requires { room ≤ 1073741824 }
+    ensures { IfOk result (λ gapped. gapped ≡ buffer.now) }
+{
+    let len = buffer.len();
+    let mut text = String::with_capacity(alloc, len)?;
+    buffer.push_range(&mut text, 0, len)?;
+    let lines = Lines::new(alloc, &text)?;
+    GapText::new(alloc, &text, lines, room)
 }

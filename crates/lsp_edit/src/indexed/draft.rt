@@ -1,6 +1,6 @@
 //! A text under the changes of a batch, if only its result is needed.
 
-ghost use Rattle.std.specs.Prelude.{◌≡◌, ◌+◌, ◌≤◌, ℕ, IfErr, IfOk, Ok, Some, length, map, string_bytes, string_len, sum_by};
+ghost use Rattle.std.specs.Prelude.{◌≡◌, ◌+◌, ◌≤◌, ℕ, IfErr, IfOk, Ok, OnOk, Some, length, map, string_bytes, string_len, sum_by};
 ghost use Rattle.std.specs.Str.{IsUtf8, chars};
 ghost use Rattle.lsp_text.specs.Units.{units_in};
 ghost use Rattle.lsp_text.specs.LineStarts.{Indexes};
@@ -11,6 +11,7 @@ ghost use Rattle.lsp_edit.specs.inside.TextBatch.{IsFaultOf, IsFaultOfBatch, tex
 use crate::change::{Change, MAX_NEW_TEXT};
 use crate::composed::MAX_OLD_TEXT;
 use crate::fault::{EditFault, Side};
+use crate::old_text::OldText;
 use crate::pieces::MAX_TEXT;
 use lsp_text::{Encoding, GapText, Lines, Range};
 use std::alloc::{AllocError, Global};
@@ -48,10 +49,11 @@ fn texts_len(changes: &[Change]) -> usize
 
 /// How many bytes of room a batch gets: enough for its new texts, and more for many changes. A gap
 /// that is wider than the bytes it passes moves them by one copy, and not by a loop.
-fn room_for(text: &str, changes: &[Change]) -> usize
+fn room_for(text: &OldText<'_>, changes: &[Change]) -> usize
     requires { sum_by (λ change. string_len change.text) changes.now ≤ MAX_NEW_TEXT }
     ensures texts { sum_by (λ change. string_len change.text) changes.now ≤ result }
     ensures bound { result ≤ MAX_NEW_TEXT }
+    ensures utf8 { IsUtf8 text.now }
 {
     let passed = changes.len().saturating_mul(ROOM_OF_CHANGE).min(text.len());
     texts_len(changes).max(passed).min(MAX_NEW_TEXT)
@@ -99,13 +101,12 @@ impl Draft {
         Ok(Draft { alloc, text })
     }
 
-    /// Copies a text and its lines, with room for `room` more bytes. Costs the copies.
-    fn over(alloc: Global, text: &str, lines: &Lines, room: usize) -> Result<Self, AllocError>
-        requires indexed { Indexes lines.now text.now }
-        requires room { room ≤ MAX_NEW_TEXT }
+    /// Copies a text, with room for `room` more bytes.
+    fn over(alloc: Global, text: &OldText<'_>, room: usize) -> Result<Self, AllocError>
+        requires { room ≤ MAX_NEW_TEXT }
         ensures { IfOk result (λ draft. draft ≡ text.now) }
     {
-        let text = GapText::new(alloc, text, lines.copied(alloc)?, room)?;
+        let text = text.gap_text(alloc, room)?;
         Ok(Draft { alloc, text })
     }
 
@@ -183,48 +184,43 @@ impl Draft {
 
     /// Makes the draft that a batch begins with: a copy of the text, or the empty text if the first
     /// change replaces all.
-    fn begun(
-        alloc: Global,
-        text: &str,
-        lines: &Lines,
-        changes: &[Change],
-    ) -> Result<Self, AllocError>
-        requires indexed { Indexes lines.now text.now }
+    fn begun(alloc: Global, text: &OldText<'_>, changes: &[Change]) -> Result<Self, AllocError>
         requires fits { sum_by (λ change. string_len change.text) changes.now ≤ MAX_NEW_TEXT }
         ensures meaning { IfOk result (λ draft. (units : ℕ → ℕ) →
             text_after_changes units 0 (chars draft) (map edit_of changes.now)
             ≡ text_after_changes units 0 (chars text.now) (map edit_of changes.now)) }
         ensures short { IfOk result (λ draft. length draft ≤ length text.now) }
+        ensures utf8 { OnOk result (IsUtf8 text.now) }
     {
+        let room = room_for(text, changes);
         match changes {
             [Change { range: None, .. }, ..] => Self::new(alloc, ""),
-            _ => Self::over(alloc, text, lines, room_for(text, changes)),
+            _ => Self::over(alloc, text, room),
         }
     }
 
-    /// Applies a batch to a text whose lines the caller has. A fault reports the first change that
+    /// Applies a batch to a text. A fault reports the first change that
     /// has no result.
     ///
     /// Costs what each change costs, and a copy of the text and its line starts if the first change
     /// doesn't replace all.
     pub fn left_by(
         alloc: Global,
-        text: &str,
-        lines: &Lines,
+        text: &OldText<'_>,
         encoding: Encoding,
         changes: &[Change],
     ) -> Result<Self, EditFault>
-        requires indexed { Indexes lines.now text.now }
         requires size { length text.now ≤ MAX_OLD_TEXT }
         requires fits { sum_by (λ change. string_len change.text) changes.now ≤ MAX_NEW_TEXT }
         ensures ok { IfOk result
             (λ left. text_after_changes (units_in encoding) 0 (chars text.now)
             (map edit_of changes.now) ≡ Ok (chars left)) }
+        ensures utf8 { OnOk result (IsUtf8 text.now) }
         ensures error { IfErr result
             (IsFaultOfBatch
             (text_after_changes (units_in encoding) 0 (chars text.now) (map edit_of changes.now))) }
     {
-        let draft = Self::begun(alloc, text, lines, changes)?;
+        let draft = Self::begun(alloc, text, changes)?;
         draft.after_all(encoding, changes)
     }
 

@@ -1,6 +1,6 @@
 //! One string with its lines.
 
-ghost use Rattle.std.specs.Prelude.{◌≡◌, ◌++◌, ◌≤◌, ℕ, OnOk, length, option_map, string_bytes};
+ghost use Rattle.std.specs.Prelude.{◌≡◌, ◌++◌, ◌≤◌, ℕ, IfOk, OnOk, length, option_map, string_bytes};
 ghost use Rattle.std.specs.List.{slice_range};
 ghost use Rattle.std.specs.Result.{result_ok};
 ghost use Rattle.std.specs.Str.{IsCharBoundary, IsUtf8, chars};
@@ -11,8 +11,8 @@ ghost use Rattle.lsp_text.specs.Units.{units_in};
 ghost use Rattle.lsp_edit.specs.inside.OldLines.{lines_of};
 
 use crate::old_text::kept_lines::KeptLines;
-use lsp_text::{Encoding, InsideCharacter, Position};
-use std::alloc::AllocError;
+use lsp_text::{Encoding, GapText, InsideCharacter, Position};
+use std::alloc::{AllocError, Global};
 use std::marker::Model;
 
 /// One string with its lines. Clauses see its bytes.
@@ -80,6 +80,15 @@ impl<'a> IndexedStr<'a> {
         ensures utf8 { IsUtf8 self.now }
     {
         self.lines.get().position(self.text, encoding, offset)
+    }
+
+    /// Copies the text and its lines for many changes, with room for `room` more bytes.
+    pub fn gap_text(&self, alloc: Global, room: usize) -> Result<GapText, AllocError>
+        requires { room ≤ 1073741824 }
+        ensures { IfOk result (λ gapped. gapped ≡ self.now) }
+    {
+        let lines = self.lines.get().copied(alloc)?;
+        GapText::new(alloc, self.text, lines, room)
     }
 
     /// Appends the bytes from `start` to `end` to a string.

@@ -1,0 +1,8 @@
+use Rattle.std.proofs.Common.{string_bytes}
+use Rattle.std.proofs.lemmas.Str.{IsUtf8-string_bytes}
+use Rattle.lsp_buffer.proofs.CutLemmas.{one_are}
+use Rattle.lsp_buffer.proofs.text_buffer.TextBuffer.with_lines.Goals as goal
+
+pub of_blocks-requires-clause-are : goal.of_blocks-requires-clause-are
+of_blocks-requires-clause-are c =
+    one_are c.in_ok-blocks.blocks.items c.push.new.self.items c.with_lines.result (string_bytes c.args.text) c.in_ok-blocks.ensures.items c.in_ok-push.ensures.items c.with_lines.ensures (IsUtf8-string_bytes c.args.text)
