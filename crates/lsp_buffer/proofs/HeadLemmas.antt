@@ -1,5 +1,5 @@
 -- The units before each block in its line.
-use Rattle.std.proofs.Common.{ℕ, zero, suc, ◌≡◌, ◌+◌, ◌-◌, ◌<◌, ◌≤◌, true, List, [], ◌∷◌, ◌++◌, length, take, drop, map, get_or, slice_index, inl, inr, refl, sym, ap, ◌∙◌, arith}
+use Rattle.std.proofs.Common.{ℕ, zero, suc, ◌≡◌, ◌+◌, ◌-◌, ◌<◌, ◌≤◌, true, List, [], ◌∷◌, ◌++◌, length, take, drop, map, get_or, inl, inr, refl, sym, ap, ◌∙◌, arith}
 use Rattle.std.specs.List.{concat}
 use Rattle.std.specs.Str.{chars, is_utf8, IsUtf8}
 use Rattle.std.proofs.lemmas.List.{length-append, length-map, append-nil, append_assoc, take_more}
@@ -8,13 +8,13 @@ use Rattle.lsp_text.specs.declared.encoding.Encoding.{Encoding}
 use Rattle.lsp_text.specs.TextLines.{line_ends, line_start}
 use Rattle.lsp_text.specs.Units.{units_in}
 use Rattle.lsp_text.proofs.PlainLemmas.{units_total}
-use Rattle.lsp_buffer.specs.Blocks.{AreBlocks, EndsClear, carried, ends_of, head_of, head_after, heads_from, sums_from}
+use Rattle.lsp_buffer.specs.Blocks.{AreBlocks, carried, ends_of, head_of, head_after, heads_from, sums_from}
 use Rattle.lsp_buffer.specs.inside.Cuts.{AreFull}
 use Rattle.lsp_buffer.specs.inside.Seams.{heads_end}
 use Rattle.lsp_buffer.proofs.SumLemmas.{sums_low}
 use Rattle.lsp_buffer.proofs.SeamLemmas.{head}
 use Rattle.lsp_buffer.proofs.BlockLemmas.{Closes, chars_close, ends_join, full_utf8}
-use Rattle.lsp_buffer.proofs.PartLemmas.{carried_none, head_of_both}
+use Rattle.lsp_buffer.proofs.PartLemmas.{head_of_both}
 
 pub carried_few : (line units : ℕ) → carried line units ≤ units
 carried_few zero units = omega arith

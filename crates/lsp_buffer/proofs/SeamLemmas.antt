@@ -1,5 +1,5 @@
 -- Two texts, one after the other, the first of which ends with no carriage return: the lines and positions of both by those of each.
-use Rattle.std.proofs.Common.{ℕ, zero, suc, ◌≡◌, ◌+◌, ◌-◌, ◌<◌, ◌≤◌, ◌⊎◌, ◌==◌, ◌&&◌, not, Bool, true, false, cond, List, [], ◌∷◌, ◌++◌, length, take, drop, map, get_or, slice_index, filter, find, sum_by, nat_le, Option, Some, None, option_map, ⊎_elim, refl, sym, ap, ◌∙◌, arith, subst, le-ltb, lt-ltb, eqb-true}
+use Rattle.std.proofs.Common.{ℕ, zero, suc, ◌≡◌, ◌+◌, ◌-◌, ◌<◌, ◌≤◌, ◌==◌, ◌&&◌, not, Bool, true, false, cond, List, [], ◌∷◌, ◌++◌, length, take, drop, map, get_or, slice_index, filter, find, sum_by, nat_le, Option, Some, None, option_map, ⊎_elim, refl, sym, ap, ◌∙◌, arith, subst, le-ltb, lt-ltb, eqb-true}
 use Rattle.std.proofs.lemmas.Bool.{cases_Bool, cases_lt, lt-leb, false_from_ne_true}
 use Rattle.std.proofs.lemmas.Bool.Decides.{nat_tests}
 use Rattle.std.proofs.lemmas.List.{length-append, length-drop, get_or-append_right, get_or_append_left, take-append-le, drop-append-le, append-nil, take_all}

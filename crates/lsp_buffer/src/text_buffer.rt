@@ -1,5 +1,6 @@
 //! `TextBuffer`, a text in blocks.
-ghost use Rattle.std.specs.Prelude.{◌≡◌, ◌+◌, ◌-◌, ◌≤◌, ◌<◌, ◌↔◌, ℕ, List, Some, IsTrue, IfOk, IfSome, IfNone, OnOk, OnErr, OnSome, length, take, drop, option_map, string_bytes, string_len};
+ghost use Rattle.std.specs.Prelude.{◌≡◌, ◌+◌, ◌-◌, ◌≤◌, ◌<◌, ◌↔◌, ◌++◌, ℕ, List, Some, IsTrue, IfOk, IfSome};
+ghost use Rattle.std.specs.Prelude.{IfNone, OnOk, OnErr, OnSome, length, take, drop, option_map, string_bytes, string_len};
 ghost use Rattle.std.specs.List.{concat, replace_range, slice_range};
 ghost use Rattle.std.specs.Result.{result_ok};
 ghost use Rattle.std.specs.Str.{IsCharBoundary, IsUtf8, chars};
@@ -162,6 +163,7 @@ impl TextBuffer {
             → result ≡ exact_position (units_in encoding) (chars self.now) k }
         ensures resolves { option_map (place_of (chars self.now))
             (denoted (units_in encoding) (chars self.now) result) ≡ Some offset }
+        ensures utf8 { IsUtf8 self.now }
     {
         let index = block_of(&self.starts, offset);
         let block = &self.blocks[index];
@@ -270,13 +272,26 @@ impl TextBuffer {
         ensures { IfOk result (λ text. string_bytes text ≡ slice_range self.now start end) }
     {
         let mut text = String::with_capacity(alloc, end - start)?;
+        self.push_range(&mut text, start, end)?;
+        Ok(text)
+    }
+
+    /// Appends the bytes from `start` to `end` to a string. Fails only if it is out of memory. Costs
+    /// a binary search for each block of the range, and its bytes.
+    pub fn push_range(&self, out: &mut String, start: usize, end: usize) -> Result<(), AllocError>
+        requires order { start ≤ end }
+        requires at_start { IsCharBoundary self.now start }
+        requires at_end { IsCharBoundary self.now end }
+        ensures { OnOk result (string_bytes out.new
+            ≡ string_bytes out.old ++ slice_range self.now start end) }
+    {
         let mut offset = start;
         while offset < end {
             let chunk = self.chunk_to(offset, end);
-            text.push_str(chunk)?;
+            out.push_str(chunk)?;
             offset += chunk.len();
         }
-        Ok(text)
+        Ok(())
     }
 
     /// Returns the text without a copy, if it is in one chunk.

@@ -1,4 +1,4 @@
-use Rattle.std.proofs.Common.{◌≡◌, ◌+◌, ◌-◌, ◌<◌, ◌≤◌, ◌++◌, ◌∙◌, ℕ, List, map, take, drop, length, get_or, slice_index, arith, sym, ap}
+use Rattle.std.proofs.Common.{◌≡◌, ◌+◌, ◌-◌, ◌<◌, ◌≤◌, ◌++◌, ◌∙◌, ℕ, map, take, drop, length, get_or, arith, ap}
 use Rattle.std.specs.List.{concat}
 use Rattle.lsp_text.specs.Units.{units_in}
 use Rattle.lsp_buffer.specs.Blocks.{head_after, heads_from}

@@ -1,10 +1,10 @@
 use Rattle.std.proofs.Common.{◌≡◌, ◌+◌, ◌-◌, ◌<◌, ◌≤◌, ◌++◌, ◌∙◌, ℕ, List, [], map, take, drop, length, get_or, slice_index, arith, sym, ap}
 use Rattle.std.specs.List.{concat}
-use Rattle.std.proofs.lemmas.List.{length-append, length-drop, take_at, drop_at, drop_all, with_items_is}
+use Rattle.std.proofs.lemmas.List.{length-append, take_at, drop_at, drop_all, with_items_is}
 use Rattle.lsp_text.specs.Units.{units_in}
-use Rattle.lsp_buffer.specs.Blocks.{head_after, heads_from}
+use Rattle.lsp_buffer.specs.Blocks.{heads_from}
 use Rattle.lsp_buffer.specs.inside.Seams.{heads_end}
-use Rattle.lsp_buffer.proofs.TailLemmas.{line_end, splice_count, splice_lines, splice_starts, splice_at, splice_tail, splice_whole, splice_rest_texts, splice_first_room, splice_room, count_within, heads_size, head_first, tail_after, tail_room, tail_moved}
+use Rattle.lsp_buffer.proofs.TailLemmas.{line_end, splice_count, splice_lines, splice_starts, splice_tail, splice_whole, splice_rest_texts, splice_first_room, splice_room, count_within, heads_size, head_first, tail_after, tail_room, tail_moved}
 use Rattle.lsp_buffer.proofs.heads.splice.Goals as goal
 
 pub split_at-requires : goal.split_at-requires

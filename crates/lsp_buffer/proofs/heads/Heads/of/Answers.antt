@@ -1,4 +1,4 @@
-use Rattle.std.proofs.Common.{ℕ, List, ◌∙◌, sym, ap}
+use Rattle.std.proofs.Common.{◌∙◌, sym, ap}
 use Rattle.lsp_text.specs.declared.encoding.Encoding.TheVariants.{Utf8, Utf16, Utf32}
 use Rattle.lsp_buffer.specs.inside.Seams.{Rows, row_of}
 use Rattle.lsp_buffer.proofs.heads.Heads.of.Goals as goal

@@ -1,4 +1,4 @@
-use Rattle.std.proofs.Common.{ℕ, List, ◌∙◌, ◌++◌, take, drop, sym, ap, subst}
+use Rattle.std.proofs.Common.{◌∙◌, ◌++◌, take, drop, ap}
 use Rattle.lsp_text.specs.declared.encoding.Encoding.TheVariants.{Utf8, Utf16, Utf32}
 use Rattle.lsp_buffer.specs.inside.Seams.{Rows, row_of}
 use Rattle.lsp_buffer.proofs.TailLemmas.{of_each}

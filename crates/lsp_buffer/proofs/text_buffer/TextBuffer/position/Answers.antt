@@ -1,4 +1,4 @@
-use Rattle.std.proofs.Common.{◌≡◌, ◌+◌, ◌≤◌, ◌<◌, slice_index, take, drop, length, arith, sym, ap, ◌∙◌, subst}
+use Rattle.std.proofs.Common.{◌+◌, ◌<◌, slice_index, take, drop, length, arith, sym, ap, ◌∙◌, subst}
 use Rattle.std.specs.List.{concat}
 use Rattle.std.specs.Str.{chars}
 use Rattle.lsp_text.specs.Starts.{AreStarts}
@@ -63,6 +63,9 @@ returns-clause-exact c = λ k k_within k_at.
 
 pub returns-clause-resolves : goal.returns-clause-resolves
 returns-clause-resolves c = exact_resolves (units_in c.args.encoding) (units_some c.args.encoding) (chars c.args.self.now) c.args.offset _ c.requires (returns-clause-exact c)
+
+pub returns-clause-utf8 : goal.returns-clause-utf8
+returns-clause-utf8 c = bytes_utf8 c.self.inside.blocks.items c.self.inside.starts.items c.self.inside.lines.items c.args.self.now c.self.invariant.sums c.self.view_is
 
 pub bounds-of-index : goal.bounds-of-index
 bounds-of-index c =

@@ -10,7 +10,7 @@ use Rattle.lsp_text.specs.Units.{units_in}
 use Rattle.lsp_text.proofs.ResolveLemmas.{denoted_place, denoted_boundary}
 use Rattle.lsp_buffer.specs.inside.Seams.{AreMarks, mark, row_of}
 use Rattle.lsp_buffer.proofs.BufferLemmas.{starts_count, lines_count}
-use Rattle.lsp_buffer.proofs.FoundLemmas.{IsLineFound, found_shown, shown_within, heads_count, resolved_found, bytes_utf8, bytes_size}
+use Rattle.lsp_buffer.proofs.FoundLemmas.{found_shown, shown_within, heads_count, resolved_found, bytes_utf8, bytes_size}
 use Rattle.lsp_buffer.proofs.MarkLemmas.{marks_are}
 use Rattle.lsp_buffer.proofs.text_buffer.TextBuffer.resolve.Goals as goal
 

@@ -1,14 +1,14 @@
-use Rattle.std.proofs.Common.{◌≡◌, ◌≤◌, ◌-◌, string_bytes}
+use Rattle.std.proofs.Common.{◌≡◌, ◌≤◌, ◌-◌, ◌++◌, string_bytes}
 use Rattle.std.specs.List.{slice_range}
 use Rattle.std.specs.Str.{IsCharBoundary}
-use Rattle.lsp_buffer.proofs.text_buffer.TextBuffer.slice.Given as goal
+use Rattle.lsp_buffer.proofs.text_buffer.TextBuffer.push_range.Given as goal
 
 abbrev pub invariant-loop-offset : goal.invariant-loop-offset
 invariant-loop-offset l = record {
   low : l.start ≤ l.offset;
   high : l.offset ≤ l.end;
   at : IsCharBoundary l.self l.offset;
-  text : string_bytes l.text ≡ slice_range l.self l.start l.offset;
+  text : string_bytes l.out ≡ string_bytes l.fn.out ++ slice_range l.self l.start l.offset;
 }
 
 abbrev pub decreases-loop-offset : goal.decreases-loop-offset
