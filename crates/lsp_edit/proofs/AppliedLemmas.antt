@@ -93,21 +93,20 @@ abbrev pub seen : List ℕ → List Part → ℕ → Edited
 seen before parts changes = record { before = chars before; items = items_of (chars before) parts; changes = changes }
 
 -- The fields after a change.
-pub record IsNext (units : ℕ → ℕ) (before lines : List ℕ) (parts : List Part) (changes : ℕ) (change : Edit) (next : List Part) (len : ℕ) : Type 0 where
+pub record IsNext (units : ℕ → ℕ) (before : List ℕ) (parts : List Part) (changes : ℕ) (change : Edit) (next : List Part) (len : ℕ) : Type 0 where
   pub made : after_change units (chars before) (items_of (chars before) parts) change ≡ Ok (items_of (chars before) next)
-  pub are : ArePieces before lines next len (next_number changes)
+  pub are : ArePieces before next len (next_number changes)
 
-module _ (units : ℕ → ℕ) (before lines : List ℕ) (parts : List Part) (len changes : ℕ) (are : ArePieces before lines parts len changes) (new : List ℕ) (utf8 : IsUtf8 new) (room : len + length new ≤ 2147483648) where
+module _ (units : ℕ → ℕ) (before : List ℕ) (parts : List Part) (len changes : ℕ) (are : ArePieces before parts len changes) (new : List ℕ) (utf8 : IsUtf8 new) (room : len + length new ≤ 2147483648) where
   now_long : len ≡ length (encode_utf8_all (text_of (chars before) (items_of (chars before) parts)))
   now_long = are.long ∙ ap length (parts_bytes before (IsUtf8-from_is_utf8 before are.utf8) parts are.are)
 
   next_of : (change : Edit) (next : List Part) (next_len : ℕ) → after_change units (chars before) (items_of (chars before) parts) change ≡ Ok (items_of (chars before) next) → AreParts before next → NoneTouch next
-      → next_len ≡ length (bytes_of before next) → next_len ≤ 2147483648 → length next ≤ length parts + 2 → length next < 18446744073709551616 → IsNext units before lines parts changes change next next_len
+      → next_len ≡ length (bytes_of before next) → next_len ≤ 2147483648 → length next ≤ length parts + 2 → length next < 18446744073709551616 → IsNext units before parts changes change next next_len
   next_of change next next_len made next_are next_apart long fits few small = record {
     made = made;
     are = record {
       utf8 = are.utf8;
-      indexed = are.indexed;
       are = next_are;
       apart = next_apart;
       keeps = after_change_keeps (chars before) units (items_of (chars before) parts) (items_of (chars before) next) change are.keeps made;
@@ -118,7 +117,7 @@ module _ (units : ℕ → ℕ) (before lines : List ℕ) (parts : List Part) (le
     };
   }
 
-  pub all_next : length (new_parts new) < 18446744073709551616 → IsNext units before lines parts changes (record { range = None; text = chars new }) (new_parts new) (length new)
+  pub all_next : length (new_parts new) < 18446744073709551616 → IsNext units before parts changes (record { range = None; text = chars new }) (new_parts new) (length new)
   all_next small =
       let n : (items_of (chars before) (new_parts new) ≡ map New (chars new)) × AreParts before (new_parts new) = new_items before new (is_utf8-from_IsUtf8 new utf8) in
       let text : text_of (chars before) (items_of (chars before) (new_parts new)) ≡ chars new = ap (text_of (chars before)) n.0 ∙ text_of-new (chars before) (chars new) in
@@ -228,7 +227,7 @@ module _ (units : ℕ → ℕ) (before lines : List ℕ) (parts : List Part) (le
         let e : length (replace_range bytes start stop new) ≡ length (bytes_of before (replaced_parts parts start stop new)) = ap (λ (bs : List ℕ). length (replace_range bs start stop new)) same ∙ ap length (sym range_bytes) in
         omega (arith, e, long, in_order_places)
 
-    pub range_next : length (replaced_parts parts start stop new) < 18446744073709551616 → IsNext units before lines parts changes (record { range = Some range; text = chars new }) (replaced_parts parts start stop new) (len - (stop - start) + length new)
+    pub range_next : length (replaced_parts parts start stop new) < 18446744073709551616 → IsNext units before parts changes (record { range = Some range; text = chars new }) (replaced_parts parts start stop new) (len - (stop - start) + length new)
     range_next small =
         next_of (record { range = Some range; text = chars new }) (replaced_parts parts start stop new) (len - (stop - start) + length new)
         (rw (ends.low_is, ends.high_is, le-leb ends.low ends.high ends.order) (ap (λ (i : List Item). Ok i) (sym items)))
@@ -239,26 +238,26 @@ module _ (units : ℕ → ℕ) (before lines : List ℕ) (parts : List Part) (le
         (replaced_few parts start stop new in_order_places.0)
         small
 
-pub room_told : (before lines : List ℕ) (parts : List Part) (len changes more : ℕ) (edited : Edited) → ArePieces before lines parts len changes → seen before parts changes ≡ edited → length (edited_bytes edited) + more ≤ 2147483648 → len + more ≤ 2147483648
-room_told before lines parts len changes more edited are is room =
+pub room_told : (before : List ℕ) (parts : List Part) (len changes more : ℕ) (edited : Edited) → ArePieces before parts len changes → seen before parts changes ≡ edited → length (edited_bytes edited) + more ≤ 2147483648 → len + more ≤ 2147483648
+room_told before parts len changes more edited are is room =
     let n : len ≡ length (encode_utf8_all (text_of (chars before) (items_of (chars before) parts))) = are.long ∙ ap length (parts_bytes before (IsUtf8-from_is_utf8 before are.utf8) parts are.are) in
     omega (arith, n, ap (λ (e : Edited). length (edited_bytes e)) is)
 
-pub next_told : (units : ℕ → ℕ) (before lines : List ℕ) (parts : List Part) (changes : ℕ) (change : Edit) (next : List Part) (len : ℕ) → IsNext units before lines parts changes change next len
+pub next_told : (units : ℕ → ℕ) (before : List ℕ) (parts : List Part) (changes : ℕ) (change : Edit) (next : List Part) (len : ℕ) → IsNext units before parts changes change next len
     → (edited : Edited) → seen before parts changes ≡ edited → (made : List Part) → made ≡ next → (count : ℕ) → count ≡ next_number changes → Applied units edited change (seen before made count)
-next_told units before lines parts changes change next len is edited view made same count counted =
+next_told units before parts changes change next len is edited view made same count counted =
     subst (λ (e : Edited). Applied units e change (seen before made count)) view (record {
       changed = is.made ∙ ap (λ (ps : List Part). Ok (items_of (chars before) ps)) (sym same);
       same = refl;
       counted = counted;
     })
 
-pub next_holds : (units : ℕ → ℕ) (before lines : List ℕ) (parts : List Part) (changes : ℕ) (change : Edit) (next : List Part) (len : ℕ) → IsNext units before lines parts changes change next len
-    → (made : List Part) → made ≡ next → (count : ℕ) → count ≡ next_number changes → ArePieces before lines made len count
-next_holds units before lines parts changes change next len is made same count counted = rw (same, counted) is.are
+pub next_holds : (units : ℕ → ℕ) (before : List ℕ) (parts : List Part) (changes : ℕ) (change : Edit) (next : List Part) (len : ℕ) → IsNext units before parts changes change next len
+    → (made : List Part) → made ≡ next → (count : ℕ) → count ≡ next_number changes → ArePieces before made len count
+next_holds units before parts changes change next len is made same count counted = rw (same, counted) is.are
 
 -- What was told of a range's places, told of the fields.
-module _ (units : ℕ → ℕ) (range : Range) (before lines : List ℕ) (parts : List Part) (len changes : ℕ) (are : ArePieces before lines parts len changes) (edited : Edited) (view : seen before parts changes ≡ edited) where
+module _ (units : ℕ → ℕ) (range : Range) (before : List ℕ) (parts : List Part) (len changes : ℕ) (are : ArePieces before parts len changes) (edited : Edited) (view : seen before parts changes ≡ edited) where
   pub ends_seen : (start stop : ℕ) → IsPlaces (Ok (start, stop)) (places_at edited.changes (edited_text edited) (ends_of units (edited_text edited) range)) → AreEnds units (text_of (chars before) (items_of (chars before) parts)) range start stop
   ends_seen start stop error =
       ⊎_elim
@@ -278,28 +277,28 @@ module _ (units : ℕ → ℕ) (range : Range) (before lines : List ℕ) (parts 
     pub start_at : (bytes : List ℕ) → IsUtf8 bytes → bytes ≡ bytes_of before parts → IsCharBoundary bytes start
     pub stop_at : (bytes : List ℕ) → IsUtf8 bytes → bytes ≡ bytes_of before parts → IsCharBoundary bytes stop
     pub short : (bytes : List ℕ) → bytes ≡ bytes_of before parts → length (replace_range bytes start stop new) ≤ 2147483648
-    pub next : length (replaced_parts parts start stop new) < 18446744073709551616 → IsNext units before lines parts changes (record { range = Some range; text = chars new }) (replaced_parts parts start stop new) (len - (stop - start) + length new)
+    pub next : length (replaced_parts parts start stop new) < 18446744073709551616 → IsNext units before parts changes (record { range = Some range; text = chars new }) (replaced_parts parts start stop new) (len - (stop - start) + length new)
 
   pub ranged : (new : List ℕ) → IsUtf8 new → length (edited_bytes edited) + length new ≤ 2147483648 → (start stop : ℕ) → IsPlaces (Ok (start, stop)) (places_at edited.changes (edited_text edited) (ends_of units (edited_text edited) range)) → IsRanged new start stop
   ranged new utf8 room start stop error =
-      let fits : len + length new ≤ 2147483648 = room_told before lines parts len changes (length new) edited are view room in
+      let fits : len + length new ≤ 2147483648 = room_told before parts len changes (length new) edited are view room in
       let ends : AreEnds units (text_of (chars before) (items_of (chars before) parts)) range start stop = ends_seen start stop error in
       record {
-        start_cut = start_cut units before lines parts len changes are new utf8 fits range start stop ends;
-        stop_cut = stop_cut units before lines parts len changes are new utf8 fits range start stop ends;
-        order = (in_order_places units before lines parts len changes are new utf8 fits range start stop ends).0;
-        within = (in_order_places units before lines parts len changes are new utf8 fits range start stop ends).1;
-        ordered = parts_ordered units before lines parts len changes are new utf8 fits;
-        bytes = range_bytes units before lines parts len changes are new utf8 fits range start stop ends;
-        start_at = start_at units before lines parts len changes are new utf8 fits range start stop ends;
-        stop_at = stop_at units before lines parts len changes are new utf8 fits range start stop ends;
-        short = range_short units before lines parts len changes are new utf8 fits range start stop ends;
-        next = range_next units before lines parts len changes are new utf8 fits range start stop ends;
+        start_cut = start_cut units before parts len changes are new utf8 fits range start stop ends;
+        stop_cut = stop_cut units before parts len changes are new utf8 fits range start stop ends;
+        order = (in_order_places units before parts len changes are new utf8 fits range start stop ends).0;
+        within = (in_order_places units before parts len changes are new utf8 fits range start stop ends).1;
+        ordered = parts_ordered units before parts len changes are new utf8 fits;
+        bytes = range_bytes units before parts len changes are new utf8 fits range start stop ends;
+        start_at = start_at units before parts len changes are new utf8 fits range start stop ends;
+        stop_at = stop_at units before parts len changes are new utf8 fits range start stop ends;
+        short = range_short units before parts len changes are new utf8 fits range start stop ends;
+        next = range_next units before parts len changes are new utf8 fits range start stop ends;
       }
 
 pub edit_is : (change : Change) (range : Option Range) (bytes : List ℕ) → change.range ≡ range → bytes ≡ string_bytes change.text → record { range = range; text = chars bytes } ≡ edit_of change
 edit_is change range bytes ranged same = λ i. record { range = sym ranged i; text = chars (same i) }
 
 -- what callers see keeps each CRLF of the old text whole
-pub keeps_seen : (before lines : List ℕ) (parts : List Part) (len changes : ℕ) (edited : Edited) → ArePieces before lines parts len changes → seen before parts changes ≡ edited → Keeps edited.before 0 edited.items
-keeps_seen before lines parts len changes edited are view = subst (λ (e : Edited). Keeps e.before 0 e.items) view are.keeps
+pub keeps_seen : (before : List ℕ) (parts : List Part) (len changes : ℕ) (edited : Edited) → ArePieces before parts len changes → seen before parts changes ≡ edited → Keeps edited.before 0 edited.items
+keeps_seen before parts len changes edited are view = subst (λ (e : Edited). Keeps e.before 0 e.items) view are.keeps

@@ -6,7 +6,6 @@ use Rattle.std.proofs.lemmas.List.{nil_from_length}
 use Rattle.std.proofs.lemmas.Str.{encodes-chars, is_utf8-from_IsUtf8, IsUtf8-from_is_utf8, chars-nil, chars_from_encodes, IsCharBoundary-start, IsCharBoundary-end}
 use Rattle.lsp_text.specs.Text.{place_of}
 use Rattle.lsp_text.specs.TextLines.{numbers_from}
-use Rattle.lsp_text.specs.LineStarts.{Indexes}
 use Rattle.lsp_text.proofs.PlaceLemmas.{place_end}
 use Rattle.lsp_edit.specs.Items.{Item, Old, plain, text_of}
 use Rattle.lsp_edit.specs.Parts.{Part, OldPart, index_of, items_in, items_of, bytes_of, AreParts, NoneTouch}
@@ -66,30 +65,29 @@ whole_is before utf8 =
     (cases_Bool (length before == 0))
 
 -- What the fields are at first.
-pub begun : (before lines : List ℕ) (parts : List Part) → IsUtf8 before → Indexes lines before → IsWhole before parts → ArePieces before lines parts (length before) 0
-begun before lines parts utf8 indexed whole = record {
+pub begun : (before : List ℕ) (parts : List Part) → IsUtf8 before → length before ≤ 2147483648 → IsWhole before parts → ArePieces before parts (length before) 0
+begun before parts utf8 size whole = record {
   utf8 = is_utf8-from_IsUtf8 before utf8;
-  indexed = indexed;
   are = whole.are;
   apart = whole.apart;
   keeps = subst (Keeps (chars before) 0) (sym whole.items) (plain_keeps (chars before));
   long = sym (ap length (parts_bytes before utf8 parts whole.are ∙ (ap (λ (i : List Item). encode_utf8_all (text_of (chars before) i)) whole.items ∙ (ap encode_utf8_all (plain_text (chars before)) ∙ encodes-chars before utf8))));
-  room = indexed.size;
+  room = size;
   few = omega (arith, whole.few);
   fresh = λ e. whole.items;
 }
 
 -- The bytes of the text as it is now are those of its parts.
-pub now_bytes : (before lines : List ℕ) (parts : List Part) (len changes : ℕ) → ArePieces before lines parts len changes → encode_utf8_all (text_of (chars before) (items_of (chars before) parts)) ≡ bytes_of before parts
-now_bytes before lines parts len changes are = sym (parts_bytes before (IsUtf8-from_is_utf8 before are.utf8) parts are.are)
+pub now_bytes : (before : List ℕ) (parts : List Part) (len changes : ℕ) → ArePieces before parts len changes → encode_utf8_all (text_of (chars before) (items_of (chars before) parts)) ≡ bytes_of before parts
+now_bytes before parts len changes are = sym (parts_bytes before (IsUtf8-from_is_utf8 before are.utf8) parts are.are)
 
 -- The text as it is now: its characters, told by its bytes, and before any change.
-pub now_chars : (before lines : List ℕ) (parts : List Part) (len changes : ℕ) (bytes : List ℕ) → ArePieces before lines parts len changes → IsUtf8 bytes → bytes ≡ bytes_of before parts → chars bytes ≡ text_of (chars before) (items_of (chars before) parts)
-now_chars before lines parts len changes bytes are utf8 same =
-    sym (chars_from_encodes (text_of (chars before) (items_of (chars before) parts)) bytes utf8 (now_bytes before lines parts len changes are ∙ sym same))
+pub now_chars : (before : List ℕ) (parts : List Part) (len changes : ℕ) (bytes : List ℕ) → ArePieces before parts len changes → IsUtf8 bytes → bytes ≡ bytes_of before parts → chars bytes ≡ text_of (chars before) (items_of (chars before) parts)
+now_chars before parts len changes bytes are utf8 same =
+    sym (chars_from_encodes (text_of (chars before) (items_of (chars before) parts)) bytes utf8 (now_bytes before parts len changes are ∙ sym same))
 
-pub fresh_chars : (before lines : List ℕ) (parts : List Part) (len changes : ℕ) → ArePieces before lines parts len changes → changes ≡ 0 → chars before ≡ text_of (chars before) (items_of (chars before) parts)
-fresh_chars before lines parts len changes are none = sym (ap (text_of (chars before)) (are.fresh none) ∙ plain_text (chars before))
+pub fresh_chars : (before : List ℕ) (parts : List Part) (len changes : ℕ) → ArePieces before parts len changes → changes ≡ 0 → chars before ≡ text_of (chars before) (items_of (chars before) parts)
+fresh_chars before parts len changes are none = sym (ap (text_of (chars before)) (are.fresh none) ∙ plain_text (chars before))
 
 -- What a call told of the fields, told of what callers see.
 pub places_told : (units : ℕ → ℕ) (range : Range) (answer : Result (ℕ × ℕ) EditFault) (edited : Edited) (text : List ℕ) (changes : ℕ) → edited.changes ≡ changes → edited_text edited ≡ text

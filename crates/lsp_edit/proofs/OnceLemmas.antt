@@ -3,7 +3,6 @@ use Rattle.std.proofs.Common.{ℕ, ◌≡◌, ◌+◌, ◌-◌, ◌≤◌, true,
 use Rattle.std.proofs.lemmas.Bool.{cases_Bool}
 use Rattle.std.specs.List.{replace_range}
 use Rattle.std.specs.Str.{IsCharBoundary, chars}
-use Rattle.lsp_text.specs.LineStarts.{Indexes, start_places}
 use Rattle.lsp_edit.specs.declared.indexed.TextFault.TheVariants.{TooLong}
 use Rattle.lsp_edit.specs.Items.{Item, plain, text_of}
 use Rattle.lsp_edit.specs.Batch.{Edit, Fault, after_change, continue_with, meaning}
@@ -56,73 +55,69 @@ module _ (units : ℕ → ℕ) (before : List ℕ) (start stop : ℕ) (new : Lis
   pub put_len : length (replace_range before start stop new) ≡ start + length new + (length before - stop)
   put_len = replaced_len before p.utf8 start stop new p.new_utf8 put_order put_start put_stop
 
-  module _ (lines : List ℕ) (indexed : Indexes lines before) where
-    are : ArePieces before lines (whole_parts before) (length before) 0
-    are = begun before lines (whole_parts before) p.utf8 indexed (whole_is before p.utf8)
+  are : ArePieces before (whole_parts before) (length before) 0
+  are = begun before (whole_parts before) p.utf8 (omega (arith, p.size)) (whole_is before p.utf8)
 
-    text_now : text_of (chars before) (items_of (chars before) (whole_parts before)) ≡ chars before
-    text_now = ap (text_of (chars before)) (whole_is before p.utf8).items ∙ plain_text (chars before)
+  text_now : text_of (chars before) (items_of (chars before) (whole_parts before)) ≡ chars before
+  text_now = ap (text_of (chars before)) (whole_is before p.utf8).items ∙ plain_text (chars before)
 
-    ends : AreEnds units (text_of (chars before) (items_of (chars before) (whole_parts before))) p.range start stop
-    ends = subst (λ (t : List ℕ). AreEnds units t p.range start stop) (sym text_now) (ends_told units (chars before) p.range 0 start stop p.places)
+  ends : AreEnds units (text_of (chars before) (items_of (chars before) (whole_parts before))) p.range start stop
+  ends = subst (λ (t : List ℕ). AreEnds units t p.range start stop) (sym text_now) (ends_told units (chars before) p.range 0 start stop p.places)
 
-    room : length before + length new ≤ 2147483648
-    room = omega (arith, p.size, p.short)
+  room : length before + length new ≤ 2147483648
+  room = omega (arith, p.size, p.short)
 
-    pub put_start_cut : AreCut (whole_parts before) start
-    put_start_cut = applied.start_cut units before lines (whole_parts before) (length before) 0 are new p.new_utf8 room p.range start stop ends
+  pub put_start_cut : AreCut (whole_parts before) start
+  put_start_cut = applied.start_cut units before (whole_parts before) (length before) 0 are new p.new_utf8 room p.range start stop ends
 
-    pub put_stop_cut : AreCut (whole_parts before) stop
-    put_stop_cut = applied.stop_cut units before lines (whole_parts before) (length before) 0 are new p.new_utf8 room p.range start stop ends
+  pub put_stop_cut : AreCut (whole_parts before) stop
+  put_stop_cut = applied.stop_cut units before (whole_parts before) (length before) 0 are new p.new_utf8 room p.range start stop ends
 
-    pub put_ordered : AreOrdered (whole_parts before)
-    put_ordered = applied.parts_ordered units before lines (whole_parts before) (length before) 0 are new p.new_utf8 room
+  pub put_ordered : AreOrdered (whole_parts before)
+  put_ordered = applied.parts_ordered units before (whole_parts before) (length before) 0 are new p.new_utf8 room
 
-    next : IsNext units before lines (whole_parts before) 0 (record { range = Some p.range; text = chars new }) (replaced_parts (whole_parts before) start stop new) (length before - (stop - start) + length new)
-    next =
-        applied.range_next units before lines (whole_parts before) (length before) 0 are new p.new_utf8 room p.range start stop ends
-        (omega (arith, replaced_few (whole_parts before) start stop new put_order, (whole_is before p.utf8).few))
+  next : IsNext units before (whole_parts before) 0 (record { range = Some p.range; text = chars new }) (replaced_parts (whole_parts before) start stop new) (length before - (stop - start) + length new)
+  next =
+      applied.range_next units before (whole_parts before) (length before) 0 are new p.new_utf8 room p.range start stop ends
+      (omega (arith, replaced_few (whole_parts before) start stop new put_order, (whole_is before p.utf8).few))
 
-    pub put_are : AreParts before (replaced_parts (whole_parts before) start stop new)
-    put_are = next.are.are
+  pub put_are : AreParts before (replaced_parts (whole_parts before) start stop new)
+  put_are = next.are.are
 
-    pub put_exact : AllHaveExactEnds (chars before) (gaps (chars before) (items_of (chars before) (replaced_parts (whole_parts before) start stop new)))
-    put_exact = ends_exact _ _ next.are.keeps
+  pub put_exact : AllHaveExactEnds (chars before) (gaps (chars before) (items_of (chars before) (replaced_parts (whole_parts before) start stop new)))
+  put_exact = ends_exact _ _ next.are.keeps
 
-    pub put_items_are : items_of (chars before) (replaced_parts (whole_parts before) start stop new) ≡ put_items before start stop new
-    put_items_are =
-        let made : after_change units (chars before) (plain (chars before)) (record { range = Some p.range; text = chars new }) ≡ Ok (items_of (chars before) (replaced_parts (whole_parts before) start stop new))
-        =
-        subst
-        (λ (i : List Item). after_change units (chars before) i (record { range = Some p.range; text = chars new }) ≡ Ok (items_of (chars before) (replaced_parts (whole_parts before) start stop new)))
-        (whole_is before p.utf8).items
-        next.made in
-        let all : meaning units (chars before) (alone p.range new) ≡ Ok (items_of (chars before) (replaced_parts (whole_parts before) start stop new)) = ap (continue_with (λ items. Ok items) 0) made in
-        let means : meaning units (chars before) (alone p.range new) ≡ Ok (put_items before start stop new) = range_means units before p.utf8 p.range new p.new_utf8 start stop p.places in
-        let same : Ok (items_of (chars before) (replaced_parts (whole_parts before) start stop new)) ≡ Ok (put_items before start stop new) = sym all ∙ means in
-        cc
+  pub put_items_are : items_of (chars before) (replaced_parts (whole_parts before) start stop new) ≡ put_items before start stop new
+  put_items_are =
+      let made : after_change units (chars before) (plain (chars before)) (record { range = Some p.range; text = chars new }) ≡ Ok (items_of (chars before) (replaced_parts (whole_parts before) start stop new))
+      =
+      subst
+      (λ (i : List Item). after_change units (chars before) i (record { range = Some p.range; text = chars new }) ≡ Ok (items_of (chars before) (replaced_parts (whole_parts before) start stop new)))
+      (whole_is before p.utf8).items
+      next.made in
+      let all : meaning units (chars before) (alone p.range new) ≡ Ok (items_of (chars before) (replaced_parts (whole_parts before) start stop new)) = ap (continue_with (λ items. Ok items) 0) made in
+      let means : meaning units (chars before) (alone p.range new) ≡ Ok (put_items before start stop new) = range_means units before p.utf8 p.range new p.new_utf8 start stop p.places in
+      let same : Ok (items_of (chars before) (replaced_parts (whole_parts before) start stop new)) ≡ Ok (put_items before start stop new) = sym all ∙ means in
+      cc
 
   -- ---- as a delta of its own spans
 
-  own_lines : Indexes (start_places (chars before)) before
-  own_lines = record { starts = refl; size = omega (arith, p.size) }
-
   pub layer_start : AreCut (whole_parts before) start
-  layer_start = put_start_cut _ own_lines
+  layer_start = put_start_cut
 
   pub layer_stop : AreCut (whole_parts before) stop
-  layer_stop = put_stop_cut _ own_lines
+  layer_stop = put_stop_cut
 
   pub layer_ordered : AreOrdered (whole_parts before)
-  layer_ordered = put_ordered _ own_lines
+  layer_ordered = put_ordered
 
   pub layer_is : (parts owned : List Part) → parts ≡ replaced_parts (whole_parts before) start stop new → AreSameItems owned parts → IsDelta (Ok (put_items before start stop new)) before owned
   layer_is parts owned made same =
-      let kept : AreParts before owned × (items_of (chars before) owned ≡ items_of (chars before) parts) = same before (subst (AreParts before) (sym made) (put_are _ own_lines)) in
+      let kept : AreParts before owned × (items_of (chars before) owned ≡ items_of (chars before) parts) = same before (subst (AreParts before) (sym made) (put_are)) in
       record {
         utf8 = p.utf8;
         are = kept.0;
-        means = ap (λ (items : List Item). Ok items) (sym (kept.1 ∙ (ap (items_of (chars before)) made ∙ put_items_are _ own_lines)));
+        means = ap (λ (items : List Item). Ok items) (sym (kept.1 ∙ (ap (items_of (chars before)) made ∙ put_items_are)));
       }
 
 -- A delta means what some batch means.

@@ -17,26 +17,26 @@ use Rattle.lsp_edit.proofs.PassedLemmas.{through_few}
 use Rattle.lsp_edit.proofs.ThroughLemmas.{through_items, are_through, ascending}
 
 -- The parts of the old text come in order.
-pub pieces_ascend : (before lines : List ℕ) (parts : List Part) (len changes : ℕ) → ArePieces before lines parts len changes → Ascend 0 parts
-pieces_ascend before lines parts len changes are =
+pub pieces_ascend : (before : List ℕ) (parts : List Part) (len changes : ℕ) → ArePieces before parts len changes → Ascend 0 parts
+pieces_ascend before parts len changes are =
     let utf8 : IsUtf8 before = IsUtf8-from_is_utf8 before are.utf8 in
     ascending before utf8 0 parts (IsCharBoundary-start before utf8) are.are (subst (λ (n : ℕ). Keeps (chars before) n (items_of (chars before) parts)) (sym (index_first (chars before))) are.keeps)
 
 -- The fields of pieces over the text that other pieces left.
-pub record AreOver (before lines : List ℕ) (parts : List Part) (len changes : ℕ) (mid mid_lines : List ℕ) (more : List Part) (more_len more_changes : ℕ) : Type 0 where
-  pub are : ArePieces before lines parts len changes
-  pub were : ArePieces mid mid_lines more more_len more_changes
+pub record AreOver (before : List ℕ) (parts : List Part) (len changes : ℕ) (mid : List ℕ) (more : List Part) (more_len more_changes : ℕ) : Type 0 where
+  pub are : ArePieces before parts len changes
+  pub were : ArePieces mid more more_len more_changes
   pub over : chars mid ≡ text_of (chars before) (items_of (chars before) parts)
 
-pub over_seen : (before lines : List ℕ) (parts : List Part) (len changes : ℕ) (mid mid_lines : List ℕ) (more : List Part) (more_len more_changes : ℕ) → ArePieces before lines parts len changes → ArePieces mid mid_lines more more_len more_changes
-    → (first second : Edited) → seen before parts changes ≡ first → seen mid more more_changes ≡ second → second.before ≡ edited_text first → AreOver before lines parts len changes mid mid_lines more more_len more_changes
-over_seen before lines parts len changes mid mid_lines more more_len more_changes are were first second view other over = record {
+pub over_seen : (before : List ℕ) (parts : List Part) (len changes : ℕ) (mid : List ℕ) (more : List Part) (more_len more_changes : ℕ) → ArePieces before parts len changes → ArePieces mid more more_len more_changes
+    → (first second : Edited) → seen before parts changes ≡ first → seen mid more more_changes ≡ second → second.before ≡ edited_text first → AreOver before parts len changes mid more more_len more_changes
+over_seen before parts len changes mid more more_len more_changes are were first second view other over = record {
   are = are;
   were = were;
   over = ap (λ (e : Edited). e.before) other ∙ (over ∙ sym (ap edited_text view));
 }
 
-module _ (before lines : List ℕ) (parts : List Part) (len changes : ℕ) (mid mid_lines : List ℕ) (more : List Part) (more_len more_changes : ℕ) (both : AreOver before lines parts len changes mid mid_lines more more_len more_changes) where
+module _ (before : List ℕ) (parts : List Part) (len changes : ℕ) (mid : List ℕ) (more : List Part) (more_len more_changes : ℕ) (both : AreOver before parts len changes mid more more_len more_changes) where
   utf8 : IsUtf8 before
   utf8 = IsUtf8-from_is_utf8 before both.are.utf8
 
@@ -47,7 +47,7 @@ module _ (before lines : List ℕ) (parts : List Part) (len changes : ℕ) (mid 
   over_through = are_through before mid utf8 mid_utf8 parts both.are.are both.over more both.were.are
 
   pub over_order : Ascend 0 more
-  over_order = pieces_ascend mid mid_lines more more_len more_changes both.were
+  over_order = pieces_ascend mid more more_len more_changes both.were
 
   error : (items_of (chars before) (through_parts parts more) ≡ then_items (items_of (chars before) parts) (items_of (chars mid) more)) × AreParts before (through_parts parts more)
   error = through_items before mid utf8 mid_utf8 parts both.are.are both.over more both.were.are
@@ -75,10 +75,9 @@ module _ (before lines : List ℕ) (parts : List Part) (len changes : ℕ) (mid 
       error.0 ∙ (ap (then_items (items_of (chars before) parts)) second ∙ (then-plain (chars before) (items_of (chars before) parts) ∙ both.are.fresh none))
 
   module _ (made : List Part) (is : made ≡ through_parts parts more) (small : length made < 18446744073709551616) (count : ℕ) (counted : count ≡ both_counts changes more_changes) where
-    pub then_holds : ArePieces before lines made more_len count
+    pub then_holds : ArePieces before made more_len count
     then_holds = record {
       utf8 = both.are.utf8;
-      indexed = both.are.indexed;
       are = subst (AreParts before) (sym is) error.1;
       apart = subst NoneTouch (sym is) (through_apart parts more both.are.apart);
       keeps = subst (λ (ps : List Part). Keeps (chars before) 0 (items_of (chars before) ps)) (sym is) keeps;

@@ -53,6 +53,18 @@ new_gaps : (old : List ℕ) (low : ℕ) (text characters : List ℕ) (rest : Lis
 new_gaps old low text [] rest = ap (λ (t : List ℕ). gaps_from old low t rest) (sym (append-nil text))
 new_gaps old low text (c ∷ characters) rest = new_gaps old low (text ++ c ∷ []) characters rest ∙ ap (λ (t : List ℕ). gaps_from old low t rest) (append_assoc text (c ∷ []) characters)
 
+-- A gap that isn't changed adds nothing.
+gap_unchanged : (before : List ℕ) (low high : ℕ) (text : List ℕ) → high ≤ low → length text ≡ 0 → is_changed (gap_between before low high text) ≡ false
+gap_unchanged before low high text falls none =
+    let e : chars text ≡ [] = ap chars (nil_from_length text none) ∙ chars-nil in
+    let n : length (chars text) ≡ 0 = ap length e in
+    or_from (nat_lt (index_of (chars before) low) (index_of (chars before) high)) (nat_lt 0 (length (chars text)))
+    (le-ltb (index_of (chars before) low) (index_of (chars before) high) (index_rises (chars before) high low falls))
+    (le-ltb 0 (length (chars text)) (omega arith))
+
+pub gap_skipped : (before : List ℕ) (units : ℕ → ℕ) (low high : ℕ) (changes : List Change) (text : List ℕ) → high ≤ low → length text ≡ 0 → map edit_of changes ≡ map edit_of changes ++ gap_change units before low high text
+gap_skipped before units low high changes text falls none = rw (gap_unchanged before low high text falls none) (sym (append-nil (map edit_of changes)))
+
 module _ (before : List ℕ) (utf8 : IsUtf8 before) where
   gap_changed : (low high : ℕ) (text : List ℕ) → IsUtf8 text → IsCharBoundary before low → IsCharBoundary before high → (low < high) ⊎ (0 < length text) → is_changed (gap_between before low high text) ≡ true
   gap_changed low high text text_utf8 at_low at_high changed =
@@ -70,14 +82,6 @@ module _ (before : List ℕ) (utf8 : IsUtf8 before) where
           let b : length bytes ≡ 0 = ap length (sym (encodes-chars bytes u) ∙ ap encode_utf8_all e) in
           absurd (omega arith))
           (cases_lt 0 (length (chars bytes)))
-
-  gap_unchanged : (low high : ℕ) (text : List ℕ) → high ≤ low → length text ≡ 0 → is_changed (gap_between before low high text) ≡ false
-  gap_unchanged low high text falls none =
-      let e : chars text ≡ [] = ap chars (nil_from_length text none) ∙ chars-nil in
-      let n : length (chars text) ≡ 0 = ap length e in
-      or_from (nat_lt (index_of (chars before) low) (index_of (chars before) high)) (nat_lt 0 (length (chars text)))
-      (le-ltb (index_of (chars before) low) (index_of (chars before) high) (index_rises (chars before) high low falls))
-      (le-ltb 0 (length (chars text)) (omega arith))
 
   position_exact : (units : ℕ → ℕ) (place : ℕ) (p : Position) → IsCharBoundary before place → ((k : ℕ) → k ≤ length (chars before) → place_of (chars before) k ≡ place → p ≡ exact_position units (chars before) k) → p ≡ exact_position units (chars before) (index_of (chars before) place)
   position_exact units place p at exact = by_index (index_at before place utf8 at)
@@ -100,9 +104,6 @@ module _ (before : List ℕ) (utf8 : IsUtf8 before) where
       = λ i. record { range = (range ∙ ap₂ (λ (x y : Position). Some (record { start = x; stop = y })) s t) i; text = chars (string_bytes change.text) } in
       map-append edit_of changes (change ∷ [])
       ∙ rw (gap_changed low high (string_bytes change.text) (IsUtf8-string_bytes change.text) at_low at_high changed) (ap (λ (x : Edit). map edit_of changes ++ x ∷ []) e)
-
-  pub gap_skipped : (units : ℕ → ℕ) (low high : ℕ) (changes : List Change) (text : List ℕ) → high ≤ low → length text ≡ 0 → map edit_of changes ≡ map edit_of changes ++ gap_change units before low high text
-  gap_skipped units low high changes text falls none = rw (gap_unchanged low high text falls none) (sym (append-nil (map edit_of changes)))
 
 -- whether a text has bytes
 pub text_some : {Z : Type 0} (text : String Z) → false ≡ (string_len text == 0) → 0 < length (string_bytes text)

@@ -1,10 +1,7 @@
 -- A text under changes, as callers see it.
 use Rattle.std.specs.Prelude.{ℕ, ◌≡◌, ◌+◌, ◌*◌, ◌≤◌, true, List, length, min, string_bytes, encode_utf8_all, Option, Result, Ok, MatchOption}
 use Rattle.std.specs.Str.{chars, is_utf8}
-use Rattle.lsp_text.specs.LineStarts.{Indexes}
 use Rattle.lsp_edit.specs.declared.change.Change.{Change}
-use Rattle.lsp_edit.specs.declared.indexed.kept_lines.KeptLines.{KeptLines}
-use Rattle.lsp_edit.specs.declared.indexed.kept_lines.KeptLines.TheVariants.{Own, Borrowed}
 use Rattle.lsp_edit.specs.Items.{Item, plain, text_of}
 use Rattle.lsp_edit.specs.Batch.{Edit, Fault, after_change}
 use Rattle.lsp_edit.specs.Keeps.{Keeps}
@@ -51,17 +48,11 @@ pub record Applied (units : ℕ → ℕ) (edited : Edited) (change : Edit) (next
   pub same : next.before ≡ edited.before
   pub counted : next.changes ≡ next_number edited.changes
 
--- The line starts in kept lines.
-abbrev pub lines_of : KeptLines → List ℕ
-lines_of (Own lines) = lines
-lines_of (Borrowed lines) = lines.now
-
--- What is true of the fields of pieces. The lines are those of the old text. The spans are parts of
--- it and of new texts, and no two neighbours touch. They keep each CRLF of it whole, and there are
--- at most two more of them for each change.
-pub record ArePieces (before lines : List ℕ) (parts : List Part) (len changes : ℕ) : Type 0 where
+-- What is true of the fields of pieces. The spans are parts of the old text and of new texts, and no
+-- two neighbours touch. They keep each CRLF of it whole, and there are at most two more of them for
+-- each change.
+pub record ArePieces (before : List ℕ) (parts : List Part) (len changes : ℕ) : Type 0 where
   pub utf8 : is_utf8 before ≡ true
-  pub indexed : Indexes lines before
   pub are : AreParts before parts
   pub apart : NoneTouch parts
   pub keeps : Keeps (chars before) 0 (items_of (chars before) parts)

@@ -4,5 +4,7 @@ pub mod TextBatch
 pub mod Deltas
 pub mod Faults
 pub mod Joined
+pub mod OldLines
+pub mod OldText
 pub mod Parts
 pub mod Plain

@@ -1,7 +1,7 @@
 //! `compose`, which applies a whole batch of changes to a text.
 
-ghost use Rattle.std.specs.Prelude.{◌≡◌, ◌+◌, ◌≤◌, ℕ, Ok, MatchResult, length, map, string_len, sum_by};
-ghost use Rattle.std.specs.Str.{chars};
+ghost use Rattle.std.specs.Prelude.{◌≡◌, ◌+◌, ◌≤◌, ℕ, Ok, OnOk, MatchResult, length, map, string_len, sum_by};
+ghost use Rattle.std.specs.Str.{IsUtf8, chars};
 ghost use Rattle.lsp_text.specs.LineStarts.{Indexes};
 ghost use Rattle.lsp_text.specs.Units.{units_in};
 ghost use Rattle.lsp_edit.specs.Batch.{after_changes, meaning};
@@ -10,7 +10,9 @@ ghost use Rattle.lsp_edit.specs.Faults.{IsFaultOfChanges};
 
 use crate::change::{Change, MAX_NEW_TEXT};
 use crate::fault::EditFault;
+use crate::old_text::OldText;
 use crate::pieces::{MAX_TEXT, Pieces};
+use lsp_buffer::TextBuffer;
 use lsp_text::{Encoding, Lines};
 use std::alloc::Global;
 
@@ -60,8 +62,8 @@ pub fn compose<'a>(
         (λ fault. IsFaultOfChanges
         (meaning (units_in encoding) (chars before.now) (map edit_of changes.now)) fault) }
 {
-    let pieces = Pieces::start(alloc, before)?;
-    apply_all(pieces, encoding, changes)
+    let before = OldText::new(alloc, before)?;
+    compose_old(alloc, before, encoding, changes)
 }
 
 /// Does the same over a text whose lines the caller has.
@@ -81,6 +83,45 @@ pub fn compose_over<'a>(
         (λ fault. IsFaultOfChanges
         (meaning (units_in encoding) (chars before.now) (map edit_of changes.now)) fault) }
 {
-    let pieces = Pieces::over(alloc, before, lines);
+    let before = OldText::with_lines(before, lines);
+    compose_old(alloc, before, encoding, changes)
+}
+
+/// Does the same over a text in blocks.
+pub fn compose_buffer<'a>(
+    alloc: Global,
+    before: &'a TextBuffer,
+    encoding: Encoding,
+    changes: &'a [Change],
+) -> Result<Pieces<'a>, EditFault>
+    requires size { length before.now ≤ MAX_OLD_TEXT }
+    requires fits { sum_by (λ change. string_len change.text) changes.now ≤ MAX_NEW_TEXT }
+    ensures { MatchResult result
+        (λ pieces. Means (chars before.now) (meaning (units_in encoding) (chars before.now)
+        (map edit_of changes.now)) (length changes.now) pieces.edited)
+        (λ fault. IsFaultOfChanges
+        (meaning (units_in encoding) (chars before.now) (map edit_of changes.now)) fault) }
+{
+    let before = OldText::in_blocks(before);
+    compose_old(alloc, before, encoding, changes)
+}
+
+/// Does the same over an old text in any form.
+pub(crate) fn compose_old<'a>(
+    alloc: Global,
+    before: OldText<'a>,
+    encoding: Encoding,
+    changes: &'a [Change],
+) -> Result<Pieces<'a>, EditFault>
+    requires size { length before ≤ MAX_OLD_TEXT }
+    requires fits { sum_by (λ change. string_len change.text) changes.now ≤ MAX_NEW_TEXT }
+    ensures means { MatchResult result
+        (λ pieces. Means (chars before.entry) (meaning (units_in encoding) (chars before.entry)
+        (map edit_of changes.now)) (length changes.now) pieces.edited)
+        (λ fault. IsFaultOfChanges
+        (meaning (units_in encoding) (chars before.entry) (map edit_of changes.now)) fault) }
+    ensures utf8 { OnOk result (IsUtf8 before.entry) }
+{
+    let pieces = Pieces::begin(alloc, before);
     apply_all(pieces, encoding, changes)
 }

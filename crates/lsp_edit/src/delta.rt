@@ -50,7 +50,7 @@ impl<'a> Delta<'a> {
         requires put { IsPut (units_in _encoding) text.now start stop new.now }
         ensures { result ≡ length (replace_range text.now start stop new.now) }
     {
-        text.text().len() - (stop - start) + new.len()
+        text.len() - (stop - start) + new.len()
     }
 
     /// Returns how many bytes it leaves of the text that it was made of.
@@ -65,7 +65,7 @@ impl<'a> Delta<'a> {
                 stop,
                 new,
             } => Self::put_len(text, *encoding, *start, *stop, new),
-            Delta::Left { left, .. } => left.text().len(),
+            Delta::Left { left, .. } => left.len(),
         }
     }
 
@@ -82,7 +82,8 @@ impl<'a> Delta<'a> {
         ensures { IfOk result (λ left.
             string_bytes left ≡ replace_range text.now start stop new.now) }
     {
-        replaced(alloc, text.text(), start, stop, new)
+        let before = text.as_old();
+        replaced(alloc, &before, start, stop, new)
     }
 
     /// Returns the text that it leaves of the text that it was made of.
@@ -116,8 +117,7 @@ impl<'a> Delta<'a> {
         ensures { IfOk result (λ layer. IsDelta (Ok (put_items text.now start stop new.now))
             text.now (delta_parts layer)) }
     {
-        let before = text.text();
-        let mut spans = Spans::whole(alloc, before);
+        let mut spans = Spans::whole(alloc, &text.as_old());
         spans.replace(alloc, start, stop, new)?;
         Layer::of_spans(alloc, 0, spans.as_slice())
     }
@@ -136,11 +136,10 @@ impl<'a> Delta<'a> {
             ≡ canonical (units_in encoding) (chars text.now)
             (put_items text.now start stop new.now)) }
     {
-        let before = text.text();
-        let lines = text.lines();
-        let mut spans = Spans::whole(alloc, before);
+        let before = text.as_old();
+        let mut spans = Spans::whole(alloc, &before);
         spans.replace(alloc, start, stop, new)?;
-        canonical_of(alloc, before, lines, spans.as_slice(), encoding)
+        canonical_of(alloc, &before, spans.as_slice(), encoding)
     }
 
     /// Returns it in spans that own their texts. Fails only if it is out of memory. A range costs

@@ -2,33 +2,31 @@
 
 ghost use Rattle.std.specs.Prelude.{◌≡◌, ℕ};
 ghost use Rattle.std.specs.Str.{chars};
-ghost use Rattle.lsp_text.specs.LineStarts.{Indexes};
 ghost use Rattle.lsp_text.specs.Units.{units_in};
 ghost use Rattle.lsp_edit.specs.Faults.{ends_of, places_at};
 
 use crate::fault::{EditFault, Side};
-use lsp_text::{Encoding, Lines, Range};
+use crate::old_text::OldText;
+use lsp_text::{Encoding, Range};
 
-/// Returns the byte offsets of a range's two ends in the text that `lines` index. `change` is the
-/// number of the change that a fault reports.
+/// Returns the byte offsets of a range's two ends in a text. `change` is the number of the change
+/// that a fault reports.
 pub fn ends(
-    lines: &Lines,
-    text: &str,
+    text: &OldText<'_>,
     encoding: Encoding,
     range: Range,
     change: usize,
 ) -> Result<(usize, usize), EditFault>
-    requires { Indexes lines.now text.now }
     ensures { result
         ≡ places_at change (chars text.now) (ends_of (units_in encoding) (chars text.now) range) }
 {
-    let Ok(start) = lines.resolve(text, encoding, range.start) else {
+    let Ok(start) = text.resolve(encoding, range.start) else {
         return Err(EditFault::InsideCharacter {
             change,
             side: Side::Start,
         });
     };
-    let Ok(stop) = lines.resolve(text, encoding, range.stop) else {
+    let Ok(stop) = text.resolve(encoding, range.stop) else {
         return Err(EditFault::InsideCharacter {
             change,
             side: Side::Stop,

@@ -16,10 +16,9 @@ ghost use Rattle.lsp_edit.specs.TextEdits.{IsBatchOfEdits, IsEditsFault};
 
 pub(crate) mod draft;
 pub(crate) mod in_place;
-pub(crate) mod kept_lines;
 
 use crate::change::{Change, MAX_NEW_TEXT};
-use crate::composed::{MAX_OLD_TEXT, compose_over};
+use crate::composed::{MAX_OLD_TEXT, compose_old};
 use crate::delta::Delta;
 use crate::ends::ends;
 use crate::fault::EditFault;
@@ -27,6 +26,7 @@ use crate::indexed::draft::Draft;
 use crate::indexed::in_place::put_in_place;
 use crate::joined::delta::Delta as Layer;
 use crate::joined::{Joined, RUN};
+use crate::old_text::OldText;
 use crate::pieces::canonical::canonical_of;
 use crate::pieces::{MAX_TEXT, Pieces};
 use crate::text_edits::{TextEdit, TextEditFault, spans_of_edits};
@@ -113,6 +113,21 @@ impl IndexedText {
         &self.lines
     }
 
+    /// Returns how many bytes the text has. In constant time.
+    pub fn len(&self) -> usize
+        ensures len { result ≡ length self.now }
+        ensures utf8 { IsUtf8 self.now }
+    {
+        self.text.len()
+    }
+
+    /// Returns the text as the one before any change.
+    pub(crate) fn as_old(&self) -> OldText<'_>
+        ensures { result ≡ self.now }
+    {
+        OldText::with_lines(&self.text, &self.lines)
+    }
+
     /// Copies the text and its lines. Fails only if it is out of memory. Costs the copies, and no
     /// search through the text.
     pub fn copied(&self, alloc: Global) -> Result<Self, AllocError>
@@ -145,7 +160,7 @@ impl IndexedText {
             (meaning (units_in encoding) (chars self.now) (map edit_of changes.now)) ≡ Err fault)) }
     {
         let alloc = *self.text.allocator();
-        let pieces = compose_over(alloc, &self.text, &self.lines, encoding, changes)?;
+        let pieces = compose_old(alloc, self.as_old(), encoding, changes)?;
         may_have_len(&pieces, max_len)?;
         Ok(pieces)
     }
@@ -232,8 +247,10 @@ impl IndexedText {
             (meaning (units_in encoding) (chars self.now) (alone range new.now)) ≡ Err fault)) }
         ensures memory { result ≢ Err NoMemory }
     {
-        let (start, stop) = ends(&self.lines, &self.text, encoding, range, 0)?;
-        if self.text.len() - (stop - start) + new.len() > max_len {
+        let text = self.as_old();
+        let len = text.len();
+        let (start, stop) = ends(&text, encoding, range, 0)?;
+        if len - (stop - start) + new.len() > max_len {
             return Err(TextFault::TooLong);
         }
         Ok(Delta::Put {
@@ -368,8 +385,9 @@ impl IndexedText {
             IsEditsFault (units_in encoding) (chars self.now) edits.now fault) }
     {
         let alloc = *self.text.allocator();
-        let spans = spans_of_edits(alloc, &self.lines, &self.text, encoding, edits)?;
-        Ok(canonical_of(alloc, &self.text, &self.lines, &spans, encoding)?)
+        let text = self.as_old();
+        let spans = spans_of_edits(alloc, &text, encoding, edits)?;
+        Ok(canonical_of(alloc, &text, &spans, encoding)?)
     }
 
     /// Returns the result of a batch in spans that own their texts. It has the errors of

@@ -121,7 +121,7 @@ impl Joined {
         for run in changes.chunks(RUN) {
             joined.change(encoding, &mut reached, run, MAX_OLD_TEXT)?;
         }
-        if reached.text().len() > max_len {
+        if reached.len() > max_len {
             return Err(TextFault::TooLong);
         }
         Ok(joined)
@@ -256,13 +256,13 @@ impl Joined {
             ≡ canonical (units_in encoding) (chars self.now.before) self.now.items) }
     {
         let alloc = *self.deltas.allocator();
-        let text = self.before.text();
-        let whole = Spans::whole(alloc, text);
+        let text = self.before.as_old();
+        let whole = Spans::whole(alloc, &text);
         let mut spans = Vec::from_slice(alloc, whole.as_slice())?;
         for delta in &self.deltas {
             let next = delta.borrowed(alloc)?;
             spans = spans_through(alloc, &spans, &next)?;
         }
-        canonical_of(alloc, text, self.before.lines(), &spans, encoding)
+        canonical_of(alloc, &text, &spans, encoding)
     }
 }

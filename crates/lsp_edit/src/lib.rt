@@ -2,8 +2,9 @@
 //! DidChangeTextDocumentParams).
 //!
 //! - `indexed`: `IndexedText`, a text with its lines, which a server changes batch by batch. Its
-//!   parts are `draft` (a text under the changes of a batch), `in_place` (one change alone) and
-//!   `kept_lines`. `ends` has the byte offsets of a range.
+//!   parts are `draft` (a text under the changes of a batch) and `in_place` (one change alone).
+//!   `ends` has the byte offsets of a range.
+//! - `old_text`: `OldText`, the text before any change, as one string or in blocks.
 //! - `pieces`: `Pieces`, what became of an old text, in spans of it and of the changes' texts. Its
 //!   parts are `spans`, `span`, `row`, `replace`, `through` and `current` (the text that later
 //!   changes meet).
@@ -29,12 +30,13 @@ mod fault;
 mod indexed;
 mod joined;
 mod laws;
+mod old_text;
 mod pieces;
 pub mod plain;
 mod text_edits;
 
 pub use change::{Change, MAX_NEW_TEXT, fits};
-pub use composed::{MAX_OLD_TEXT, compose, compose_over};
+pub use composed::{MAX_OLD_TEXT, compose, compose_buffer, compose_over};
 pub use delta::Delta;
 pub use fault::{EditFault, Side};
 pub use indexed::{IndexedText, TextFault};

@@ -1,14 +1,15 @@
 //! `Pieces`, a text under changes, as spans of the old text and of the changes' texts.
 
 ghost use Rattle.std.specs.Prelude.{◌≡◌, ◌≢◌, ◌↔◌, ◌+◌, ◌*◌, ◌++◌, ◌≤◌, ℕ, IfErr, IfOk, OnErr, OnOk, Ok, Err, IsOk, IsTrue, List, map, length, string_bytes, string_len};
-ghost use Rattle.std.specs.Str.{chars};
+ghost use Rattle.std.specs.Str.{IsUtf8, chars};
 ghost use Rattle.lsp_text.specs.LineStarts.{Indexes};
 ghost use Rattle.lsp_text.specs.Units.{units_in};
 ghost use Rattle.lsp_edit.specs.declared.fault.EditFault.TheVariants.{NoMemory};
 ghost use Rattle.lsp_edit.specs.Items.{Item, plain};
 ghost use Rattle.lsp_edit.specs.Parts.{AreParts, Ascend, NoneEmpty, NoneTouch, items_of, parts_of};
 ghost use Rattle.lsp_edit.specs.Compose.{then_items};
-ghost use Rattle.lsp_edit.specs.Edited.{Applied, before_bytes, both_counts, edit_of, edited_bytes, edited_text, lines_of};
+ghost use Rattle.lsp_edit.specs.Edited.{Applied, before_bytes, both_counts, edit_of, edited_bytes};
+ghost use Rattle.lsp_edit.specs.Edited.{edited_text};
 ghost use Rattle.lsp_edit.specs.Faults.{IsFaultOfChange, ends_of, places_at};
 ghost use Rattle.lsp_edit.specs.inside.Faults.{IsPlaces};
 ghost use Rattle.lsp_edit.specs.Batch.{Edit, after_change, meaning};
@@ -27,7 +28,7 @@ use crate::change::Change;
 use crate::ends::ends;
 use crate::fault::EditFault;
 use crate::indexed::draft::ends_in;
-use crate::indexed::kept_lines::KeptLines;
+use crate::old_text::OldText;
 use crate::pieces::canonical::canonical_of;
 use crate::pieces::current::{current_or_new, text_of_spans, text_with_lines};
 use crate::pieces::row::Row;
@@ -46,8 +47,7 @@ pub const MAX_TEXT: usize = 2_147_483_648;
 #[derive(Drop)]
 pub struct Pieces<'a> {
     alloc: Global,
-    before: &'a str,
-    lines: KeptLines<'a>,
+    before: OldText<'a>,
     spans: Spans<'a>,
     len: usize,
     changes: usize,
@@ -58,42 +58,42 @@ impl<'a> Model for Pieces<'a> {
     ghost use Rattle.std.specs.Str.{chars};
     ghost use Rattle.lsp_edit.specs.Parts.{items_of, parts_of, bytes_of};
     ghost use Rattle.lsp_edit.specs.Spans.{spans_in};
-    ghost use Rattle.lsp_edit.specs.Edited.{Spanned, ArePieces, IsCurrent, lines_of};
+    ghost use Rattle.lsp_edit.specs.Edited.{Spanned, ArePieces, IsCurrent};
 
     ghost Value = { Spanned };
 
     ghost view = { λ pieces. record {
       edited = record {
-        before = chars pieces.before.now;
-        items = items_of (chars pieces.before.now) (parts_of (spans_in pieces.spans));
+        before = chars pieces.before;
+        items = items_of (chars pieces.before) (parts_of (spans_in pieces.spans));
         changes = pieces.changes;
       };
       parts = parts_of (spans_in pieces.spans);
     } };
 
     ghost invariant = { λ pieces.
-        ArePieces pieces.before.now (lines_of pieces.lines) (parts_of (spans_in pieces.spans))
-        pieces.len pieces.changes
-        × IsCurrent (bytes_of pieces.before.now (parts_of (spans_in pieces.spans)))
+        ArePieces pieces.before (parts_of (spans_in pieces.spans)) pieces.len pieces.changes
+        × IsCurrent (bytes_of pieces.before (parts_of (spans_in pieces.spans)))
         pieces.current };
 }
 
 impl<'a> Pieces<'a> {
-    /// Makes pieces before any change, with the lines of the text.
-    fn begin(alloc: Global, before: &'a str, lines: KeptLines<'a>) -> Self
-        requires { Indexes (lines_of lines) before.now }
-        ensures { result.edited ≡ record {
-          before = chars before.now;
-          items = plain (chars before.now);
+    /// Makes pieces of a text before any change. Takes no memory, and constant time.
+    pub(crate) fn begin(alloc: Global, before: OldText<'a>) -> Self
+        ensures begun { result.edited ≡ record {
+          before = chars before.entry;
+          items = plain (chars before.entry);
           changes = 0;
         } }
+        ensures utf8 { IsUtf8 before.entry }
     {
+        let len = before.len();
+        let spans = Spans::whole(alloc, &before);
         Pieces {
             alloc,
             before,
-            lines,
-            spans: Spans::whole(alloc, before),
-            len: before.len(),
+            spans,
+            len,
             changes: 0,
             current: None,
         }
@@ -106,8 +106,7 @@ impl<'a> Pieces<'a> {
         ensures { IfOk result (λ pieces. pieces.edited
             ≡ record { before = chars before.now; items = plain (chars before.now); changes = 0 }) }
     {
-        let lines = Lines::new(alloc, before)?;
-        Ok(Self::begin(alloc, before, KeptLines::Own(lines)))
+        Ok(Self::begin(alloc, OldText::new(alloc, before)?))
     }
 
     /// Makes pieces of a text before any change, whose lines the caller has. Takes no memory, and
@@ -120,7 +119,7 @@ impl<'a> Pieces<'a> {
           changes = 0;
         } }
     {
-        Self::begin(alloc, before, KeptLines::Borrowed(lines))
+        Self::begin(alloc, OldText::with_lines(before, lines))
     }
 
     /// Composes two runs of changes; `second` is over the text that `first` leaves. The result is
@@ -153,8 +152,7 @@ impl<'a> Pieces<'a> {
         let spans = spans_through(alloc, first.spans.as_slice(), second.spans.as_slice())?;
         Ok(Pieces {
             alloc,
-            before: first.before,
-            lines: KeptLines::Borrowed(first.lines.get()),
+            before: first.before.borrowed(),
             spans: Spans::Many(Row::new(spans)),
             len: second.len,
             changes: first.changes.saturating_add(second.changes),
@@ -188,12 +186,12 @@ impl<'a> Pieces<'a> {
             (edited_text self.old.edited) range)) }
     {
         if self.changes == 0 {
-            return ends(self.lines.get(), self.before, encoding, range, 0);
+            return ends(&self.before, encoding, range, 0);
         }
         let mut current = current_or_new(
             self.current.take(),
             self.alloc,
-            self.before,
+            &self.before,
             self.spans.as_slice(),
             self.len,
         )?;
@@ -290,13 +288,7 @@ impl<'a> Pieces<'a> {
             ≡ Ok self.now.edited.items
             → IsCanonical (units_in encoding) self.now.edited.before batch self.now.edited.items }
     {
-        canonical_of(
-            self.alloc,
-            self.before,
-            self.lines.get(),
-            self.spans.as_slice(),
-            encoding,
-        )
+        canonical_of(self.alloc, &self.before, self.spans.as_slice(), encoding)
     }
 
     /// Returns the spans of the current text: runs of the old text in order, and texts of the
@@ -321,7 +313,7 @@ impl<'a> Pieces<'a> {
     pub fn text(&self) -> Result<String, AllocError>
         ensures { IfOk result (λ text. string_bytes text ≡ edited_bytes self.now.edited) }
     {
-        text_of_spans(self.alloc, self.before, self.spans.as_slice(), self.len)
+        text_of_spans(self.alloc, &self.before, self.spans.as_slice(), self.len)
     }
 
     /// Returns the current text and its lines. Fails only if it is out of memory.
@@ -343,7 +335,7 @@ impl<'a> Pieces<'a> {
         } = self;
         match current {
             Some(current) => current.into_text(),
-            None => text_with_lines(alloc, before, spans.as_slice(), len),
+            None => text_with_lines(alloc, &before, spans.as_slice(), len),
         }
     }
 }

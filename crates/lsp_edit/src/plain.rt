@@ -22,6 +22,7 @@ use crate::change::{Change, MAX_NEW_TEXT};
 use crate::composed::MAX_OLD_TEXT;
 use crate::ends::ends;
 use crate::fault::EditFault;
+use crate::old_text::OldText;
 use crate::pieces::MAX_TEXT;
 use lsp_text::{Encoding, Lines, Range};
 use std::alloc::{AllocError, Global};
@@ -99,8 +100,8 @@ impl<'a> Plain<'a> {
             fault) }
     {
         let now = self.text()?;
-        let lines = Lines::new(self.alloc, &now)?;
-        let (start, stop) = ends(&lines, &now, encoding, range, self.changes)?;
+        let before = OldText::new(self.alloc, &now)?;
+        let (start, stop) = ends(&before, encoding, range, self.changes)?;
         let low = index_of(self.alloc, &now, start)?;
         let high = index_of(self.alloc, &now, stop)?;
         Ok(put_between(self.alloc, &self.items, low, high, text)?)

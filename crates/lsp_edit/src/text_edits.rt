@@ -1,8 +1,7 @@
 //! Text edits (LSP 3.17, TextEdit[]): the ranges of all edits count in one old text.
 
 ghost use Rattle.std.specs.Prelude.{◌≡◌, ◌⊎◌, ◌++◌, ◌∷◌, [], IfErr, IfOk, OnOk, length};
-ghost use Rattle.std.specs.Str.{chars};
-ghost use Rattle.lsp_text.specs.LineStarts.{Indexes};
+ghost use Rattle.std.specs.Str.{IsUtf8, chars};
 ghost use Rattle.lsp_text.specs.Units.{units_in};
 ghost use Rattle.lsp_edit.specs.declared.text_edits.TextEditFault.TheVariants.{NoMemory};
 ghost use Rattle.lsp_edit.specs.Parts.{new_parts, parts_of};
@@ -10,8 +9,9 @@ ghost use Rattle.lsp_edit.specs.TextEdits.{AreApart, ArePlaced, DoOverlap, IsEdi
 
 use crate::ends::ends;
 use crate::fault::{EditFault, Side};
+use crate::old_text::OldText;
 use crate::pieces::span::Span;
-use lsp_text::{Encoding, Lines, Range};
+use lsp_text::{Encoding, Range};
 use std::alloc::{AllocError, Global};
 use thiserror::Error;
 
@@ -75,34 +75,31 @@ pub struct Placed<'a> {
     pub text: &'a str,
 }
 
-/// Returns the spans that edits leave of the text that `lines` index.
+/// Returns the spans that edits leave of a text.
 pub fn spans_of_edits<'a>(
     alloc: Global,
-    lines: &Lines,
-    text: &str,
+    text: &OldText<'_>,
     encoding: Encoding,
     edits: &'a [TextEdit],
 ) -> Result<Vec<Span<'a>>, TextEditFault>
-    requires { Indexes lines.now text.now }
     ensures are { IfOk result (λ spans. AreLeftByEdits (units_in encoding) text.now edits.now
         (parts_of spans.items)) }
+    ensures utf8 { OnOk result (IsUtf8 text.now) }
     ensures error { IfErr result (λ fault.
         IsEditsFault (units_in encoding) (chars text.now) edits.now fault) }
 {
-    let mut placed = place_all(alloc, lines, text, encoding, edits)?;
+    let mut placed = place_all(alloc, text, encoding, edits)?;
     put_in_order(&mut placed)?;
     spans_left(alloc, text.len(), &placed)
 }
 
-/// Finds the byte offsets of each edit in the text that `lines` index.
+/// Finds the byte offsets of each edit in a text.
 fn place_all<'a>(
     alloc: Global,
-    lines: &Lines,
-    text: &str,
+    text: &OldText<'_>,
     encoding: Encoding,
     edits: &'a [TextEdit],
 ) -> Result<Vec<Placed<'a>>, TextEditFault>
-    requires { Indexes lines.now text.now }
     ensures ok { IfOk result (λ placed.
         ArePlaced (units_in encoding) (chars text.now) 0 edits.now placed.items) }
     ensures error { IfErr result (λ fault. (fault ≡ NoMemory)
@@ -111,7 +108,7 @@ fn place_all<'a>(
     let mut placed = Vec::new(alloc);
     for edit in edits {
         let number = placed.len();
-        let (start, stop) = ends(lines, text, encoding, edit.range, number)?;
+        let (start, stop) = ends(text, encoding, edit.range, number)?;
         let text = &edit.new_text;
         let edit = Placed {
             number,

@@ -1,6 +1,7 @@
 //! Batches on small texts: the texts that they leave, their canonical batches and their faults.
 //! Ranges are counted in UTF-16.
 
+mod buffer;
 mod faults;
 mod joined_batches;
 mod long_batches;
@@ -384,9 +385,10 @@ pub(super) fn are_applied<'a>(
     Ok(changes.len() == texts.len())
 }
 
-/// Which of the two programs composes a batch.
+/// Which program composes a batch.
 #[derive(Clone, Copy)]
 pub(super) enum Program {
+    Buffer,
     Pieces,
     Plain,
 }
@@ -394,6 +396,7 @@ pub(super) enum Program {
 /// Returns the text that a batch leaves and its canonical batch, or its fault.
 fn left(alloc: Global, program: Program, before: &str, changes: &[Change]) -> Outcome {
     match program {
+        Program::Buffer => buffer::left(alloc, before, changes),
         Program::Pieces => pieces::left(alloc, before, changes),
         Program::Plain => plain::left(alloc, before, changes),
     }

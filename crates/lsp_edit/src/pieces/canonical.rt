@@ -2,7 +2,7 @@
 
 ghost use Rattle.std.specs.Prelude.{◌≡◌, ◌++◌, ◌<◌, ◌⊎◌, ℕ, IfOk, OnOk, IsCharBoundary, length, map, reverse, string_bytes};
 ghost use Rattle.std.specs.Str.{chars};
-ghost use Rattle.lsp_text.specs.LineStarts.{Indexes, IsPlace};
+ghost use Rattle.lsp_text.specs.LineStarts.{IsPlace};
 ghost use Rattle.lsp_text.specs.Units.{units_in};
 ghost use Rattle.lsp_edit.specs.Canonical.{canonical, gaps};
 ghost use Rattle.lsp_edit.specs.Edited.{edit_of};
@@ -11,8 +11,9 @@ ghost use Rattle.lsp_edit.specs.Laws.{AllHaveExactEnds};
 ghost use Rattle.lsp_edit.specs.Parts.{AreParts, items_of, parts_of};
 
 use crate::change::Change;
+use crate::old_text::OldText;
 use crate::pieces::span::Span;
-use lsp_text::{Encoding, Lines, Range};
+use lsp_text::{Encoding, Range};
 use std::alloc::{AllocError, Global};
 use std::mem;
 
@@ -20,14 +21,12 @@ use std::mem;
 /// `low` to `high`.
 fn put_gap(
     changes: &mut Vec<Change>,
-    lines: &Lines,
-    before: &str,
+    before: &OldText<'_>,
     encoding: Encoding,
     low: usize,
     high: usize,
     text: String,
 ) -> Result<(), AllocError>
-    requires indexed { Indexes lines.now before.now }
     requires low { IsCharBoundary before.now low }
     requires high { IsCharBoundary before.now high }
     requires ends { (low < high) ⊎ (0 < length (string_bytes text)) → IsPlace (chars before.now) low
@@ -36,8 +35,8 @@ fn put_gap(
         ++ gap_change (units_in encoding) before.now low high (string_bytes text)) }
 {
     if low < high || !text.is_empty() {
-        let start = lines.position(before, encoding, low);
-        let stop = lines.position(before, encoding, high);
+        let start = before.position(encoding, low);
+        let stop = before.position(encoding, high);
         let range = Some(Range { start, stop });
         changes.push(Change { range, text })?;
     }
@@ -47,14 +46,12 @@ fn put_gap(
 /// Returns the canonical batch of spans: one change for each changed gap between kept characters,
 /// from the last gap to the first. Costs the spans, and one exact position for each end of a
 /// changed gap.
-pub fn canonical_of<'a>(
+pub fn canonical_of(
     alloc: Global,
-    before: &'a str,
-    lines: &Lines,
-    spans: &[Span<'a>],
+    before: &OldText<'_>,
+    spans: &[Span<'_>],
     encoding: Encoding,
 ) -> Result<Vec<Change>, AllocError>
-    requires indexed { Indexes lines.now before.now }
     requires parts { AreParts before.now (parts_of spans.now) }
     requires ends { AllHaveExactEnds (chars before.now)
         (gaps (chars before.now) (items_of (chars before.now) (parts_of spans.now))) }
@@ -62,6 +59,7 @@ pub fn canonical_of<'a>(
         ≡ canonical (units_in encoding) (chars before.now)
         (items_of (chars before.now) (parts_of spans.now))) }
 {
+    let end = before.len();
     let mut changes = Vec::new(alloc);
     let mut low = 0;
     let mut text = String::new(alloc);
@@ -69,21 +67,13 @@ pub fn canonical_of<'a>(
         match *span {
             Span::Old { from, to } => {
                 let filled = mem::replace(&mut text, String::new(alloc));
-                put_gap(&mut changes, lines, before, encoding, low, from, filled)?;
+                put_gap(&mut changes, before, encoding, low, from, filled)?;
                 low = to;
             }
             Span::New(new) => text.push_str(new)?,
         }
     }
-    put_gap(
-        &mut changes,
-        lines,
-        before,
-        encoding,
-        low,
-        before.len(),
-        text,
-    )?;
+    put_gap(&mut changes, before, encoding, low, end, text)?;
     changes.reverse();
     Ok(changes)
 }

@@ -4,6 +4,7 @@ ghost use Rattle.std.specs.Prelude.{◌≡◌, ◌≤◌, IfOk, MatchOption, len
 ghost use Rattle.lsp_text.specs.LineStarts.{Indexes};
 ghost use Rattle.lsp_edit.specs.Parts.{AreParts, bytes_of, parts_of};
 
+use crate::old_text::OldText;
 use crate::pieces::span::Span;
 use lsp_text::{GapText, Lines};
 use std::alloc::{AllocError, Global};
@@ -13,11 +14,11 @@ const ROOM: usize = 4096;
 
 /// Returns the current text, if there is one already, or else copies the text of the spans into a
 /// text with a gap.
-pub fn current_or_new<'a>(
+pub fn current_or_new(
     current: Option<GapText>,
     alloc: Global,
-    before: &'a str,
-    spans: &[Span<'a>],
+    before: &OldText<'_>,
+    spans: &[Span<'_>],
     len: usize,
 ) -> Result<GapText, AllocError>
     requires parts { AreParts before.now (parts_of spans.now) }
@@ -34,10 +35,10 @@ pub fn current_or_new<'a>(
 }
 
 /// Returns the text of spans, of `len` bytes, with its lines.
-pub fn text_with_lines<'a>(
+pub fn text_with_lines(
     alloc: Global,
-    before: &'a str,
-    spans: &[Span<'a>],
+    before: &OldText<'_>,
+    spans: &[Span<'_>],
     len: usize,
 ) -> Result<(String, Lines), AllocError>
     requires parts { AreParts before.now (parts_of spans.now) }
@@ -52,10 +53,10 @@ pub fn text_with_lines<'a>(
 }
 
 /// Returns the text of spans, of `len` bytes.
-pub fn text_of_spans<'a>(
+pub fn text_of_spans(
     alloc: Global,
-    before: &'a str,
-    spans: &[Span<'a>],
+    before: &OldText<'_>,
+    spans: &[Span<'_>],
     len: usize,
 ) -> Result<String, AllocError>
     requires { AreParts before.now (parts_of spans.now) }
@@ -63,7 +64,7 @@ pub fn text_of_spans<'a>(
 {
     let mut text = String::with_capacity(alloc, len)?;
     for span in spans {
-        text.push_str(span.read(before))?;
+        span.push_to(before, &mut text)?;
     }
     Ok(text)
 }

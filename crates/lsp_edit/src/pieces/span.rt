@@ -1,9 +1,10 @@
 //! A span: a run of a text after changes, without a copy of its characters.
 
-ghost use Rattle.std.specs.Prelude.{◌≡◌, ◌++◌, ◌≤◌, ◌<◌, ℕ, IfOk, OnOk, length, MatchOption, ◌∷◌, []};
+ghost use Rattle.std.specs.Prelude.{◌≡◌, ◌++◌, ◌≤◌, ◌<◌, ℕ, OnOk, length, string_bytes, MatchOption, ◌∷◌, []};
 ghost use Rattle.lsp_edit.specs.Parts.{IsPartOf, bytes_in, part_len, part_of, parts_of};
 ghost use Rattle.lsp_edit.specs.inside.Parts.{IsCutAt, joined, back_part, front_part, put_part, IsOrdered};
 
+use crate::old_text::OldText;
 use std::alloc::AllocError;
 
 /// A run of a text after changes. It isn't empty.
@@ -74,14 +75,15 @@ impl<'a> Span<'a> {
         }
     }
 
-    /// Returns its bytes; `before` is the old text.
-    pub(crate) fn read(self, before: &'a str) -> &'a str
+    /// Appends its bytes to a string; `before` is the old text.
+    pub(crate) fn push_to(self, before: &OldText<'_>, out: &mut String) -> Result<(), AllocError>
         requires { IsPartOf before.now (part_of self) }
-        ensures { result.now ≡ bytes_in before.now (part_of self.entry) }
+        ensures { OnOk result (string_bytes out.new
+            ≡ string_bytes out.old ++ bytes_in before.now (part_of self.entry)) }
     {
         match self {
-            Span::Old { from, to } => &before[from..to],
-            Span::New(text) => text,
+            Span::Old { from, to } => before.push_range(out, from, to),
+            Span::New(text) => out.push_str(text),
         }
     }
 }

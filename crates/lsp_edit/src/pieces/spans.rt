@@ -1,10 +1,12 @@
 //! The spans of a text after changes. A single span takes no memory.
 
 ghost use Rattle.std.specs.Prelude.{◌≡◌, ◌≤◌, ◌<◌, ◌^◌, OnOk, OnErr, [], length};
+ghost use Rattle.std.specs.Str.{IsUtf8};
 ghost use Rattle.lsp_edit.specs.Parts.{new_parts, parts_of};
 ghost use Rattle.lsp_edit.specs.inside.Parts.{AreCut, AreOrdered, replaced_parts, whole_parts};
 ghost use Rattle.lsp_edit.specs.Spans.{spans_in};
 
+use crate::old_text::OldText;
 use crate::pieces::row::Row;
 use crate::pieces::span::Span;
 use std::alloc::{AllocError, Global};
@@ -26,16 +28,15 @@ impl<'a> Spans<'a> {
     }
 
     /// Makes the span of a text before any change, if the text isn't empty.
-    pub fn whole(alloc: Global, before: &'a str) -> Self
-        ensures { parts_of (spans_in result) ≡ whole_parts before.now }
+    pub fn whole(alloc: Global, before: &OldText<'_>) -> Self
+        ensures parts { parts_of (spans_in result) ≡ whole_parts before.now }
+        ensures utf8 { IsUtf8 before.now }
     {
-        if before.is_empty() {
+        let len = before.len();
+        if len == 0 {
             return Spans::none(alloc);
         }
-        Spans::One(Span::Old {
-            from: 0,
-            to: before.len(),
-        })
+        Spans::One(Span::Old { from: 0, to: len })
     }
 
     /// Makes the span of a new text, if the text isn't empty.

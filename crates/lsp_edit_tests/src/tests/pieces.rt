@@ -14,7 +14,7 @@ use std::alloc::{AllocError, Global};
 use std::test::Fail;
 
 /// Returns the text of pieces and their canonical batch.
-fn meaning_of(pieces: &Pieces<'_>) -> Result<(String, Vec<Change>), AllocError> {
+pub(super) fn meaning_of(pieces: &Pieces<'_>) -> Result<(String, Vec<Change>), AllocError> {
     let text = pieces.text()?;
     let canonical = pieces.canonical(Encoding::Utf16)?;
     Ok((text, canonical))

@@ -1,6 +1,4 @@
-use Rattle.std.proofs.Common.{arith}
-use Rattle.lsp_edit.proofs.EditedLemmas.{first_bytes}
 use Rattle.lsp_edit.proofs.composed.compose_over.Goals as goal
 
-pub apply_all-requires-clause-room : goal.apply_all-requires-clause-room
-apply_all-requires-clause-room c = omega (arith, first_bytes c.args.before.now c.over-pieces.result.edited c.utf8.before c.over-pieces.ensures, c.requires.size, c.requires.fits)
+pub returns : goal.returns
+returns c = rw c.with_lines-before.ensures at c.compose_old.ensures.means

@@ -1,4 +1,4 @@
-use Rattle.std.proofs.Common.{ap, arith, length}
+use Rattle.std.proofs.Common.{arith}
 use Rattle.lsp_edit.proofs.OnceLemmas.{put_len, put_order, put_stop}
 use Rattle.lsp_edit.proofs.delta.Delta.put_len.Goals as goal
 
@@ -6,7 +6,7 @@ pub overflow_sub-result : goal.overflow_sub-result
 overflow_sub-result c = put_order _ _ _ _ _ c.requires.put
 
 pub overflow_sub-result-2 : goal.overflow_sub-result-2
-overflow_sub-result-2 c = omega (arith, (put_stop _ _ _ _ _ c.requires.put).0, ap length c.text.ensures)
+overflow_sub-result-2 c = omega (arith, (put_stop _ _ _ _ _ c.requires.put).0, c.len.ensures.len)
 
 pub returns : goal.returns
-returns c = omega (arith, put_len _ _ _ _ _ c.requires.put, put_order _ _ _ _ _ c.requires.put, (put_stop _ _ _ _ _ c.requires.put).0, ap length c.text.ensures)
+returns c = omega (arith, put_len _ _ _ _ _ c.requires.put, put_order _ _ _ _ _ c.requires.put, (put_stop _ _ _ _ _ c.requires.put).0, c.len.ensures.len)

@@ -1,4 +1,4 @@
-use Rattle.std.proofs.Common.{◌≡◌, ◌+◌, ℕ, List, length, map, sum_by, string_len, sym, ap, subst, ◌∙◌, arith, rules}
+use Rattle.std.proofs.Common.{◌≡◌, ◌+◌, List, length, map, sum_by, string_len, sym, ap, subst, ◌∙◌, arith, rules}
 use Rattle.std.specs.Slice.Iter.{chunks_rest}
 use Rattle.std.proofs.lemmas.List.{map-append, nil_from_length}
 use Rattle.std.proofs.lemmas.List.Sums.{sum_by-append}
@@ -40,4 +40,4 @@ loop-run-preserved c =
 pub returns : goal.returns
 returns c =
     run_ends (units_in c.args.encoding) c.args.before.now (map edit_of c.args.changes.now) c.args.max_len c.loop-run.joined c.loop-run.reached (map edit_of (chunks_rest c.loop-run.run-iterator)) c.loop-run.invariant.2
-    (ap (map edit_of) (nil_from_length _ c.in-None.ensures.steps.1.0)) (omega (arith, c.if-text-max_len.false, ap length c.text.ensures))
+    (ap (map edit_of) (nil_from_length _ c.in-None.ensures.steps.1.0)) (omega (arith, c.if-len-max_len.false, c.len.ensures.len))

@@ -1,10 +1,10 @@
 use Rattle.std.proofs.Common.{refl}
-use Rattle.lsp_edit.specs.Edited.{lines_of}
 use Rattle.lsp_edit.proofs.EditedLemmas.{whole_is, begun}
 use Rattle.lsp_edit.proofs.pieces.Pieces.begin.Goals as goal
 
 pub invariant_of-result : goal.invariant_of-result
-invariant_of-result c = (rw c.whole.ensures (begun c.args.before.now (lines_of c.args.lines) _ c.utf8.before c.requires (whole_is c.args.before.now c.utf8.before)), tt)
+invariant_of-result c =
+    (rw (c.whole-spans.ensures.parts, c.len-len.ensures.len) (begun c.args.before _ c.len-len.ensures.utf8 c.len-len.ensures.size (whole_is c.args.before c.len-len.ensures.utf8)), tt)
 
-pub returns : goal.returns
-returns c = rw c.whole.ensures (rw (whole_is c.args.before.now c.utf8.before).items refl)
+pub returns-clause-begun : goal.returns-clause-begun
+returns-clause-begun c = rw c.whole-spans.ensures.parts (rw (whole_is c.args.before c.len-len.ensures.utf8).items refl)

@@ -1,7 +1,7 @@
 //! The lines of the old text, which may be borrowed from a caller.
 
 ghost use Rattle.std.specs.Prelude.{◌≡◌};
-ghost use Rattle.lsp_edit.specs.Edited.{lines_of};
+ghost use Rattle.lsp_edit.specs.inside.OldLines.{lines_of};
 
 use lsp_text::Lines;
 

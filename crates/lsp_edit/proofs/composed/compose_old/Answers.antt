@@ -1,0 +1,6 @@
+use Rattle.std.proofs.Common.{arith}
+use Rattle.lsp_edit.proofs.EditedLemmas.{first_bytes}
+use Rattle.lsp_edit.proofs.composed.compose_old.Goals as goal
+
+pub apply_all-requires-clause-room : goal.apply_all-requires-clause-room
+apply_all-requires-clause-room c = omega (arith, first_bytes c.args.before c.begin-pieces.result.edited c.begin-pieces.ensures.utf8 c.begin-pieces.ensures.begun, c.requires.size, c.requires.fits)
