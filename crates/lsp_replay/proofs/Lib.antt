@@ -32,3 +32,11 @@ pub mod SingleLemmas
 pub mod SquashedLogLemmas
 pub mod KeptLemmas
 pub mod PartLemmas
+pub mod LeftOutLemmas
+pub mod KeptLogLemmas
+pub mod DocumentsLemmas
+pub mod DocumentsLawLemmas
+pub mod TableLemmas
+pub mod MemberLemmas
+pub mod TraceLemmas
+pub mod TraceLawLemmas

@@ -19,7 +19,7 @@ use Rattle.lsp_replay.proofs.RunReportLemmas.{Grows, settled_on, grows_on, NoneC
 
 -- ---- a record that is in the log
 
-unless_not : (r : Record) (verdict : Verdict) (given : RecordOutput) → verdict ≢ bad → unless_bad r verdict given ≡ given
+pub unless_not : (r : Record) (verdict : Verdict) (given : RecordOutput) → verdict ≢ bad → unless_bad r verdict given ≡ given
 unless_not r (answered answer) given not_bad = refl
 unless_not r recorded given not_bad = refl
 unless_not r bad given not_bad = absurd (not_bad refl)

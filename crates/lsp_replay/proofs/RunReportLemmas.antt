@@ -35,7 +35,7 @@ pub settled_on : (out : List ℕ) (end : Option (Result Outcome EngineFault)) (c
 settled_on out None c longer answer e same = ap (continue_with out None) (same e)
 settled_on out (Some other) c longer answer e same = refl
 
-settled : (view : View) (s : Session) (rs : List Record) → IsCanonicalOf view s rs
+pub settled : (view : View) (s : Session) (rs : List Record) → IsCanonicalOf view s rs
 settled view s [] more answer e = absurd (let wrong : None ≡ Some answer = e in cc)
 settled view s (r ∷ rs) more answer e =
     settled_on (view.record_output s r (judge s r)).out (view.record_output s r (judge s r)).end (run_output_in view (judge s r).session rs) (run_output_in view (judge s r).session (rs ++ more)) answer e
@@ -49,7 +49,7 @@ unfolding Grows
 grows_on out None c longer more = (more.0, ap (λ z. out ++ z) more.1 ∙ sym (append_assoc out c.out more.0))
 grows_on out (Some answer) c longer more = ([], sym (append-nil out))
 
-grows : (view : View) (s : Session) (rs more : List Record) → Grows (run_output_in view s rs) (run_output_in view s (rs ++ more))
+pub grows : (view : View) (s : Session) (rs more : List Record) → Grows (run_output_in view s rs) (run_output_in view s (rs ++ more))
 unfolding Grows
 grows view s [] more = ((run_output_in view s more).out, refl)
 grows view s (r ∷ rs) more = grows_on (view.record_output s r (judge s r)).out (view.record_output s r (judge s r)).end _ _ (grows view (judge s r).session rs more)
@@ -61,14 +61,14 @@ Settles run_output = (rs more : List Record) (answer : Result Outcome EngineFaul
 abbrev pub GrowsAll : (List Record → RunOutput) → Type 0
 GrowsAll run_output = (rs more : List Record) → Grows (run_output rs) (run_output (rs ++ more))
 
-squashed_settled : (s : Session) (run : Option Run) (rs more : List Record) (answer : Result Outcome EngineFault) → (squashed_in s run rs).stop ≡ Some answer → squashed_in s run (rs ++ more) ≡ squashed_in s run rs
+pub squashed_settled : (s : Session) (run : Option Run) (rs more : List Record) (answer : Result Outcome EngineFault) → (squashed_in s run rs).stop ≡ Some answer → squashed_in s run (rs ++ more) ≡ squashed_in s run rs
 squashed_settled s run [] more answer e = absurd (let wrong : None ≡ Some answer = e in cc)
 squashed_settled s run (r ∷ rs) more answer e =
     let step = squash_step s run r (judge s r) in
     settled_on step.out step.end (squashed_in (judge s r).session step.run rs) (squashed_in (judge s r).session step.run (rs ++ more)) answer e
     (squashed_settled (judge s r).session step.run rs more answer)
 
-squashed_grows : (s : Session) (run : Option Run) (rs more : List Record) → Grows (squashed_in s run rs) (squashed_in s run (rs ++ more))
+pub squashed_grows : (s : Session) (run : Option Run) (rs more : List Record) → Grows (squashed_in s run rs) (squashed_in s run (rs ++ more))
 unfolding Grows
 squashed_grows s run [] more = ((squashed_in s run more).out, refl)
 squashed_grows s run (r ∷ rs) more =

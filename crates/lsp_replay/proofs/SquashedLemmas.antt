@@ -46,7 +46,7 @@ step_end server r front run (Some p) (answered changed) =
     (λ (within : nat_lt server.config.limits.max_body (length (canonical_change_body server p)) ≡ false). rw within (change_end server p front _ run))
     (cases_Bool (nat_lt server.config.limits.max_body (length (canonical_change_body server p))))
 
-stop_on : (out bytes : List ℕ) (end also : Option (Result Outcome EngineFault)) (c d : RunOutput) → end ≡ also → c.stop ≡ d.stop → (continue_with out end c).stop ≡ (continue_with bytes also d).stop
+pub stop_on : (out bytes : List ℕ) (end also : Option (Result Outcome EngineFault)) (c d : RunOutput) → end ≡ also → c.stop ≡ d.stop → (continue_with out end c).stop ≡ (continue_with bytes also d).stop
 stop_on out bytes None None c d same stops = stops
 stop_on out bytes None (Some a) c d same stops = absurd (cc)
 stop_on out bytes (Some e) None c d same stops = absurd (cc)

@@ -77,43 +77,40 @@ gives_begun server p front single old_front singles None batches other is = ap (
 gives_begun server p front single old_front singles (Some squash) batches other is =
     rw other (ap (λ (o : Option Run). record { out = run_bytes (record { front = old_front; singles = singles; squash = squash }); end = None; run = o }) (begun_is server p front single batches is))
 
--- ---- the course of a handler, a record at a time
+-- ---- the step of a record, by how it is written
 
-module _ (s : Session) (front singles : List ℕ) (run : Option SquashData) (r : Record) (now : Session) (is_now : now ≡ (judge s r).session) (verdict : Verdict) (error : verdict ≡ (judge s r).verdict) where
+module _ (s : Session) (front singles : List ℕ) (run : Option SquashData) (r : Record) (verdict : Verdict) (error : verdict ≡ (judge s r).verdict) where
   abbrev here : Option Run
   here = run_of front singles run
 
   abbrev its_front : List ℕ
   its_front = front_of r.head
 
-  by_step : (out : List ℕ) (next : Option Run) → squash_step s here r (judge s r) ≡ record { out = out; end = None; run = next } → (more : List Record) → squashed_in s here (r ∷ more) ≡ after out None (squashed_in now next more)
-  by_step out next is more =
-      ap (λ (step : Step). continue_with step.out step.end (squashed_in (judge s r).session step.run more)) is ∙ ap (λ (u : Session). written_first out (squashed_in u next more)) (sym is_now)
-
-  pub gives_as_it_is : (out : List ℕ) → verdict ≢ bad → canonical_if s.server (change_in (incoming_of (reading r.body))) verdict ≡ None → out ≡ end_bytes here ++ (its_front ++ r.raw)
-      → (more : List Record) → squashed_in s here (r ∷ more) ≡ after out None (squashed_in now None more)
-  gives_as_it_is out not_bad none is more =
-      by_step out None
-      (ap (λ v. step_if s.server r its_front here (change_in (incoming_of (reading r.body))) v) (sym error)
+  gives_as_it_is : (out : List ℕ) → verdict ≢ bad → canonical_if s.server (change_in (incoming_of (reading r.body))) verdict ≡ None → out ≡ end_bytes here ++ (its_front ++ r.raw)
+      → squash_step s here r (judge s r) ≡ record { out = out; end = None; run = None }
+  gives_as_it_is out not_bad none is =
+      ap (λ v. step_if s.server r its_front here (change_in (incoming_of (reading r.body))) v) (sym error)
       ∙ step_other s.server r its_front here (change_in (incoming_of (reading r.body))) verdict not_bad none
-      ∙ ap (λ o. record { out = o; end = None; run = None }) (sym is)) more
+      ∙ ap (λ o. record { out = o; end = None; run = None }) (sym is)
 
   changes : (canonical : List ℕ) → (is : IsChange s.server (change_in (incoming_of (reading r.body))) verdict canonical) → squash_step s here r (judge s r) ≡ change_output s.server is.params its_front (its_front ++ canonical) here
   changes canonical is =
       ap (λ v. step_if s.server r its_front here (change_in (incoming_of (reading r.body))) v) (sym error)
       ∙ step_changed s.server r its_front canonical here (change_in (incoming_of (reading r.body))) verdict is
 
-  pub gives_more : (canonical : List ℕ) (batches : SquashData) (is : IsChange s.server (change_in (incoming_of (reading r.body))) verdict canonical) → IsLonger run is.params batches
-      → (more : List Record) → squashed_in s here (r ∷ more) ≡ after [] None (squashed_in now (run_of front (singles ++ (its_front ++ canonical)) (Some batches)) more)
-  gives_more canonical batches is longer more =
-      by_step [] (run_of front (singles ++ (its_front ++ canonical)) (Some batches))
-      (changes canonical is ∙ gives_longer s.server is.params its_front (its_front ++ canonical) front singles run batches longer) more
+  gives_more : (canonical : List ℕ) (batches : SquashData) (is : IsChange s.server (change_in (incoming_of (reading r.body))) verdict canonical) → IsLonger run is.params batches
+      → squash_step s here r (judge s r) ≡ record { out = []; end = None; run = run_of front (singles ++ (its_front ++ canonical)) (Some batches) }
+  gives_more canonical batches is longer = changes canonical is ∙ gives_longer s.server is.params its_front (its_front ++ canonical) front singles run batches longer
 
-  pub gives_next : (canonical : List ℕ) (batches : SquashData) (is : IsChange s.server (change_in (incoming_of (reading r.body))) verdict canonical) → IsOther run is.params → IsBegun s.server is.params batches
-      → (more : List Record) → squashed_in s here (r ∷ more) ≡ after (end_bytes here) None (squashed_in now (run_of its_front (its_front ++ canonical) (Some batches)) more)
-  gives_next canonical batches is other begun more =
-      by_step (end_bytes here) (run_of its_front (its_front ++ canonical) (Some batches))
-      (changes canonical is ∙ gives_begun s.server is.params its_front (its_front ++ canonical) front singles run batches other begun) more
+  gives_next : (canonical : List ℕ) (batches : SquashData) (is : IsChange s.server (change_in (incoming_of (reading r.body))) verdict canonical) → IsOther run is.params → IsBegun s.server is.params batches
+      → squash_step s here r (judge s r) ≡ record { out = end_bytes here; end = None; run = run_of its_front (its_front ++ canonical) (Some batches) }
+  gives_next canonical batches is other begun = changes canonical is ∙ gives_begun s.server is.params its_front (its_front ++ canonical) front singles run batches other begun
+
+  pub told_too_long : (p : ChangeData) → change_in (incoming_of (reading r.body)) ≡ Some p → verdict ≡ answered changed → s.server.config.limits.max_body < length (canonical_change_body s.server p)
+      → squash_step s here r (judge s r) ≡ faulty (BodyTooLong r.head.place)
+  told_too_long p is accepted over =
+      ap (λ v. step_if s.server r its_front here (change_in (incoming_of (reading r.body))) v) (sym error)
+      ∙ step_too_long s.server r its_front here (change_in (incoming_of (reading r.body))) verdict p is accepted over
 
   -- ---- the same, by what the texts and the output are after the calls that write them
 
@@ -124,22 +121,22 @@ module _ (s : Session) (front singles : List ℕ) (run : Option SquashData) (r :
     pub told_as_it_is : (ended : Option SquashData) → ended ≡ begun_with → verdict ≢ bad → canonical_if s.server (change_in (incoming_of (reading r.body))) verdict ≡ None
         → (run_out front_out out : List ℕ) → run_out ≡ buffer ++ end_bytes (run_of front singles ended) → front_out ≡ run_out ++ its_front → out ≡ front_out ++ r.raw
         → (batches : Option SquashData) → batches ≡ None → (last_front last_singles : List ℕ)
-        → (more : List Record) → squashed_in s here (r ∷ more) ≡ after out None (squashed_in now (run_of last_front last_singles batches) more)
-    told_as_it_is ended same not_bad none run_out front_out out run_is front_is is batches closed last_front last_singles more =
+        → squash_step s here r (judge s r) ≡ record { out = out; end = None; run = run_of last_front last_singles batches }
+    told_as_it_is ended same not_bad none run_out front_out out run_is front_is is batches closed last_front last_singles =
         gives_as_it_is out not_bad none
-        (is ∙ ap (λ z. z ++ r.raw) (front_is ∙ ap (λ z. z ++ its_front) (ends ended run_out same run_is)) ∙ append_assoc (end_bytes here) its_front r.raw) more
-        ∙ ap (λ (o : Option SquashData). after out None (squashed_in now (run_of last_front last_singles o) more)) (sym closed)
+        (is ∙ ap (λ z. z ++ r.raw) (front_is ∙ ap (λ z. z ++ its_front) (ends ended run_out same run_is)) ∙ append_assoc (end_bytes here) its_front r.raw)
+        ∙ ap (λ (o : Option SquashData). record { out = out; end = None; run = run_of last_front last_singles o }) (sym closed)
 
     pub told_more : (canonical : List ℕ) (batches : SquashData) (is : IsChange s.server (change_in (incoming_of (reading r.body))) verdict canonical) → IsLonger begun_with is.params batches
         → (frame new_front new_singles : List ℕ) → frame ≡ canonical → new_front ≡ front → new_singles ≡ singles ++ (its_front ++ frame)
-        → (more : List Record) → squashed_in s here (r ∷ more) ≡ after buffer None (squashed_in now (run_of new_front new_singles (Some batches)) more)
-    told_more canonical batches is longer frame new_front new_singles same same_front more_singles more =
-        rw (nothing, same_front, more_singles, same) (gives_more canonical batches is (subst (λ (o : Option SquashData). IsLonger o is.params batches) taken longer) more)
+        → squash_step s here r (judge s r) ≡ record { out = buffer; end = None; run = run_of new_front new_singles (Some batches) }
+    told_more canonical batches is longer frame new_front new_singles same same_front more_singles =
+        rw (nothing, same_front, more_singles, same) (gives_more canonical batches is (subst (λ (o : Option SquashData). IsLonger o is.params batches) taken longer))
 
     pub told_next : (canonical : List ℕ) (ended : Option SquashData) (batches : SquashData) (is : IsChange s.server (change_in (incoming_of (reading r.body))) verdict canonical)
         → IsOther begun_with is.params → ended ≡ begun_with → IsBegun s.server is.params batches
         → (out frame new_front new_singles : List ℕ) → out ≡ buffer ++ end_bytes (run_of front singles ended) → frame ≡ canonical → new_front ≡ its_front → new_singles ≡ its_front ++ frame
-        → (more : List Record) → squashed_in s here (r ∷ more) ≡ after out None (squashed_in now (run_of new_front new_singles (Some batches)) more)
-    told_next canonical ended batches is other ended_is begun out frame new_front new_singles out_is same same_front more_singles more =
+        → squash_step s here r (judge s r) ≡ record { out = out; end = None; run = run_of new_front new_singles (Some batches) }
+    told_next canonical ended batches is other ended_is begun out frame new_front new_singles out_is same same_front more_singles =
         rw (ends ended out ended_is out_is, same_front, more_singles, same)
-        (gives_next canonical batches is (subst (λ (o : Option SquashData). IsOther o is.params) taken other) begun more)
+        (gives_next canonical batches is (subst (λ (o : Option SquashData). IsOther o is.params) taken other) begun)

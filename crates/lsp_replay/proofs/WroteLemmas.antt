@@ -45,7 +45,7 @@ written_not_ok max_body r front (Some body) = by (nat_lt max_body (length body))
     by true = tt
     by false = tt
 
-normal_not_ok : (s : Session) (rs : List Record) → IsNotOk (run_output_in normalising s rs).stop
+pub normal_not_ok : (s : Session) (rs : List Record) → IsNotOk (run_output_in normalising s rs).stop
 normal_not_ok s [] = tt
 normal_not_ok s (r ∷ rs) =
     not_ok_on (unless_bad r (judge s r).verdict (canonical_output s r (judge s r))).out (unless_bad r (judge s r).verdict (canonical_output s r (judge s r))).end (run_output_in normalising (judge s r).session rs)

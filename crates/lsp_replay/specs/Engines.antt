@@ -105,7 +105,7 @@ code_word (Some MethodNotFound) = codes "error -32601"
 code_word (Some InvalidParams) = codes "error -32602"
 code_word (Some ServerNotInitialized) = codes "error -32002"
 
--- The letters of a change that has no result, as docs/FORMATS.md lists them.
+-- The letters of a change that has no result, as docs/PROTOCOL.md lists them.
 abbrev pub edit_label : EditFault → List ℕ
 edit_label (InsideCharacter change side) = codes "E1"
 edit_label (ReversedRange change) = codes "E2"

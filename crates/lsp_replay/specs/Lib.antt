@@ -7,4 +7,9 @@ pub mod Laws
 pub mod AllRecords
 pub mod Run
 pub mod Parts
+pub mod Documents
+pub mod Mentions
+pub mod Reasons
+pub mod Trace
+pub mod Explained
 pub mod inside

@@ -12,7 +12,10 @@ ghost use Rattle.lsp_replay.specs.Run.{IsEngineRun, WritesLog};
 ghost use Rattle.lsp_replay.specs.Run.{serve_engine, check_engine, replay_engine, normalise_engine, convert_engine};
 ghost use Rattle.lsp_replay.specs.inside.Run.{each_engine, squash_engine};
 
+mod documents;
+mod explained;
 mod parts;
+mod traced;
 
 use crate::commands::checking::Check;
 use crate::commands::converting::Convert;
@@ -21,7 +24,10 @@ use crate::commands::replaying::Replay;
 use crate::commands::serving::Serve;
 use crate::commands::squashing::Squashing;
 use crate::engine::{InputRules, run_engine, run_on};
+pub use crate::engines::documents::normalise_documents;
+pub use crate::engines::explained::explain;
 pub use crate::engines::parts::{Part, replay_part};
+pub use crate::engines::traced::{Details, trace};
 use crate::outcome::Outcome;
 use lsp_frame::Limits;
 use lsp_server::{Config, EncodingChoice, Sync};

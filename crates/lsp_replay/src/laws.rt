@@ -1,6 +1,8 @@
 //! Laws over the definitions alone, which no single call has in its contract.
 
 ghost use Rattle.lsp_log.specs.Laws.{UniqueLaw};
+ghost use Rattle.lsp_replay.specs.Documents.{DocumentsLaw, DocumentsStopAlike};
+ghost use Rattle.lsp_replay.specs.Trace.{TraceLaw};
 ghost use Rattle.lsp_replay.specs.Laws.{ReportLaw, CanonicalLogLaw, SquashedLaw, StopsAlike, ConvertedLaw};
 
 use lsp_log::reading_laws;
@@ -16,6 +18,8 @@ use lsp_log::reading_laws;
 ///   documents and status, and the same is written again.
 /// - What `convert` writes of a log of version 1 is a log of which `replay` reports the same. For
 ///   that each reply in it must be within the limit on bodies.
+/// - `trace` ends where `check` does, and as it does, with the same numbers and words. Its last texts
+///   are those of `replay`.
 pub fn log_laws()
     ensures unique { UniqueLaw }
     ensures report { ReportLaw }
@@ -23,6 +27,18 @@ pub fn log_laws()
     ensures stops { StopsAlike }
     ensures squashed { SquashedLaw }
     ensures converted { ConvertedLaw }
+    ensures traced { TraceLaw }
 {
     reading_laws();
 }
+
+/// States what holds where records are left out that are neither about the session nor about a
+/// document's text. It does nothing; its contract says:
+///
+/// - The log ends as it does where no record is left out: at the same record, for the same cause.
+/// - What is written is a log of which `replay` reports the same documents, with the same status
+///   and as many refusals.
+pub fn documents_laws()
+    ensures stops { DocumentsStopAlike }
+    ensures documents { DocumentsLaw }
+{}

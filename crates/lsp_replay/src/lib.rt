@@ -1,13 +1,16 @@
 //! The engines of the log commands and of a server: each runs from a reader to a writer, over a
 //! server's end. The streams (`lsp_stream`) are re-exported.
 //!
-//! - `engines`: `serve` and `serve_on`, `check`, `replay` and `replay_part`, `normalise` and
-//!   `convert`.
+//! - `engines`: `serve` and `serve_on`, `check` and `explain`, `trace`, `replay` and `replay_part`,
+//!   `normalise` and `normalise_documents`, and `convert`.
 //! - `engine`: the one loop from a reader to a writer; a `handler` makes the output of each record
 //!   and of the end.
 //! - `session`: a server over the records of a log, and what is counted.
-//! - `commands`: the handlers, `serving`, `checking`, `replaying`, `partial` (of a part of a log),
-//!   `normalising`, `squashing` and `converting`.
+//! - `commands`: the handlers, `serving`, `checking`, `explaining`, `tracing`, `replaying`, `partial`
+//!   (of a part of a log), `normalising`, `squashing`, `documents` (of records that stay) and
+//!   `converting`.
+//! - `members`: what a line of JSON is put together from.
+//! - `mentions`: which record opened, closed or refused a document last.
 //! - `outcome`: the status and the counts at the end of a run.
 //! - `laws`: what holds of the logs that are written.
 #![tactic(auto)]
@@ -17,12 +20,15 @@ mod engine;
 mod engines;
 mod handler;
 mod laws;
+mod members;
+mod mentions;
 mod outcome;
 mod session;
 
 pub use engines::{
-    Part, Settings, check, convert, normalise, replay, replay_part, serve, serve_on,
+    Details, Part, Settings, check, convert, explain, normalise, normalise_documents, replay,
+    replay_part, serve, serve_on, trace,
 };
-pub use laws::log_laws;
+pub use laws::{documents_laws, log_laws};
 pub use lsp_stream::{Call, Duplex, EngineFault, Sink, Source, StopReader, StopWriter, Told};
 pub use outcome::{NEVER_OPEN, NO_RECORD, Outcome};

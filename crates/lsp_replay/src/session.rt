@@ -3,9 +3,11 @@
 //! - `planning`: changes, each of which is planned once.
 //! - `writing`: the canonical bodies of accepted changes.
 //! - `joining`: the open run of accepted changes.
+//! - `selecting`: the records that stay where others are left out.
 //! - `results`: the result of `initialize`.
 //! - `counting`: what counts as refused.
 //! - `keeping`: the text of a document, kept when it is closed.
+//! - `tracing`: what a record is, whatever is answered.
 
 ghost use Rattle.std.specs.Prelude.{◌≡◌, ◌≢◌, ◌⊎◌, IfErr, IfOk, OnErr, OnOk, MatchOption, Some, None};
 ghost use Rattle.lsp_message.specs.Seen.{change_view, id_view};
@@ -14,11 +16,13 @@ ghost use Rattle.lsp_replay.specs.Session.{bad, counted, opened, judge_at, judge
 ghost use Rattle.lsp_replay.specs.inside.Bodies.{IsReceived, body_read, body_view, canonical_read, judge_read};
 ghost use Rattle.lsp_replay.specs.inside.Verdicts.{verdict_view};
 
-mod counting;
+pub(crate) mod counting;
 pub(crate) mod joining;
 mod keeping;
 pub(crate) mod planning;
 mod results;
+pub(crate) mod selecting;
+pub(crate) mod tracing;
 pub(crate) mod writing;
 
 use crate::outcome::Outcome;
@@ -44,7 +48,7 @@ pub enum Verdict {
 
 /// The body of a record, read once.
 #[derive(Drop)]
-enum RecordBody<'a> {
+pub(crate) enum RecordBody<'a> {
     /// What a client's record in a log of this version asks of the server.
     Client(Version, Incoming),
     /// The body of a server's record.
@@ -161,7 +165,11 @@ impl Session {
     }
 
     /// Reads the body of the next record.
-    fn read<'a>(&mut self, head: Head, body: &'a [u8]) -> Result<RecordBody<'a>, AllocError>
+    pub(crate) fn read<'a>(
+        &mut self,
+        head: Head,
+        body: &'a [u8],
+    ) -> Result<RecordBody<'a>, AllocError>
         ensures body { IfOk result
             (λ read. body_view read ≡ body_read head.version head.side body.now) }
         ensures unchanged { self.new ≡ self.old }

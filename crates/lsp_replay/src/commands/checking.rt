@@ -89,7 +89,8 @@ fn push_verdict_line(buffer: &mut Vec<u8>, number: u64, verdict: &Verdict) -> Re
     Ok(())
 }
 
-fn push_verdict(buffer: &mut Vec<u8>, verdict: &Verdict) -> Result<(), AllocError>
+/// Writes a record's word.
+pub fn push_verdict(buffer: &mut Vec<u8>, verdict: &Verdict) -> Result<(), AllocError>
     ensures { OnOk result
         (buffer.new.items ≡ buffer.old.items ++ verdict_word (verdict_view verdict.now)) }
 {
@@ -136,7 +137,7 @@ fn code_word(code: Option<ErrorCode>) -> &'static str
     }
 }
 
-/// The code of a refusal, as docs/FORMATS.md lists them.
+/// The code of a refusal, as docs/PROTOCOL.md lists them.
 fn label(refusal: Refusal) -> &'static str
     ensures { result.now ≡ label refusal }
 {

@@ -3,16 +3,18 @@
 ghost use Rattle.std.specs.Prelude.{ℕ, ◌≡◌, ◌≤◌, ◌-◌, ◌⊎◌, ◌++◌, List, [], length, drop, vec_len, Option, false, refl, IfOk, IfErr, OnOk, Err};
 ghost use Rattle.lsp_frame.specs.Frame.{frame};
 ghost use Rattle.lsp_log.specs.Log.{mark_of};
-ghost use Rattle.lsp_replay.specs.inside.RunOutput.{output_of};
-ghost use Rattle.lsp_replay.specs.Session.{opened};
+ghost use Rattle.lsp_replay.specs.inside.RunOutput.{IsRecordFault, output_of};
+ghost use Rattle.lsp_replay.specs.Session.{judge_at, opened};
 ghost use Rattle.lsp_replay.specs.Engines.{normalising, run_output_in, line_if, front_of, written, writes, ends};
+ghost use Rattle.lsp_replay.specs.inside.Engines.{each_output};
+ghost use Rattle.lsp_replay.specs.inside.Reads.{IsReadOf};
 ghost use Rattle.lsp_replay.specs.inside.Verdicts.{IsAppended};
 
 use crate::commands::front::{line_bytes, mark_bytes, push_front, push_line};
 use crate::handler::{Given, Handler, Output};
 use crate::outcome::Outcome;
 use crate::session::writing::Appended;
-use crate::session::{Session, in_log};
+use crate::session::{RecordBody, Session, in_log};
 use lsp_frame::{put_before, put_header};
 use lsp_log::Head;
 use lsp_server::Config;
@@ -32,6 +34,33 @@ impl Normalise {
     {
         let session = Session::new(alloc, config);
         Normalise { session }
+    }
+
+    /// Writes the record that was read: an accepted change as its canonical message, any other as
+    /// it is. A bad record, and a canonical body over the limit, end the run.
+    pub(super) fn write_read(
+        &mut self,
+        head: Head,
+        raw: &[u8],
+        read: RecordBody<'_>,
+        buffer: &mut Vec<u8>,
+    ) -> Result<Output, EngineFault>
+        requires { buffer.old.items ≡ [] }
+        ensures session { (body : List ℕ) → IsReadOf head body read.entry →
+            OnOk result (self.new.session ≡ (judge_at self.old.session head body).session) }
+        ensures output { (body : List ℕ) → IsReadOf head body read.entry → IfOk result
+            (λ output. each_output self.old.session
+            (record { head = head; raw = raw.now; body = body })
+            ≡ writes (output_of output raw.now buffer.new.items)) }
+        ensures error { (body : List ℕ) → IsReadOf head body read.entry → IfErr result
+            (λ fault. (fault ≡ EngineFault.NoMemory)
+            ⊎ (IsRecordFault fault × (each_output self.old.session
+            (record { head = head; raw = raw.now; body = body }) ≡ ends [] (Err fault)))) }
+    {
+        buffer.resize(FRONT_ROOM, 0)?;
+        let (verdict, appended) = self.session.judge_and_write(read, buffer)?;
+        in_log(&verdict, head.place)?;
+        push_record(buffer, head, raw, appended)
     }
 }
 
@@ -55,10 +84,8 @@ impl Handler for Normalise {
         body: &[u8],
         buffer: &mut Vec<u8>,
     ) -> Result<Given, EngineFault> {
-        buffer.resize(FRONT_ROOM, 0)?;
-        let (verdict, appended) = self.session.judge_and_write(head, body, buffer)?;
-        in_log(&verdict, head.place)?;
-        let output = push_record(buffer, head, raw, appended)?;
+        let read = self.session.read(head, body)?;
+        let output = self.write_read(head, raw, read, buffer)?;
         Ok(Given::more(output))
     }
 

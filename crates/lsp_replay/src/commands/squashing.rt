@@ -1,18 +1,21 @@
 //! `normalise` with squash: writes accepted changes of one document, one after another, as one
 //! message.
 
-ghost use Rattle.std.specs.Prelude.{◌≡◌, ◌++◌, refl, OnOk, None, Some, false};
-ghost use Rattle.lsp_replay.specs.Session.{opened};
+ghost use Rattle.std.specs.Prelude.{◌≡◌, ◌++◌, ◌⊎◌, ℕ, List, [], refl, IfOk, IfErr, OnOk, None, Some, false};
+ghost use Rattle.lsp_replay.specs.Session.{opened, outcome_of};
 ghost use Rattle.lsp_replay.specs.Engines.{front_of};
-ghost use Rattle.lsp_replay.specs.Squashed.{squashed_in, end_bytes};
-ghost use Rattle.lsp_replay.specs.inside.Squashed.{run_of};
+ghost use Rattle.lsp_replay.specs.Squashed.{squashed_in, end_bytes, faulty};
+ghost use Rattle.lsp_replay.specs.inside.Reads.{IsReadOf, IsSelection};
+ghost use Rattle.lsp_replay.specs.inside.RunOutput.{IsRecordFault};
+ghost use Rattle.lsp_replay.specs.inside.Squashed.{IsSquashStep, run_of, step_at};
 
 use crate::commands::front::{push_front, push_line};
 use crate::handler::{Given, Handler, Output};
 use crate::outcome::Outcome;
 use crate::session::joining::Writing;
 use crate::session::planning::unless_refused;
-use crate::session::{Session, in_log};
+use crate::session::selecting::{Selected, Selection};
+use crate::session::{RecordBody, Session, in_log};
 use lsp_log::Head;
 use lsp_server::Config;
 use lsp_store::Batches;
@@ -125,10 +128,75 @@ impl Squashing {
     }
 
     /// Writes the open run, if there is one.
-    fn push_open(&self, output: &mut Vec<u8>) -> Result<(), AllocError>
+    pub(super) fn push_open(&self, output: &mut Vec<u8>) -> Result<(), AllocError>
         ensures { OnOk result (output.new.items ≡ output.old.items ++ end_bytes self.now.run) }
     {
         self.texts.push_end(output, &self.batches)
+    }
+
+    /// Reads the body of the next record, unless the record is left out.
+    pub(super) fn select<'a>(
+        &mut self,
+        selection: &mut Selection,
+        head: Head,
+        body: &'a [u8],
+    ) -> Result<Option<Selected<'a>>, AllocError>
+        ensures unchanged { self.new ≡ self.old }
+        ensures selected { IfOk result
+            (IsSelection self.old.session selection.old selection.new head body.now) }
+    {
+        selection.select(&mut self.session, head, body)
+    }
+
+    /// Writes the record that was read: a change joins the open run or begins one, any other record
+    /// is written as it is, after the run that it ends. A bad record, and a canonical body over the
+    /// limit, end the run of the command.
+    pub(super) fn write_read(
+        &mut self,
+        head: Head,
+        raw: &[u8],
+        read: RecordBody<'_>,
+        buffer: &mut Vec<u8>,
+    ) -> Result<(), EngineFault>
+        requires { buffer.old.items ≡ [] }
+        ensures ok { (body : List ℕ) → IsReadOf head body read.entry → OnOk result
+            (IsSquashStep self.old (record { head = head; raw = raw.now; body = body })
+            buffer.new.items self.new) }
+        ensures error { (body : List ℕ) → IsReadOf head body read.entry → IfErr result
+            (λ fault. (fault ≡ EngineFault.NoMemory) ⊎ (IsRecordFault fault
+            × (step_at self.old (record { head = head; raw = raw.now; body = body })
+            ≡ faulty fault))) }
+    {
+        let run = self.batches.take();
+        let (verdict, writing) = self.session.judge_and_join(read, run)?;
+        in_log(&verdict, head.place)?;
+        match writing {
+            Writing::AsItIs(ended) => {
+                self.texts.push_end(buffer, &ended)?;
+                push_front(buffer, head)?;
+                buffer.extend_from_slice(raw)?;
+                Ok(())
+            }
+            Writing::TooLong => Err(EngineFault::BodyTooLong { place: head.place }),
+            Writing::Continues(frame, batches) => {
+                self.texts.continue_with(head, &frame)?;
+                self.batches = Some(batches);
+                Ok(())
+            }
+            Writing::Begins(frame, ended, batches) => {
+                self.texts.push_end(buffer, &ended)?;
+                self.texts.begin(head, &frame)?;
+                self.batches = Some(batches);
+                Ok(())
+            }
+        }
+    }
+
+    /// The outcome at the end of the input.
+    pub(super) fn outcome(&self) -> Outcome
+        ensures { result ≡ outcome_of self.now.session }
+    {
+        self.session.outcome()
     }
 }
 
@@ -145,6 +213,7 @@ impl Handler for Squashing {
 
     ghost unstopped = { λ _. refl };
 
+    #[tactic(auto, using(crate::proofs::DocumentsLemmas::step_ends, crate::proofs::DocumentsLemmas::step_writes))]
     fn handle(
         &mut self,
         head: Head,
@@ -152,29 +221,9 @@ impl Handler for Squashing {
         body: &[u8],
         buffer: &mut Vec<u8>,
     ) -> Result<Given, EngineFault> {
-        let run = self.batches.take();
-        let (verdict, writing) = self.session.judge_and_join(head, body, run)?;
-        in_log(&verdict, head.place)?;
-        match writing {
-            Writing::AsItIs(ended) => {
-                self.texts.push_end(buffer, &ended)?;
-                push_front(buffer, head)?;
-                buffer.extend_from_slice(raw)?;
-                Ok(WRITTEN)
-            }
-            Writing::TooLong => Err(EngineFault::BodyTooLong { place: head.place }),
-            Writing::Continues(frame, batches) => {
-                self.texts.continue_with(head, &frame)?;
-                self.batches = Some(batches);
-                Ok(WRITTEN)
-            }
-            Writing::Begins(frame, ended, batches) => {
-                self.texts.push_end(buffer, &ended)?;
-                self.texts.begin(head, &frame)?;
-                self.batches = Some(batches);
-                Ok(WRITTEN)
-            }
-        }
+        let read = self.session.read(head, body)?;
+        self.write_read(head, raw, read, buffer)?;
+        Ok(WRITTEN)
     }
 
     fn finish(

@@ -1,20 +1,17 @@
 //! How records are joined to the open run of accepted changes.
 
-ghost use Rattle.std.specs.Prelude.{◌≡◌, ◌≢◌, IfOk, OnOk, None};
-ghost use Rattle.lsp_message.specs.Message.{reading};
+ghost use Rattle.std.specs.Prelude.{ℕ, ◌≡◌, List, IfOk, None};
+ghost use Rattle.lsp_log.specs.declared.record.Head.{Head};
 ghost use Rattle.lsp_message.specs.Seen.{change_view};
 ghost use Rattle.lsp_server.specs.declared.phase.Phase.TheVariants.{Running};
-ghost use Rattle.lsp_server.specs.Incoming.{incoming_of};
 ghost use Rattle.lsp_server.specs.Planned.{IsPlanOfChange};
-ghost use Rattle.lsp_replay.specs.Session.{bad, judge_at};
-ghost use Rattle.lsp_replay.specs.Engines.{change_in};
 ghost use Rattle.lsp_replay.specs.inside.Bodies.{IsChangeTaken};
-ghost use Rattle.lsp_replay.specs.inside.Joining.{MayBeOpenIn, IsOpenIn, IsOpenAfter, IsWriting, IsChangeWriting, IsBegun, server_after};
+ghost use Rattle.lsp_replay.specs.inside.Joining.{MayBeOpenIn, IsOpenIn, IsOpenAfter, IsChangeWriting, IsBegun, server_after};
+ghost use Rattle.lsp_replay.specs.inside.Reads.{IsJoined, IsReadOf};
 ghost use Rattle.lsp_replay.specs.inside.Verdicts.{verdict_view};
 
 use crate::session::planning::unless_refused;
-use crate::session::{Session, Verdict};
-use lsp_log::Head;
+use crate::session::{RecordBody, Session, Verdict};
 use lsp_message::ChangeParams;
 use lsp_server::PlannedChange;
 use lsp_store::{Batches, Plan};
@@ -37,25 +34,20 @@ pub enum Writing {
 }
 
 impl Session {
-    /// Judges a record as [`Session::judge`] does, and joins an accepted change to the batches of
-    /// the open run if they are of its document. Else batches of its own begin. It consumes the
-    /// open batches.
+    /// Judges the record that was read as [`Session::judge`] does, and joins an accepted change to
+    /// the batches of the open run if they are of its document. Else batches of its own begin. It
+    /// consumes the open batches.
     pub fn judge_and_join(
         &mut self,
-        head: Head,
-        body: &[u8],
+        read: RecordBody<'_>,
         run: Option<Batches>,
     ) -> Result<(Verdict, Writing), AllocError>
         requires { MayBeOpenIn self.old.server run }
-        ensures verdict { IfOk result
-            (λ judged. verdict_view judged.0 ≡ (judge_at self.old head body.now).verdict) }
-        ensures session { OnOk result (self.new ≡ (judge_at self.old head body.now).session) }
-        ensures writing { IfOk result (λ judged. verdict_view judged.0 ≢ bad →
-            IsWriting self.old.server run (change_in (incoming_of (reading body.now)))
-            (verdict_view judged.0) judged.1) }
+        ensures joined { (head : Head) (body : List ℕ) → IsReadOf head body read.entry →
+            IfOk result
+            (λ judged. IsJoined self.old self.new run head body judged.0 judged.1) }
         ensures reached { IfOk result (λ judged. IsOpenAfter self.new.server judged.1) }
     {
-        let read = self.read(head, body)?;
         match self.received_change(&read) {
             Some(params) => self.change_and_join(params, run),
             None => Ok((self.take(read)?, Writing::AsItIs(run))),

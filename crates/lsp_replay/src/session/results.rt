@@ -60,7 +60,7 @@ pub(super) fn copied(id: &Id) -> Result<Id, AllocError>
 }
 
 /// Are two ids equal?
-fn same_id(id: &Id, other: &Id) -> bool
+pub(super) fn same_id(id: &Id, other: &Id) -> bool
     ensures { result ≡ same_id (id_view id.now) (id_view other.now) }
 {
     match (id, other) {
@@ -83,7 +83,7 @@ fn result_for(alloc: Global, id: &Id, body: &[u8]) -> Result<Option<Value>, Allo
 
 /// Returns the message that was read of a body, if it has one. Out of memory only where reading it
 /// was.
-fn message_of(outcome: Result<Message, ReadFault>) -> Result<Option<Message>, AllocError>
+pub(super) fn message_of(outcome: Result<Message, ReadFault>) -> Result<Option<Message>, AllocError>
     ensures read { IfOk outcome (λ message. result ≡ Ok (Some message)) }
     ensures none { IfErr outcome (λ fault.
         IfOk result (λ message. (fault ≢ ReadFault.NoMemory) × (message ≡ None))) }

@@ -1,6 +1,7 @@
 //! The canonical bodies of accepted changes, as they are appended to an output.
 
-ghost use Rattle.std.specs.Prelude.{ℕ, ℤ, ◌≡◌, ◌≤◌, vec_len, List, IfOk, OnOk, None, Some};
+ghost use Rattle.std.specs.Prelude.{ℕ, ℤ, ◌≡◌, ◌≤◌, vec_len, List, IfOk, None, Some};
+ghost use Rattle.lsp_log.specs.declared.record.Head.{Head};
 ghost use Rattle.lsp_text.specs.Units.{units_in};
 ghost use Rattle.lsp_text.specs.declared.encoding.Encoding.{Encoding};
 ghost use Rattle.lsp_edit.specs.Batch.{Edit};
@@ -8,15 +9,13 @@ ghost use Rattle.lsp_message.specs.Seen.{change_view};
 ghost use Rattle.lsp_store.specs.Message.{canonical_body};
 ghost use Rattle.lsp_store.specs.Plan.{IsPlanOf, IsPlanOn};
 ghost use Rattle.lsp_server.specs.declared.phase.Phase.TheVariants.{Running};
-ghost use Rattle.lsp_replay.specs.Session.{judge_at};
-ghost use Rattle.lsp_replay.specs.Engines.{canonical_of_record};
 ghost use Rattle.lsp_replay.specs.inside.Bodies.{IsChangeTaken};
 ghost use Rattle.lsp_replay.specs.inside.Joining.{change_body_if};
+ghost use Rattle.lsp_replay.specs.inside.Reads.{IsReadOf, IsWritten};
 ghost use Rattle.lsp_replay.specs.inside.Verdicts.{IsAppended, verdict_view};
 
 use crate::session::planning::unless_refused;
-use crate::session::{Session, Verdict};
-use lsp_log::Head;
+use crate::session::{RecordBody, Session, Verdict};
 use lsp_message::ChangeParams;
 use lsp_server::PlannedChange;
 use lsp_store::{Plan, Store};
@@ -51,23 +50,18 @@ fn append_body(store: &Store, plan: &Plan<'_>, output: &mut Vec<u8>) -> Result<A
 }
 
 impl Session {
-    /// Judges a record as [`Session::judge`] does, and appends the body of an accepted change's
-    /// canonical message. After another record the appended bytes mean nothing.
+    /// Judges the record that was read as [`Session::judge`] does, and appends the body of an
+    /// accepted change's canonical message. After another record the appended bytes mean nothing.
     pub fn judge_and_write(
         &mut self,
-        head: Head,
-        body: &[u8],
+        read: RecordBody<'_>,
         output: &mut Vec<u8>,
     ) -> Result<(Verdict, Option<Appended>), AllocError>
-        ensures verdict { IfOk result
-            (λ judged. verdict_view judged.0 ≡ (judge_at self.old head body.now).verdict) }
-        ensures session { OnOk result (self.new ≡ (judge_at self.old head body.now).session) }
-        ensures written { IfOk result (λ judged. IsAppended self.old.server.config.limits.max_body
-            (canonical_of_record self.old body.now (judge_at self.old head body.now).verdict)
-            judged.1 output.old.items output.new.items) }
+        ensures judged { (head : Head) (body : List ℕ) → IsReadOf head body read.entry →
+            IfOk result (λ judged. IsWritten self.old self.new output.old.items output.new.items
+            head body judged.0 judged.1) }
         ensures kept { vec_len output.old ≤ vec_len output.new }
     {
-        let read = self.read(head, body)?;
         match self.received_change(&read) {
             Some(params) => self.change_and_write(params, output),
             None => Ok((self.take(read)?, None)),

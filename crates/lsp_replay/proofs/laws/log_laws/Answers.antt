@@ -3,7 +3,8 @@ use Rattle.lsp_replay.proofs.NormalisedLemmas.{canonical_log_law}
 use Rattle.lsp_replay.proofs.SquashedLemmas.{stops_alike}
 use Rattle.lsp_replay.proofs.SquashedLogLemmas.{squashed_law}
 use Rattle.lsp_replay.proofs.ConvertedLogLemmas.{converted_law}
+use Rattle.lsp_replay.proofs.TraceLawLemmas.{trace_law}
 use Rattle.lsp_replay.proofs.laws.log_laws.Goals as goal
 
 pub returns : goal.returns
-returns c = record { unique = c.reading_laws.ensures.unique; report = report_law; canonical_log = canonical_log_law; stops = stops_alike; squashed = squashed_law; converted = converted_law }
+returns c = record { unique = c.reading_laws.ensures.unique; report = report_law; canonical_log = canonical_log_law; stops = stops_alike; squashed = squashed_law; converted = converted_law; traced = trace_law }

@@ -1,45 +1,14 @@
-use Rattle.std.proofs.Common.{◌≢◌}
-use Rattle.lsp_replay.specs.Session.{bad}
-use Rattle.lsp_replay.specs.inside.Verdicts.{verdict_view}
-use Rattle.lsp_replay.proofs.SquashingLemmas.{told_as_it_is, told_more, told_next}
+use Rattle.std.proofs.Common.{ap, ◌∙◌}
+use Rattle.std.proofs.lemmas.Result.{err_from_is_err_and}
+use Rattle.lsp_replay.specs.Session.{Session}
+use Rattle.lsp_replay.specs.inside.Squashed.{run_of}
+use Rattle.lsp_replay.proofs.DocumentsLemmas.{squashing_at, step_failed}
 use Rattle.lsp_replay.proofs.commands.squashing.SquashingHandler.handle.Goals as goal
 
-pub returns-in-AsItIs-clause-ok : goal.returns-in-AsItIs-clause-ok
-returns-in-AsItIs-clause-ok c =
-    rw (← c.self.view_is)
-    (let not_bad : verdict_view c.in_ok-verdict.verdict ≢ bad = c.in_ok-in_log.ensures.in_log in
-    let writing = rw c.in-AsItIs.is at (c.in_ok-verdict.ensures.writing not_bad) in
-    told_as_it_is c.self.inside.session c.self.inside.texts.front.items c.self.inside.texts.singles.items c.self.inside.batches
-    (record { head = c.args.head; raw = c.args.raw.now; body = c.args.body.now })
-    c.judge_and_join.new.self c.in_ok-verdict.ensures.session (verdict_view c.in_ok-verdict.verdict) c.in_ok-verdict.ensures.verdict
-    c.take-run.result c.take-run.ensures.value c.args.buffer.now.items c.requires.empty
-    c.in-AsItIs.ended writing.1 not_bad writing.0
-    c.push_end.new.output.items c.push_front.new.output.items c.extend_from_slice.new.self.items
-    c.in_ok-push_end-in-AsItIs.ensures c.in_ok-push_front-in-AsItIs.ensures c.in_ok-extend_from_slice-in-AsItIs.ensures.items
-    c.take-run.new.self c.take-run.ensures.after _ _)
-
-pub returns-in-Continues-clause-ok : goal.returns-in-Continues-clause-ok
-returns-in-Continues-clause-ok c =
-    rw (← c.self.view_is)
-    (let not_bad : verdict_view c.in_ok-verdict.verdict ≢ bad = c.in_ok-in_log.ensures.in_log in
-    let writing = rw c.in-Continues.is at (c.in_ok-verdict.ensures.writing not_bad) in
-    told_more c.self.inside.session c.self.inside.texts.front.items c.self.inside.texts.singles.items c.self.inside.batches
-    (record { head = c.args.head; raw = c.args.raw.now; body = c.args.body.now })
-    c.judge_and_join.new.self c.in_ok-verdict.ensures.session (verdict_view c.in_ok-verdict.verdict) c.in_ok-verdict.ensures.verdict
-    c.take-run.result c.take-run.ensures.value c.args.buffer.now.items c.requires.empty
-    c.in-Continues.frame.items c.in-Continues.batches writing.0 writing.1
-    c.deref.result.now c.continue_with.new.self.front.items c.continue_with.new.self.singles.items
-    c.deref.ensures.value c.in_ok-continue_with-in-Continues.ensures.front c.in_ok-continue_with-in-Continues.ensures.singles)
-
-pub returns-clause-ok : goal.returns-clause-ok
-returns-clause-ok c =
-    rw (← c.self.view_is)
-    (let not_bad : verdict_view c.in_ok-verdict.verdict ≢ bad = c.in_ok-in_log.ensures.in_log in
-    let writing = rw c.in-Begins.is at (c.in_ok-verdict.ensures.writing not_bad) in
-    told_next c.self.inside.session c.self.inside.texts.front.items c.self.inside.texts.singles.items c.self.inside.batches
-    (record { head = c.args.head; raw = c.args.raw.now; body = c.args.body.now })
-    c.judge_and_join.new.self c.in_ok-verdict.ensures.session (verdict_view c.in_ok-verdict.verdict) c.in_ok-verdict.ensures.verdict
-    c.take-run.result c.take-run.ensures.value c.args.buffer.now.items c.requires.empty
-    c.in-Begins.frame.items c.in-Begins.ended c.in-Begins.batches writing.0 writing.1 writing.2 writing.3
-    c.push_end-in-Begins.new.output.items c.deref-in-Begins.result.now c.begin.new.self.front.items c.begin.new.self.singles.items
-    c.in_ok-push_end-in-Begins.ensures c.deref-in-Begins.ensures.value c.in_ok-begin-in-Begins.ensures.front c.in_ok-begin-in-Begins.ensures.singles)
+pub returns-in_err-write_read-clause-error : goal.returns-in_err-write_read-clause-error
+returns-in_err-write_read-clause-error c =
+    let p = err_from_is_err_and c.from_residual-in_err-write_read.result c.from_residual-in_err-write_read.ensures.1 in
+    rw (p.1, p.2)
+    (step_failed c.args.self.now _ (record { head = c.args.head; raw = c.args.raw.now; body = c.args.body.now })
+    (ap (λ (s : Session). squashing_at s (run_of c.self.inside.texts.front.items c.self.inside.texts.singles.items c.self.inside.batches)) c.read.ensures.unchanged ∙ c.self.view_is)
+    c.in_err-write_read.field-0.0 (c.in_err-write_read.ensures.error c.args.body.now c.in_ok-read.ensures.body))

@@ -1,0 +1,13 @@
+use Rattle.std.proofs.Common.{false, refl}
+use Rattle.lsp_replay.specs.Session.{opened}
+use Rattle.lsp_replay.specs.Engines.{log_config}
+use Rattle.lsp_replay.specs.Explained.{explaining}
+use Rattle.lsp_replay.proofs.RunReportLemmas.{run_of}
+use Rattle.lsp_replay.proofs.engines.explained.explain.Goals as goal
+
+pub returns : goal.returns
+returns g c =
+    let run_output = rw c.config.ensures.value at c.new-explain.ensures.session in
+    let run = rw (c.rules-rules.ensures, run_output) at c.run_engine.ensures.run in
+    let whole = rw (c.rules-rules.ensures, run_output) at c.run_engine.ensures.whole in
+    record { run = run_of c.run_engine.ensures.first c.run_engine.ensures.version explaining (opened (log_config c.args.settings)) false run (λ _. whole (λ _. refl)) }

@@ -1,0 +1,188 @@
+-- `normalise` of the records that are about the session and the documents' texts: all others are
+-- left out (LSP 3.17, Lifecycle Messages, Text Document Synchronization).
+use Rattle.std.specs.Prelude.{ℕ, ◌≡◌, Bool, true, false, not, ◌||◌, if◌then◌else◌, List, [], ◌∷◌, Option, Some, None, codes, Result, IfOk}
+use Rattle.std.specs.Io.KnownBytes.{Consumes, Appends}
+use Rattle.std.specs.Str.{bytes_eq}
+use Rattle.lsp_frame.specs.Limits.{AreInRange}
+use Rattle.lsp_message.specs.Message.{IdData, Reading, reading}
+use Rattle.lsp_message.specs.Message as read
+use Rattle.lsp_server.specs.declared.phase.Phase.{Phase}
+use Rattle.lsp_server.specs.Incoming.{IncomingData, response, initialize, shutdown, other_request, other_notification, incoming_of}
+use Rattle.lsp_stream.specs.declared.fault.EngineFault.{EngineFault}
+use Rattle.lsp_stream.specs.Ports.{Ports}
+use Rattle.lsp_log.specs.declared.record.Side.{Side}
+use Rattle.lsp_log.specs.declared.record.Side.TheVariants.{Client, Server}
+use Rattle.lsp_log.specs.declared.record.Head.{Head}
+use Rattle.lsp_log.specs.Log.{Record, Log, IsReadAs}
+use Rattle.lsp_replay.specs.declared.engines.Settings.{Settings}
+use Rattle.lsp_replay.specs.declared.outcome.Outcome.{Outcome}
+use Rattle.lsp_replay.specs.RunOutput.{RunOutput}
+use Rattle.lsp_replay.specs.Engines.{as_log, canonical_log, log_config, report}
+use Rattle.lsp_replay.specs.Laws.{LeavesAlike, all_of}
+use Rattle.lsp_replay.specs.Run.{Engine}
+use Rattle.lsp_replay.specs.Session.{Session, is_ended, is_running, judge, opened, same_id}
+use Rattle.lsp_replay.specs.Squashed.{normalised}
+
+-- ---- which records stay
+
+-- The notifications that stay beside `exit` and those of open documents. Some clients send
+-- `shutdown` as a notification.
+abbrev pub is_kept_method : List ℕ → Bool
+is_kept_method method =
+    bytes_eq method (codes "initialized") || bytes_eq method (codes "shutdown")
+    || bytes_eq method (codes "textDocument/didSave")
+
+-- Does a client's message stay? A response doesn't, nor does a request that a running server
+-- doesn't know, nor any other notification. What is refused stays, and after `exit` each record, so
+-- that the log ends there as a bad one.
+abbrev pub message_stays : Phase → IncomingData → Bool
+message_stays phase (response id) = is_ended phase
+message_stays phase (other_request id method) = not (is_running phase)
+message_stays phase (other_notification method) = is_ended phase || is_kept_method method
+message_stays phase m = true
+
+-- Is a body the response to the request with this id, with a result or an error?
+abbrev pub is_answer_to : Option IdData → Reading → Bool
+is_answer_to (Some id) (read.message (read.response (Some other) outcome)) = same_id id other
+is_answer_to id body = false
+
+-- Does a record stay? One of the server's does if it answers the accepted `initialize`, or the last
+-- request that stayed, whose id is `waiting`.
+abbrev pub record_stays : Session → Option IdData → Side → List ℕ → Bool
+record_stays s waiting Client body
+    = message_stays s.server.phase (incoming_of (reading body))
+record_stays s waiting Server body
+    = is_answer_to s.expected (reading body) || is_answer_to waiting (reading body)
+
+-- The id of the last request that stayed, after a message that stays.
+abbrev pub waiting_for : Option IdData → IncomingData → Option IdData
+waiting_for waiting (initialize id offers) = Some id
+waiting_for waiting (shutdown id) = Some id
+waiting_for waiting (other_request id method) = Some id
+waiting_for waiting m = waiting
+
+-- The same after a record that stays. Once it is answered nothing is waited for.
+abbrev pub waiting_after : Option IdData → Side → List ℕ → Option IdData
+waiting_after waiting Client body = waiting_for waiting (incoming_of (reading body))
+waiting_after waiting Server body
+    = if is_answer_to waiting (reading body) then None else waiting
+
+-- ---- the records that stay
+
+-- What is known between two records.
+pub record Selection : Type 0 where
+  -- the id of the last request that stayed, until a response to it has come
+  pub waiting : Option IdData
+  -- is the line of version 2 still to be written?
+  pub due : Bool
+
+-- Before the first record.
+abbrev pub nothing_selected : Selection
+nothing_selected = record { waiting = None; due = false }
+
+-- Is the line of version 2 to be written before a record, if it stays?
+abbrev pub is_due : Selection → Head → Bool
+is_due c head = c.due || head.line_due
+
+-- A record that stays, with the line of version 2 before it, if that is still to be written.
+abbrev pub with_line : Selection → Record → Record
+with_line c r = record r { head = record r.head { line_due = is_due c r.head } }
+
+-- After a record that stays, and after one that is left out.
+abbrev pub after_kept : Selection → Head → List ℕ → Selection
+after_kept c head body
+    = record { waiting = waiting_after c.waiting head.side body; due = false }
+
+abbrev pub after_left_out : Selection → Head → Selection
+after_left_out c head = record c { due = is_due c head }
+
+-- The records that stay of some, and whether the line of version 2 is still to be written after
+-- them.
+pub record Kept : Type 0 where
+  pub records : List Record
+  pub due : Bool
+
+abbrev pub kept_first : Record → Kept → Kept
+kept_first r k = record k { records = r ∷ k.records }
+
+-- The records that stay. The session is over these alone: one that is left out changes no document,
+-- no phase and no encoding.
+abbrev pub kept_in : Session → Selection → List Record → Kept
+kept_in s c [] = record { records = []; due = c.due }
+kept_in s c (r ∷ rs) =
+    if record_stays s c.waiting r.head.side r.body then
+    kept_first (with_line c r) (kept_in (judge s r).session (after_kept c r.head r.body) rs)
+    else kept_in s (after_left_out c r.head) rs
+
+-- ---- the engine
+
+-- An output at whose end the line of version 2 is written, if it is still due.
+abbrev pub with_due : Bool → RunOutput → RunOutput
+with_due due c = record c { last = λ line_due. c.last (due || line_due) }
+
+-- The output of an engine for the records that stay.
+abbrev pub output_of_kept : (List Record → RunOutput) → Kept → RunOutput
+output_of_kept run_output k = with_due k.due (run_output k.records)
+
+-- The records of a log that stay.
+abbrev pub kept : Settings → List Record → Kept
+kept settings records = kept_in (opened (log_config settings)) nothing_selected records
+
+-- `normalise` of them, with squash or without. Its counts are of them, too.
+abbrev pub documents : Settings → List Record → RunOutput
+documents settings records = output_of_kept (normalised settings) (kept settings records)
+
+abbrev pub documents_engine : Settings → Engine
+documents_engine settings
+    = record {
+      reading = as_log settings;
+      run_output = documents settings;
+      flushes = false;
+      in_parts = false;
+    }
+
+-- ---- what it writes
+
+-- The status and the refusals are those of `replay` of all records, and so are the documents of the
+-- log that was written.
+pub record KeepsDocuments (settings : Settings) (records : List Record) (outcome : Outcome)
+    (bytes : List ℕ) : Type 0 where
+  pub status : outcome.status ≡ (report settings records).outcome.status
+  pub refused : outcome.refused ≡ (report settings records).outcome.refused
+  pub leaves : LeavesAlike settings records bytes
+
+-- What is written of a log in which no record ends the run.
+abbrev pub DocumentsLaw : Type 0
+DocumentsLaw =
+    (settings : Settings) → AreInRange settings.limits → (input : List ℕ) (log : Log) →
+    IsReadAs (as_log settings) input log → log.rest ≡ []
+    → (documents settings log.records).stop ≡ None →
+    KeepsDocuments settings log.records (documents settings log.records).outcome
+    (all_of (documents settings) log)
+
+-- A log ends as it does where no record is left out: at the same record, for the same cause.
+abbrev pub DocumentsStopAlike : Type 0
+DocumentsStopAlike =
+    (settings : Settings) (records : List Record) →
+    (documents settings records).stop ≡ (canonical_log settings records).stop
+
+-- The engine came to the end of a log, and wrote bytes of which that holds.
+pub record WroteDocuments (settings : Settings)
+    (left_old left_new received_old received_new : Option (List ℕ))
+    (outcome : Outcome) : Type 0 where
+  -- the bytes that were read
+  pub input : List ℕ
+  pub read : Consumes left_old left_new input
+  -- they are this log, records and nothing else
+  pub log : Log
+  pub reads : IsReadAs (as_log settings) input log
+  pub whole : log.rest ≡ []
+  -- the output
+  pub bytes : List ℕ
+  pub wrote : Appends received_old received_new bytes
+  pub keeps : KeepsDocuments settings log.records outcome bytes
+
+abbrev pub WritesDocuments : Settings → Ports → Ports → Result Outcome EngineFault → Type 0
+WritesDocuments settings before after result =
+    IfOk result (WroteDocuments settings before.reader.left after.reader.left before.writer.written
+    after.writer.written)

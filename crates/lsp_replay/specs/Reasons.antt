@@ -1,0 +1,92 @@
+-- Why a record was refused, in words for people. They are ASCII, with no quotation mark and no
+-- backslash.
+use Rattle.std.specs.Prelude.{ℕ, ◌++◌, List, [], Option, Some, None, option_and_then, codes, decimal, slice_get}
+use Rattle.std.specs.Fmt.{signed_decimal}
+use Rattle.lsp_frame.specs.Limits.{Bounds}
+use Rattle.lsp_text.specs.declared.position.Position.{Position}
+use Rattle.lsp_text.specs.declared.position.Range.{Range}
+use Rattle.lsp_edit.specs.declared.fault.EditFault.{EditFault}
+use Rattle.lsp_edit.specs.declared.fault.EditFault.TheVariants.{InsideCharacter, ReversedRange, NoMemory as NoMemoryToEdit}
+use Rattle.lsp_edit.specs.declared.fault.Side.{Side}
+use Rattle.lsp_edit.specs.declared.fault.Side.TheVariants.{Start, Stop}
+use Rattle.lsp_message.specs.declared.outgoing.ErrorCode.{ErrorCode}
+use Rattle.lsp_message.specs.declared.outgoing.ErrorCode.TheVariants.{ParseError, InvalidRequest, MethodNotFound, InvalidParams, ServerNotInitialized}
+use Rattle.lsp_message.specs.Params.{ChangeData}
+use Rattle.lsp_store.specs.declared.fault.StoreFault.{StoreFault}
+use Rattle.lsp_store.specs.declared.fault.StoreFault.TheVariants.{AlreadyOpen, TooManyDocuments, TextTooLong, NotOpen, StaleVersion, TooManyChanges, Edit}
+use Rattle.lsp_server.specs.declared.answer.Refusal.{Refusal}
+use Rattle.lsp_server.specs.declared.answer.Refusal.TheVariants.{InvalidParams as BadParams, Store}
+use Rattle.lsp_server.specs.Answer.{AnswerData, reply, refused, exits, Sent}
+use Rattle.lsp_stream.specs.Ports.{one_more}
+
+-- ---- what was sent
+
+-- The version that a change sends.
+abbrev pub version_words : Option ChangeData → List ℕ
+version_words None = []
+version_words (Some p) = signed_decimal p.version
+
+-- The range of one of its changes, by the index of that.
+abbrev pub range_sent : Option ChangeData → ℕ → Option Range
+range_sent None index = None
+range_sent (Some p) index = option_and_then (λ change. change.range) (slice_get p.changes index)
+
+-- A position, as it was sent.
+abbrev pub position_words : Position → List ℕ
+position_words p = codes "line " ++ decimal p.line ++ codes ", character " ++ decimal p.character
+
+-- One end of a range, as it was sent.
+abbrev pub end_words : Side → Option Range → List ℕ
+end_words side None = []
+end_words Start (Some range) = codes " starts at " ++ position_words range.start
+end_words Stop (Some range) = codes " ends at " ++ position_words range.stop
+
+-- ---- why a notification was refused
+
+-- A change that has no result, with its number from 1.
+abbrev pub edit_reason : Option ChangeData → EditFault → List ℕ
+edit_reason p (InsideCharacter change side) =
+    codes "change " ++ decimal (one_more change) ++ end_words side (range_sent p change)
+    ++ codes ", inside a character"
+edit_reason p (ReversedRange change) =
+    codes "change " ++ decimal (one_more change) ++ end_words Start (range_sent p change)
+    ++ codes ", after it" ++ end_words Stop (range_sent p change)
+edit_reason p NoMemoryToEdit = []
+
+abbrev pub store_reason : Bounds → Option ChangeData → StoreFault → List ℕ
+store_reason limits p AlreadyOpen = codes "the document is open already"
+store_reason limits p TooManyDocuments =
+    codes "as many documents are open as --max-docs allows, " ++ decimal limits.max_docs
+store_reason limits p TextTooLong =
+    codes "the text has more bytes than --max-text allows, " ++ decimal limits.max_text
+store_reason limits p NotOpen = codes "the document is not open"
+store_reason limits p (StaleVersion current) =
+    codes "version " ++ version_words p ++ codes " was sent, and the current one is "
+    ++ signed_decimal current
+store_reason limits p TooManyChanges =
+    codes "there are more changes than --max-changes allows, " ++ decimal limits.max_changes
+    ++ codes ", or their texts have more than 1 GiB"
+store_reason limits p (Edit fault) = edit_reason p fault
+store_reason limits p fault = []
+
+abbrev pub refusal_reason : Bounds → Option ChangeData → Refusal → List ℕ
+refusal_reason limits p BadParams = codes "the parameters can't be read"
+refusal_reason limits p (Store fault) = store_reason limits p fault
+
+-- ---- why any record was refused
+
+-- An error reply.
+abbrev pub error_reason : Option ErrorCode → List ℕ
+error_reason (Some ParseError) = codes "the body is no JSON"
+error_reason (Some InvalidRequest) =
+    codes "this is no message, or a request that may not come now"
+error_reason (Some InvalidParams) = codes "the parameters of `initialize` can't be read"
+error_reason (Some ServerNotInitialized) = codes "no request may come before `initialize`"
+error_reason code = []
+
+-- The words for an answer that counts as refused, by the change that it is the answer to.
+abbrev pub reason_words : Bounds → Option ChangeData → AnswerData Sent → List ℕ
+reason_words limits p (reply r) = error_reason r.code
+reason_words limits p (refused refusal) = refusal_reason limits p refusal
+reason_words limits p (exits status) = codes "`exit` came without `shutdown`"
+reason_words limits p answer = []

@@ -1,0 +1,269 @@
+-- `trace`: a line of JSON for each record of a log, with what a server answers to it and why.
+use Rattle.std.specs.Prelude.{ℕ, ◌≡◌, Bool, true, false, not, ◌&&◌, ◌||◌, ◌==◌, ◌∷◌, ◌++◌, if◌then◌else◌, nat_lt, length, List, [], Option, Some, None, option_and_then, option_map, codes, decimal, flat_map}
+use Rattle.std.specs.Fmt.{signed_decimal}
+use Rattle.std.specs.Str.{bytes_eq}
+use Rattle.serde_json.specs.Data.{string}
+use Rattle.serde_json.specs.Written.{compact_text}
+use Rattle.lsp_frame.specs.Limits.{Bounds}
+use Rattle.lsp_message.specs.Message.{IdData, whole, text, reading}
+use Rattle.lsp_message.specs.Params.{DocumentItem}
+use Rattle.lsp_store.specs.Table.{entry_at}
+use Rattle.lsp_server.specs.Incoming.{IncomingData, not_json, not_a_message, response, initialize, shutdown, other_request, exit, did_open, did_change, did_close, other_notification, incoming_of}
+use Rattle.lsp_server.specs.Answer.{changed, refused}
+use Rattle.lsp_log.specs.declared.record.Head.{Head}
+use Rattle.lsp_log.specs.declared.record.Side.{Side}
+use Rattle.lsp_log.specs.declared.record.Side.TheVariants.{Client, Server}
+use Rattle.lsp_log.specs.Log.{Record}
+use Rattle.lsp_replay.specs.declared.engines.Settings.{Settings}
+use Rattle.lsp_replay.specs.declared.engines.traced.Details.{Details}
+use Rattle.lsp_replay.specs.RunOutput.{RunOutput}
+use Rattle.lsp_replay.specs.Engines.{RecordOutput, as_log, canonical_of_record, change_in, continue_with, log_config, report, report_from, unless_bad, verdict_word, verdicts, writes}
+use Rattle.lsp_replay.specs.Mentions.{Mention, last_record, newest_first}
+use Rattle.lsp_replay.specs.Reasons.{reason_words}
+use Rattle.lsp_replay.specs.Run.{Engine}
+use Rattle.lsp_replay.specs.Session.{Session, Judged, Verdict, answered, is_change, is_refused, judge, opened, outcome_of}
+
+-- ---- members of a line
+
+-- A member, if it has a value. `front` is the comma and the name.
+abbrev pub member : List ℕ → Option (List ℕ) → List ℕ
+member front None = []
+member front (Some value) = front ++ value
+
+-- A text as a JSON string, with the shortest escapes.
+unfoldable pub json_string : List ℕ → List ℕ
+json_string s = compact_text (string s)
+
+-- An id as JSON: a number or a string.
+abbrev pub id_json : IdData → List ℕ
+id_json (whole n) = signed_decimal n
+id_json (text s) = json_string s
+
+-- ---- what a record is, whatever is answered
+
+abbrev pub side_word : Side → List ℕ
+side_word Client = codes "editor"
+side_word Server = codes "server"
+
+-- The method of a request or a notification.
+abbrev pub method_of : IncomingData → Option (List ℕ)
+method_of (initialize id offers) = Some (codes "initialize")
+method_of (shutdown id) = Some (codes "shutdown")
+method_of (other_request id method) = Some method
+method_of exit = Some (codes "exit")
+method_of (did_open params) = Some (codes "textDocument/didOpen")
+method_of (did_change params) = Some (codes "textDocument/didChange")
+method_of (did_close params) = Some (codes "textDocument/didClose")
+method_of (other_notification method) = Some method
+method_of m = None
+
+-- The id of a request or a response, and the one that a body which is no message still names.
+abbrev pub id_of : IncomingData → Option IdData
+id_of (not_a_message id) = id
+id_of (response id) = id
+id_of (initialize id offers) = Some id
+id_of (shutdown id) = Some id
+id_of (other_request id method) = Some id
+id_of m = None
+
+-- The document that a record of one side is about: the URI in valid parameters of an editor's
+-- message.
+abbrev pub uri_of : Side → IncomingData → Option (List ℕ)
+uri_of Client (did_open (Some p)) = Some p.uri
+uri_of Client (did_change (Some p)) = Some p.uri
+uri_of Client (did_close (Some p)) = Some p.uri
+uri_of side m = None
+
+-- The first members of a line, by the record's number, its head and what its body asks.
+abbrev pub first_members : ℕ → Head → IncomingData → List ℕ
+first_members number head m =
+    codes "{\"number\":" ++ decimal number ++ codes ",\"offset\":" ++ decimal head.place
+    ++ codes ",\"from\":\"" ++ side_word head.side ++ codes "\""
+    ++ member (codes ",\"method\":") (option_map json_string (method_of m))
+    ++ member (codes ",\"id\":") (option_map id_json (id_of m))
+    ++ member (codes ",\"uri\":") (option_map json_string (uri_of head.side m))
+
+-- ---- what is answered
+
+-- Why a record was refused, if it counts as refused.
+abbrev pub reason_json : Bounds → IncomingData → Verdict → Option (List ℕ)
+reason_json limits m (answered answer) = if is_refused answer then
+    Some (codes "\"" ++ reason_words limits (change_in m) answer ++ codes "\"") else None
+reason_json limits m verdict = None
+
+-- A canonical message, unless it is over the limit.
+abbrev pub within : ℕ → Option (List ℕ) → Option (List ℕ)
+within max_body None = None
+within max_body (Some body) = if nat_lt max_body (length body) then None else Some body
+
+-- The document that a record is about, as it is afterwards, if it is open.
+abbrev pub document_after : List DocumentItem → Option (List ℕ) → Option DocumentItem
+document_after table uri = option_and_then (entry_at table) uri
+
+-- The version of an open document.
+abbrev pub version_json : Option DocumentItem → Option (List ℕ)
+version_json document = option_map (λ entry. signed_decimal entry.version) document
+
+-- Were the documents changed?
+abbrev pub is_changed : Verdict → Bool
+is_changed (answered changed) = true
+is_changed verdict = false
+
+-- The document's text, if it is asked for and the record opened or changed the document.
+abbrev pub text_json : Bool → Option DocumentItem → Option (List ℕ)
+text_json is_asked document =
+    if is_asked then option_map (λ entry. json_string entry.text) document else None
+
+-- Is a body JSON?
+abbrev pub is_json : IncomingData → Bool
+is_json not_json = false
+is_json m = true
+
+-- A body without line feeds and carriage returns. In JSON both are only white space between tokens,
+-- so it is the same value, on one line.
+abbrev pub one_line : List ℕ → List ℕ
+one_line [] = []
+one_line (byte ∷ bytes) = if byte == 10 || byte == 13 then one_line bytes else byte ∷ one_line bytes
+
+-- The body, if it is asked for and is JSON.
+abbrev pub body_json : Bool → List ℕ → Option (List ℕ)
+body_json is_asked body = if is_asked then Some (one_line body) else None
+
+-- The other members of a line: what is answered, and the document afterwards.
+abbrev pub last_members : List ℕ → Option (List ℕ) → Option (List ℕ) → Option (List ℕ)
+    → Option (List ℕ) → Option (List ℕ) → Option (List ℕ) → List ℕ
+last_members word reason last version canonical shown body =
+    codes ",\"word\":\"" ++ word ++ codes "\""
+    ++ member (codes ",\"reason\":") reason
+    ++ member (codes ",\"last\":") last
+    ++ member (codes ",\"version\":") version
+    ++ member (codes ",\"canonical\":") canonical
+    ++ member (codes ",\"text\":") shown
+    ++ member (codes ",\"body\":") body
+    ++ codes "}\n"
+
+-- ---- which record opened, closed or refused the document last
+
+-- A command that the documents refuse has the number of that record before it.
+abbrev pub last_json : List Mention → Option (List ℕ) → Verdict → Option (List ℕ)
+last_json mentions uri (answered (refused refusal)) =
+    option_map decimal (option_and_then (λ uri. last_record uri mentions) uri)
+last_json mentions uri verdict = None
+
+-- Does an answer open, close or refuse a document? `change` says whether it is to a `didChange`.
+abbrev pub is_mention : Bool → Verdict → Bool
+is_mention change (answered changed) = not change
+is_mention change (answered (refused refusal)) = true
+is_mention change verdict = false
+
+-- The documents that were opened, closed or refused last, after a record with this number.
+abbrev pub mentioned : Bool → Option (List ℕ) → ℕ → List Mention → List Mention
+mentioned true (Some uri) number mentions = newest_first uri number mentions
+mentioned is_mention uri number mentions = mentions
+
+-- The same by the judgement of a record. `m` is what its body asks.
+abbrev pub mentions_after : List Mention → Record → Judged → IncomingData → List Mention
+mentions_after mentions r j m =
+    mentioned (is_mention (is_change m) j.verdict) (uri_of r.head.side m) j.session.records mentions
+
+-- ---- the engine
+
+-- A line of `trace`, from the session before the record and the judgement of it. `m` is what the
+-- record's body asks.
+abbrev pub trace_line : Details → List Mention → Session → Record → Judged → IncomingData → List ℕ
+trace_line details mentions s r j m =
+    first_members j.session.records r.head m
+    ++ last_members (verdict_word j.verdict)
+    (reason_json j.session.server.config.limits m j.verdict)
+    (last_json mentions (uri_of r.head.side m) j.verdict)
+    (version_json (document_after j.session.server.table (uri_of r.head.side m)))
+    (within s.server.config.limits.max_body (canonical_of_record s r.body j.verdict))
+    (text_json (details.texts && is_changed j.verdict)
+    (document_after j.session.server.table (uri_of r.head.side m)))
+    (body_json (details.bodies && is_json m) r.body)
+
+-- The output for a record: its line.
+abbrev pub trace_output : Details → List Mention → Session → Record → Judged → RecordOutput
+trace_output details mentions s r j = unless_bad r j.verdict
+    (writes (trace_line details mentions s r j (incoming_of (reading r.body))))
+
+-- The output for records that a session judges one after another. At the end nothing is written.
+abbrev pub traced_in : Details → List Mention → Session → List Record → RunOutput
+traced_in details mentions s []
+    = record { out = []; stop = None; last = λ line_due. []; outcome = outcome_of s }
+traced_in details mentions s (r ∷ rs) =
+    continue_with (trace_output details mentions s r (judge s r)).out
+    (trace_output details mentions s r (judge s r)).end
+    (traced_in details (mentions_after mentions r (judge s r) (incoming_of (reading r.body)))
+    (judge s r).session rs)
+
+-- The output of `trace`.
+abbrev pub traced : Settings → Details → List Record → RunOutput
+traced settings details = traced_in details [] (opened (log_config settings))
+
+abbrev pub trace_engine : Settings → Details → Engine
+trace_engine settings details
+    = record {
+      reading = as_log settings;
+      run_output = traced settings details;
+      flushes = false;
+      in_parts = false;
+    }
+
+-- ---- `trace` beside `check` and `replay`
+
+-- What a record's line has: its number and its word as `check` has them, its document and that
+-- document's text, and the other members.
+pub record Line : Type 0 where
+  pub number : ℕ
+  pub word : List ℕ
+  pub uri : Option (List ℕ)
+  pub text : Option (List ℕ)
+  pub before : List ℕ
+  pub between : List ℕ
+  pub after : List ℕ
+
+abbrev pub checked_line : Line → List ℕ
+checked_line l = decimal l.number ++ codes " " ++ l.word ++ codes "\n"
+
+abbrev pub traced_line : Line → List ℕ
+traced_line l =
+    codes "{\"number\":" ++ decimal l.number ++ l.before
+    ++ member (codes ",\"uri\":") (option_map json_string l.uri)
+    ++ codes ",\"word\":\"" ++ l.word ++ codes "\"" ++ l.between
+    ++ member (codes ",\"text\":") (option_map json_string l.text) ++ l.after
+
+-- Is a document the one with this URI?
+abbrev pub is_document : List ℕ → Option (List ℕ) → Bool
+is_document uri None = false
+is_document uri (Some other) = bytes_eq uri other
+
+-- The text of a document in the last line of a record that opened, changed or closed it. `old` is
+-- the text before these lines.
+abbrev pub written_text : List ℕ → Option (List ℕ) → List Line → Option (List ℕ)
+written_text uri old [] = old
+written_text uri old (l ∷ lines) =
+    written_text uri
+    (if bytes_eq l.word (codes "changed") && is_document uri l.uri then l.text else old) lines
+
+-- `replay` reports these documents, and the last texts in these lines are theirs.
+pub record AreTextsOf (report : RunOutput) (lines : List Line) : Type 0 where
+  pub table : List DocumentItem
+  pub reported : (line_due : Bool) → report.last line_due ≡ report_from 0 table
+  pub texts : (uri : List ℕ)
+      → written_text uri None lines ≡ option_map (λ entry. entry.text) (entry_at table uri)
+
+-- An output of `trace` ends where one of `check` does, and as it does, and they have the same numbers
+-- and words. With texts the last ones are those of `replay`, if the log has no bad record.
+pub record IsTraceOf (details : Details) (trace check report : RunOutput) : Type 0 where
+  pub stop : trace.stop ≡ check.stop
+  pub outcome : trace.outcome ≡ check.outcome
+  pub lines : List Line
+  pub traced : trace.out ≡ flat_map traced_line lines
+  pub checked : check.out ≡ flat_map checked_line lines
+  pub texts : details.texts ≡ true → trace.stop ≡ None → AreTextsOf report lines
+
+abbrev pub TraceLaw : Type 0
+TraceLaw = (settings : Settings) (details : Details) (records : List Record)
+    → IsTraceOf details (traced settings details records) (verdicts settings records)
+    (report settings records)

@@ -1,0 +1,85 @@
+-- What becomes of a record whose body a session has read.
+use Rattle.std.specs.Prelude.{ℕ, ◌≡◌, ◌≢◌, Bool, true, false, ◌||◌, if◌then◌else◌, List, Option, Some, None}
+use Rattle.lsp_log.specs.declared.record.Head.{Head}
+use Rattle.lsp_message.specs.Message.{IdData, reading}
+use Rattle.lsp_server.specs.Incoming.{IncomingData, incoming_of, initialize, other_request, shutdown}
+use Rattle.lsp_store.specs.Squash.{SquashData}
+use Rattle.lsp_replay.specs.declared.session.RecordBody.{RecordBody}
+use Rattle.lsp_replay.specs.declared.session.Verdict as declared
+use Rattle.lsp_replay.specs.declared.session.joining.Writing.{Writing}
+use Rattle.lsp_replay.specs.declared.session.selecting.Selected.{Selected}
+use Rattle.lsp_replay.specs.declared.session.writing.Appended.{Appended}
+use Rattle.lsp_replay.specs.Documents.{Selection, after_kept, after_left_out, is_answer_to, is_due, message_stays, record_stays, waiting_for}
+use Rattle.lsp_replay.specs.Engines.{canonical_of_record, change_in}
+use Rattle.lsp_replay.specs.Session.{Session, bad, judge_at, same_id}
+use Rattle.lsp_replay.specs.inside.Bodies.{BodyData, body_read, body_view, from_client, from_server}
+use Rattle.lsp_replay.specs.inside.Joining.{IsWriting}
+use Rattle.lsp_replay.specs.inside.Verdicts.{IsAppended, verdict_view}
+
+-- This was read of a record's body.
+abbrev pub IsReadOf : Head → List ℕ → RecordBody → Type 0
+IsReadOf head body read = body_view read ≡ body_read head.version head.side body
+
+-- A record was judged, and an accepted change joined to the open run.
+pub record IsJoined (old new : Session) (run : Option SquashData) (head : Head) (body : List ℕ)
+    (verdict : declared.Verdict) (how : Writing) : Type 0 where
+  pub judged : verdict_view verdict ≡ (judge_at old head body).verdict
+  pub session : new ≡ (judge_at old head body).session
+  pub writing : verdict_view verdict ≢ bad →
+      IsWriting old.server run (change_in (incoming_of (reading body))) (verdict_view verdict) how
+
+-- A record was judged, and the canonical body of an accepted change appended.
+pub record IsWritten (old new : Session) (before after : List ℕ) (head : Head) (body : List ℕ)
+    (verdict : declared.Verdict) (appended : Option Appended) : Type 0 where
+  pub judged : verdict_view verdict ≡ (judge_at old head body).verdict
+  pub session : new ≡ (judge_at old head body).session
+  pub written : IsAppended old.server.config.limits.max_body
+      (canonical_of_record old body (judge_at old head body).verdict) appended before after
+
+-- ---- which records stay
+
+-- Does a record stay, by what was read of it?
+abbrev pub stays_read : Session → Option IdData → BodyData → Bool
+stays_read s waiting (from_client version m) = message_stays s.server.phase m
+stays_read s waiting (from_server body)
+    = is_answer_to s.expected (reading body) || is_answer_to waiting (reading body)
+
+-- Whose answer is waited for after a record that stays, by what was read of it.
+abbrev pub waiting_read : Option IdData → BodyData → Option IdData
+waiting_read waiting (from_client version m) = waiting_for waiting m
+waiting_read waiting (from_server body)
+    = if is_answer_to waiting (reading body) then None else waiting
+
+-- The id of a request.
+abbrev pub asked_id : IncomingData → Option IdData
+asked_id (initialize id offers) = Some id
+asked_id (shutdown id) = Some id
+asked_id (other_request id method) = Some id
+asked_id m = None
+
+-- A record is left out.
+pub record IsLeftOut (s : Session) (old new : Selection) (head : Head) (body : List ℕ) :
+    Type 0 where
+  pub left_out : record_stays s old.waiting head.side body ≡ false
+  pub selection : new ≡ after_left_out old head
+
+-- A record stays, and is written under this head.
+pub record IsKept (s : Session) (old new : Selection) (head : Head) (body : List ℕ)
+    (written : Head) : Type 0 where
+  pub stays : record_stays s old.waiting head.side body ≡ true
+  pub selection : new ≡ after_kept old head body
+  pub head_is : written ≡ record head { line_due = is_due old head }
+
+-- A record is left out, or it stays, and this was read of its body.
+abbrev pub IsSelection : Session → Selection → Selection → Head → List ℕ → Option Selected →
+    Type 0
+IsSelection s old new head body None = IsLeftOut s old new head body
+IsSelection s old new head body (Some found)
+    = IsKept s old new head body found.head × IsReadOf head body found.read
+
+-- ---- the answers of a server
+
+-- Is an id the one that is waited for?
+abbrev pub is_waited : Option IdData → Option IdData → Bool
+is_waited (Some id) (Some other) = same_id id other
+is_waited waiting answered = false

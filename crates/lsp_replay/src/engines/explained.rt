@@ -1,0 +1,35 @@
+//! `check` with reasons.
+
+ghost use Rattle.std.specs.Prelude.{◌≡◌};
+ghost use Rattle.lsp_stream.specs.Ports.{ports};
+ghost use Rattle.lsp_replay.specs.Explained.{explain_engine};
+ghost use Rattle.lsp_replay.specs.Run.{IsEngineRun};
+
+use crate::commands::explaining::Explain;
+use crate::engine::run_engine;
+use crate::engines::Settings;
+use crate::outcome::Outcome;
+use lsp_stream::{EngineFault, Sink, Source};
+use std::alloc::Global;
+
+/// Writes a line for each record of a log, as [`check`](crate::check) does, and where it was refused
+/// the document and why; at the end a line that says what to do next. The status is 1 if something
+/// was refused, else 0.
+///
+/// Errors, costs and memory are those of [`check`](crate::check). A body that is refused is read
+/// twice.
+pub fn explain<R: Source, W: Sink>(
+    alloc: Global,
+    reader: &mut R,
+    writer: &mut W,
+    settings: Settings,
+    max_turns: u64,
+) -> Result<Outcome, EngineFault>
+    ensures run { IsEngineRun (explain_engine settings) max_turns
+        (ports (R.seen reader.old) (W.seen writer.old))
+        (ports (R.seen reader.new) (W.seen writer.new)) result }
+{
+    let rules = settings.rules(false);
+    let mut explain = Explain::new(alloc, settings.config());
+    run_engine(alloc, reader, writer, &mut explain, rules, max_turns)
+}

@@ -1,0 +1,118 @@
+//! Which record opened, closed or refused a document last.
+
+ghost use Rattle.std.specs.Prelude.{◌≡◌, [], IfOk, OnOk};
+ghost use Rattle.std.specs.Str.{bytes_eq};
+ghost use Rattle.lsp_replay.specs.Mentions.{last_record, newest_first, without};
+ghost use Rattle.lsp_replay.specs.inside.Mentions.{IsFoundAt};
+
+use std::alloc::{AllocError, Global};
+use std::marker::Model;
+
+/// How many documents are kept.
+pub const MENTIONS: usize = 64;
+
+/// A document, and the number of the record that opened, closed or refused it last.
+#[derive(Drop)]
+pub struct Mention {
+    uri: String,
+    number: u64,
+}
+
+impl Model for Mention {
+    ghost use Rattle.std.specs.Prelude.{string_bytes};
+    ghost use Rattle.lsp_replay.specs.Mentions as spec;
+
+    ghost Value = { spec.Mention };
+
+    ghost view = { λ mention. record {
+      uri = string_bytes mention.uri;
+      number = mention.number;
+    } };
+}
+
+impl Mention {
+    fn new(alloc: Global, uri: &str, number: u64) -> Result<Self, AllocError>
+        ensures { IfOk result
+            (λ mention. mention ≡ record { uri = uri.now; number = number }) }
+    {
+        Ok(Mention {
+            uri: String::from_str(alloc, uri)?,
+            number,
+        })
+    }
+
+    /// Is the document's URI this one?
+    fn is_of(&self, uri: &str) -> bool
+        ensures { result ≡ bytes_eq self.now.uri uri.now }
+    {
+        self.uri.as_str() == uri
+    }
+
+    fn number(&self) -> u64
+        ensures { result ≡ self.now.number }
+    {
+        self.number
+    }
+}
+
+/// The documents that were opened, closed or refused last, the newest first.
+#[derive(Drop)]
+pub struct Mentions {
+    alloc: Global,
+    pub newest: Vec<Mention>,
+}
+
+impl Mentions {
+    /// Starts with no document. Takes no memory.
+    pub fn new(alloc: Global) -> Self
+        ensures { result.newest.items ≡ [] }
+    {
+        Mentions {
+            alloc,
+            newest: Vec::new(alloc),
+        }
+    }
+
+    /// The number of the record that opened, closed or refused the document with this URI last.
+    pub fn last(&self, uri: &str) -> Option<u64>
+        ensures { result ≡ last_record uri.now self.now.newest.items }
+    {
+        let index = index_of(self.newest.as_slice(), uri)?;
+        Some(self.newest[index].number())
+    }
+
+    /// Puts the document with this URI first, with the number of a record.
+    pub fn mention(&mut self, uri: &str, number: u64) -> Result<(), AllocError>
+        ensures { OnOk result
+            (self.new.newest.items ≡ newest_first uri.now number self.old.newest.items) }
+    {
+        let mention = Mention::new(self.alloc, uri, number)?;
+        forget(&mut self.newest, uri);
+        self.newest.insert(0, mention)?;
+        self.newest.truncate(MENTIONS);
+        Ok(())
+    }
+}
+
+/// Removes a document.
+fn forget(mentions: &mut Vec<Mention>, uri: &str)
+    ensures { mentions.new.items ≡ without uri.now mentions.old.items }
+{
+    if let Some(index) = index_of(mentions.as_slice(), uri) {
+        mentions.remove(index);
+    }
+}
+
+/// The index of a document.
+fn index_of(mentions: &[Mention], uri: &str) -> Option<usize>
+    ensures { IsFoundAt uri.now mentions.now result }
+{
+    let mut next = 0;
+    'mentions: while next < mentions.len() {
+        if mentions[next].is_of(uri) {
+            return Some(next);
+        }
+        next += 1;
+    }
+    None
+}

@@ -1,0 +1,221 @@
+//! The records that stay where others are left out.
+
+ghost use Rattle.std.specs.Prelude.{◌≡◌, Bool, IfOk, OnOk, MatchOption, None, Option, Some, if◌then◌else◌, option_map};
+ghost use Rattle.lsp_message.specs.Message.{IdData, message, reading};
+ghost use Rattle.lsp_message.specs.Seen.{id_view, message_view};
+ghost use Rattle.lsp_server.specs.Seen.{incoming_view};
+ghost use Rattle.lsp_replay.specs.Documents.{is_answer_to, is_due, is_kept_method, message_stays, nothing_selected, waiting_for};
+ghost use Rattle.lsp_replay.specs.inside.Bodies.{body_view, from_server};
+ghost use Rattle.lsp_replay.specs.inside.Reads.{IsSelection, asked_id, is_waited, stays_read, waiting_read};
+
+use crate::session::results::{copied, message_of, same_id};
+use crate::session::{RecordBody, Session};
+use lsp_log::Head;
+use lsp_message::{Id, Message, read};
+use lsp_server::{Incoming, Phase};
+use std::alloc::{AllocError, Global};
+use std::marker::Model;
+
+/// A record that stays.
+#[derive(Drop)]
+pub struct Selected<'a> {
+    /// The head under which it is written: with the line of version 2, if that is still due.
+    pub head: Head,
+    /// What was read of its body.
+    pub read: RecordBody<'a>,
+}
+
+/// What is known between two records, of which some are left out.
+#[derive(Drop)]
+pub struct Selection {
+    // The id of the last request that stayed, until a response to it has come.
+    waiting: Option<Id>,
+    // Is the line of version 2 still to be written?
+    due: bool,
+}
+
+impl Model for Selection {
+    ghost use Rattle.std.specs.Prelude.{option_map};
+    ghost use Rattle.lsp_message.specs.Seen.{id_view};
+    ghost use Rattle.lsp_replay.specs.Documents as spec;
+
+    ghost Value = { spec.Selection };
+
+    ghost view = { λ c. record { waiting = option_map id_view c.waiting; due = c.due } };
+}
+
+impl Selection {
+    /// Starts before the first record.
+    pub fn new() -> Selection
+        ensures { result ≡ nothing_selected }
+    {
+        Selection {
+            waiting: None,
+            due: false,
+        }
+    }
+
+    /// Is the line of version 2 still to be written?
+    pub fn is_due(&self) -> bool
+        ensures { result ≡ self.now.due }
+    {
+        self.due
+    }
+
+    /// Is the line of version 2 to be written before a record, if that stays?
+    fn is_due_before(&self, head: Head) -> bool
+        ensures { result ≡ is_due self.now head }
+    {
+        self.due || head.line_due
+    }
+
+    /// Reads the body of the next record, and returns `None` if the record is left out.
+    pub fn select<'a>(
+        &mut self,
+        session: &mut Session,
+        head: Head,
+        body: &'a [u8],
+    ) -> Result<Option<Selected<'a>>, AllocError>
+        ensures unchanged { session.new ≡ session.old }
+        ensures selected { IfOk result
+            (IsSelection session.old self.old self.new head body.now) }
+    {
+        let read = session.read(head, body)?;
+        let line_due = self.is_due_before(head);
+        if !self.stays(session, &read)? {
+            self.due = line_due;
+            return Ok(None);
+        }
+        self.due = false;
+        let head = Head { line_due, ..head };
+        Ok(Some(Selected { head, read }))
+    }
+
+    /// Does the record that was read stay? If it does, remembers whose answer is waited for.
+    fn stays(&mut self, session: &Session, read: &RecordBody<'_>) -> Result<bool, AllocError>
+        ensures stays { IfOk result (λ stays.
+            stays ≡ stays_read session.now self.old.waiting (body_view read.now)) }
+        ensures waiting { IfOk result (λ stays.
+            self.new ≡ record self.old {
+              waiting
+                  = if stays then waiting_read self.old.waiting (body_view read.now) else
+                  self.old.waiting;
+            }) }
+    {
+        match read {
+            RecordBody::Client(_, incoming) => self.message_stays(session.server.phase(), incoming),
+            RecordBody::Server(body) => self.answer_stays(session, body),
+        }
+    }
+
+    /// The same of a client's message in a phase.
+    fn message_stays(&mut self, phase: Phase, incoming: &Incoming) -> Result<bool, AllocError>
+        ensures stays { IfOk result (λ stays.
+            stays ≡ message_stays phase (incoming_view incoming.now)) }
+        ensures waiting { IfOk result (λ stays.
+            self.new ≡ record self.old {
+              waiting
+                  = if stays then waiting_for self.old.waiting (incoming_view incoming.now) else
+                  self.old.waiting;
+            }) }
+    {
+        if !message_stays(phase, incoming) {
+            return Ok(false);
+        }
+        if let Some(id) = asked_id(incoming) {
+            self.waiting = Some(copied(id)?);
+        }
+        Ok(true)
+    }
+
+    /// The same of a server's record.
+    fn answer_stays(&mut self, session: &Session, body: &[u8]) -> Result<bool, AllocError>
+        ensures stays { IfOk result (λ stays.
+            stays ≡ stays_read session.now self.old.waiting (from_server body.now)) }
+        ensures waiting { IfOk result (λ stays.
+            self.new ≡ record self.old {
+              waiting
+                  = if stays then waiting_read self.old.waiting (from_server body.now) else
+                  self.old.waiting;
+            }) }
+    {
+        if session.expected.is_none() && self.waiting.is_none() {
+            return Ok(false);
+        }
+        let answered = answered_id(session.alloc, body)?;
+        let expected = is_waited(&session.expected, &answered);
+        if !is_waited(&self.waiting, &answered) {
+            return Ok(expected);
+        }
+        self.waiting = None;
+        Ok(true)
+    }
+}
+
+/// Does a client's message stay in a phase?
+fn message_stays(phase: Phase, incoming: &Incoming) -> bool
+    ensures { result ≡ message_stays phase (incoming_view incoming.now) }
+{
+    match incoming {
+        Incoming::Response { .. } => phase == Phase::Ended,
+        Incoming::OtherRequest { .. } => phase != Phase::Running,
+        Incoming::OtherNotification { method } => {
+            phase == Phase::Ended || is_kept_method(method.as_str())
+        }
+        _ => true,
+    }
+}
+
+/// Does a notification with this method stay, beside `exit` and those of open documents?
+fn is_kept_method(method: &str) -> bool
+    ensures { result ≡ is_kept_method method.now }
+{
+    method == "initialized" || method == "shutdown" || method == "textDocument/didSave"
+}
+
+/// The id of a request.
+fn asked_id(incoming: &Incoming) -> Option<&Id>
+    ensures { MatchOption result (asked_id (incoming_view incoming.now) ≡ None)
+        (λ id. asked_id (incoming_view incoming.now) ≡ Some (id_view id.now)) }
+{
+    match incoming {
+        Incoming::Initialize { id, .. } => Some(id),
+        Incoming::Shutdown { id } => Some(id),
+        Incoming::OtherRequest { id, .. } => Some(id),
+        _ => None,
+    }
+}
+
+/// The id in a body that is a response.
+fn answered_id(alloc: Global, body: &[u8]) -> Result<Option<Id>, AllocError>
+    ensures { IfOk result (λ id. (waiting : Option IdData) →
+        is_answer_to waiting (reading body.now) ≡ is_waited waiting (option_map id_view id)) }
+{
+    match message_of(read(alloc, body))? {
+        Some(message) => Ok(response_id(message)),
+        None => Ok(None),
+    }
+}
+
+/// The id of a response.
+fn response_id(answer: Message) -> Option<Id>
+    ensures { (waiting : Option IdData) →
+        is_answer_to waiting (message (message_view answer)) ≡ is_waited waiting
+        (option_map id_view result) }
+{
+    match answer {
+        Message::Response { id, .. } => id,
+        _ => None,
+    }
+}
+
+/// Is an id the one that is waited for?
+fn is_waited(waiting: &Option<Id>, answered: &Option<Id>) -> bool
+    ensures { result
+        ≡ is_waited (option_map id_view waiting.now) (option_map id_view answered.now) }
+{
+    match (waiting, answered) {
+        (Some(id), Some(other)) => same_id(id, other),
+        _ => false,
+    }
+}
