@@ -4,6 +4,8 @@ mod documents;
 mod failing_runs;
 mod failures;
 mod in_time;
+mod left_out;
+mod mentions;
 mod pieces;
 mod refused;
 mod sessions;
@@ -13,8 +15,9 @@ mod words;
 
 use lsp_frame::{Limits, frame};
 use lsp_replay::{
-    Call, EngineFault, Outcome, Part, Settings, Sink, Source, StopReader, StopWriter, Told, check,
-    convert, normalise, replay, replay_part, serve,
+    Call, Details, EngineFault, Outcome, Part, Settings, Sink, Source, StopReader, StopWriter,
+    Told, check, convert, explain, normalise, normalise_documents, replay, replay_part, serve,
+    trace,
 };
 use lsp_server::{Config, EncodingChoice, Sync};
 use lsp_text::Encoding;
@@ -83,8 +86,16 @@ const NORMAL_CONVERTED: &[(&str, &str)] = &[
 /// The output of `check` for [`WORKED`].
 const CHECK_1: &[u8] = b"1 reply\n2 changed\n3 changed\n";
 
+/// The same with reasons.
+const EXPLAINED: &[u8] =
+    b"1 reply\n2 changed\n3 changed\nNothing was refused. Compare `lspsync replay --uri URI` with the editor's text.\n";
+
 /// The output of `check` for [`CONVERTED`].
 const CHECK_2: &[u8] = b"1 reply\n2 server\n3 changed\n4 changed\n";
+
+/// The output of `trace` with texts for [`WORKED`].
+const TRACED: &[u8] =
+    b"{\"number\":1,\"offset\":0,\"from\":\"editor\",\"method\":\"initialize\",\"id\":1,\"word\":\"reply\"}\n{\"number\":2,\"offset\":172,\"from\":\"editor\",\"method\":\"textDocument/didOpen\",\"uri\":\"file:///a\",\"word\":\"changed\",\"version\":1,\"text\":\"abc\"}\n{\"number\":3,\"offset\":340,\"from\":\"editor\",\"method\":\"textDocument/didChange\",\"uri\":\"file:///a\",\"word\":\"changed\",\"version\":2,\"canonical\":{\"jsonrpc\":\"2.0\",\"method\":\"textDocument/didChange\",\"params\":{\"contentChanges\":[{\"range\":{\"end\":{\"character\":3,\"line\":0},\"start\":{\"character\":0,\"line\":0}},\"text\":\"aXc\"}],\"textDocument\":{\"uri\":\"file:///a\",\"version\":2}}},\"text\":\"aXc\"}\n";
 
 /// An editor's session.
 const SESSION: &[&str] = &[INITIALIZE, INITIALIZED, OPEN, EDITED, CLOSE, SHUTDOWN, EXIT];
@@ -103,9 +114,16 @@ enum Command {
     Normalise,
     /// `normalise` with squash.
     Squash,
+    /// `normalise` of what is about the session and the documents' texts, and that with squash.
+    Documents,
+    SquashDocuments,
     Convert,
     /// `replay` of the last text of `file:///a`, up to a record or to the end.
     Text(Option<u64>),
+    /// `trace` with the texts.
+    Trace,
+    /// `check` with reasons.
+    Explain,
 }
 
 /// Some bytes of a row.
@@ -221,10 +239,26 @@ fn call<R: Source, W: Sink>(
             };
             normalise(alloc, from, to, settings, turns)
         }
+        Command::Documents => normalise_documents(alloc, from, to, settings, turns),
+        Command::SquashDocuments => {
+            let settings = Settings {
+                squash: true,
+                ..settings
+            };
+            normalise_documents(alloc, from, to, settings, turns)
+        }
         Command::Convert => convert(alloc, from, to, settings, turns),
         Command::Text(at) => {
             let uri = Some(String::from_str(alloc, "file:///a")?);
             replay_part(alloc, from, to, settings, Part { at, uri }, turns)
+        }
+        Command::Explain => explain(alloc, from, to, settings, turns),
+        Command::Trace => {
+            let details = Details {
+                texts: true,
+                bodies: false,
+            };
+            trace(alloc, from, to, settings, details, turns)
         }
     }
 }

@@ -1,6 +1,7 @@
 //! Readers and writers that move few bytes, are interrupted or fail.
 
 use super::failing_runs::{Case, Runs, expected};
+use super::left_out::HOVER;
 use super::squashed::{BOTH, TYPED};
 use super::*;
 
@@ -25,13 +26,33 @@ static SERVED: [Case; 1] = [Case {
 }];
 
 /// The log commands over a log of version 1.
-static OVER_1: [Case; 5] = [
+static OVER_1: [Case; 8] = [
     Case {
         command: Command::Check,
         input: Bytes::Frames(WORKED),
         output: Bytes::Plain(CHECK_1),
         end: Ended(0, 3, 0),
         records: &[(172, 8), (340, 18), (506, 28)],
+        flushes: &[],
+        reads: &[],
+        order: b"RWWWR",
+    },
+    Case {
+        command: Command::Explain,
+        input: Bytes::Frames(WORKED),
+        output: Bytes::Plain(EXPLAINED),
+        end: Ended(0, 3, 0),
+        records: &[(172, 8), (340, 18), (506, 28)],
+        flushes: &[],
+        reads: &[],
+        order: b"RWWWRW",
+    },
+    Case {
+        command: Command::Trace,
+        input: Bytes::Frames(WORKED),
+        output: Bytes::Plain(TRACED),
+        end: Ended(0, 3, 0),
+        records: &[(172, 84), (340, 218), (506, 584)],
         flushes: &[],
         reads: &[],
         order: b"RWWWR",
@@ -52,6 +73,17 @@ static OVER_1: [Case; 5] = [
         output: Bytes::Frames(NORMAL),
         end: Ended(0, 3, 0),
         records: &[(172, 172), (340, 340), (506, 580)],
+        flushes: &[],
+        reads: &[],
+        order: b"RWWWR",
+    },
+    // What is left out is read, and nothing is written of it.
+    Case {
+        command: Command::Documents,
+        input: Bytes::Frames(&[INITIALIZE, OPEN, HOVER, WHOLE]),
+        output: Bytes::Frames(NORMAL),
+        end: Ended(0, 3, 0),
+        records: &[(172, 172), (340, 340), (665, 580)],
         flushes: &[],
         reads: &[],
         order: b"RWWWR",

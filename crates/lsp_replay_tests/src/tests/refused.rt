@@ -1,5 +1,6 @@
 //! Runs that are once out of memory, and are then repeated.
 
+use super::left_out::HOVER;
 use super::*;
 
 /// The first body of a session, with few parts.
@@ -173,6 +174,49 @@ fn refused_replay_part(rt: HostRuntime) -> Result<(), Fail> {
     Ok(())
 }
 
+/// The document is opened, and opened again.
+static OPENED_TWICE: Wanted = Wanted {
+    command: Command::Trace,
+    input: Bytes::Frames(&[SHORT, OPEN, OPEN]),
+    parts: &[
+        "{\"number\":1,\"offset\":0,\"from\":\"editor\",\"method\":\"initialize\",\"id\":1,\"word\":\"reply\"}\n",
+        "{\"number\":2,\"offset\":80,\"from\":\"editor\",\"method\":\"textDocument/didOpen\",\"uri\":\"file:///a\",\"word\":\"changed\",\"version\":1,\"text\":\"abc\"}\n",
+        "{\"number\":3,\"offset\":248,\"from\":\"editor\",\"method\":\"textDocument/didOpen\",\"uri\":\"file:///a\",\"word\":\"refused S1\",\"reason\":\"the document is open already\",\"last\":2,\"version\":1}\n",
+    ],
+    lengths: &[84, 217, 390],
+    end: Ended(1, 3, 1),
+};
+
+#[test]
+fn refused_trace(rt: HostRuntime) -> Result<(), Fail> {
+    let refused = OPENED_TWICE.runs_again(rt.alloc())?;
+    assert!(rt; refused.is_some());
+    println!(rt; "refused {}", refused.unwrap_or(0))?;
+    Ok(())
+}
+
+/// The same, explained.
+static EXPLAINED: Wanted = Wanted {
+    command: Command::Explain,
+    input: Bytes::Frames(&[SHORT, OPEN, OPEN]),
+    parts: &[
+        "1 reply\n",
+        "2 changed\n",
+        "3 refused S1 of \"file:///a\": the document is open already\n",
+        "Refused messages change nothing. `lspsync replay --at N`: the texts after message N.\n",
+    ],
+    lengths: &[8, 18, 76, 161],
+    end: Ended(1, 3, 1),
+};
+
+#[test]
+fn refused_explain(rt: HostRuntime) -> Result<(), Fail> {
+    let refused = EXPLAINED.runs_again(rt.alloc())?;
+    assert!(rt; refused.is_some());
+    println!(rt; "refused {}", refused.unwrap_or(0))?;
+    Ok(())
+}
+
 /// The whole of an empty text is replaced by nothing, which is no change.
 static NORMALISED: Wanted = Wanted {
     command: Command::Normalise,
@@ -227,6 +271,30 @@ static SQUASHED: Wanted = Wanted {
 #[test]
 fn refused_squash(rt: HostRuntime) -> Result<(), Fail> {
     let refused = SQUASHED.runs_again(rt.alloc())?;
+    assert!(rt; refused.is_some());
+    println!(rt; "refused {}", refused.unwrap_or(0))?;
+    Ok(())
+}
+
+/// A request between both letters is left out.
+static DOCUMENTS: Wanted = Wanted {
+    command: Command::SquashDocuments,
+    input: Bytes::Frames(&[SHORT, EMPTY, PUT_X, HOVER, PUT_Y]),
+    parts: &[
+        HEADER_OF_SHORT,
+        SHORT,
+        "Content-Length: 142\r\n\r\n",
+        EMPTY,
+        "Content-Length: 216\r\n\r\n",
+        PUT_BOTH,
+    ],
+    lengths: &[80, 245, 484],
+    end: Ended(0, 4, 0),
+};
+
+#[test]
+fn refused_documents(rt: HostRuntime) -> Result<(), Fail> {
+    let refused = DOCUMENTS.runs_again(rt.alloc())?;
     assert!(rt; refused.is_some());
     println!(rt; "refused {}", refused.unwrap_or(0))?;
     Ok(())

@@ -11,7 +11,7 @@ const OPEN_LINES: &str =
 const OPEN_OTHER: &str =
     r#"{"jsonrpc":"2.0","method":"textDocument/didOpen","params":{"textDocument":{"languageId":"plaintext","text":"abc","uri":"file:///b","version":1}}}"#;
 
-const SAVE: &str =
+pub(super) const SAVE: &str =
     r#"{"jsonrpc":"2.0","method":"textDocument/didSave","params":{"textDocument":{"uri":"file:///a"}}}"#;
 
 /// A letter more after `aXc`.
