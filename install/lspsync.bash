@@ -1,7 +1,7 @@
 # Completion of lspsync for bash.
 _lspsync() {
     local word=${COMP_WORDS[COMP_CWORD]} before=${COMP_WORDS[COMP_CWORD - 1]} command=${COMP_WORDS[1]}
-    local commands="serve check replay normalise convert help" words
+    local commands="serve check trace replay normalise convert help" words
     # bash cuts `--name=value` at the `=`
     if [ "$word" = = ]; then
         word=
@@ -19,9 +19,11 @@ _lspsync() {
             words="--encoding --max-body --max-text --max-docs --max-changes --help"
             case $command in
                 serve) words="$words --sync" ;;
-                normalise) words="$words --squash" ;;
+                check) words="$words --explain" ;;
+                normalise) words="$words --documents --squash" ;;
+                trace) words="$words --texts --bodies" ;;
                 replay) words="$words --at --uri" ;;
-                check | convert) ;;
+                convert) ;;
                 help) words=$commands ;;
                 *) words="$commands --help" ;;
             esac

@@ -1,5 +1,5 @@
 -- The command line is put together.
-use Rattle.std.proofs.Common.{◌≡◌, ◌∙◌, ◌++◌, ◌||◌, ap, refl, Bool, false, List, [], ◌∷◌, is_some, if◌then◌else◌}
+use Rattle.std.proofs.Common.{◌≡◌, ◌∙◌, ◌++◌, ◌||◌, ap, refl, false, List, [], ◌∷◌}
 use Rattle.std.specs.Prelude.{Result, Ok, Err, IfOk}
 use Rattle.std.proofs.Math.Bool.{or-false}
 use Rattle.std.proofs.lemmas.List.{append-nil, append_assoc}
@@ -8,8 +8,8 @@ use Rattle.clap.specs.Simple.{on_top}
 use Rattle.clap.specs.declared.builder.arg.Arg.{Arg}
 use Rattle.clap.specs.declared.builder.command.Command.{Command}
 use Rattle.clap.specs.declared.builder.command.Command.TheViews.{out-Command as fields_of}
-use Rattle.lspsync.specs.CommandLine.{encoding_rule, limit_rules, part_rules, squash_rule, sync_rule}
-use Rattle.lspsync.specs.Help.{IsPage, rules_of_limits}
+use Rattle.lspsync.specs.CommandLine.{Choices, encoding_rule, limit_rules}
+use Rattle.lspsync.specs.Help.{IsPage, own_rules, rules_of_limits}
 use Rattle.lspsync.specs.inside.Options.{AddsRules, IsCommand, page_shape, shape_by}
 use Rattle.lspsync.specs.declared.command_line.help.Page.{Page}
 use Rattle.lspsync.specs.declared.command_line.Values.{Values}
@@ -51,25 +51,21 @@ adds_after old mid xs ys (Ok new) one two = adds_more old mid new xs ys one two
 adds_after old mid xs ys (Err e) one two = tt
 
 -- A command by its page: a new one, and then its options in turn.
-pub is_command : {E : Type 0} (page : Page) (values : Values) (new one two three four : Command) (made : Result Command E)
+pub is_command : {E : Type 0} (page : Page) (values : Values) (new one two : Command) (made : Result Command E)
     → app_of new ≡ new_app page.name.now → (fields_of new).has_globals ≡ false
     → AddsRules new (encoding_rule values.encodings ∷ []) one
-    → AddsRules one (if is_some page.sync then sync_rule values.kinds ∷ [] else []) two
-    → AddsRules two (if is_some page.squash then squash_rule ∷ [] else []) three
-    → AddsRules three (if is_some page.part then part_rules else []) four
-    → IfOk made (AddsRules four (rules_of_limits values.limits.now)) → IfOk made (IsCommand page values)
-is_command page values new one two three four (Err e) is local a b c d f = tt
-is_command page values new one two three four (Ok made) is local a b c d f =
-    let all = adds_more new one made _ _ a (adds_more one two made _ _ b (adds_more two three made _ _ c (adds_more three four made _ _ d f))) in
+    → AddsRules one (own_rules values.kinds page.own) two
+    → IfOk made (AddsRules two (rules_of_limits values.limits.now)) → IfOk made (IsCommand page values)
+is_command page values new one two (Err e) is local a b c = tt
+is_command page values new one two (Ok made) is local a b c =
+    let all = adds_more new one made _ _ a (adds_more one two made _ _ b c) in
     record { app = all.app ∙ ap (longer _) is; globals = all.globals ∙ local }
 
 -- The shape of a command, with what its page is known to have.
-pub shape_is : (page : Page) (values : Values) (name : Text) (sync squash part : Bool) → IsPage page name sync squash part
+pub shape_is : (page : Page) (values : Values) (name : Text) (own : Choices → List Rule) → IsPage page name own
     → rules_of_limits values.limits.now ≡ limit_rules
-    → shape_by page values ≡ page_shape name sync squash part values.encodings values.kinds limit_rules
-shape_is page values name sync squash part p same =
-    ap (λ n. page_shape n (is_some page.sync) (is_some page.squash) (is_some page.part) values.encodings values.kinds (rules_of_limits values.limits.now)) p.named
-    ∙ (ap (λ b. page_shape name b (is_some page.squash) (is_some page.part) values.encodings values.kinds (rules_of_limits values.limits.now)) p.sync
-    ∙ (ap (λ b. page_shape name sync b (is_some page.part) values.encodings values.kinds (rules_of_limits values.limits.now)) p.squash
-    ∙ (ap (λ b. page_shape name sync squash b values.encodings values.kinds (rules_of_limits values.limits.now)) p.part
-    ∙ ap (page_shape name sync squash part values.encodings values.kinds) same)))
+    → shape_by page values ≡ page_shape name (own values.kinds) values.encodings limit_rules
+shape_is page values name own p same =
+    ap (λ n. page_shape n (own_rules values.kinds page.own) values.encodings (rules_of_limits values.limits.now)) p.named
+    ∙ (ap (λ rules. page_shape name rules values.encodings (rules_of_limits values.limits.now)) (p.own_are values.kinds)
+    ∙ ap (page_shape name (own values.kinds) values.encodings) same)

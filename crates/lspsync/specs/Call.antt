@@ -21,6 +21,7 @@ use Rattle.lsp_server.specs.declared.config.Sync.{Sync}
 use Rattle.lsp_server.specs.declared.config.Sync.TheVariants.{Incremental, Full}
 use Rattle.lsp_replay.specs.declared.engines.Settings.{Settings}
 use Rattle.lsp_replay.specs.declared.engines.parts.Part.{Part}
+use Rattle.lsp_replay.specs.declared.engines.traced.Details.{Details}
 use Rattle.lspsync.specs.CommandLine.{IsProgram}
 use Rattle.lspsync.specs.declared.command_line.Call.{Call}
 use Rattle.lspsync.specs.declared.command_line.Call.TheVariants as call
@@ -88,17 +89,30 @@ is_whole part = not (is_some part.at) && not (is_some part.uri)
 abbrev pub whole : Part
 whole = record { at = None; uri = None }
 
+-- What is written of each record.
+pub record AreDetails (options : ArgMatches) (details : Details) : Type 0 where
+  pub texts : IsFlag options (codes "texts") details.texts
+  pub bodies : IsFlag options (codes "bodies") details.bodies
+
 -- The call of a subcommand with this name and these options.
 abbrev pub IsCallNamed : List ℕ → ArgMatches → Call → Type 0
 IsCallNamed name options (call.Serve config) = (name ≡ codes "serve") × IsConfig options config
 IsCallNamed name options (call.Check settings) = (name ≡ codes "check")
-    × AreSettings options settings
+    × AreSettings options settings × IsFlag options (codes "explain") false
+IsCallNamed name options (call.Explain settings) = (name ≡ codes "check")
+    × AreSettings options settings × IsFlag options (codes "explain") true
+IsCallNamed name options (call.Trace settings details) = (name ≡ codes "trace")
+    × AreSettings options settings × AreDetails options details
 IsCallNamed name options (call.Replay settings) = (name ≡ codes "replay")
     × AreSettings options settings × IsLogPart options whole
 IsCallNamed name options (call.ReplayPart settings part) = (name ≡ codes "replay")
     × AreSettings options settings × IsLogPart options part × (is_whole part ≡ false)
 IsCallNamed name options (call.Normalise settings) = (name ≡ codes "normalise")
     × AreSettings options settings × IsFlag options (codes "squash") settings.squash
+    × IsFlag options (codes "documents") false
+IsCallNamed name options (call.NormaliseDocuments settings) = (name ≡ codes "normalise")
+    × AreSettings options settings × IsFlag options (codes "squash") settings.squash
+    × IsFlag options (codes "documents") true
 IsCallNamed name options (call.Convert settings) = (name ≡ codes "convert")
     × AreSettings options settings
 

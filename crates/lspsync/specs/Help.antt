@@ -1,18 +1,27 @@
 -- What the program's help has of its options.
-use Rattle.std.specs.Prelude.{◌≡◌, ◌∷◌, [], Bool, List, is_some}
+use Rattle.std.specs.Prelude.{◌≡◌, ◌∷◌, [], List}
 use Rattle.clap.specs.Words.{Rule, Text}
 use Rattle.clap.specs.declared.builder.value_parser.ValueParser.TheVariants.{Unsigned}
-use Rattle.lspsync.specs.CommandLine.{option_rule}
+use Rattle.lspsync.specs.CommandLine.{Choices, detail_rules, explain_rule, option_rule, part_rules, sync_rule, writing_rules}
 use Rattle.lspsync.specs.declared.command_line.help.Limit.{Limit}
 use Rattle.lspsync.specs.declared.command_line.help.LimitOptions.{LimitOptions}
+use Rattle.lspsync.specs.declared.command_line.help.OwnHelp.{OwnHelp}
+use Rattle.lspsync.specs.declared.command_line.help.OwnHelp.TheVariants.{Nothing, Sync, Explain, Details, Part, Writing}
 use Rattle.lspsync.specs.declared.command_line.help.Page.{Page}
 
--- What the help of a command says of its options.
-pub record IsPage (page : Page) (name : Text) (has_sync has_squash has_part : Bool) : Type 0 where
+-- The options that a command has beside those of all, by the help of them.
+abbrev pub own_rules : Choices → OwnHelp → List Rule
+own_rules kinds Nothing = []
+own_rules kinds (Sync help) = sync_rule kinds ∷ []
+own_rules kinds (Explain help) = explain_rule ∷ []
+own_rules kinds (Details help) = detail_rules
+own_rules kinds (Part help) = part_rules
+own_rules kinds (Writing help) = writing_rules
+
+-- A page of help is of the command with this name, and these are its own options.
+pub record IsPage (page : Page) (name : Text) (own : Choices → List Rule) : Type 0 where
   pub named : page.name.now ≡ name
-  pub sync : is_some page.sync ≡ has_sync
-  pub squash : is_some page.squash ≡ has_squash
-  pub part : is_some page.part ≡ has_part
+  pub own_are : (kinds : Choices) → own_rules kinds page.own ≡ own kinds
 
 -- The option of a limit.
 abbrev pub rule_of_limit : Limit → Rule

@@ -10,7 +10,10 @@ use Rattle.lsp_stream.specs.declared.fault.EngineFault.TheVariants.{Read, Write,
 use Rattle.lsp_stream.specs.Ports.{Ports, Rose, WriterState, ports}
 use Rattle.lsp_stream.specs.Turns.{Spends}
 use Rattle.lsp_replay.specs.declared.outcome.Outcome.{Outcome}
+use Rattle.lsp_replay.specs.Documents.{documents_engine}
+use Rattle.lsp_replay.specs.Explained.{explain_engine}
 use Rattle.lsp_replay.specs.Parts.{never_open, no_record, part_engine}
+use Rattle.lsp_replay.specs.Trace.{trace_engine}
 use Rattle.lsp_replay.specs.Run.{Engine, IsEngineRun, check_engine, convert_engine, normalise_engine, replay_engine, serve_engine}
 use Rattle.lspsync.specs.declared.command_line.Call.{Call}
 use Rattle.lspsync.specs.declared.command_line.Call.TheVariants as call
@@ -33,9 +36,12 @@ status_of (BadLog place) = 5
 abbrev pub engine_of : Call → Engine
 engine_of (call.Serve config) = serve_engine config
 engine_of (call.Check settings) = check_engine settings
+engine_of (call.Explain settings) = explain_engine settings
+engine_of (call.Trace settings details) = trace_engine settings details
 engine_of (call.Replay settings) = replay_engine settings
 engine_of (call.ReplayPart settings part) = part_engine settings part
 engine_of (call.Normalise settings) = normalise_engine settings
+engine_of (call.NormaliseDocuments settings) = documents_engine settings
 engine_of (call.Convert settings) = convert_engine settings
 
 -- How many reads, writes and flushes an engine may make. The last flush may be tried as often.

@@ -1,25 +1,27 @@
 //! The program's command line.
 
-ghost use Rattle.std.specs.Prelude.{◌≡◌, ◌≢◌, ◌∷◌, [], codes, true, false, if◌then◌else◌, is_some};
+ghost use Rattle.std.specs.Prelude.{◌≡◌, ◌≢◌, ◌∷◌, [], codes, true, false};
 ghost use Rattle.std.specs.Prelude.{IfOk, IfSome, IsSome, ℕ, map};
 ghost use Rattle.clap.specs.Words.{app_of, rule_of, with_subcommand};
 ghost use Rattle.clap.specs.declared.builder.value_parser.ValueParser.TheVariants.{Names};
 ghost use Rattle.lspsync.specs.CommandLine.{IsProgram, encoding_rule, flag_rule, limit_rules};
-ghost use Rattle.lspsync.specs.CommandLine.{option_rule, part_rules, squash_rule, sync_rule};
-ghost use Rattle.lspsync.specs.CommandLine.{at_rule, uri_rule};
-ghost use Rattle.lspsync.specs.Help.{rule_of_limit, rules_of_limits};
+ghost use Rattle.lspsync.specs.CommandLine.{option_rule, part_rules, sync_rule, writing_rules};
+ghost use Rattle.lspsync.specs.CommandLine.{at_rule, detail_rules, explain_rule, uri_rule};
+ghost use Rattle.lspsync.specs.Help.{own_rules, rule_of_limit, rules_of_limits};
 ghost use Rattle.lspsync.specs.inside.Options.{AddsRules, IsCommand, shape_by, top_app};
-ghost use Rattle.lspsync.specs.Call.{AreLimits, AreSettings, HasNumber, IsCallNamed, IsConfig, IsLogPart, is_whole};
+ghost use Rattle.lspsync.specs.Call.{AreDetails, AreLimits, AreSettings, HasNumber, IsCallNamed, IsConfig, IsLogPart, is_whole};
 ghost use Rattle.lspsync.specs.Call.{IsFound, IsRead, encoding_given, sync_given};
 ghost use Rattle.lsp_frame.specs.Limits.{Bounds};
 
 mod help;
 
-use crate::command_line::help::{Limit, LimitOptions, Page, PartHelp};
+use crate::command_line::help::{
+    DetailHelp, Limit, LimitOptions, OwnHelp, Page, PartHelp, WritingHelp,
+};
 use clap::builder::ValueParser;
 use clap::{Arg, ArgAction, ArgMatches, Command, Error};
 use lsp_frame::Limits;
-use lsp_replay::{Part, Settings};
+use lsp_replay::{Details, Part, Settings};
 use lsp_server::{Config, EncodingChoice, Sync};
 use lsp_text::Encoding;
 use std::alloc::{AllocError, Global};
@@ -31,12 +33,18 @@ pub enum Call {
     Serve(Config),
     /// `check`: print what a server answers to each record of a log.
     Check(Settings),
+    /// `check --explain`: print of each record why it was refused too, and what to do next.
+    Explain(Settings),
+    /// `trace`: print a line of JSON for each record of a log.
+    Trace(Settings, Details),
     /// `replay`: print the documents that are open at the end of a log.
     Replay(Settings),
     /// `replay --at N --uri URI`: print the documents after a record, or a document's last text.
     ReplayPart(Settings, Part),
     /// `normalise`: write a log with each accepted change as its canonical message.
     Normalise(Settings),
+    /// `normalise --documents`: write of it only what is about the session and the documents' texts.
+    NormaliseDocuments(Settings),
     /// `convert`: write a log of version 1 in version 2.
     Convert(Settings),
 }
@@ -86,14 +94,38 @@ fn other_call(name: &str, options: &ArgMatches<'_>) -> Option<Call>
 {
     match name {
         "serve" => Some(Call::Serve(config_of(options)?)),
-        "check" => Some(Call::Check(settings_of(options, false)?)),
-        "normalise" => {
-            let squash = options.get_flag("squash");
-            Some(Call::Normalise(settings_of(options, squash)?))
-        }
+        "check" => check_call(options),
+        "trace" => Some(Call::Trace(settings_of(options, false)?, details_of(options))),
+        "normalise" => normalise_call(options),
         "convert" => Some(Call::Convert(settings_of(options, false)?)),
         _ => None,
     }
+}
+
+/// The call of `check`, with reasons or without.
+fn check_call(options: &ArgMatches<'_>) -> Option<Call>
+    ensures some { IfSome result (IsCallNamed (codes "check") options.now) }
+    ensures none { (call : Call) → IsCallNamed (codes "check") options.now call → IsSome result }
+{
+    let settings = settings_of(options, false)?;
+    if options.get_flag("explain") {
+        return Some(Call::Explain(settings));
+    }
+    Some(Call::Check(settings))
+}
+
+/// The call of `normalise`, of all messages or of those about the session and the texts.
+fn normalise_call(options: &ArgMatches<'_>) -> Option<Call>
+    ensures some { IfSome result (IsCallNamed (codes "normalise") options.now) }
+    ensures none { (call : Call) → IsCallNamed (codes "normalise") options.now call →
+        IsSome result }
+{
+    let squash = options.get_flag("squash");
+    let settings = settings_of(options, squash)?;
+    if options.get_flag("documents") {
+        return Some(Call::NormaliseDocuments(settings));
+    }
+    Some(Call::Normalise(settings))
 }
 
 /// The call of `replay`, of a part of a log or of the whole.
@@ -133,6 +165,16 @@ fn part_of(alloc: Global, options: &ArgMatches<'_>) -> Result<Part, AllocError>
         None => None,
     };
     Ok(Part { at, uri })
+}
+
+/// What `trace` is to write of each record.
+fn details_of(options: &ArgMatches<'_>) -> Details
+    ensures { AreDetails options.now result }
+{
+    Details {
+        texts: options.get_flag("texts"),
+        bodies: options.get_flag("bodies"),
+    }
 }
 
 fn config_of(options: &ArgMatches<'_>) -> Option<Config>
@@ -235,6 +277,7 @@ fn program<'a>(alloc: Global, limits: &'a LimitOptions) -> Result<Command<'a>, A
     };
     let program = with_command(alloc, top(alloc), help::serve(), values)?;
     let program = with_command(alloc, program, help::check(), values)?;
+    let program = with_command(alloc, program, help::trace(), values)?;
     let program = with_command(alloc, program, help::replay(), values)?;
     let program = with_command(alloc, program, help::normalise(), values)?;
     with_command(alloc, program, help::convert(), values)
@@ -270,9 +313,7 @@ fn command<'a>(alloc: Global, page: Page, values: Values<'a>) -> Result<Command<
         .about(page.about)
         .after_help(page.example);
     let command = with_encoding(alloc, command, page.encoding, values.encodings)?;
-    let command = with_sync(alloc, command, page.sync, values.kinds)?;
-    let command = with_squash(alloc, command, page.squash)?;
-    let command = with_part(alloc, command, page.part)?;
+    let command = with_own(alloc, command, page.own, values.kinds)?;
     with_limits(alloc, command, values.limits)
 }
 
@@ -287,51 +328,85 @@ fn with_encoding<'a>(
     command.arg(choice(alloc, "encoding", encodings, "utf-16").help(help))
 }
 
-/// Adds `--sync`, if there is help for it.
+/// Adds the options that the command has beside those of all.
+fn with_own<'a>(
+    alloc: Global,
+    command: Command<'a>,
+    own: OwnHelp,
+    kinds: &'a [&'a str],
+) -> Result<Command<'a>, AllocError>
+    ensures { IfOk result (AddsRules command.entry (own_rules kinds.entry own)) }
+{
+    match own {
+        OwnHelp::Nothing => Ok(command),
+        OwnHelp::Sync(help) => with_sync(alloc, command, help, kinds),
+        OwnHelp::Explain(help) => with_explain(alloc, command, help),
+        OwnHelp::Details(help) => with_details(alloc, command, help),
+        OwnHelp::Part(help) => with_part(alloc, command, help),
+        OwnHelp::Writing(help) => with_writing(alloc, command, help),
+    }
+}
+
+/// Adds `--sync`.
 fn with_sync<'a>(
     alloc: Global,
     command: Command<'a>,
-    help: Option<&'a str>,
+    help: &'a str,
     kinds: &'a [&'a str],
 ) -> Result<Command<'a>, AllocError>
-    ensures { IfOk result (AddsRules command.entry
-        (if is_some help.entry then sync_rule kinds.entry ∷ [] else [])) }
+    ensures { IfOk result (AddsRules command.entry (sync_rule kinds.entry ∷ [])) }
 {
-    match help {
-        Some(help) => command.arg(choice(alloc, "sync", kinds, "incremental").help(help)),
-        None => Ok(command),
-    }
+    command.arg(choice(alloc, "sync", kinds, "incremental").help(help))
 }
 
-/// Adds `--squash`, if there is help for it.
-fn with_squash<'a>(
+/// Adds `--documents` and `--squash`.
+fn with_writing<'a>(
     alloc: Global,
     command: Command<'a>,
-    help: Option<&'a str>,
+    help: WritingHelp,
 ) -> Result<Command<'a>, AllocError>
-    ensures { IfOk result (AddsRules command.entry
-        (if is_some help.entry then squash_rule ∷ [] else [])) }
+    ensures { IfOk result (AddsRules command.entry writing_rules) }
 {
-    match help {
-        Some(help) => command.arg(flag(alloc, "squash").help(help)),
-        None => Ok(command),
-    }
+    command
+        .arg(flag(alloc, "documents", help.documents))?
+        .arg(flag(alloc, "squash", help.squash))
 }
 
-/// Adds `--at` and `--uri`, if there is help for them.
+/// Adds `--at` and `--uri`.
 fn with_part<'a>(
     alloc: Global,
     command: Command<'a>,
-    help: Option<PartHelp>,
+    help: PartHelp,
 ) -> Result<Command<'a>, AllocError>
-    ensures { IfOk result (AddsRules command.entry (if is_some help then part_rules else [])) }
+    ensures { IfOk result (AddsRules command.entry part_rules) }
 {
-    let Some(help) = help else {
-        return Ok(command);
-    };
     command
         .arg(at_option(alloc, help.at))?
         .arg(uri_option(alloc, help.uri))
+}
+
+/// Adds `--explain`.
+fn with_explain<'a>(
+    alloc: Global,
+    command: Command<'a>,
+    help: &'a str,
+) -> Result<Command<'a>, AllocError>
+    ensures { IfOk result (AddsRules command.entry (explain_rule ∷ [])) }
+{
+    command.arg(flag(alloc, "explain", help))
+}
+
+/// Adds `--texts` and `--bodies`.
+fn with_details<'a>(
+    alloc: Global,
+    command: Command<'a>,
+    help: DetailHelp,
+) -> Result<Command<'a>, AllocError>
+    ensures { IfOk result (AddsRules command.entry detail_rules) }
+{
+    command
+        .arg(flag(alloc, "texts", help.texts))?
+        .arg(flag(alloc, "bodies", help.bodies))
 }
 
 /// Adds the options that set limits.
@@ -386,11 +461,14 @@ fn uri_option<'a>(alloc: Global, help: &'a str) -> Arg<'a>
 }
 
 /// An option without a value.
-fn flag<'a>(alloc: Global, name: &'a str) -> Arg<'a>
+fn flag<'a>(alloc: Global, name: &'a str, help: &'a str) -> Arg<'a>
     ensures rule { rule_of result ≡ flag_rule name.entry.now }
     ensures global { result.global ≡ false }
 {
-    Arg::new(alloc, name).long(name).action(ArgAction::SetTrue)
+    Arg::new(alloc, name)
+        .long(name)
+        .action(ArgAction::SetTrue)
+        .help(help)
 }
 
 /// An option with a number in a range.

@@ -16,8 +16,8 @@ use crate::command_line::{Call, parse};
 use crate::fault_text::FaultText;
 use clap::error as clap_error;
 use lsp_replay::{
-    EngineFault, NEVER_OPEN, NO_RECORD, Outcome, Sink, Source, check, convert, normalise, replay,
-    replay_part, serve,
+    EngineFault, NEVER_OPEN, NO_RECORD, Outcome, Sink, Source, check, convert, normalise,
+    normalise_documents, replay, replay_part, serve, trace,
 };
 use lsp_stream::{Turns, flush_out, write_given};
 use std::alloc::Global;
@@ -163,11 +163,20 @@ fn obey<R: Source, W: Sink>(
     match call {
         Call::Serve(config) => serve(alloc, input, output, config, MAX_TURNS),
         Call::Check(settings) => check(alloc, input, output, settings, MAX_TURNS),
+        Call::Explain(settings) => {
+            lsp_replay::explain(alloc, input, output, settings, MAX_TURNS)
+        }
+        Call::Trace(settings, details) => {
+            trace(alloc, input, output, settings, details, MAX_TURNS)
+        }
         Call::Replay(settings) => replay(alloc, input, output, settings, MAX_TURNS),
         Call::ReplayPart(settings, part) => {
             replay_part(alloc, input, output, settings, part, MAX_TURNS)
         }
         Call::Normalise(settings) => normalise(alloc, input, output, settings, MAX_TURNS),
+        Call::NormaliseDocuments(settings) => {
+            normalise_documents(alloc, input, output, settings, MAX_TURNS)
+        }
         Call::Convert(settings) => convert(alloc, input, output, settings, MAX_TURNS),
     }
 }

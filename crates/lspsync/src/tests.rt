@@ -2,11 +2,13 @@
 
 mod command_line;
 mod converted;
+mod explained;
 mod faults;
 mod logs;
 mod parts;
 mod sessions;
 mod streams;
+mod traces;
 
 use crate::run::run;
 use lsp_replay::{Call, StopReader, StopWriter, Told};

@@ -1,11 +1,11 @@
 -- The options of a command while it is put together.
-use Rattle.std.specs.Prelude.{◌≡◌, ◌++◌, ◌∷◌, [], Bool, true, false, List, is_some, codes, if◌then◌else◌}
+use Rattle.std.specs.Prelude.{◌≡◌, ◌++◌, ◌∷◌, [], true, false, List, codes}
 use Rattle.clap.specs.Words.{App, Rule, Shape, Text, app_of}
 use Rattle.clap.specs.Simple.{new_shape, on_top}
 use Rattle.clap.specs.declared.builder.command.Command.{Command}
 use Rattle.clap.specs.declared.builder.command.Command.TheViews.{out-Command as fields_of}
-use Rattle.lspsync.specs.CommandLine.{Choices, encoding_rule, part_rules, squash_rule, sync_rule}
-use Rattle.lspsync.specs.Help.{rules_of_limits}
+use Rattle.lspsync.specs.CommandLine.{Choices, encoding_rule}
+use Rattle.lspsync.specs.Help.{own_rules, rules_of_limits}
 use Rattle.lspsync.specs.declared.command_line.help.Page.{Page}
 use Rattle.lspsync.specs.declared.command_line.Values.{Values}
 
@@ -14,20 +14,16 @@ pub record AddsRules (old : Command) (rules : List Rule) (new : Command) : Type 
   pub app : app_of new ≡ on_top (λ s. record s { rules = s.rules ++ rules }) (app_of old)
   pub globals : (fields_of new).has_globals ≡ (fields_of old).has_globals
 
--- A command with this name, with `--sync`, `--squash`, `--at` and `--uri` or without, and these
--- limits.
-abbrev pub page_shape : Text → Bool → Bool → Bool → Choices → Choices → List Rule → Shape
-page_shape name sync squash part encodings kinds limits = record (new_shape name) {
-  rules = encoding_rule encodings
-      ∷ (if sync then sync_rule kinds ∷ [] else [])
-      ++ ((if squash then squash_rule ∷ [] else [])
-      ++ ((if part then part_rules else []) ++ limits));
+-- A command with this name, these options of its own, and these limits.
+abbrev pub page_shape : Text → List Rule → Choices → List Rule → Shape
+page_shape name own encodings limits = record (new_shape name) {
+  rules = encoding_rule encodings ∷ own ++ limits;
 }
 
 -- The command of a page of help.
 abbrev pub shape_by : Page → Values → Shape
-shape_by page values = page_shape page.name.now (is_some page.sync) (is_some page.squash)
-    (is_some page.part) values.encodings values.kinds (rules_of_limits values.limits.now)
+shape_by page values = page_shape page.name.now (own_rules values.kinds page.own)
+    values.encodings (rules_of_limits values.limits.now)
 
 -- A command of the program, before it is added.
 pub record IsCommand (page : Page) (values : Values) (command : Command) : Type 0 where

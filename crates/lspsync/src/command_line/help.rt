@@ -1,7 +1,7 @@
 //! The texts of help. They are in functions, so that proofs don't unfold them.
 
-ghost use Rattle.std.specs.Prelude.{◌≡◌, codes, true, false};
-ghost use Rattle.lspsync.specs.CommandLine.{limit_rules};
+ghost use Rattle.std.specs.Prelude.{◌≡◌, ◌∷◌, [], codes};
+ghost use Rattle.lspsync.specs.CommandLine.{detail_rules, explain_rule, limit_rules, part_rules, sync_rule, writing_rules};
 ghost use Rattle.lspsync.specs.Help.{IsPage, rules_of_limits};
 
 use lsp_frame::Limits;
@@ -15,12 +15,39 @@ pub struct Page {
     pub example: &'static str,
     /// The meaning of `--encoding`.
     pub encoding: &'static str,
-    /// The meaning of `--sync`, if the command has it.
-    pub sync: Option<&'static str>,
-    /// The meaning of `--squash`, if the command has it.
-    pub squash: Option<&'static str>,
-    /// The meaning of `--at` and `--uri`, if the command has them.
-    pub part: Option<PartHelp>,
+    /// The options that the command has beside those of all.
+    pub own: OwnHelp,
+}
+
+/// The options that a command has beside those of all, with their meanings.
+#[derive(Clone, Copy, Debug)]
+pub enum OwnHelp {
+    /// There are none.
+    Nothing,
+    /// `--sync`.
+    Sync(&'static str),
+    /// `--explain`.
+    Explain(&'static str),
+    /// `--texts` and `--bodies`.
+    Details(DetailHelp),
+    /// `--at` and `--uri`.
+    Part(PartHelp),
+    /// `--documents` and `--squash`.
+    Writing(WritingHelp),
+}
+
+/// The help of the options that say how a log is written.
+#[derive(Clone, Copy, Debug)]
+pub struct WritingHelp {
+    pub documents: &'static str,
+    pub squash: &'static str,
+}
+
+/// The help of the options that say what is written of each record.
+#[derive(Clone, Copy, Debug)]
+pub struct DetailHelp {
+    pub texts: &'static str,
+    pub bodies: &'static str,
 }
 
 /// The help of the options that name a part of a log.
@@ -52,61 +79,75 @@ pub fn notes() -> &'static str {
 }
 
 pub fn serve() -> Page
-    ensures { IsPage result (codes "serve") true false false }
+    ensures { IsPage result (codes "serve") (λ kinds. sync_rule kinds ∷ []) }
 {
     Page {
         name: "serve",
         about: SERVE,
         example: SERVE_EXAMPLE,
         encoding: PREFERRED_ENCODING,
-        sync: Some(SYNC),
-        squash: None,
-        part: None,
+        own: OwnHelp::Sync(SYNC),
     }
 }
 
 pub fn check() -> Page
-    ensures { IsPage result (codes "check") false false false }
+    ensures { IsPage result (codes "check") (λ _. explain_rule ∷ []) }
 {
-    log_page("check", CHECK, CHECK_EXAMPLE)
+    Page {
+        own: OwnHelp::Explain(EXPLAIN),
+        ..log_page("check", CHECK, CHECK_EXAMPLE)
+    }
+}
+
+pub fn trace() -> Page
+    ensures { IsPage result (codes "trace") (λ _. detail_rules) }
+{
+    Page {
+        own: OwnHelp::Details(DetailHelp {
+            texts: TEXTS,
+            bodies: BODIES,
+        }),
+        ..log_page("trace", TRACE, TRACE_EXAMPLE)
+    }
 }
 
 pub fn replay() -> Page
-    ensures { IsPage result (codes "replay") false false true }
+    ensures { IsPage result (codes "replay") (λ _. part_rules) }
 {
     Page {
-        part: Some(PartHelp { at: AT, uri: URI }),
+        own: OwnHelp::Part(PartHelp { at: AT, uri: URI }),
         ..log_page("replay", REPLAY, REPLAY_EXAMPLE)
     }
 }
 
 pub fn normalise() -> Page
-    ensures { IsPage result (codes "normalise") false true false }
+    ensures { IsPage result (codes "normalise") (λ _. writing_rules) }
 {
     Page {
-        squash: Some(SQUASH),
+        own: OwnHelp::Writing(WritingHelp {
+            documents: DOCUMENTS,
+            squash: SQUASH,
+        }),
         ..log_page("normalise", NORMALISE, NORMALISE_EXAMPLE)
     }
 }
 
 pub fn convert() -> Page
-    ensures { IsPage result (codes "convert") false false false }
+    ensures { IsPage result (codes "convert") (λ _. []) }
 {
     log_page("convert", CONVERT, CONVERT_EXAMPLE)
 }
 
 /// The page of a command that reads a log.
 fn log_page(name: &'static str, about: &'static str, example: &'static str) -> Page
-    ensures { IsPage result name.now false false false }
+    ensures { IsPage result name.now (λ _. []) }
 {
     Page {
         name,
         about,
         example,
         encoding: ENCODING,
-        sync: None,
-        squash: None,
-        part: None,
+        own: OwnHelp::Nothing,
     }
 }
 
@@ -192,8 +233,25 @@ static CHECK_EXAMPLE: &str =
 `dropped`, `ignored` or `refused CAUSE` for a notification, `exit 0` or `exit 1`, and `server` for
 what the server sent. The status is 1 where an error (other than -32601) or a refusal is among them.
 
+With `--explain` a line of an error, a refusal or `exit 1` also has the document and the reason, and a
+last line says what to do next.
+
 Example, a session with two changes that a server must refuse:
-  ./lspsync check < examples/stale-version.log";
+  ./lspsync check < examples/stale-version.log
+  ./lspsync check --explain < examples/stale-version.log";
+
+static TRACE: &str =
+    "Print a line of JSON for each message of a log: what it is, what a server answers, and why";
+
+static TRACE_EXAMPLE: &str =
+    "A line has the record's `number` and `offset`, who it is `from`, its `method` and `id`, the document's
+`uri`, the `word` of `check`, the `reason` if it was refused and the `last` record that opened, closed
+or refused the document, the document's `version` after it, and the `canonical` message of an accepted
+change. The status is that of `check`.
+
+Example, and the refused messages alone where `jq` is there:
+  ./lspsync trace < examples/stale-version.log
+  ./lspsync trace < examples/stale-version.log | jq -c 'select(.reason)'";
 
 static REPLAY: &str =
     "Print the documents that are open at the end of a log, a line of JSON for each";
@@ -224,8 +282,15 @@ was refused.
 Example, a change of the whole text, which becomes one with a range:
   ./lspsync normalise < examples/whole-text.log
 
+With `--documents` all messages are left out that are neither about the session nor about a document's
+text: requests for features and their answers, and most notifications. `didSave` stays, and so does
+what was refused. `replay` reports the same documents and the same status.
+
 Example, what a person typed, as one change:
-  ./lspsync normalise --squash < examples/typing.log";
+  ./lspsync normalise --squash < examples/typing.log
+
+Example, what was done between two saves, of a log with a request after each key:
+  ./lspsync normalise --documents --squash < examples/two-saves-with-requests.log";
 
 static CONVERT: &str =
     "Write a log in the format of version 2, which holds the server's replies too";
@@ -247,12 +312,21 @@ static PREFERRED_ENCODING: &str =
 
 static SYNC: &str = "How the editor is asked to send changes: as whole texts or as ranges";
 
+static DOCUMENTS: &str =
+    "Leave out each message that is neither about the session nor about a document's text";
+
 static SQUASH: &str =
     "Write changes of one document that follow each other as one message, as between two saves";
 
 static AT: &str = "Replay up to the Nth message alone, from 1";
 
 static URI: &str = "Print this document's last text alone, as it is, also if it was closed";
+
+static EXPLAIN: &str = "Print why a message was refused too, and at the end what to do next";
+
+static TEXTS: &str = "Print the document's text too, where a message opened or changed it";
+
+static BODIES: &str = "Print each message too, where it is JSON";
 
 const MAX_BODY: &str = "Greatest length of a message, in bytes, from 4096 to 1073741824";
 

@@ -7,7 +7,7 @@ use lsp_server::Config;
 use std::str;
 use std::test::Fail;
 
-static WRONG: [&[&str]; 33] = [
+static WRONG: [&[&str]; 43] = [
     &["lspsync"],
     &["lspsync", "rewrite"],
     &["lspsync", "--max-body", "4096", "check"],
@@ -16,6 +16,16 @@ static WRONG: [&[&str]; 33] = [
     &["lspsync", "check", "--sync", "full"],
     &["lspsync", "normalise", "--squash", "--squash"],
     &["lspsync", "normalise", "--squash=yes"],
+    &["lspsync", "normalise", "--documents", "--documents"],
+    &["lspsync", "normalise", "--documents=yes"],
+    &["lspsync", "replay", "--documents"],
+    &["lspsync", "check", "--explain", "--explain"],
+    &["lspsync", "check", "--explain=yes"],
+    &["lspsync", "trace", "--explain"],
+    &["lspsync", "trace", "--texts", "--texts"],
+    &["lspsync", "trace", "--bodies", "--bodies"],
+    &["lspsync", "trace", "--bodies=yes"],
+    &["lspsync", "check", "--texts"],
     &["lspsync", "serve", "--squash"],
     &["lspsync", "check", "--squash"],
     &["lspsync", "replay", "--squash"],
@@ -64,7 +74,7 @@ fn a_wrong_command_line_has_a_text_and_status_2(rt: HostRuntime) -> Result<(), F
     Ok(())
 }
 
-static COMMANDS: [&str; 5] = ["serve", "check", "replay", "normalise", "convert"];
+static COMMANDS: [&str; 6] = ["serve", "check", "trace", "replay", "normalise", "convert"];
 
 /// An option, its least value, and the greatest one.
 static ENDS: [(&str, &str, &str); 5] = [
@@ -122,6 +132,11 @@ fn is_call<'a>(alloc: Global, words: &'a [&'a str], wanted: command_line::Call) 
 fn a_call_without_options_has_the_defaults(rt: HostRuntime) -> Result<(), Fail> {
     let serve = command_line::Call::Serve(Config::default());
     assert!(rt; is_call(rt.alloc(), &["lspsync", "serve"], serve));
+    let documents = command_line::Call::NormaliseDocuments(Settings::default());
+    let words = ["lspsync", "normalise", "--documents"];
+    assert!(rt; is_call(rt.alloc(), &words, documents));
+    let explain = command_line::Call::Explain(Settings::default());
+    assert!(rt; is_call(rt.alloc(), &["lspsync", "check", "--explain"], explain));
     let check = command_line::Call::Check(Settings::default());
     assert!(rt; is_call(rt.alloc(), &["lspsync", "check"], check));
     Ok(())

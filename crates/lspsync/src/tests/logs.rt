@@ -61,7 +61,7 @@ fn a_whole_session_ends_at_exit(rt: HostRuntime) -> Result<(), Fail> {
 }
 
 /// Options of `check`, a third message after `initialize` and the opening of `abc`, and its word.
-static THIRD: [(&str, &str, &str); 12] = [
+pub(super) static THIRD: [(&str, &str, &str); 12] = [
     ("--max-docs=2", "[", "error -32700"),
     ("--max-docs=2", "[]", "error -32600"),
     ("--max-docs=2", INITIALIZE, "error -32600"),
@@ -136,6 +136,33 @@ fn what_is_not_known_is_no_refusal(rt: HostRuntime) -> Result<(), Fail> {
     let input = log(rt.alloc(), &[OPEN, INITIALIZE, hover, saved])?;
     let words = b"1 dropped\n2 reply\n3 error -32601\n4 ignored\n";
     assert!(rt; answers(rt.alloc(), &["lspsync", "check"], &input, 0, words)?);
+    Ok(())
+}
+
+/// A request between the changes of a document, and a save.
+const HOVER: &str = r#"{"id":7,"jsonrpc":"2.0","method":"textDocument/hover","params":{}}"#;
+
+const SAVED: &str = r#"{"jsonrpc":"2.0","method":"textDocument/didSave","params":{}}"#;
+
+/// Does `normalise` with these options write the frames of these bodies?
+fn writes(
+    alloc: Global,
+    words: &[&str],
+    bodies: &[&str],
+    written: &[&str],
+) -> Result<bool, AllocError> {
+    answers(alloc, words, &log(alloc, bodies)?, 0, &log(alloc, written)?)
+}
+
+static WITH_HOVER: [&str; 6] = [INITIALIZE, OPEN, HOVER, WHOLE, HOVER, SAVED];
+
+#[test]
+fn what_is_not_about_documents_is_left_out(rt: HostRuntime) -> Result<(), Fail> {
+    let (alloc, left) = (rt.alloc(), [INITIALIZE, OPEN, CANONICAL, SAVED]);
+    let words = ["lspsync", "normalise", "--documents"];
+    assert!(rt; writes(alloc, &words, &WITH_HOVER, &left)?);
+    let words = ["lspsync", "normalise", "--squash", "--documents"];
+    assert!(rt; writes(alloc, &words, &WITH_HOVER, &left)?);
     Ok(())
 }
 

@@ -4,8 +4,8 @@ use Rattle.lspsync.specs.CommandLine.{sync_rule}
 use Rattle.lspsync.proofs.ProgramLemmas.{adds}
 use Rattle.lspsync.proofs.command_line.with_sync.Goals as goal
 
-pub returns-in-Some : goal.returns-in-Some
-returns-in-Some c =
+pub returns : goal.returns
+returns c =
     let local : c.help.result.global ≡ false = search rules in
     let rule : rule_of c.help.result ≡ sync_rule c.args.kinds = search rules in
-    rw c.in-Some.is (adds _ c.help.result (sync_rule c.args.kinds) c.arg.result local rule c.arg.ensures)
+    adds _ c.help.result (sync_rule c.args.kinds) c.arg.result local rule c.arg.ensures
