@@ -82,7 +82,7 @@ abbrev pub before_last : Choices → Choices → App
 before_last encodings kinds =
     let more = λ (app : App) (name : Text) (own : List Rule). with_subcommand app (page_shape name own encodings limit_rules) in
     more (more (more (more (more top_app (codes "serve") (sync_rule kinds ∷ [])) (codes "check") (explain_rule ∷ []))
-      (codes "trace") detail_rules) (codes "replay") part_rules) (codes "normalise") writing_rules
+    (codes "trace") detail_rules) (codes "replay") part_rules) (codes "normalise") writing_rules
 
 pub program_is : {E : Type 0} (old : App) (page : Page) (values : Values) (made : Result Command E)
     → map (λ s. s.now) values.encodings.now ≡ codes "utf-8" ∷ codes "utf-16" ∷ codes "utf-32" ∷ []
