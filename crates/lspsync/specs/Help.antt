@@ -6,13 +6,13 @@ use Rattle.lspsync.specs.CommandLine.{Choices, detail_rules, explain_rule, optio
 use Rattle.lspsync.specs.declared.command_line.help.Limit.{Limit}
 use Rattle.lspsync.specs.declared.command_line.help.LimitOptions.{LimitOptions}
 use Rattle.lspsync.specs.declared.command_line.help.OwnHelp.{OwnHelp}
-use Rattle.lspsync.specs.declared.command_line.help.OwnHelp.TheVariants.{Nothing, Sync, Explain, Details, Part, Writing}
+use Rattle.lspsync.specs.declared.command_line.help.OwnHelp.TheVariants.{Nothing, ChangeForm, Explain, Details, Part, Writing}
 use Rattle.lspsync.specs.declared.command_line.help.Page.{Page}
 
 -- The options that a command has beside those of all, by the help of them.
 abbrev pub own_rules : Choices → OwnHelp → List Rule
 own_rules kinds Nothing = []
-own_rules kinds (Sync help) = sync_rule kinds ∷ []
+own_rules kinds (ChangeForm help) = sync_rule kinds ∷ []
 own_rules kinds (Explain help) = explain_rule ∷ []
 own_rules kinds (Details help) = detail_rules
 own_rules kinds (Part help) = part_rules

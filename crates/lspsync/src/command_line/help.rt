@@ -25,7 +25,7 @@ pub enum OwnHelp {
     /// There are none.
     Nothing,
     /// `--sync`.
-    Sync(&'static str),
+    ChangeForm(&'static str),
     /// `--explain`.
     Explain(&'static str),
     /// `--texts` and `--bodies`.
@@ -86,7 +86,7 @@ pub fn serve() -> Page
         about: SERVE,
         example: SERVE_EXAMPLE,
         encoding: PREFERRED_ENCODING,
-        own: OwnHelp::Sync(SYNC),
+        own: OwnHelp::ChangeForm(SYNC),
     }
 }
 
