@@ -152,10 +152,11 @@ typedef struct laspidru_settings {
     laspidru_u32 encoding;
     laspidru_bool is_fixed;
     laspidru_bool is_full;
+    laspidru_bool lenient; /* whether a change of any version is taken, and an open document may be opened again */
 } laspidru_settings;
 
 /* The defaults, also those of lspsync: set the members that are to differ. */
-#define LASPIDRU_SETTINGS_DEFAULT {16777216, 16777216, 1024, 65536, LASPIDRU_UTF16, 0, 0}
+#define LASPIDRU_SETTINGS_DEFAULT {16777216, 16777216, 1024, 65536, LASPIDRU_UTF16, 0, 0, 0}
 
 /* What a server answers to a message. A member that isn't of its kind is 0. */
 typedef struct laspidru_answer {
@@ -183,9 +184,10 @@ typedef struct laspidru_client_settings {
     laspidru_size max_changes; /* 1 to 1,048,576 in a message */
     laspidru_bool utf8;
     laspidru_bool utf32;
+    laspidru_bool lenient; /* as in laspidru_settings */
 } laspidru_client_settings;
 
-#define LASPIDRU_CLIENT_SETTINGS_DEFAULT {16777216, 16777216, 1024, 65536, 0, 0}
+#define LASPIDRU_CLIENT_SETTINGS_DEFAULT {16777216, 16777216, 1024, 65536, 0, 0, 0}
 
 /* The state of a client's session. */
 typedef struct laspidru_state {
@@ -209,9 +211,10 @@ typedef struct laspidru_log_settings {
     laspidru_size max_changes; /* 1 to 1,048,576 in a message */
     laspidru_u32 encoding;     /* what positions count */
     laspidru_bool squash;      /* laspidru_log_normalise: changes of one document that follow each other as one message */
+    laspidru_bool lenient;     /* as in laspidru_settings */
 } laspidru_log_settings;
 
-#define LASPIDRU_LOG_SETTINGS_DEFAULT {16777216, 16777216, 1024, 65536, LASPIDRU_UTF16, 0}
+#define LASPIDRU_LOG_SETTINGS_DEFAULT {16777216, 16777216, 1024, 65536, LASPIDRU_UTF16, 0, 0}
 
 /* How a command on a log ended. A member that isn't of the code is 0. */
 typedef struct laspidru_ending {
