@@ -2,7 +2,7 @@
 //! before, and the same call succeeds the second time. `.ci/refused` runs these.
 
 use super::narrow;
-use lsp_frame::{EncodeFault, FrameFault, Framer, frame, encode, read_frames};
+use lsp_frame::{EncodeFault, FrameFault, Framer, encode, frame, read_frames};
 use std::alloc::{AllocError, Global};
 use std::test::Fail;
 

@@ -1,7 +1,7 @@
 //! Frames as they are written.
 
 use super::narrow;
-use lsp_frame::{EncodeFault, frame, encode};
+use lsp_frame::{EncodeFault, encode, frame};
 use std::alloc::{AllocError, Global};
 use std::test::Fail;
 
