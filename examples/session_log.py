@@ -1,5 +1,4 @@
-"""Frames and logs, read as docs/PROTOCOL.md and docs/LOGS.md say: what log-lines, record and why share."""
-import json
+"""Frames and logs, read as docs/PROTOCOL.md and docs/LOGS.md say: what log-from-lines, record and their test share."""
 import os
 import re
 import select
@@ -8,10 +7,8 @@ VERSION_LINE = b"lsp-session-log 2\n"
 EDITOR, SERVER = b">", b"<"
 MAX_BODY = 1073741824
 MAX_HEADER = 8192
-MAX_DEPTH = 127
 PIECE = 65536
 WRITTEN_HEADER = re.compile(rb"Content-Length: (0|[1-9][0-9]{0,9})\r\n\r\n")
-STRING = re.compile(r'"(?:[^"\\]|\\.)*"')
 
 # Where a header's next byte lies: at a line's start, in a name, in a value, after a value's CR, after the last CR.
 LINE, NAME, VALUE, RETURN, LAST, WHOLE = range(6)
@@ -162,41 +159,6 @@ class Log:
             self.framer.feed(piece)
         if self.framer.held:
             raise Fault("truncated at %d" % self.framer.end())
-
-    def rest(self):
-        """Gives, in pieces, what no record has been made of."""
-        held = bytes(self.framer.held)
-        for start in range(0, len(held), PIECE):
-            yield held[start:start + PIECE]
-        while True:
-            piece = read_some(self.descriptor)
-            if not piece:
-                return
-            yield piece
-
-
-def depth_of(text):
-    """Returns how deep the brackets of a JSON text nest."""
-    depth = deepest = 0
-    if text.count("[") + text.count("{") > MAX_DEPTH:
-        for char in STRING.sub("", text):
-            depth += (char in "[{") - (char in "]}")
-            deepest = max(deepest, depth)
-    return deepest
-
-
-def no_constant(word):
-    raise ValueError("%s is no JSON" % word)
-
-
-def read_json(text):
-    """Returns the value of a JSON text, or raises ValueError."""
-    if depth_of(text) > MAX_DEPTH:
-        raise ValueError("it nests deeper than %d" % MAX_DEPTH)
-    try:
-        return json.loads(text, parse_constant=no_constant)
-    except RecursionError:
-        raise ValueError("it nests too deep") from None
 
 
 def wait_for(descriptor, event):
