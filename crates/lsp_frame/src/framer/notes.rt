@@ -37,7 +37,7 @@ pub(crate) struct Notes {
 
 impl Notes {
     /// Makes the notes of a header without lines.
-    #[tactic(auto, unfolding(crate::specs::Progress::notes_of))]
+    #[tactic(auto, unfolding(crate::specs::inside::Stage::notes_of))]
     pub(crate) fn new() -> Notes
         ensures { (max_body : ℕ) → result ≡ notes_of max_body [] }
     {
