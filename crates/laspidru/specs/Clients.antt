@@ -47,7 +47,7 @@ client_bounds settings = record {
   lenient = settings.lenient;
 }
 
--- A client at the new_client of a session, if each limit is in its range. It has sent nothing.
+-- A client at the start of a session, if each limit is in its range. It has sent nothing.
 abbrev pub client_asked : ClientSettings → Result EditorData ℕ
 client_asked settings = and_then (limits_asked (client_bounds settings)) (λ limits. Ok (record {
   client = new_client limits (record { utf8 = settings.utf8; utf32 = settings.utf32 });
