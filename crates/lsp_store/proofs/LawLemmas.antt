@@ -230,7 +230,7 @@ whole_accepts small great units entry version batch ranges within kept texts e =
     let text = within.text in
     let few = within.changes in
     record {
-      newer = a.newer;
+      newer = still_new small great within.lenient version entry.version a.newer;
       few = omega (arith, few, ranges.least_changes);
       fits = omega (arith, one_weighs bytes left.utf8, left.short, ranges.greatest_text);
       items = map New (chars bytes);

@@ -34,9 +34,9 @@ module _ (limits : Bounds) (units : ℕ → ℕ) (entry : DocumentItem) (version
   pub refused_meaning : (nat_lt limits.max_changes (length batch) || nat_lt greatest_batch (batch_bytes batch)) ≡ false → entry_refusal limits units entry version batch ≡ meaning_refusal limits entry.text (meaning units (chars entry.text) batch)
   refused_meaning few = rw (newer, few) refl
 
-pub stale_refused : (limits : Bounds) (units : ℕ → ℕ) (entry : DocumentItem) (version given : ℤ) (batch : List Edit) → given ≡ version → is_stale limits given entry.version ≡ true
-    → option_map fault_of (entry_refusal limits units entry version batch) ≡ Some (StaleVersion entry.version)
-stale_refused limits units entry version given batch same stale = rw (rw same at stale) refl
+pub stale_refused : (limits : Bounds) (units : ℕ → ℕ) (entry : DocumentItem) (version given held : ℤ) (batch : List Edit) → given ≡ version → held ≡ entry.version → is_stale limits given entry.version ≡ true
+    → option_map fault_of (entry_refusal limits units entry version batch) ≡ Some (StaleVersion held)
+stale_refused limits units entry version given held batch same current stale = rw (rw same at stale, current) refl
 
 -- ---- the same, of the changes that a call was given
 

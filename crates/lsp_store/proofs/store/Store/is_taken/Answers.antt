@@ -1,4 +1,4 @@
-use Rattle.std.proofs.Common.{◌∙◌, sym}
+use Rattle.std.proofs.Common.{◌∙◌, ap, not, sym}
 use Rattle.lsp_store.proofs.StoreLemmas.{taken_strict, taken_never}
 use Rattle.lsp_store.proofs.store.Store.is_taken.Goals as goal
 
@@ -9,4 +9,5 @@ returns-then-not-is_lenient c =
 
 pub returns-else-not-is_lenient : goal.returns-else-not-is_lenient
 returns-else-not-is_lenient c =
-    taken_never c.self.inside.limits c.self.inside.documents.entries c.args.self.now c.self.view_is c.args.uri.now (sym c.is_lenient.ensures ∙ c.if-not-is_lenient.false)
+    ap not c.if-not-is_lenient.false
+    ∙ taken_never c.self.inside.limits c.self.inside.documents.entries c.args.self.now c.self.view_is c.args.uri.now (sym c.is_lenient.ensures ∙ c.if-not-is_lenient.false)

@@ -8,7 +8,7 @@ use Rattle.lsp_store.proofs.store.stored.Stored.may_change.Goals.{then-changes-m
 
 pub returns-then-is_stale-clause-error : goal.returns-then-is_stale-clause-error
 returns-then-is_stale-clause-error c units uri =
-    stale_refused c.args.limits.now units (entry_under uri c.args.self.now) c.args.version _ (map edit_of c.args.changes.now) (to_z-of_z w32 c.args.version (search rules)) (sym c.is_stale.ensures ∙ c.if-is_stale.true)
+    stale_refused c.args.limits.now units (entry_under uri c.args.self.now) c.args.version _ _ (map edit_of c.args.changes.now) (to_z-of_z w32 c.args.version (search rules)) (to_z-of_z w32 c.args.self.now.version (search rules)) (sym c.is_stale.ensures ∙ c.if-is_stale.true)
 
 pub returns-then-changes-max_changes-clause-error : goal.returns-then-changes-max_changes-clause-error
 returns-then-changes-max_changes-clause-error c units uri =
