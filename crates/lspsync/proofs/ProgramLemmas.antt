@@ -1,16 +1,16 @@
 -- The command line is put together.
 use Rattle.std.proofs.Common.{◌≡◌, ◌∙◌, ◌++◌, ◌||◌, ap, refl, false, List, [], ◌∷◌}
-use Rattle.std.specs.Prelude.{Result, Ok, Err, IfOk}
+use Rattle.std.specs.Prelude.{Result, Ok, Err, IfOk, codes, map}
 use Rattle.std.proofs.Math.Bool.{or-false}
 use Rattle.std.proofs.lemmas.List.{append-nil, append_assoc}
-use Rattle.clap.specs.Words.{App, Rule, Text, app_of, rule_of, new_app, AddsArg, with_rule}
+use Rattle.clap.specs.Words.{App, Rule, Text, app_of, rule_of, new_app, AddsArg, with_rule, with_subcommand}
 use Rattle.clap.specs.Simple.{on_top}
 use Rattle.clap.specs.declared.builder.arg.Arg.{Arg}
 use Rattle.clap.specs.declared.builder.command.Command.{Command}
 use Rattle.clap.specs.declared.builder.command.Command.TheViews.{out-Command as fields_of}
-use Rattle.lspsync.specs.CommandLine.{Choices, encoding_rule, limit_rules}
+use Rattle.lspsync.specs.CommandLine.{Choices, IsProgram, detail_rules, encoding_rule, explain_rule, limit_rules, part_rules, sync_rule, writing_rules}
 use Rattle.lspsync.specs.Help.{IsPage, own_rules, rules_of_limits}
-use Rattle.lspsync.specs.inside.Options.{AddsRules, IsCommand, page_shape, shape_by}
+use Rattle.lspsync.specs.inside.Options.{AddsRules, IsCommand, page_shape, shape_by, top_app}
 use Rattle.lspsync.specs.declared.command_line.help.Page.{Page}
 use Rattle.lspsync.specs.declared.command_line.Values.{Values}
 
@@ -69,3 +69,32 @@ shape_is page values name own p same =
     ap (λ n. page_shape n (own_rules values.kinds page.own) values.encodings (rules_of_limits values.limits.now)) p.named
     ∙ (ap (λ rules. page_shape name rules values.encodings (rules_of_limits values.limits.now)) (p.own_are values.kinds)
     ∙ ap (page_shape name (own values.kinds) values.encodings) same)
+
+-- A program with one command more, whose page is known.
+pub puts : (old new known : App) (page : Page) (values : Values) (name : Text) (own : Choices → List Rule) → IsPage page name own
+    → rules_of_limits values.limits.now ≡ limit_rules → new ≡ with_subcommand old (shape_by page values) → old ≡ known
+    → new ≡ with_subcommand known (page_shape name (own values.kinds) values.encodings limit_rules)
+puts old new known page values name own is same put at =
+    put ∙ (ap (λ app. with_subcommand app (shape_by page values)) at ∙ ap (with_subcommand known) (shape_is page values name own is same))
+
+-- The program before its last command.
+abbrev pub before_last : Choices → Choices → App
+before_last encodings kinds =
+    let more = λ (app : App) (name : Text) (own : List Rule). with_subcommand app (page_shape name own encodings limit_rules) in
+    more (more (more (more (more top_app (codes "serve") (sync_rule kinds ∷ [])) (codes "check") (explain_rule ∷ []))
+    (codes "trace") detail_rules) (codes "replay") part_rules) (codes "normalise") writing_rules
+
+pub program_is : {E : Type 0} (old : App) (page : Page) (values : Values) (made : Result Command E)
+    → map (λ s. s.now) values.encodings.now ≡ codes "utf-8" ∷ codes "utf-16" ∷ codes "utf-32" ∷ []
+    → map (λ s. s.now) values.kinds.now ≡ codes "full" ∷ codes "incremental" ∷ []
+    → IsPage page (codes "convert") (λ _. []) → rules_of_limits values.limits.now ≡ limit_rules
+    → IfOk made (λ new. app_of new ≡ with_subcommand old (shape_by page values)) → old ≡ before_last values.encodings values.kinds
+    → IfOk made (λ program. IsProgram (app_of program))
+program_is old page values (Err e) names kinds is same put at = tt
+program_is old page values (Ok new) names kinds is same put at = record {
+  encodings = values.encodings;
+  kinds = values.kinds;
+  names = names;
+  kind_names = kinds;
+  same = puts old (app_of new) (before_last values.encodings values.kinds) page values (codes "convert") (λ _. []) is same put at;
+}
