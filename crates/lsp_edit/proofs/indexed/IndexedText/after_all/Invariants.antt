@@ -4,7 +4,7 @@ use Rattle.lsp_text.specs.Units.{units_in}
 use Rattle.lsp_edit.specs.Edited.{edit_of}
 use Rattle.lsp_edit.specs.inside.TextBatch.{text_after_changes}
 use Rattle.lsp_edit.proofs.TextBatchLemmas.{Drafting}
-use Rattle.lsp_edit.proofs.indexed.draft.Draft.after_all.Given as goal
+use Rattle.lsp_edit.proofs.indexed.IndexedText.after_all.Given as goal
 
 abbrev pub invariant-loop-number : goal.invariant-loop-number
 invariant-loop-number l =
