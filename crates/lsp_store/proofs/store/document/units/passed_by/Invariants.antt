@@ -1,8 +1,8 @@
 use Rattle.std.proofs.Common.{IsUtf8, chars}
 use Rattle.std.specs.Str.Iter.{chars_rest}
 use Rattle.lsp_text.specs.Units.{units_in}
-use Rattle.lsp_store.proofs.UnitsBeforeLemmas.{HasPassed}
-use Rattle.lsp_store.proofs.store.document.units.offset_after.Given as goal
+use Rattle.lsp_store.specs.inside.UnitsPassed.{HasPassed}
+use Rattle.lsp_store.proofs.store.document.units.passed_by.Given as goal
 
 abbrev pub invariant-loop-c : goal.invariant-loop-c
 invariant-loop-c l = record {
