@@ -1,5 +1,5 @@
 -- What is read of a text in blocks: places, chunks and slices.
-use Rattle.std.proofs.Common.{ℕ, suc, false, refl, ◌≡◌, ◌≢◌, ◌+◌, ◌-◌, ◌<◌, ◌≤◌, ◌↔◌, ⊎_elim, Bool, IsTrue, List, ◌++◌, length, take, drop, get_or, slice_index, min, sym, ap, ◌∙◌, arith, subst}
+use Rattle.std.proofs.Common.{ℕ, zero, suc, false, refl, ◌≡◌, ◌≢◌, ◌+◌, ◌-◌, ◌<◌, ◌≤◌, ◌↔◌, ⊎_elim, Bool, IsTrue, List, [], ◌∷◌, ◌++◌, length, take, drop, get_or, slice_index, min, sym, ap, ◌∙◌, arith, subst}
 use Rattle.std.specs.List.{concat, slice_range}
 use Rattle.std.specs.Str.{bytes_eq, chars, IsUtf8, IsCharBoundary}
 use Rattle.std.proofs.Math.Seq.{drop-cons, take-append-add}
@@ -111,3 +111,10 @@ pub not_front : (bytes start front : List ℕ) (test : Bool) → start ≡ take 
 not_front bytes start front test start_is is fails rest whole =
     let same : start ≡ front = start_is ∙ (ap (take (length front)) whole ∙ take_at front rest (length front) refl) in
     false≢true (sym fails ∙ (is ∙ (bytes_eq-Decides start front).1 same))
+
+-- The front of a list is a shorter front, and that of the rest.
+pub take_sum : (a n : ℕ) (bytes : List ℕ) → take (a + n) bytes ≡ take a bytes ++ take n (drop a bytes)
+take_sum zero n bytes = let e : 0 + n ≡ n = omega arith in rw e refl
+take_sum (suc a) zero [] = let e : suc a + 0 ≡ suc a = omega arith in rw e refl
+take_sum (suc a) (suc n) [] = let e : suc a + suc n ≡ suc (a + suc n) = omega arith in rw e refl
+take_sum (suc a) n (x ∷ bytes) = let e : suc a + n ≡ suc (a + n) = omega arith in rw e (ap (λ (rest : List ℕ). x ∷ rest) (take_sum a n bytes))
