@@ -1,5 +1,5 @@
 use Rattle.std.proofs.Common.{◌∙◌, IsUtf8, subst}
-use Rattle.lsp_edit.proofs.indexed.IndexedText.copied.Goals as goal
+use Rattle.lsp_edit.proofs.indexed.IndexedText.clone_in.Goals as goal
 
 pub returns-clause-copy : goal.returns-clause-copy
 returns-clause-copy c = c.in_ok-text.ensures.copy ∙ c.self.view_is
