@@ -16,7 +16,7 @@ invariant_of-self-2 c =
     let version : to_z w32 (of_z w32 c.args.version) ≡ c.args.version = to_z-of_z w32 c.args.version (search rules) in
     opened_few c.self.inside.limits c.self.inside.documents.entries c.args.self.now c.self.view_is c.args.uri c.in_ok-stored.stored _ (rw version at (c.in_ok-stored.ensures (string_bytes c.args.uri)))
     c.in_ok-index.index _ _ c.in_ok-index.ensures.index c.in_ok-index.ensures.entries (c.move_index.ensures.entries ∙ ap (λ n. move_index c.insert_full.new.self.entries c.in_ok-index.index (n - 1)) c.len.ensures.len)
-    (rw (c.deref.ensures, c.deref-2.ensures) at c.in_ok-may_open.ensures.room)
+    (rw c.deref.ensures at c.in_ok-may_open.ensures.room)
 
 pub returns-clause-taken : goal.returns-clause-taken
 returns-clause-taken c =
