@@ -39,4 +39,5 @@ pub mod DocumentsLawLemmas
 pub mod TableLemmas
 pub mod MemberLemmas
 pub mod TraceLemmas
+pub mod ExplainedLemmas
 pub mod TraceLawLemmas

@@ -1,7 +1,6 @@
 -- Definitions that only private contracts speak of.
 pub mod Bodies
 pub mod Joining
-pub mod Explained
 pub mod Kept
 pub mod Mentions
 pub mod Parts

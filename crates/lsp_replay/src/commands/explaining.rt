@@ -1,25 +1,28 @@
 //! `check` with reasons: what a server answers to each record of a log, and why it was refused.
 
-ghost use Rattle.std.specs.Prelude.{◌≡◌, ◌++◌, refl, OnOk, false, option_map};
+ghost use Rattle.std.specs.Prelude.{◌≡◌, ◌++◌, [], refl, IfOk, OnOk, codes, false, option_map};
 ghost use Rattle.lsp_message.specs.Message.{reading};
+ghost use Rattle.lsp_message.specs.Seen.{change_view};
 ghost use Rattle.lsp_server.specs.Incoming.{incoming_of};
-ghost use Rattle.lsp_replay.specs.Engines.{run_output_in};
-ghost use Rattle.lsp_replay.specs.Explained.{advice, document_words, explaining, explanation};
+ghost use Rattle.lsp_server.specs.Seen.{incoming_view};
+ghost use Rattle.lsp_replay.specs.Explained.{advice, document_words, explained_in, explained_line, explanation, see_words};
 ghost use Rattle.lsp_replay.specs.Session.{opened};
-ghost use Rattle.lsp_replay.specs.inside.Explained.{line_by};
+ghost use Rattle.lsp_replay.specs.Trace.{last_json, mentioned};
 ghost use Rattle.lsp_replay.specs.inside.Verdicts.{verdict_view};
 
 use crate::commands::checking::push_verdict;
 use crate::commands::reasons::push_reason;
-use crate::commands::tracing::change_in;
+use crate::commands::tracing::{change_in, is_mention};
 use crate::handler::{Given, Handler, Output};
 use crate::members::{push_json_string, push_number, push_words};
+use crate::mentions::Mentions;
 use crate::outcome::Outcome;
 use crate::session::counting::is_refused;
-use crate::session::tracing::uri_of;
+use crate::session::tracing::{is_change, uri_of};
 use crate::session::{Session, Verdict};
-use lsp_log::{Head, Side};
-use lsp_server::{Config, Incoming};
+use lsp_log::Head;
+use lsp_message::ChangeParams;
+use lsp_server::{Answer, Config, Incoming};
 use lsp_stream::EngineFault;
 use std::alloc::{AllocError, Global};
 
@@ -28,47 +31,55 @@ use std::alloc::{AllocError, Global};
 pub struct Explain {
     pub session: Session,
     pub alloc: Global,
+    pub mentions: Mentions,
 }
 
 impl Explain {
     /// Starts before the first record, over a new server.
     pub fn new(alloc: Global, config: Config) -> Explain
-        ensures session { result.session ≡ opened config }
+        ensures { explained_in result.mentions.newest.items result.session
+            ≡ explained_in [] (opened config) }
     {
         let session = Session::new(alloc, config);
-        Explain { session, alloc }
+        Explain {
+            session,
+            alloc,
+            mentions: Mentions::new(alloc),
+        }
     }
 
-    /// Writes the line of the last record.
+    /// Writes the line of the last record, by its document and the change that it asks for.
     fn push_last(
         &self,
         buffer: &mut Vec<u8>,
-        side: Side,
-        body: &[u8],
+        uri: Option<&str>,
+        change: Option<&ChangeParams>,
         verdict: &Verdict,
     ) -> Result<(), AllocError>
         ensures { OnOk result (buffer.new.items ≡ buffer.old.items
-            ++ line_by self.now.session side (incoming_of (reading body.now))
-            (verdict_view verdict.now)) }
+            ++ explained_line self.now.mentions.newest.items self.now.session
+            (option_map (λ uri. uri.now) uri.entry)
+            (option_map (λ p. change_view p.now) change.entry) (verdict_view verdict.now)) }
     {
         push_number(buffer, self.session.records())?;
         buffer.extend_from_slice(b" ")?;
         push_verdict(buffer, verdict)?;
-        self.push_explanation(buffer, side, body, verdict)?;
+        self.push_explanation(buffer, uri, change, verdict)?;
         buffer.extend_from_slice(b"\n")
     }
 
-    /// Writes why the last record was refused, if it was. Then its body is read once more.
+    /// Writes why the last record was refused, if it was.
     fn push_explanation(
         &self,
         buffer: &mut Vec<u8>,
-        side: Side,
-        body: &[u8],
+        uri: Option<&str>,
+        change: Option<&ChangeParams>,
         verdict: &Verdict,
     ) -> Result<(), AllocError>
         ensures { OnOk result (buffer.new.items ≡ buffer.old.items
-            ++ explanation self.now.session.server.config.limits side
-            (incoming_of (reading body.now)) (verdict_view verdict.now)) }
+            ++ explanation self.now.session.server.config.limits self.now.mentions.newest.items
+            (option_map (λ uri. uri.now) uri.entry)
+            (option_map (λ p. change_view p.now) change.entry) (verdict_view verdict.now)) }
     {
         let Verdict::Answered(answer) = verdict else {
             return Ok(());
@@ -76,16 +87,40 @@ impl Explain {
         if !is_refused(answer) {
             return Ok(());
         }
-        let incoming = Incoming::read(self.alloc, body)?;
         let limits = self.session.server().store().limits();
-        push_document(self.alloc, buffer, uri_of(side, &incoming))?;
+        push_document(self.alloc, buffer, uri)?;
         buffer.extend_from_slice(b": ")?;
-        push_reason(buffer, limits, change_in(&incoming), answer)
+        push_reason(buffer, limits, change, answer)?;
+        self.push_see(buffer, uri, verdict)
+    }
+
+    /// Writes which record to look at, if the documents refused the last one.
+    fn push_see(
+        &self,
+        buffer: &mut Vec<u8>,
+        uri: Option<&str>,
+        verdict: &Verdict,
+    ) -> Result<(), AllocError>
+        ensures { OnOk result (buffer.new.items ≡ buffer.old.items
+            ++ see_words (last_json self.now.mentions.newest.items
+            (option_map (λ uri. uri.now) uri.entry) (verdict_view verdict.now))) }
+    {
+        let Verdict::Answered(Answer::Refused(_)) = verdict else {
+            return Ok(());
+        };
+        let Some(uri) = uri else {
+            return Ok(());
+        };
+        let Some(number) = self.mentions.last(uri) else {
+            return Ok(());
+        };
+        buffer.extend_from_slice(b"; see message ")?;
+        push_number(buffer, number)
     }
 }
 
 impl Handler for Explain {
-    ghost run_output = { λ explain. run_output_in explaining explain.session };
+    ghost run_output = { λ explain. explained_in explain.mentions.newest.items explain.session };
 
     ghost FLUSHES = { false };
 
@@ -105,7 +140,12 @@ impl Handler for Explain {
         buffer: &mut Vec<u8>,
     ) -> Result<Given, EngineFault> {
         let verdict = self.session.accept(head, body)?;
-        self.push_last(buffer, head.side, body, &verdict)?;
+        let incoming = read_again(self.alloc, body)?;
+        let uri = uri_of(head.side, &incoming);
+        self.push_last(buffer, uri, change_in(&incoming), &verdict)?;
+        let number = self.session.records();
+        let counts = is_mention(is_change(&incoming), &verdict);
+        mention(&mut self.mentions, number, uri, counts)?;
         Ok(Given::more(Output::Bytes))
     }
 
@@ -117,6 +157,34 @@ impl Handler for Explain {
         push_words(buffer, advice(self.session.refusals()))?;
         Ok(Some(self.session.outcome()))
     }
+}
+
+/// Reads what a body asks, which the session has read before.
+fn read_again(alloc: Global, body: &[u8]) -> Result<Incoming, AllocError>
+    ensures { IfOk result
+        (λ incoming. incoming_view incoming ≡ incoming_of (reading body.now)) }
+{
+    Incoming::read(alloc, body)
+}
+
+/// Keeps that a record with this number opened, closed or refused a document, if it `counts`.
+fn mention(
+    mentions: &mut Mentions,
+    number: u64,
+    uri: Option<&str>,
+    counts: bool,
+) -> Result<(), AllocError>
+    ensures { OnOk result (mentions.new.newest.items
+        ≡ mentioned counts (option_map (λ uri. uri.now) uri.entry) number
+        mentions.old.newest.items) }
+{
+    if !counts {
+        return Ok(());
+    }
+    let Some(uri) = uri else {
+        return Ok(());
+    };
+    mentions.mention(uri, number)
 }
 
 /// Writes the document that a record is about.

@@ -221,7 +221,7 @@ fn mention(mentions: &mut Mentions, number: u64, traced: &Traced) -> Result<(), 
 }
 
 /// Does an answer open, close or refuse a document?
-fn is_mention(is_change: bool, verdict: &Verdict) -> bool
+pub fn is_mention(is_change: bool, verdict: &Verdict) -> bool
     ensures { result ≡ is_mention is_change (verdict_view verdict.now) }
 {
     match verdict {

@@ -13,11 +13,10 @@ use lsp_stream::{EngineFault, Sink, Source};
 use std::alloc::Global;
 
 /// Writes a line for each record of a log, as [`check`](crate::check) does, and where it was refused
-/// the document and why; at the end a line that says what to do next. The status is 1 if something
-/// was refused, else 0.
+/// the document, why, and the record that opened, closed or refused the document last; at the end a
+/// line that says what to do next. The status is 1 if something was refused, else 0.
 ///
-/// Errors, costs and memory are those of [`check`](crate::check). A body that is refused is read
-/// twice.
+/// Errors, costs and memory are those of [`check`](crate::check). Each body is read twice.
 pub fn explain<R: Source, W: Sink>(
     alloc: Global,
     reader: &mut R,

@@ -181,7 +181,7 @@ fn is_json(incoming: &Incoming) -> bool
 }
 
 /// Does a body ask for a change?
-fn is_change(incoming: &Incoming) -> bool
+pub fn is_change(incoming: &Incoming) -> bool
     ensures { result ≡ is_change (incoming_view incoming.now) }
 {
     matches!(incoming, Incoming::DidChange(_))
