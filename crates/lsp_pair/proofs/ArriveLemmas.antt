@@ -20,11 +20,12 @@ use Rattle.lsp_server.specs.Incoming as incoming
 use Rattle.lsp_server.specs.Step as server
 use Rattle.lsp_server.specs.Step.{State, Step, step_on, step_in, step, begins}
 use Rattle.lsp_client.specs.Step.{sent_body}
-use Rattle.lsp_pair.specs.World.{Setting, ClientMessage, commands, lifecycle, World, incoming_of, server_of, without_reply, replies_in, turn_of_step, server_did}
+use Rattle.lsp_pair.specs.declared.event.Happened.TheVariants.{Server}
+use Rattle.lsp_pair.specs.World.{Setting, ClientMessage, commands, lifecycle, World, incoming_of, server_of, did_of, replies_in, turn_of_step}
 use Rattle.lsp_pair.specs.Pair.{IsSound, waiting_out, table_with}
 use Rattle.lsp_pair.specs.Usual.{IsUsual}
 use Rattle.lsp_pair.proofs.SaidLemmas as lemmas
-use Rattle.lsp_pair.proofs.SaidLemmas.{IsSaid, sent_short, done_by, IsServedAs}
+use Rattle.lsp_pair.proofs.SaidLemmas.{sent_short, done_by, IsServedAs}
 use Rattle.lsp_pair.proofs.LifeLemmas.{last_result, short_initialize, short_initialized, short_shutdown, short_exit}
 use Rattle.lsp_pair.proofs.ListLemmas.{next_is, length_more}
 use Rattle.lsp_pair.proofs.Shapes.{the_encoding, the_kind, AreSaid, said_there, said_front, said_within, Shape, fresh, asking, answered, down, closed, leaving, left, working, closing, client_at, server_at, agreed_at, encoding_at, there_at, here_at, IsBusy, IsBusyShape, AtShape, WorldSound}
@@ -41,7 +42,7 @@ pub record Arrives (setting : Setting) (w : World) (said : ClientMessage) (rest 
   pub written : step (server_of setting w) (reading (body_on (the_kind setting) (server_of setting w).table said)) ≡ step_is
   pub short : length (body_on (the_kind setting) (server_of setting w).table said) ≤ setting.limits.max_body
   pub state : step_is.state ≡ record (server_of setting w) { phase = step_is.state.phase; encoding = step_is.state.encoding; table = table_with (server_of setting w).table said }
-  pub usual : IsUsual said (server_did (without_reply step_is.answer))
+  pub usual : IsUsual said (Server (did_of step_is.answer))
   pub next : WorldSound setting (turn_of_step w step_is).world
 
 abbrev pub Arrivals : Setting → World → List ClientMessage → Type 0

@@ -9,7 +9,8 @@ use Rattle.lsp_message.specs.Sent.{sent}
 use Rattle.lsp_message.specs.Params.{DocumentItem}
 use Rattle.lsp_store.specs.Table.{table_of}
 use Rattle.lsp_client.specs.Step as client
-use Rattle.lsp_pair.specs.World.{Setting, ClientMessage, lifecycle, World, commands_in, EventData, HappenedData, calls, to_server, to_client, turn_of_call, to_server_event, to_client_event, turn_of_result, messages_in, turn, world_from, world_of, beginning, client_of}
+use Rattle.lsp_pair.specs.declared.event.Happened.{Happened}
+use Rattle.lsp_pair.specs.World.{Setting, ClientMessage, lifecycle, World, commands_in, EventData, calls, to_server, to_client, turn_of_call, to_server_event, to_client_event, turn_of_result, messages_in, turn, world_from, world_of, beginning, client_of}
 use Rattle.lsp_pair.specs.Pair.{PairData, IsSound, IsAt, frames_from, waiting_out}
 use Rattle.lsp_pair.specs.At.{IsStepAt}
 use Rattle.lsp_pair.specs.Commanded.{sent_messages, delivered_messages, HaveCommanded}
@@ -138,11 +139,11 @@ documents_at setting pair events sound at =
     }
 
 -- after a step that leads to the world of the list with its event added
-pub documents_if : {A : Type 0} {E : Type 0} (view : A → HappenedData) (old new : PairData) (event : EventData) (result : Result A E)
-    → IfOk result (λ happened. (setting : Setting) (events : List EventData) → IsSound setting → IsAt setting old events → IsStepAt setting events event (view happened) new)
+pub documents_if : {E : Type 0} (old new : PairData) (event : EventData) (result : Result Happened E)
+    → IfOk result (λ happened. (setting : Setting) (events : List EventData) → IsSound setting → IsAt setting old events → IsStepAt setting events event happened new)
     → OnOk result ((setting : Setting) (events : List EventData) → IsSound setting → IsAt setting old events → HaveCommanded setting (events ++ event ∷ []) new)
-documents_if view old new event (Ok a) steps = λ setting events sound at. documents_at setting new (events ++ event ∷ []) sound (steps setting events sound at).at
-documents_if view old new event (Err e) steps = tt
+documents_if old new event (Ok a) steps = λ setting events sound at. documents_at setting new (events ++ event ∷ []) sound (steps setting events sound at).at
+documents_if old new event (Err e) steps = tt
 
 -- after a run, whose number of steps is known by another name
 pub documents_after : (setting : Setting) (pair now : PairData) (before all : List EventData) (i n : ℕ) → IsSound setting → n ≡ i → now ≡ pair → IsAt setting pair (before ++ take i all) → HaveCommanded setting (before ++ take n all) now

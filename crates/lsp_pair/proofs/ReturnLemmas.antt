@@ -22,7 +22,8 @@ use Rattle.lsp_client.specs.declared.phase.Phase.{Phase}
 use Rattle.lsp_client.specs.declared.phase.Phase.TheVariants.{Closed}
 use Rattle.lsp_client.specs.Step as client
 use Rattle.lsp_client.specs.Step.{State, Delivery, delivery_of, begin_if_synced, begin_as_announced, begin_in, response_delivery, is_listening}
-use Rattle.lsp_pair.specs.World.{Setting, ClientMessage, lifecycle, World, client_of, without_message, messages_in, turn_of_delivery, client_heard}
+use Rattle.lsp_pair.specs.declared.event.Happened.TheVariants.{Client}
+use Rattle.lsp_pair.specs.World.{Setting, ClientMessage, lifecycle, World, client_of, heard_of, messages_in, turn_of_delivery}
 use Rattle.lsp_pair.specs.Pair.{IsSound, is_utf16, waiting_back}
 use Rattle.lsp_pair.specs.Usual.{IsUsualBack}
 use Rattle.lsp_pair.proofs.LifeLemmas.{first_result, last_result, short_first, short_last}
@@ -37,7 +38,7 @@ pub record Returns (setting : Setting) (w : World) (m : OutgoingData) (rest : Li
   pub written : delivery_of (client_of setting w) (reading (body_of m)) ≡ delivery_is
   pub short : length (body_of m) ≤ setting.limits.max_body
   pub state : delivery_is.state ≡ record (client_of setting w) { phase = delivery_is.state.phase; agreed = delivery_is.state.agreed }
-  pub usual : IsUsualBack m (client_heard (without_message delivery_is.delivered))
+  pub usual : IsUsualBack m (Client (heard_of delivery_is.delivered))
   pub next : WorldSound setting (turn_of_delivery w delivery_is).world
 
 abbrev pub Returning : Setting → World → List OutgoingData → Type 0

@@ -5,8 +5,9 @@ use Rattle.lsp_message.specs.Message.{message}
 use Rattle.lsp_message.specs.Outgoing.{OutgoingData}
 use Rattle.lsp_message.specs.Sent.{sent}
 use Rattle.lsp_client.specs.Step as client
-use Rattle.lsp_client.specs.Step.{Call, call_result, delivery_result, delivery_of}
-use Rattle.lsp_pair.specs.World.{Setting, ClientMessage, World, beginning, EventData, calls, to_server, to_client, nothing, server_did, client_heard, Turn, turn_of_call, message_by, message_in, turn_of_step, to_server_event, turn_of_delivery, turn_of_result, to_client_event, turn, world_from, world_of, client_of, without_reply, without_message, IsProperEvent, AreProperEvents}
+use Rattle.lsp_client.specs.Step.{Call, call_result}
+use Rattle.lsp_pair.specs.declared.event.Happened.TheVariants.{Server, Client, Nothing}
+use Rattle.lsp_pair.specs.World.{Setting, ClientMessage, World, beginning, EventData, calls, to_server, to_client, Turn, turn_of_call, message_by, message_in, turn_of_step, to_server_event, turn_of_delivery, turn_of_result, to_client_event, turn, world_from, world_of, client_of, did_of, heard_of, IsProperEvent, AreProperEvents}
 use Rattle.lsp_pair.specs.Pair.{IsSound, waiting_out, waiting_back, pair_of}
 use Rattle.lsp_pair.specs.Usual.{IsUsual, IsUsualBack, IsUsualTurn, agreed_of, has_agreed, HaveOneEncoding}
 use Rattle.lsp_pair.proofs.ListLemmas.{next_is, none_next}
@@ -58,22 +59,22 @@ module _ (setting : Setting) (sound : IsSound setting) (w : World) (ok : WorldSo
       ∙ (ap (λ (b : Bool). turn_of_result w (client.if_listening b (client_of setting w) (message (sent m)))) r.listening
       ∙ ap (turn_of_delivery w) r.given)
 
-  pub quiet_there : waiting_out w ≡ [] → turn setting w to_server ≡ record { happened = nothing; world = w }
+  pub quiet_there : waiting_out w ≡ [] → turn setting w to_server ≡ record { happened = Nothing; world = w }
   quiet_there e = ap (to_server_event setting w) (none_next w.out w.out_delivered e)
 
-  pub quiet_here : waiting_back w ≡ [] → turn setting w to_client ≡ record { happened = nothing; world = w }
+  pub quiet_here : waiting_back w ≡ [] → turn setting w to_client ≡ record { happened = Nothing; world = w }
   quiet_here e = ap (to_client_event setting w) (none_next w.back w.back_delivered e)
 
   server_turn : (q : List ClientMessage) → waiting_out w ≡ q → Arrivals setting w q → IsGoodTurn setting w to_server (turn setting w to_server)
   server_turn [] e a =
       subst (IsGoodTurn setting w to_server) (sym (quiet_there e)) (record {
-        usual = subst (λ (o : Option ClientMessage). MatchOption o (nothing ≡ nothing) (λ said. IsUsual said nothing)) (sym (none_next w.out w.out_delivered e)) refl;
+        usual = subst (λ (o : Option ClientMessage). MatchOption o (Nothing ≡ Nothing) (λ said. IsUsual said Nothing)) (sym (none_next w.out w.out_delivered e)) refl;
         next = ok;
       })
   server_turn (said ∷ rest) e a =
       subst (IsGoodTurn setting w to_server) (sym (served_turn said rest e a)) (record {
         usual =
-            subst (λ (o : Option ClientMessage). MatchOption o (server_did (without_reply a.step_is.answer) ≡ nothing) (λ said. IsUsual said (server_did (without_reply a.step_is.answer))))
+            subst (λ (o : Option ClientMessage). MatchOption o (Server (did_of a.step_is.answer) ≡ Nothing) (λ said. IsUsual said (Server (did_of a.step_is.answer))))
             (sym (next_is w.out w.out_delivered said rest e).there) a.usual;
         next = a.next;
       })
@@ -81,13 +82,13 @@ module _ (setting : Setting) (sound : IsSound setting) (w : World) (ok : WorldSo
   client_turn : (q : List OutgoingData) → waiting_back w ≡ q → Returning setting w q → IsGoodTurn setting w to_client (turn setting w to_client)
   client_turn [] e r =
       subst (IsGoodTurn setting w to_client) (sym (quiet_here e)) (record {
-        usual = subst (λ (o : Option OutgoingData). MatchOption o (nothing ≡ nothing) (λ m. IsUsualBack m nothing)) (sym (none_next w.back w.back_delivered e)) refl;
+        usual = subst (λ (o : Option OutgoingData). MatchOption o (Nothing ≡ Nothing) (λ m. IsUsualBack m Nothing)) (sym (none_next w.back w.back_delivered e)) refl;
         next = ok;
       })
   client_turn (m ∷ rest) e r =
       subst (IsGoodTurn setting w to_client) (sym (heard_turn m rest e r)) (record {
         usual =
-            subst (λ (o : Option OutgoingData). MatchOption o (client_heard (without_message r.delivery_is.delivered) ≡ nothing) (λ m. IsUsualBack m (client_heard (without_message r.delivery_is.delivered))))
+            subst (λ (o : Option OutgoingData). MatchOption o (Client (heard_of r.delivery_is.delivered) ≡ Nothing) (λ m. IsUsualBack m (Client (heard_of r.delivery_is.delivered))))
             (sym (next_is w.back w.back_delivered m rest e).there) r.usual;
         next = r.next;
       })

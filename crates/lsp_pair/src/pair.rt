@@ -12,7 +12,7 @@ ghost use Rattle.lsp_pair.specs.At.{IsStepAt};
 ghost use Rattle.lsp_pair.specs.Commanded.{HaveCommanded};
 ghost use Rattle.lsp_pair.specs.inside.History.{IsHistory};
 ghost use Rattle.lsp_pair.specs.Documents.{History, no_history, after, HaveDocuments};
-ghost use Rattle.lsp_pair.specs.Seen.{event_view, happened_view};
+ghost use Rattle.lsp_pair.specs.Seen.{event_view};
 
 use crate::delivery::{hear_first, serve_first};
 use crate::event::{Event, Happened};
@@ -127,8 +127,11 @@ impl Pair {
     /// time.
     pub fn step(&mut self, event: &Event) -> Result<Happened, AllocError>
         ensures step { IfOk result (λ happened.
-            IsStep self.old (event_view event.now) (happened_view happened) self.new) }
+            IsStep self.old (event_view event.now) happened self.new) }
         ensures unchanged { OnErr result (self.new ≡ self.old) }
+        // A refused call changes nothing.
+        ensures refused { IfOk result (λ happened. (fault : ClientFault)
+            → happened ≡ Happened.Refused fault → self.new ≡ self.old) }
         // A delivery where nothing waits takes no memory.
         ensures memory { OnErr result ((event_view event.now ≡ to_server
             → self.old.to_server ≢ []) × (event_view event.now ≡ to_client
@@ -137,7 +140,7 @@ impl Pair {
         // one added.
         ensures at { IfOk result (λ happened. (setting : Setting) (events : List EventData)
             → IsSound setting → IsAt setting self.old events
-            → IsStepAt setting events (event_view event.now) (happened_view happened) self.new) }
+            → IsStepAt setting events (event_view event.now) happened self.new) }
         // Each end has the table of the document commands that it sent, or that were delivered.
         ensures commanded { OnOk result ((setting : Setting) (events : List EventData)
             → IsSound setting → IsAt setting self.old events
