@@ -1,7 +1,7 @@
 -- One step of the client's end of a session (LSP 3.17, Lifecycle Messages, Text Document
 -- Synchronization). The tables say which calls it accepts, which message each sends, and what it
 -- does with what the server sends.
-use Rattle.std.specs.Prelude.{ℕ, ℤ, Bool, true, false, ◌==◌, if◌then◌else◌, List, [], Option, Some, None, unwrap_or, Result, Ok, Err, pos, negsuc}
+use Rattle.std.specs.Prelude.{ℕ, ℤ, Bool, true, false, ◌==◌, if◌then◌else◌, List, [], Option, Some, None, unwrap_or, Result, Ok, Err, pos}
 use Rattle.lsp_frame.specs.Limits.{Bounds}
 use Rattle.lsp_text.specs.declared.encoding.Encoding.{Encoding}
 use Rattle.lsp_text.specs.declared.encoding.Encoding.TheVariants.{Utf16}
@@ -13,7 +13,7 @@ use Rattle.lsp_message.specs.declared.agreement.SyncKind.{SyncKind}
 use Rattle.lsp_message.specs.declared.agreement.SyncKind.TheVariants.{Off, Full, Incremental}
 use Rattle.lsp_message.specs.declared.outgoing.ErrorCode.TheVariants.{MethodNotFound}
 use Rattle.lsp_message.specs.Agreement.{is_offered, announced_of}
-use Rattle.lsp_message.specs.Message.{IdData, whole, text, OutcomeData, given, failed, Reading, not_json, not_a_message, message, request, notification, response}
+use Rattle.lsp_message.specs.Message.{IdData, whole, OutcomeData, given, failed, Reading, message, request, notification, response}
 use Rattle.lsp_message.specs.Outgoing.{OutgoingData, initialize, initialized, did_open, did_close, shutdown, exit, error_reply, body_of}
 use Rattle.lsp_store.specs.Table as documents
 use Rattle.lsp_message.specs.Params.{DocumentItem}
@@ -73,11 +73,10 @@ command_of encoding (opens entry) = documents.opens entry
 command_of encoding (edits uri version batch) = documents.changes uri version encoding batch
 command_of encoding (closes uri) = documents.closes uri
 
--- The batch that is sent for a batch: the canonical one, or under Full the document's new text.
+-- The batch that is sent for a batch: under Full the document's new text, else the canonical one.
 abbrev pub sent_batch : SyncKind → (ℕ → ℕ) → List DocumentItem → List ℕ → ℤ → List Edit → List Edit
 sent_batch Full units table uri version batch = whole_batch units table uri version batch
-sent_batch Incremental units table uri version batch = canonical_batch units table uri batch
-sent_batch Off units table uri version batch = canonical_batch units table uri batch
+sent_batch kind units table uri version batch = canonical_batch units table uri batch
 
 -- The message of a command on a table (DidOpen-, DidChange-, DidCloseTextDocument).
 abbrev pub message_of : SyncKind → List DocumentItem → Command → OutgoingData
@@ -203,10 +202,8 @@ shutdown_delivery s (given result) =
 
 -- Whether an id is this number.
 abbrev pub is_id : ℕ → Option IdData → Bool
-is_id n None = false
 is_id n (Some (whole (pos k))) = k == n
-is_id n (Some (whole (negsuc k))) = false
-is_id n (Some (text t)) = false
+is_id n id = false
 
 -- A response, by phase. `initialize` has the id 1 and `shutdown` the id 2; the client sends no
 -- other request.
@@ -221,22 +218,18 @@ response_delivery phase s id outcome = failure s NotAnAnswer
 
 -- What a client that listens does with a body.
 abbrev pub delivery_of : State → Reading → Delivery
-delivery_of s not_json = failure s NotAnAnswer
-delivery_of s (not_a_message id) = failure s NotAnAnswer
 delivery_of s (message (notification method params)) = same_state s ignored
 delivery_of s (message (request id method params)) =
     same_state s (sends (error_reply (Some id) MethodNotFound))
 delivery_of s (message (response id outcome)) = response_delivery s.phase s id outcome
+delivery_of s body = failure s NotAnAnswer
 
 -- A client listens from `initialize` to `exit`.
 abbrev pub is_listening : Phase → Bool
 is_listening New = false
-is_listening Asked = true
-is_listening Ready = true
-is_listening Closing = true
-is_listening Closed = true
 is_listening Done = false
 is_listening (Failed reason) = false
+is_listening phase = true
 
 -- What a client does with a body, if it listens.
 abbrev pub if_listening : Bool → State → Reading → Result Delivery Refusal

@@ -4,7 +4,7 @@ use Rattle.lsp_frame.specs.Frame.{frame}
 use Rattle.lsp_message.specs.declared.outgoing.ErrorCode.{ErrorCode}
 use Rattle.lsp_message.specs.Outgoing.{OutgoingData, error_reply, body_of}
 use Rattle.lsp_server.specs.declared.answer.Refusal.{Refusal}
-use Rattle.lsp_server.specs.declared.answer.Refusal.TheVariants.{InvalidParams, Store}
+use Rattle.lsp_server.specs.declared.answer.Refusal.TheVariants.{InvalidParams}
 
 -- What a server answers: a reply, or the outcome of a notification. The documents changed; it came
 -- in the wrong phase; the server doesn't handle it; it is refused; or the session ends with an exit
@@ -45,7 +45,4 @@ IsQuiet dropped = ⊤
 IsQuiet ignored = ⊤
 IsQuiet (exits status) = ⊤
 IsQuiet (refused InvalidParams) = ⊤
-IsQuiet (refused (Store fault)) = ⊥
-IsQuiet changed = ⊥
-IsQuiet already_ended = ⊥
-IsQuiet (reply r) = ⊥
+IsQuiet answer = ⊥
