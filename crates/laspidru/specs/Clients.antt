@@ -27,7 +27,7 @@ use Rattle.laspidru.specs.declared.reports.ClientSettings.{ClientSettings}
 use Rattle.laspidru.specs.declared.reports.ClientState.{ClientState}
 use Rattle.laspidru.specs.declared.codes.TheConstants.{BAD_ENCODING, BAD_SERVER, EMPTY, ERROR_ANSWER, IGNORED, NO_SYNC, NOT_AN_ANSWER, NOT_OPEN, NOTED, OK, OTHER_KIND, OUT_OF_MEMORY, REPLIED, WRONG_PHASE}
 use Rattle.laspidru.specs.declared.object.Object.{Object}
-use Rattle.laspidru.specs.declared.object.Object.TheVariants.{Document, Batch, Server, Output, Framer, Client}
+use Rattle.laspidru.specs.declared.object.Object.TheVariants.{Client}
 use Rattle.laspidru.specs.declared.place.Edit.{Edit}
 use Rattle.laspidru.specs.declared.place.Fault.{Fault}
 use Rattle.laspidru.specs.Codes.{and_then}
@@ -57,12 +57,8 @@ client_asked settings = and_then (limits_asked (client_bounds settings)) (λ lim
 
 -- The client of an object, with its last frame.
 abbrev pub client_of : Object → Result EditorData ℕ
-client_of (Document text) = Err OTHER_KIND
-client_of (Batch changes) = Err OTHER_KIND
-client_of (Server session) = Err OTHER_KIND
-client_of (Output bytes) = Err OTHER_KIND
-client_of (Framer framing) = Err OTHER_KIND
 client_of (Client editor) = Ok editor
+client_of other = Err OTHER_KIND
 
 -- The client in a handle.
 abbrev pub client_in : Option Object → Result EditorData ℕ
@@ -98,21 +94,12 @@ IsStoreReport (faults.Edit (edit.InsideCharacter change side)) out =
     (out.change ≡ change) × (side_at out.at_end ≡ side)
 IsStoreReport (faults.Edit (edit.ReversedRange change)) out =
     (out.change ≡ change) × (out.at_end ≡ false)
-IsStoreReport (faults.Edit edit.NoMemory) out = Unit {0}
-IsStoreReport faults.AlreadyOpen out = Unit {0}
-IsStoreReport faults.TooManyDocuments out = Unit {0}
-IsStoreReport faults.TextTooLong out = Unit {0}
-IsStoreReport faults.NotOpen out = Unit {0}
-IsStoreReport (faults.StaleVersion current) out = Unit {0}
-IsStoreReport faults.TooManyChanges out = Unit {0}
-IsStoreReport (faults.BodyTooLong len) out = Unit {0}
-IsStoreReport faults.NoMemory out = Unit {0}
+IsStoreReport other out = Unit {0}
 
 -- The same of a refused call.
 abbrev pub IsCallReport : ClientFault → Fault → Type 0
-IsCallReport (client.WrongPhase phase) out = Unit {0}
 IsCallReport (client.Store fault) out = IsStoreReport fault out
-IsCallReport client.NoMemory out = Unit {0}
+IsCallReport other out = Unit {0}
 
 -- A call is refused with this code. One in a wrong phase takes no memory.
 abbrev pub IsRefusedCall : Refusal → ℕ → Type 0
@@ -139,10 +126,9 @@ IsCalled stream (Err refusal) code stored len = IsRefusedCall refusal code
 
 -- What a refusal writes of a faulty change.
 abbrev pub IsWritten : Result Sending Refusal → ℕ → Fault → Type 0
-IsWritten (Ok sending) code out = Unit {0}
-IsWritten (Err (wrong_phase phase)) code out = Unit {0}
 IsWritten (Err (store refusal)) code out =
     (code ≡ OUT_OF_MEMORY) ⊎ IsStoreReport (documents.fault_of refusal) out
+IsWritten result code out = Unit {0}
 
 -- Three texts that are UTF-8.
 pub record Opening : Type 0 where
@@ -177,9 +163,7 @@ delivered_out (bad_server reason)
 -- The frame that a delivery sends; no bytes if it sends none.
 abbrev pub frame_out : DeliveredData (List ℕ) → List ℕ
 frame_out (sends frame) = frame
-frame_out noted = []
-frame_out ignored = []
-frame_out (bad_server reason) = []
+frame_out other = []
 
 -- The handle has the client after a delivery, and C gets its result.
 pub record IsTakenIn (stream : StreamData) (delivery : Delivery) (code : ℕ)
@@ -213,13 +197,8 @@ phase_number (Failed reason) = 6
 
 -- Why a session failed; 0 if it didn't.
 abbrev pub phase_reason : Phase → ℕ
-phase_reason New = 0
-phase_reason Asked = 0
-phase_reason Ready = 0
-phase_reason Closing = 0
-phase_reason Closed = 0
-phase_reason Done = 0
 phase_reason (Failed reason) = reason_number reason
+phase_reason other = 0
 
 -- The number of an encoding; 0 of none.
 abbrev pub encoding_number : Option Encoding → ℕ

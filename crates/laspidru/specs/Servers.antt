@@ -20,7 +20,7 @@ use Rattle.lsp_server.specs.declared.config.EncodingChoice.TheVariants.{Fixed, N
 use Rattle.lsp_server.specs.declared.config.Sync.{Sync}
 use Rattle.lsp_server.specs.declared.config.Sync.TheVariants.{Incremental, Full}
 use Rattle.lsp_server.specs.declared.phase.Phase.{Phase}
-use Rattle.lsp_server.specs.declared.phase.Phase.TheVariants.{New, Running, Down, Ended}
+use Rattle.lsp_server.specs.declared.phase.Phase.TheVariants.{Ended}
 use Rattle.lsp_server.specs.Answer.{AnswerData, Sent, as_sent, reply, changed, dropped, ignored, already_ended, refused, exits}
 use Rattle.lsp_server.specs.Step.{Step, start, step}
 use Rattle.laspidru.specs.declared.answers.Answer.{Answer}
@@ -28,7 +28,7 @@ use Rattle.laspidru.specs.declared.answers.Opened.{Opened}
 use Rattle.laspidru.specs.declared.answers.Settings.{Settings}
 use Rattle.laspidru.specs.declared.codes.TheConstants.{ALREADY_OPEN, BAD_LIMIT, CHANGED, DROPPED, EMPTY, ENDED, EXITED, IGNORED, INSIDE_CHARACTER, INVALID_PARAMS, NOT_OPEN, NOT_UTF8, OK, OTHER_KIND, OUT_OF_MEMORY, REFUSED, REPLIED, REVERSED_RANGE, STALE_VERSION, TOO_LONG, TOO_MANY_CHANGES, TOO_MANY_DOCUMENTS}
 use Rattle.laspidru.specs.declared.object.Object.{Object}
-use Rattle.laspidru.specs.declared.object.Object.TheVariants.{Document, Batch, Server, Output, Framer, Client}
+use Rattle.laspidru.specs.declared.object.Object.TheVariants.{Server}
 use Rattle.laspidru.specs.Codes.{and_then, unless}
 use Rattle.laspidru.specs.Objects.{encoding_at}
 use Rattle.laspidru.specs.Sessions.{SessionData}
@@ -119,12 +119,8 @@ reply_out other = []
 
 -- The server of an object, with its last reply.
 abbrev pub server_of : Object → Result SessionData ℕ
-server_of (Document text) = Err OTHER_KIND
-server_of (Batch changes) = Err OTHER_KIND
 server_of (Server session) = Ok session
-server_of (Output bytes) = Err OTHER_KIND
-server_of (Framer framing) = Err OTHER_KIND
-server_of (Client editor) = Err OTHER_KIND
+server_of other = Err OTHER_KIND
 
 -- The server in a handle.
 abbrev pub server_in : Option Object → Result SessionData ℕ
@@ -133,10 +129,8 @@ server_in None = Err EMPTY
 
 -- A session that has ended handles no message.
 abbrev pub ended : Phase → Option ℕ
-ended New = None
-ended Running = None
-ended Down = None
 ended Ended = Some ENDED
+ended other = None
 
 -- The server of a session that hasn't ended.
 abbrev pub live_asked : Result SessionData ℕ → Result SessionData ℕ
