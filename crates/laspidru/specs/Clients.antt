@@ -19,7 +19,7 @@ use Rattle.lsp_client.specs.declared.phase.Phase.TheVariants.{New, Asked, Ready,
 use Rattle.lsp_client.specs.declared.phase.Reason.{Reason}
 use Rattle.lsp_client.specs.declared.phase.Reason.TheVariants.{NotAnAnswer, ErrorAnswer, NoSync, BadEncoding}
 use Rattle.lsp_client.specs.Seen.{as_sent}
-use Rattle.lsp_client.specs.Step.{Call, starts, shuts_down, exits, opens, edits, Order, Sending, Refusal, wrong_phase, store, Delivery, DeliveredData, sends, noted, ignored, bad_server, start}
+use Rattle.lsp_client.specs.Step.{Call, starts, shuts_down, exits, opens, edits, Order, Sending, CallRefusal, wrong_phase, store, Delivery, DeliveredData, sends, noted, ignored, bad_server, new_client}
 use Rattle.laspidru.specs.declared.answers.Answer.{Answer}
 use Rattle.laspidru.specs.declared.reports.Call.{Call as Lifecycle}
 use Rattle.laspidru.specs.declared.reports.Call.TheVariants.{Start, Shutdown, Exit}
@@ -50,7 +50,7 @@ client_bounds settings = record {
 -- A client at the start of a session, if each limit is in its range. It has sent nothing.
 abbrev pub client_asked : ClientSettings → Result EditorData ℕ
 client_asked settings = and_then (limits_asked (client_bounds settings)) (λ limits. Ok (record {
-  client = start limits (record { utf8 = settings.utf8; utf32 = settings.utf32 });
+  client = new_client limits (record { utf8 = settings.utf8; utf32 = settings.utf32 });
   frame = [];
   stream = stream_of limits;
 }))
@@ -102,7 +102,7 @@ IsCallReport (client.Store fault) out = IsStoreReport fault out
 IsCallReport other out = Unit {0}
 
 -- A call is refused with this code. One in a wrong phase takes no memory.
-abbrev pub IsRefusedCall : Refusal → ℕ → Type 0
+abbrev pub IsRefusedCall : CallRefusal → ℕ → Type 0
 IsRefusedCall (wrong_phase phase) code = code ≡ WRONG_PHASE
 IsRefusedCall (store refusal) code =
     (code ≡ OUT_OF_MEMORY) ⊎ (code ≡ store_code (documents.fault_of refusal))
@@ -119,13 +119,13 @@ pub record IsAccepted (stream : StreamData) (sending : Sending) (code : ℕ) (st
   pub frame_len : len ≡ length (frame (body_of sending.message))
 
 -- A call is accepted or out of memory, or refused.
-abbrev pub IsCalled : StreamData → Result Sending Refusal → ℕ → Option Object → ℕ → Type 0
+abbrev pub IsCalled : StreamData → Result Sending CallRefusal → ℕ → Option Object → ℕ → Type 0
 IsCalled stream (Ok sending) code stored len =
     (code ≡ OUT_OF_MEMORY) ⊎ IsAccepted stream sending code stored len
 IsCalled stream (Err refusal) code stored len = IsRefusedCall refusal code
 
 -- What a refusal writes of a faulty change.
-abbrev pub IsWritten : Result Sending Refusal → ℕ → Fault → Type 0
+abbrev pub IsWritten : Result Sending CallRefusal → ℕ → Fault → Type 0
 IsWritten (Err (store refusal)) code out =
     (code ≡ OUT_OF_MEMORY) ⊎ IsStoreReport (documents.fault_of refusal) out
 IsWritten result code out = Unit {0}
@@ -177,7 +177,7 @@ pub record IsTakenIn (stream : StreamData) (delivery : Delivery) (code : ℕ)
   pub answer : out ≡ delivered_out (as_sent delivery.delivered)
 
 -- A body is handled or out of memory, or refused.
-abbrev pub IsDeliveredTo : StreamData → Result Delivery Refusal → ℕ → Option Object → Answer →
+abbrev pub IsDeliveredTo : StreamData → Result Delivery CallRefusal → ℕ → Option Object → Answer →
     Type 0
 IsDeliveredTo stream (Ok delivery) code stored out =
     (code ≡ OUT_OF_MEMORY) ⊎ IsTakenIn stream delivery code stored out

@@ -22,7 +22,7 @@ use Rattle.lsp_server.specs.declared.config.Sync.TheVariants.{Incremental, Full}
 use Rattle.lsp_server.specs.declared.phase.Phase.{Phase}
 use Rattle.lsp_server.specs.declared.phase.Phase.TheVariants.{Ended}
 use Rattle.lsp_server.specs.Answer.{AnswerData, Sent, as_sent, reply, changed, dropped, ignored, already_ended, refused, exits}
-use Rattle.lsp_server.specs.Step.{Step, start, step}
+use Rattle.lsp_server.specs.Step.{Step, new_server, step}
 use Rattle.laspidru.specs.declared.answers.Answer.{Answer}
 use Rattle.laspidru.specs.declared.answers.Opened.{Opened}
 use Rattle.laspidru.specs.declared.answers.Settings.{Settings}
@@ -182,4 +182,4 @@ pub record IsOpened (out : Opened) (entry : DocumentItem) : Type 0 where
 -- A new server, which has replied nothing.
 abbrev pub session_of : Config → SessionData
 session_of config =
-    record { server = start config; reply = []; stream = stream_of config.limits }
+    record { server = new_server config; reply = []; stream = stream_of config.limits }

@@ -15,7 +15,7 @@ use Rattle.lsp_client.specs.declared.delivered.Delivered.TheVariants.{Send, Note
 use Rattle.lsp_store.specs.Opened.{MayTakeMemory}
 use Rattle.lsp_store.specs.Table.{open_refusal, close_refusal}
 use Rattle.lsp_client.specs.declared.phase.Phase.TheVariants.{Ready}
-use Rattle.lsp_client.specs.Step.{State, Sending, Refusal, wrong_phase, store, Order, opens, edits, closes, Delivery, DeliveredData, sends, noted, ignored, bad_server}
+use Rattle.lsp_client.specs.Step.{State, Sending, CallRefusal, wrong_phase, store, Order, opens, edits, closes, Delivery, DeliveredData, sends, noted, ignored, bad_server}
 
 -- ---- what a call asks
 
@@ -36,7 +36,7 @@ edit_order uri version changes = edits uri version (map edit_of changes)
 -- ---- what is refused
 
 -- The fault of a refusal.
-abbrev pub fault_of : Refusal → ClientFault
+abbrev pub fault_of : CallRefusal → ClientFault
 fault_of (wrong_phase phase) = WrongPhase phase
 fault_of (store refusal) = Store (documents.fault_of refusal)
 
@@ -47,7 +47,7 @@ client_fault fault = Store fault
 
 -- This is the fault of a refused step, or the client is out of memory. A call in a wrong phase
 -- takes no memory.
-abbrev pub IsFaultOf : {A : Type 0} → Result A Refusal → ClientFault → Type 0
+abbrev pub IsFaultOf : {A : Type 0} → Result A CallRefusal → ClientFault → Type 0
 IsFaultOf (Ok a) fault = fault ≡ NoMemory
 IsFaultOf (Err (wrong_phase phase)) fault = fault ≡ WrongPhase phase
 IsFaultOf (Err (store refusal)) fault = (fault ≡ NoMemory) ⊎ (fault ≡ fault_of (store refusal))
@@ -55,7 +55,7 @@ IsFaultOf (Err (store refusal)) fault = (fault ≡ NoMemory) ⊎ (fault ≡ faul
 -- ---- what is accepted
 
 -- A call is accepted: this frame is to be sent, and this is the client's new state.
-abbrev pub IsSent : Result Sending Refusal → List ℕ → State → Type 0
+abbrev pub IsSent : Result Sending CallRefusal → List ℕ → State → Type 0
 IsSent (Ok sending) bytes new =
     (bytes ≡ frame (body_of sending.message)) × (new ≡ sending.state)
 IsSent (Err refusal) bytes new = ⊥
@@ -75,7 +75,7 @@ as_sent ignored = ignored
 as_sent (bad_server reason) = bad_server reason
 
 -- A body is accepted: this is the result, and this is the client's new state.
-abbrev pub IsDelivered : Result Delivery Refusal → DeliveredData (List ℕ) → State → Type 0
+abbrev pub IsDelivered : Result Delivery CallRefusal → DeliveredData (List ℕ) → State → Type 0
 IsDelivered (Ok delivery) delivered new =
     (delivered ≡ as_sent delivery.delivered) × (new ≡ delivery.state)
 IsDelivered (Err refusal) delivered new = ⊥

@@ -35,8 +35,8 @@ pub record State : Type 0 where
   pub table : List DocumentItem
 
 -- A new client.
-abbrev pub start : Bounds → Offers → State
-start limits offers =
+abbrev pub new_client : Bounds → Offers → State
+new_client limits offers =
     record { limits = limits; offers = offers; phase = New; agreed = None; table = [] }
 
 -- ---- calls
@@ -54,9 +54,9 @@ pub data Call : Type 0 where
   orders : Order → Call
 
 -- Why a call is refused.
-pub data Refusal : Type 0 where
-  wrong_phase : Phase → Refusal
-  store : documents.Refusal → Refusal
+pub data CallRefusal : Type 0 where
+  wrong_phase : Phase → CallRefusal
+  store : documents.Refusal → CallRefusal
 
 -- What an accepted call sends, and the client's new state.
 pub record Sending : Type 0 where
@@ -98,14 +98,14 @@ order_refusal limits kind table command =
     (body_refusal limits (sent_body kind table command))
 
 -- What a call sends, unless there is a refusal.
-abbrev pub unless_refused : Option documents.Refusal → Sending → Result Sending Refusal
-unless_refused (Some refusal) sending = Err (store refusal)
-unless_refused None sending = Ok sending
+abbrev pub sending_unless : Option documents.Refusal → Sending → Result Sending CallRefusal
+sending_unless (Some refusal) sending = Err (store refusal)
+sending_unless None sending = Ok sending
 
 -- What a command sends and the client's new state, or why it is refused.
-abbrev pub command_result : State → SyncKind → Command → Result Sending Refusal
+abbrev pub command_result : State → SyncKind → Command → Result Sending CallRefusal
 command_result s kind command =
-    unless_refused
+    sending_unless
     (order_refusal s.limits kind s.table command)
     (record {
       message = message_of kind s.table command;
@@ -113,18 +113,18 @@ command_result s kind command =
     })
 
 -- What an order sends and the client's new state, or why it is refused.
-abbrev pub order_result : State → Order → Result Sending Refusal
+abbrev pub order_result : State → Order → Result Sending CallRefusal
 order_result s order =
     command_result s (agreement s).kind (command_of (agreement s).encoding order)
 
 -- A message of the session's lifecycle is sent, and the client enters this phase.
-abbrev pub lifecycle_result : State → Phase → OutgoingData → Result Sending Refusal
+abbrev pub lifecycle_result : State → Phase → OutgoingData → Result Sending CallRefusal
 lifecycle_result s phase m = Ok (record { message = m; state = record s { phase = phase } })
 
 -- ---- the table of calls: the first row that fits decides
 
 -- The result of a call, by phase.
-abbrev pub call_result_in : Phase → State → Call → Result Sending Refusal
+abbrev pub call_result_in : Phase → State → Call → Result Sending CallRefusal
 call_result_in New s starts = lifecycle_result s Asked (initialize s.offers)
 call_result_in Ready s (orders order) = order_result s order
 call_result_in Ready s shuts_down = lifecycle_result s Closing shutdown
@@ -133,7 +133,7 @@ call_result_in phase s call = Err (wrong_phase phase)
 
 -- What a call sends and the client's new state, or why it is refused. A refused call changes
 -- nothing.
-abbrev pub call_result : State → Call → Result Sending Refusal
+abbrev pub call_result : State → Call → Result Sending CallRefusal
 call_result s call = call_result_in s.phase s call
 
 -- ---- what the server sends
@@ -232,10 +232,10 @@ is_listening (Failed reason) = false
 is_listening phase = true
 
 -- What a client does with a body, if it listens.
-abbrev pub if_listening : Bool → State → Reading → Result Delivery Refusal
+abbrev pub if_listening : Bool → State → Reading → Result Delivery CallRefusal
 if_listening true s body = Ok (delivery_of s body)
 if_listening false s body = Err (wrong_phase s.phase)
 
 -- The result of a body that the server sent and the client's new state, or why the body is refused.
-abbrev pub delivery_result : State → Reading → Result Delivery Refusal
+abbrev pub delivery_result : State → Reading → Result Delivery CallRefusal
 delivery_result s body = if_listening (is_listening s.phase) s body

@@ -1,7 +1,7 @@
 //! The client, and the calls of its lifecycle.
 
 ghost use Rattle.std.specs.Prelude.{◌≡◌, IfErr, IfOk, OnErr, option_map};
-ghost use Rattle.lsp_client.specs.Step.{start, call_result, starts, shuts_down, exits};
+ghost use Rattle.lsp_client.specs.Step.{new_client, call_result, starts, shuts_down, exits};
 ghost use Rattle.lsp_client.specs.Seen.{IsSent, IsFaultOf};
 
 use crate::agreed::Agreed;
@@ -43,7 +43,7 @@ impl Model for Client {
 impl Client {
     /// Returns a client in phase New, with no open document. Takes no memory.
     pub fn new(alloc: Global, limits: Limits, offers: Offers) -> Client
-        ensures { result ≡ start limits offers }
+        ensures { result ≡ new_client limits offers }
     {
         Client {
             alloc,

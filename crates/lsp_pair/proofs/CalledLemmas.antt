@@ -36,12 +36,12 @@ no_delivery e sent replies (Ok x) is = tt
 no_delivery e sent replies (Err x) is = ((λ same. absurd (subst IsCall same is)), λ same. absurd (subst IsCall same is))
 
 module _ (s : server.State) (c new : client.State) (q next : List (Vec ℕ Global)) (b : List (List ℕ)) where
-  sent_is : (r : Result Sending client.Refusal) (bytes : Vec ℕ Global) → IsSent r bytes.items new → next ≡ q ++ bytes ∷ [] → IsCallStep (both_ends c s (frames q) b) r Sent (both_ends new s (frames next) b)
+  sent_is : (r : Result Sending client.CallRefusal) (bytes : Vec ℕ Global) → IsSent r bytes.items new → next ≡ q ++ bytes ∷ [] → IsCallStep (both_ends c s (frames q) b) r Sent (both_ends new s (frames next) b)
   sent_is (Ok sending) bytes sends pushed =
       (refl, λ i. both_ends (sends.1 i) s ((ap frames pushed ∙ (map-append (λ (f : Vec ℕ Global). f.items) q (bytes ∷ []) ∙ ap (λ (f : List ℕ). frames q ++ f ∷ []) sends.0)) i) b)
   sent_is (Err refusal) bytes sends pushed = absurd sends
 
-  refused_is : (r : Result Sending client.Refusal) (fault : ClientFault) → IsFaultOf r fault → fault ≢ NoMemory → new ≡ c → next ≡ q → IsCallStep (both_ends c s (frames q) b) r (Refused fault) (both_ends new s (frames next) b)
+  refused_is : (r : Result Sending client.CallRefusal) (fault : ClientFault) → IsFaultOf r fault → fault ≢ NoMemory → new ≡ c → next ≡ q → IsCallStep (both_ends c s (frames q) b) r (Refused fault) (both_ends new s (frames next) b)
   refused_is (Ok sending) fault error other same stays = absurd (other error)
   refused_is (Err (client.wrong_phase phase)) fault error other same stays = (ap Refused error, λ i. both_ends (same i) s (frames (stays i)) b)
   refused_is (Err (client.store refusal)) fault error other same stays =
@@ -77,7 +77,7 @@ served_apart did fault e = cc
 heard_apart : (heard : Heard) (fault : ClientFault) → Client heard ≡ Refused fault → ⊥
 heard_apart heard fault e = cc
 
-refused_call : (old new : PairData) (result : Result Sending client.Refusal) (happened : Happened) (fault : ClientFault) → happened ≡ Refused fault → IsCallStep old result happened new → new ≡ old
+refused_call : (old new : PairData) (result : Result Sending client.CallRefusal) (happened : Happened) (fault : ClientFault) → happened ≡ Refused fault → IsCallStep old result happened new → new ≡ old
 refused_call old new (Ok sending) happened fault is steps = absurd (sent_apart fault (sym steps.0 ∙ is))
 refused_call old new (Err refusal) happened fault is steps = steps.1
 

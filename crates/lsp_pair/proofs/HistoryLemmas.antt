@@ -9,7 +9,7 @@ use Rattle.lsp_message.specs.Params.{DocumentItem}
 use Rattle.lsp_client.specs.Step as client
 use Rattle.lsp_pair.specs.declared.event.Happened.{Happened}
 use Rattle.lsp_pair.specs.World.{Setting, ClientMessage, commands, lifecycle, World, EventData, calls, to_server, to_client, Turn, turn_of_call, turn_of_delivery, to_server_event, to_client_event, turn_of_result, turn, world_of, beginning, client_of, server_of}
-use Rattle.lsp_pair.specs.Pair.{PairData, table_with, frames_from, IsSound, waiting_out, IsAt, IsStep, new_pair}
+use Rattle.lsp_pair.specs.Pair.{PairData, table_with, frames_from, IsFitting, waiting_out, IsAt, IsStep, new_pair}
 use Rattle.lsp_pair.specs.At.{IsStepAt}
 use Rattle.lsp_pair.specs.Documents.{History, no_history, after, HaveDocuments, IsLater}
 use Rattle.lsp_pair.specs.inside.History.{tables_from, history_of, IsHistory}
@@ -43,7 +43,7 @@ length_frames kind table (said ∷ xs) = ap suc (length_frames kind (table_with 
 
 -- ---- both ends have the documents of their history
 
-world_documents : (setting : Setting) (pair : PairData) (events : List EventData) → IsSound setting → IsAt setting pair events → HaveDocuments (history_of (world_of setting events)) pair
+world_documents : (setting : Setting) (pair : PairData) (events : List EventData) → IsFitting setting → IsAt setting pair events → HaveDocuments (history_of (world_of setting events)) pair
 world_documents setting pair events sound at =
     let w : World = world_of setting events in
     let ok = world_sound setting sound events at.proper in
@@ -64,7 +64,7 @@ history_documents h pair is = subst (λ k. HaveDocuments k pair) (sym is.told) (
 
 -- ---- a new pair
 
-pub new_history : (setting : Setting) → IsSound setting → IsHistory no_history (new_pair setting)
+pub new_history : (setting : Setting) → IsFitting setting → IsHistory no_history (new_pair setting)
 new_history setting sound = record { setting = setting; sound = sound; events = []; at = new_at setting; told = refl }
 
 -- ---- a step
@@ -79,7 +79,7 @@ one_more w said = λ i. record (history_of w) { sent = sym (tables-last [] w.out
 none_more : (w : World) → history_of w ≡ record (history_of w) { sent = tables_from [] (w.out ++ []) }
 none_more w = λ i. record (history_of w) { sent = tables_from [] (sym (append-nil w.out) i) }
 
-call_next : (setting : Setting) (w : World) (said : ClientMessage) (result : Result client.Sending client.Refusal) → IsNextHistory setting w (turn_of_call w said result)
+call_next : (setting : Setting) (w : World) (said : ClientMessage) (result : Result client.Sending client.CallRefusal) → IsNextHistory setting w (turn_of_call w said result)
 call_next setting w said (Ok sending) = one_more w said
 call_next setting w said (Err refusal) = refl
 
@@ -89,7 +89,7 @@ delivery_next setting w client.noted s = none_more w
 delivery_next setting w client.ignored s = none_more w
 delivery_next setting w (client.bad_server reason) s = none_more w
 
-result_next : (setting : Setting) (w : World) (result : Result client.Delivery client.Refusal) → IsNextHistory setting w (turn_of_result w result)
+result_next : (setting : Setting) (w : World) (result : Result client.Delivery client.CallRefusal) → IsNextHistory setting w (turn_of_result w result)
 result_next setting w (Ok delivery) = delivery_next setting w delivery.delivered delivery.state
 result_next setting w (Err refusal) = refl
 
@@ -108,7 +108,7 @@ turn_next setting w to_client = client_next setting w (slice_get w.back w.back_d
 
 -- a pair at a world has its history, and after a step that of the next world
 pub next_history : (setting : Setting) (events : List EventData) (event : EventData) (h : History) (happened : Happened) (new : PairData)
-    → IsSound setting → h ≡ history_of (world_of setting events) → IsStepAt setting events event happened new → IsHistory (after h happened new.client.table) new
+    → IsFitting setting → h ≡ history_of (world_of setting events) → IsStepAt setting events event happened new → IsHistory (after h happened new.client.table) new
 next_history setting events event h happened new sound told steps =
     let t : Turn = turn setting (world_of setting events) event in
     let last : world_of setting (events ++ event ∷ []) ≡ t.world = world-last setting beginning events event in
@@ -125,7 +125,7 @@ next_history setting events event h happened new sound told steps =
 
 -- after a step that leads to the world of the list with its event added
 pub history_if : {E : Type 0} (old new : PairData) (event : EventData) (result : Result Happened E)
-    → IfOk result (λ happened. (setting : Setting) (events : List EventData) → IsSound setting → IsAt setting old events → IsStepAt setting events event happened new)
+    → IfOk result (λ happened. (setting : Setting) (events : List EventData) → IsFitting setting → IsAt setting old events → IsStepAt setting events event happened new)
     → IfOk result (λ happened. (h : History) → IsHistory h old
     → IsHistory (after h happened new.client.table) new × HaveDocuments (after h happened new.client.table) new)
 history_if old new event (Ok happened) steps = λ h is.

@@ -7,7 +7,7 @@ use Rattle.lsp_message.specs.declared.agreement.Offers.{Offers}
 use Rattle.lsp_server.specs.declared.config.Config.{Config}
 use Rattle.lsp_store.specs.Laws.{AreWithin}
 use Rattle.lsp_pair.specs.World.{Setting}
-use Rattle.lsp_pair.specs.Pair.{IsSound, is_utf16, are_within, IsReached, new_pair}
+use Rattle.lsp_pair.specs.Pair.{IsFitting, is_utf16, are_within, IsReached, new_pair}
 use Rattle.lsp_pair.proofs.StepLemmas.{new_at}
 
 pub within_from : (small great : Bounds) → are_within small great ≡ true → AreWithin small great
@@ -23,8 +23,8 @@ within_from small great e =
     }
 
 pub sound_from : (limits : Bounds) (offers : Offers) (config : Config) → AreInRange limits → AreInRange config.limits → are_within limits config.limits ≡ true → is_utf16 config.choice ≡ true
-    → IsSound (record { limits = limits; offers = offers; config = config })
+    → IsFitting (record { limits = limits; offers = offers; config = config })
 sound_from limits offers config ranges great within choice = record { ranges = ranges; great = great; within = within_from limits config.limits within; choice = choice }
 
-pub new_reached : (setting : Setting) → IsSound setting → IsReached (new_pair setting)
+pub new_reached : (setting : Setting) → IsFitting setting → IsReached (new_pair setting)
 new_reached setting sound = record { setting = setting; sound = sound; events = []; at = new_at setting }

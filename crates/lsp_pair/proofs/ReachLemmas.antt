@@ -14,9 +14,9 @@ use Rattle.lsp_client.specs.Step.{is_listening}
 use Rattle.lsp_pair.specs.declared.event.Happened.{Happened}
 use Rattle.lsp_pair.specs.declared.event.Happened.TheVariants.{Server}
 use Rattle.lsp_pair.specs.declared.event.Did.TheVariants as done
-use Rattle.lsp_pair.specs.World.{Setting, ClientMessage, commands, lifecycle, World, EventData, did_of, incoming_of, server_of, world_of, IsProperEvent}
+use Rattle.lsp_pair.specs.World.{Setting, ClientMessage, commands, lifecycle, World, EventData, did_of, incoming_of_message, server_of, world_of, IsProperEvent}
 use Rattle.lsp_pair.specs.inside.Ends.{both_ends}
-use Rattle.lsp_pair.specs.Pair.{PairData, message_frame, frames_from, IsSound, waiting_out, waiting_back, IsAt, IsReached, IsStep}
+use Rattle.lsp_pair.specs.Pair.{PairData, message_frame, frames_from, IsFitting, waiting_out, waiting_back, IsAt, IsReached, IsStep}
 use Rattle.lsp_pair.specs.Usual.{IsUsual}
 use Rattle.lsp_pair.specs.At.{IsStepAt}
 use Rattle.lsp_pair.specs.inside.Ends.{HoldsOfFirst}
@@ -40,10 +40,10 @@ never_ended (lifecycle (outgoing.initialize_result id encoding kind)) h = h
 never_ended (lifecycle (outgoing.shutdown_result id)) h = h
 never_ended (lifecycle (outgoing.error_reply id error)) h = h
 
-module _ (setting : Setting) (sound : IsSound setting) (w : World) (ok : WorldSound setting w) where
+module _ (setting : Setting) (sound : IsFitting setting) (w : World) (ok : WorldSound setting w) where
   not_ended : (said : ClientMessage) (rest : List ClientMessage) → Arrives setting w said rest → w.server_phase ≢ Ended
   not_ended said rest a ended =
-      let same : a.step_is ≡ step_in Ended (server_of setting w) (incoming_of said) = sym a.given ∙ ap (λ (p : Phase). step_in p (server_of setting w) (incoming_of said)) ended in
+      let same : a.step_is ≡ step_in Ended (server_of setting w) (incoming_of_message said) = sym a.given ∙ ap (λ (p : Phase). step_in p (server_of setting w) (incoming_of_message said)) ended in
       never_ended said (subst (λ (s : Step). IsUsual said (Server (did_of s.answer))) same a.usual)
 
   first_served : (q : List ClientMessage) → Arrivals setting w q
@@ -96,7 +96,7 @@ step_from old now new event given result same is steps =
 
 pub at_if : {E : Type 0} (old new : PairData) (event : EventData) (result : Result Happened E) → IsProperEvent event
     → IfOk result (λ a. IsStep old event a new)
-    → IfOk result (λ a. (setting : Setting) (events : List EventData) → IsSound setting → IsAt setting old events → IsStepAt setting events event a new)
+    → IfOk result (λ a. (setting : Setting) (events : List EventData) → IsFitting setting → IsAt setting old events → IsStepAt setting events event a new)
 at_if old new event (Ok a) proper steps = λ setting events sound at. steps_at setting sound old new events event a proper at steps
 at_if old new event (Err e) proper steps = tt
 

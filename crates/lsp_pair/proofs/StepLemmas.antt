@@ -12,8 +12,8 @@ use Rattle.lsp_client.specs.Step as client
 use Rattle.lsp_client.specs.Step.{Call, Sending, Delivery, call_result, delivery_of, sent_body}
 use Rattle.lsp_pair.specs.declared.event.Happened.{Happened}
 use Rattle.lsp_pair.specs.declared.event.Happened.TheVariants.{Server, Client}
-use Rattle.lsp_pair.specs.World.{Setting, ClientMessage, commands, lifecycle, World, commands_in, EventData, calls, to_server, to_client, Turn, turn_of_call, message_by, message_in, turn_of_step, turn_of_delivery, turn, world_of, beginning, client_of, server_of, did_of, replies_in, heard_of, messages_in, IsProperEvent}
-use Rattle.lsp_pair.specs.Pair.{PairData, new_pair, message_frame, frame_of, table_with, frames_from, IsSound, waiting_out, waiting_back, pair_of, IsAt, IsReached, IsCallStep, IsServerStep, IsClientStep, IsDeliveryStep, IsStep}
+use Rattle.lsp_pair.specs.World.{Setting, ClientMessage, commands, lifecycle, World, commands_in, EventData, calls, to_server, to_client, Turn, turn_of_call, message_of_call, message_in, turn_of_step, turn_of_delivery, turn, world_of, beginning, client_of, server_of, did_of, replies_in, heard_of, messages_in, IsProperEvent}
+use Rattle.lsp_pair.specs.Pair.{PairData, new_pair, message_frame, frame_of, table_with, frames_from, IsFitting, waiting_out, waiting_back, pair_of, IsAt, IsReached, IsCallStep, IsServerStep, IsClientStep, IsDeliveryStep, IsStep}
 use Rattle.lsp_pair.specs.Usual.{IsUsualTurn, HaveOneEncoding}
 use Rattle.lsp_pair.specs.At.{IsStepAt}
 use Rattle.lsp_pair.proofs.LifeLemmas.{one_body}
@@ -34,7 +34,7 @@ pub record AsTurn (setting : Setting) (t : Turn) (happened : Happened) (new : Pa
   pub happens : happened ≡ t.happened
   pub leaves : new ≡ pair_of setting t.world
 
-module _ (setting : Setting) (sound : IsSound setting) (w : World) (ok : WorldSound setting w) where
+module _ (setting : Setting) (sound : IsFitting setting) (w : World) (ok : WorldSound setting w) where
   abbrev old : PairData
   old = pair_of setting w
 
@@ -66,9 +66,9 @@ module _ (setting : Setting) (sound : IsSound setting) (w : World) (ok : WorldSo
       ap (λ (f : List ℕ). old.to_server ++ f ∷ []) is.frame ∙ queue_more said in
       λ i. record { client = client_is i; server = server_is i; to_server = queue i; to_client = old.to_client }
 
-  call_step : (call : Call) (result : Result Sending client.Refusal) (happened : Happened) (new : PairData) → CallResult setting w (message_by (client_of setting w) call) result
-      → IsCallStep old result happened new → AsTurn setting (turn_of_call w (message_by (client_of setting w) call (message_in result)) result) happened new
-  call_step call (Ok sending) happened new is steps = record { happens = steps.0; leaves = steps.1 ∙ called_pair (message_by (client_of setting w) call sending.message) sending is }
+  call_step : (call : Call) (result : Result Sending client.CallRefusal) (happened : Happened) (new : PairData) → CallResult setting w (message_of_call (client_of setting w) call) result
+      → IsCallStep old result happened new → AsTurn setting (turn_of_call w (message_of_call (client_of setting w) call (message_in result)) result) happened new
+  call_step call (Ok sending) happened new is steps = record { happens = steps.0; leaves = steps.1 ∙ called_pair (message_of_call (client_of setting w) call sending.message) sending is }
   call_step call (Err refusal) happened new is steps = record { happens = steps.0; leaves = steps.1 }
 
   -- ---- a delivery to the server
@@ -155,7 +155,7 @@ module _ (setting : Setting) (sound : IsSound setting) (w : World) (ok : WorldSo
 pub new_at : (setting : Setting) → IsAt setting (new_pair setting) []
 new_at setting = record { proper = tt; is = refl }
 
-pub steps_at : (setting : Setting) → IsSound setting → (old new : PairData) (events : List EventData) (event : EventData) (happened : Happened) → IsProperEvent event
+pub steps_at : (setting : Setting) → IsFitting setting → (old new : PairData) (events : List EventData) (event : EventData) (happened : Happened) → IsProperEvent event
     → IsAt setting old events → IsStep old event happened new → IsStepAt setting events event happened new
 steps_at setting sound old new events event happened proper at steps =
     let w : World = world_of setting events in
@@ -174,7 +174,7 @@ steps_at setting sound old new events event happened proper at steps =
     }
 
 -- A pair at a world has one encoding.
-pub agrees : (setting : Setting) (pair : PairData) (events : List EventData) → IsSound setting → IsAt setting pair events → HaveOneEncoding setting pair
+pub agrees : (setting : Setting) (pair : PairData) (events : List EventData) → IsFitting setting → IsAt setting pair events → HaveOneEncoding setting pair
 agrees setting pair events sound at =
     let w : World = world_of setting events in
     let ok : WorldSound setting w = world_sound setting sound events at.proper in

@@ -7,8 +7,8 @@ use Rattle.lsp_message.specs.Sent.{sent}
 use Rattle.lsp_client.specs.Step as client
 use Rattle.lsp_client.specs.Step.{Call, call_result}
 use Rattle.lsp_pair.specs.declared.event.Happened.TheVariants.{Server, Client, Nothing}
-use Rattle.lsp_pair.specs.World.{Setting, ClientMessage, World, beginning, EventData, calls, to_server, to_client, Turn, turn_of_call, message_by, message_in, turn_of_step, to_server_event, turn_of_delivery, turn_of_result, to_client_event, turn, world_from, world_of, client_of, did_of, heard_of, IsProperEvent, AreProperEvents}
-use Rattle.lsp_pair.specs.Pair.{IsSound, waiting_out, waiting_back, pair_of}
+use Rattle.lsp_pair.specs.World.{Setting, ClientMessage, World, beginning, EventData, calls, to_server, to_client, Turn, turn_of_call, message_of_call, message_in, turn_of_step, to_server_event, turn_of_delivery, turn_of_result, to_client_event, turn, world_from, world_of, client_of, did_of, heard_of, IsProperEvent, AreProperEvents}
+use Rattle.lsp_pair.specs.Pair.{IsFitting, waiting_out, waiting_back, pair_of}
 use Rattle.lsp_pair.specs.Usual.{IsUsual, IsUsualBack, IsUsualTurn, agreed_of, has_agreed, HaveOneEncoding}
 use Rattle.lsp_pair.proofs.ListLemmas.{next_is, none_next}
 use Rattle.lsp_pair.proofs.Shapes.{Shape, fresh, asking, answered, client_at, agreed_at, encoding_at, AtShape, WorldSound}
@@ -41,7 +41,7 @@ pub record IsGoodTurn (setting : Setting) (w : World) (event : EventData) (t : T
   pub usual : IsUsualTurn w event t.happened
   pub next : WorldSound setting t.world
 
-module _ (setting : Setting) (sound : IsSound setting) (w : World) (ok : WorldSound setting w) where
+module _ (setting : Setting) (sound : IsFitting setting) (w : World) (ok : WorldSound setting w) where
   -- the messages that wait, and what becomes of them
   pub there_arrives : Arrivals setting w (waiting_out w)
   there_arrives = subst (Arrivals setting w) (sym ok.at.there) (arrivals setting sound w ok.shape ok.at)
@@ -93,8 +93,8 @@ module _ (setting : Setting) (sound : IsSound setting) (w : World) (ok : WorldSo
         next = r.next;
       })
 
-  call_turn : (call : Call) (result : Result client.Sending client.Refusal) → CallResult setting w (message_by (client_of setting w) call) result
-      → WorldSound setting (turn_of_call w (message_by (client_of setting w) call (message_in result)) result).world
+  call_turn : (call : Call) (result : Result client.Sending client.CallRefusal) → CallResult setting w (message_of_call (client_of setting w) call) result
+      → WorldSound setting (turn_of_call w (message_of_call (client_of setting w) call (message_in result)) result).world
   call_turn call (Ok sending) is = is.next
   call_turn call (Err refusal) is = ok
 
@@ -106,12 +106,12 @@ module _ (setting : Setting) (sound : IsSound setting) (w : World) (ok : WorldSo
 
 -- ---- whole lists
 
-pub from_sound : (setting : Setting) → IsSound setting → (w : World) → WorldSound setting w → (events : List EventData) → AreProperEvents events → WorldSound setting (world_from setting w events)
+pub from_sound : (setting : Setting) → IsFitting setting → (w : World) → WorldSound setting w → (events : List EventData) → AreProperEvents events → WorldSound setting (world_from setting w events)
 from_sound setting sound w ok [] proper = ok
 from_sound setting sound w ok (event ∷ events) proper =
     from_sound setting sound (turn setting w event).world (good_turn setting sound w ok event proper.0).next events proper.1
 
-pub world_sound : (setting : Setting) → IsSound setting → (events : List EventData) → AreProperEvents events → WorldSound setting (world_of setting events)
+pub world_sound : (setting : Setting) → IsFitting setting → (events : List EventData) → AreProperEvents events → WorldSound setting (world_of setting events)
 world_sound setting sound events proper = from_sound setting sound beginning (beginning_sound setting) events proper
 
 pub world-last : (setting : Setting) (w : World) (events : List EventData) (event : EventData) → world_from setting w (events ++ event ∷ []) ≡ (turn setting (world_from setting w events) event).world

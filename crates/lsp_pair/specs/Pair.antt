@@ -13,7 +13,7 @@ use Rattle.lsp_store.specs.Laws.{AreWithin}
 use Rattle.lsp_server.specs.declared.config.EncodingChoice.{EncodingChoice}
 use Rattle.lsp_server.specs.declared.config.EncodingChoice.TheVariants.{Fixed, Negotiated}
 use Rattle.lsp_server.specs.declared.phase.Phase.TheVariants.{Ended}
-use Rattle.lsp_server.specs.Choice.{kind_of}
+use Rattle.lsp_server.specs.Choice.{announced_kind}
 use Rattle.lsp_server.specs.Step as server
 use Rattle.lsp_client.specs.Seen.{fault_of}
 use Rattle.lsp_client.specs.Step as client
@@ -32,8 +32,8 @@ pub record PairData : Type 0 where
 abbrev pub new_pair : Setting → PairData
 new_pair setting =
     record {
-      client = client.start setting.limits setting.offers;
-      server = server.start setting.config;
+      client = client.new_client setting.limits setting.offers;
+      server = server.new_server setting.config;
       to_server = [];
       to_client = [];
     }
@@ -46,7 +46,7 @@ message_frame m = frame (body_of m)
 
 -- A call of the client. The frame of an accepted call comes last in the queue to the server, and a
 -- refused one changes nothing.
-abbrev pub IsCallStep : PairData → Result client.Sending client.Refusal → Happened → PairData →
+abbrev pub IsCallStep : PairData → Result client.Sending client.CallRefusal → Happened → PairData →
     Type 0
 IsCallStep old (Ok sending) happened new =
     (happened ≡ Sent)
@@ -149,7 +149,7 @@ pair_of setting w =
       client = client_of setting w;
       server = server_of setting w;
       to_server =
-          frames_from (kind_of setting.config.sync) (server_of setting w).table (waiting_out w);
+          frames_from (announced_kind setting.config.sync) (server_of setting w).table (waiting_out w);
       to_client = map message_frame (waiting_back w);
     }
 
@@ -173,7 +173,7 @@ are_within small great =
     && nat_le small.max_docs great.max_docs && nat_le small.max_changes great.max_changes
 
 -- A setting that a pair accepts.
-pub record IsSound (setting : Setting) : Type 0 where
+pub record IsFitting (setting : Setting) : Type 0 where
   pub ranges : AreInRange setting.limits
   pub great : AreInRange setting.config.limits
   pub within : AreWithin setting.limits setting.config.limits
@@ -182,6 +182,6 @@ pub record IsSound (setting : Setting) : Type 0 where
 -- A pair that comes from a new one by steps. It is at the world of some list of events.
 pub record IsReached (pair : PairData) : Type 0 where
   pub setting : Setting
-  pub sound : IsSound setting
+  pub sound : IsFitting setting
   pub events : List EventData
   pub at : IsAt setting pair events

@@ -2,7 +2,7 @@
 use Rattle.std.specs.Prelude.{◌≡◌, Bool, true, false, slice_get, MatchOption, Some, None, ⊤}
 use Rattle.lsp_message.specs.Outgoing as outgoing
 use Rattle.lsp_message.specs.Outgoing.{OutgoingData}
-use Rattle.lsp_server.specs.Choice.{chosen, kind_of}
+use Rattle.lsp_server.specs.Choice.{chosen, announced_kind}
 use Rattle.lsp_client.specs.declared.agreed.Agreed.{Agreed}
 use Rattle.lsp_client.specs.declared.phase.Phase.{Phase}
 use Rattle.lsp_client.specs.declared.phase.Phase.TheVariants.{New, Asked, Failed}
@@ -47,7 +47,7 @@ abbrev pub agreed_of : Setting → Agreed
 agreed_of setting =
     record {
       encoding = chosen setting.config.choice setting.offers;
-      kind = kind_of setting.config.sync;
+      kind = announced_kind setting.config.sync;
     }
 
 -- The phases of the client from Ready on.

@@ -16,7 +16,7 @@ use Rattle.lsp_server.specs.declared.config.Config.{Config}
 use Rattle.lsp_server.specs.declared.phase.Phase as server_phase
 use Rattle.lsp_server.specs.declared.phase.Phase.TheVariants as server_phases
 use Rattle.lsp_server.specs.Answer as answer
-use Rattle.lsp_server.specs.Answer.{AnswerData, code_of}
+use Rattle.lsp_server.specs.Answer.{AnswerData, reply_code}
 use Rattle.lsp_server.specs.Incoming as incoming
 use Rattle.lsp_server.specs.Incoming.{IncomingData}
 use Rattle.lsp_server.specs.Step as server
@@ -108,7 +108,7 @@ pub data EventData : Type 0 where
 -- An answer of the server without its message. (An ended server has no answer: it drops what
 -- comes.)
 abbrev pub did_of : AnswerData OutgoingData → Did
-did_of (answer.reply m) = done.Reply (code_of m)
+did_of (answer.reply m) = done.Reply (reply_code m)
 did_of answer.changed = done.Changed
 did_of answer.ignored = done.Ignored
 did_of (answer.refused refusal) = done.Refused refusal
@@ -138,7 +138,7 @@ pub record Turn : Type 0 where
   pub world : World
 
 -- The message of an accepted call comes last in `out`; a refused call changes nothing.
-abbrev pub turn_of_call : World → ClientMessage → Result client.Sending client.Refusal → Turn
+abbrev pub turn_of_call : World → ClientMessage → Result client.Sending client.CallRefusal → Turn
 turn_of_call w sent (Ok sending) =
     record {
       happened = Sent;
@@ -152,13 +152,13 @@ turn_of_call w sent (Err refusal) =
     record { happened = Refused (fault_of refusal); world = w }
 
 -- The message of an accepted call, by the call and what was sent.
-abbrev pub message_by : client.State → Call → OutgoingData → ClientMessage
-message_by s (orders order) m =
+abbrev pub message_of_call : client.State → Call → OutgoingData → ClientMessage
+message_of_call s (orders order) m =
     commands (client.command_of (client.agreement s).encoding order)
-message_by s call m = lifecycle m
+message_of_call s call m = lifecycle m
 
 -- What an accepted call sends. (A refused one sends nothing; this is then any message.)
-abbrev pub message_in : Result client.Sending client.Refusal → OutgoingData
+abbrev pub message_in : Result client.Sending client.CallRefusal → OutgoingData
 message_in (Ok sending) = sending.message
 message_in (Err refusal) = outgoing.exit
 
@@ -166,19 +166,19 @@ message_in (Err refusal) = outgoing.exit
 abbrev pub call_event : Setting → World → Call → Turn
 call_event setting w call =
     let result = client.call_result (client_of setting w) call in
-    turn_of_call w (message_by (client_of setting w) call (message_in result)) result
+    turn_of_call w (message_of_call (client_of setting w) call (message_in result)) result
 
 -- What a message of the client asks of a server.
-abbrev pub incoming_of : ClientMessage → IncomingData
-incoming_of (commands (opens entry)) = incoming.did_open (Some entry)
-incoming_of (commands (changes uri version encoding batch)) =
+abbrev pub incoming_of_message : ClientMessage → IncomingData
+incoming_of_message (commands (opens entry)) = incoming.did_open (Some entry)
+incoming_of_message (commands (changes uri version encoding batch)) =
     incoming.did_change (Some (record {
       uri = uri;
       version = version;
       changes = map written_edit batch;
     }))
-incoming_of (commands (closes uri)) = incoming.did_close (Some (record { uri = uri }))
-incoming_of (lifecycle m) = incoming.incoming_of (message (sent m))
+incoming_of_message (commands (closes uri)) = incoming.did_close (Some (record { uri = uri }))
+incoming_of_message (lifecycle m) = incoming.incoming_of (message (sent m))
 
 -- One more message of `out` is delivered, and a reply comes last in `back`.
 abbrev pub turn_of_step : World → server.Step → Turn
@@ -197,7 +197,7 @@ turn_of_step w step =
 abbrev pub to_server_event : Setting → World → Option ClientMessage → Turn
 to_server_event setting w None = record { happened = Nothing; world = w }
 to_server_event setting w (Some sent) =
-    turn_of_step w (server.step_on (server_of setting w) (incoming_of sent))
+    turn_of_step w (server.step_on (server_of setting w) (incoming_of_message sent))
 
 -- One more message of `back` is delivered, and what the client sends comes last in `out`.
 abbrev pub turn_of_delivery : World → client.Delivery → Turn
@@ -213,7 +213,7 @@ turn_of_delivery w delivery =
     }
 
 -- The turn of a delivery, or of its refusal, which changes nothing.
-abbrev pub turn_of_result : World → Result client.Delivery client.Refusal → Turn
+abbrev pub turn_of_result : World → Result client.Delivery client.CallRefusal → Turn
 turn_of_result w (Ok delivery) = turn_of_delivery w delivery
 turn_of_result w (Err refusal) =
     record { happened = Refused (fault_of refusal); world = w }

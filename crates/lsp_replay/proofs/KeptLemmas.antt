@@ -15,7 +15,7 @@ use Rattle.lsp_server.specs.Answer.{as_sent}
 use Rattle.lsp_server.specs.declared.phase.Phase.{Phase}
 use Rattle.lsp_server.specs.declared.phase.Phase.TheVariants.{New, Running, Down, Ended}
 use Rattle.lsp_server.specs.Incoming.{IncomingData, not_json, not_a_message, response, initialize, shutdown, other_request, exit, did_open, did_change, did_close, other_notification}
-use Rattle.lsp_server.specs.Step.{State, step_in, step_on, obeyed, edit_from_data, encoding_of}
+use Rattle.lsp_server.specs.Step.{State, step_in, step_on, obeyed, edit_from_data, session_encoding}
 use Rattle.lsp_log.specs.declared.record.Version.{Version}
 use Rattle.lsp_replay.specs.Session.{Session, bad, judged, counted, handled, is_ended, is_early, judge_incoming, settle_in, settle_by, heard, hear_for, result_for}
 use Rattle.lsp_replay.specs.Parts.{last_text, last_text_in}
@@ -119,8 +119,8 @@ step_kept Running s uri (did_change None) = same_table s.table uri (did_change N
 step_kept Running s uri (did_change (Some p)) =
     inr (
       refl,
-      obeyed_stays s (change_refusal s.config.limits (units_in (encoding_of s)) s.table p.uri p.version (map edit_from_data p.changes)) _ uri
-          (stays_changed (units_in (encoding_of s)) s.table p.uri p.version (map edit_from_data p.changes) uri),
+      obeyed_stays s (change_refusal s.config.limits (units_in (session_encoding s)) s.table p.uri p.version (map edit_from_data p.changes)) _ uri
+          (stays_changed (units_in (session_encoding s)) s.table p.uri p.version (map edit_from_data p.changes) uri),
     )
 step_kept Running s uri (did_close None) = same_table s.table uri (did_close None)
 step_kept Running s uri (did_close (Some p)) = close_kept s uri p (bytes_eq p.uri uri) refl

@@ -11,7 +11,7 @@ use Rattle.lsp_store.proofs.LawLemmas.{within_end, within_change, within_close}
 use Rattle.lsp_server.specs.declared.phase.Phase.{Phase}
 use Rattle.lsp_server.specs.declared.phase.Phase.TheVariants.{New, Running, Down, Ended}
 use Rattle.lsp_server.specs.Incoming.{IncomingData, not_json, not_a_message, response, initialize, shutdown, other_request, exit, did_open, did_change, did_close, other_notification}
-use Rattle.lsp_server.specs.Step.{State, step_in, step_on, obeyed, edit_from_data, encoding_of}
+use Rattle.lsp_server.specs.Step.{State, step_in, step_on, obeyed, edit_from_data, session_encoding}
 use Rattle.lsp_replay.proofs.ReadLemmas.{OnSome}
 use Rattle.lsp_replay.proofs.AskedLemmas.{IsProperAsked, IsTextOpened, IsProperIncoming}
 
@@ -49,10 +49,10 @@ open_step limits s (Some p) proper received =
 change_step : (limits : Bounds) (s : State) (params : Option ChangeData) → OnSome IsProperAsked params → IsHeldState limits s → IsHeldState limits (step_in Running s (did_change params)).state
 change_step limits s None proper received = received
 change_step limits s (Some p) proper received =
-    obeyed_held limits s (change_refusal s.config.limits (units_in (encoding_of s)) s.table p.uri p.version (map edit_from_data p.changes)) _ received
+    obeyed_held limits s (change_refusal s.config.limits (units_in (session_encoding s)) s.table p.uri p.version (map edit_from_data p.changes)) _ received
     (λ e.
-    let none : change_refusal limits (units_in (encoding_of s)) s.table p.uri p.version (map edit_from_data p.changes) ≡ None = rw received.limit at e in
-    within_change limits (units_in (encoding_of s)) s.table p.uri p.version (map edit_from_data p.changes) proper.texts received.table none)
+    let none : change_refusal limits (units_in (session_encoding s)) s.table p.uri p.version (map edit_from_data p.changes) ≡ None = rw received.limit at e in
+    within_change limits (units_in (session_encoding s)) s.table p.uri p.version (map edit_from_data p.changes) proper.texts received.table none)
 
 -- A step keeps it.
 step_held : (limits : Bounds) (phase : Phase) (s : State) (m : IncomingData) → IsProperIncoming m → IsHeldState limits s → IsHeldState limits (step_in phase s m).state

@@ -21,13 +21,13 @@ pub record Sent : Type 0 where
   pub code : Option ErrorCode
 
 -- The code of a reply, if it is an error response.
-abbrev pub code_of : OutgoingData → Option ErrorCode
-code_of (error_reply id error) = Some error
-code_of m = None
+abbrev pub reply_code : OutgoingData → Option ErrorCode
+reply_code (error_reply id error) = Some error
+reply_code m = None
 
 -- A reply as it is sent.
 abbrev pub sent : OutgoingData → Sent
-sent m = record { frame = frame (body_of m); code = code_of m }
+sent m = record { frame = frame (body_of m); code = reply_code m }
 
 -- An answer, with its reply as it is sent.
 abbrev pub as_sent : AnswerData OutgoingData → AnswerData Sent

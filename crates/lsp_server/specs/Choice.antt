@@ -21,9 +21,9 @@ chosen (Fixed encoding) offers = encoding
 chosen (Negotiated prefer) offers = if is_offered offers prefer then prefer else Utf16
 
 -- The kind of synchronisation that a server announces.
-abbrev pub kind_of : Sync → SyncKind
-kind_of Incremental = kind.Incremental
-kind_of Full = kind.Full
+abbrev pub announced_kind : Sync → SyncKind
+announced_kind Incremental = kind.Incremental
+announced_kind Full = kind.Full
 
 -- A server's set-up where a user chooses none: the default limits, UTF-16 whatever the client
 -- offers, changed ranges.

@@ -1,7 +1,7 @@
 //! The configuration of a server.
 
 ghost use Rattle.std.specs.Prelude.{◌≡◌};
-ghost use Rattle.lsp_server.specs.Choice.{chosen, kind_of};
+ghost use Rattle.lsp_server.specs.Choice.{chosen, announced_kind};
 
 use lsp_frame::Limits;
 use lsp_message::{Offers, SyncKind};
@@ -69,7 +69,7 @@ pub enum Sync {
 impl Sync {
     /// Returns the kind that the server announces.
     pub fn kind(self) -> SyncKind
-        ensures { result ≡ kind_of self }
+        ensures { result ≡ announced_kind self }
     {
         match self {
             Sync::Incremental => SyncKind::Incremental,

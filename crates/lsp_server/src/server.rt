@@ -3,7 +3,7 @@
 ghost use Rattle.std.specs.Prelude.{◌≡◌, ◌≢◌, ◌↔◌, IfOk, OnOk, OnErr, IsOk, IsSome, IsErrOf, IsUtf8};
 ghost use Rattle.lsp_message.specs.Message.{reading};
 ghost use Rattle.lsp_server.specs.declared.phase.Phase.TheVariants.{Running, Ended};
-ghost use Rattle.lsp_server.specs.Step.{start, with_encoding, step, step_on};
+ghost use Rattle.lsp_server.specs.Step.{new_server, with_encoding, step, step_on};
 ghost use Rattle.lsp_server.specs.Answer.{IsQuiet, as_sent};
 ghost use Rattle.lsp_server.specs.Seen.{answer_view};
 ghost use Rattle.lsp_server.specs.Calls.{IsRowOf};
@@ -71,7 +71,7 @@ impl fmt::Debug for Server {
 impl Server {
     /// Returns a server in phase New, with no open document. Takes no memory.
     pub fn new(alloc: Global, config: Config) -> Server
-        ensures { result ≡ start config }
+        ensures { result ≡ new_server config }
     {
         let Config {
             limits,
