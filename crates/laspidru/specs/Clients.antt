@@ -10,7 +10,6 @@ use Rattle.lsp_message.specs.Outgoing.{body_of}
 use Rattle.lsp_message.specs.Params.{DocumentItem}
 use Rattle.lsp_store.specs.declared.fault.StoreFault.{StoreFault}
 use Rattle.lsp_store.specs.declared.fault.StoreFault.TheVariants as faults
-use Rattle.lsp_store.specs.Faults as documents
 use Rattle.lsp_store.specs.Table.{entry_at}
 use Rattle.lsp_client.specs.declared.fault.ClientFault.{ClientFault}
 use Rattle.lsp_client.specs.declared.fault.ClientFault.TheVariants as client
@@ -19,7 +18,7 @@ use Rattle.lsp_client.specs.declared.phase.Phase.TheVariants.{New, Asked, Ready,
 use Rattle.lsp_client.specs.declared.phase.Reason.{Reason}
 use Rattle.lsp_client.specs.declared.phase.Reason.TheVariants.{NotAnAnswer, ErrorAnswer, NoSync, BadEncoding}
 use Rattle.lsp_client.specs.Seen.{as_sent}
-use Rattle.lsp_client.specs.Step.{Call, starts, shuts_down, exits, opens, edits, Order, Sending, CallRefusal, wrong_phase, store, Delivery, DeliveredData, sends, noted, ignored, bad_server, new_client}
+use Rattle.lsp_client.specs.Step.{Call, starts, shuts_down, exits, opens, edits, Order, Sending, Delivery, DeliveredData, sends, noted, ignored, bad_server, new_client}
 use Rattle.laspidru.specs.declared.answers.Answer.{Answer}
 use Rattle.laspidru.specs.declared.reports.Call.{Call as Lifecycle}
 use Rattle.laspidru.specs.declared.reports.Call.TheVariants.{Start, Shutdown, Exit}
@@ -102,10 +101,10 @@ IsCallReport (client.Store fault) out = IsStoreReport fault out
 IsCallReport other out = Unit {0}
 
 -- A call is refused with this code. One in a wrong phase takes no memory.
-abbrev pub IsRefusedCall : CallRefusal → ℕ → Type 0
-IsRefusedCall (wrong_phase phase) code = code ≡ WRONG_PHASE
-IsRefusedCall (store refusal) code =
-    (code ≡ OUT_OF_MEMORY) ⊎ (code ≡ store_code (documents.fault_of refusal))
+abbrev pub IsRefusedCall : ClientFault → ℕ → Type 0
+IsRefusedCall (client.WrongPhase phase) code = code ≡ WRONG_PHASE
+IsRefusedCall (client.Store fault) code = (code ≡ OUT_OF_MEMORY) ⊎ (code ≡ store_code fault)
+IsRefusedCall client.NoMemory code = code ≡ OUT_OF_MEMORY
 
 -- A call is accepted: the client is in its new state, and has the frame to send.
 pub record IsAccepted (stream : StreamData) (sending : Sending) (code : ℕ) (stored : Option Object)
@@ -119,15 +118,15 @@ pub record IsAccepted (stream : StreamData) (sending : Sending) (code : ℕ) (st
   pub frame_len : len ≡ length (frame (body_of sending.message))
 
 -- A call is accepted or out of memory, or refused.
-abbrev pub IsCalled : StreamData → Result Sending CallRefusal → ℕ → Option Object → ℕ → Type 0
+abbrev pub IsCalled : StreamData → Result Sending ClientFault → ℕ → Option Object → ℕ → Type 0
 IsCalled stream (Ok sending) code stored len =
     (code ≡ OUT_OF_MEMORY) ⊎ IsAccepted stream sending code stored len
 IsCalled stream (Err refusal) code stored len = IsRefusedCall refusal code
 
 -- What a refusal writes of a faulty change.
-abbrev pub IsWritten : Result Sending CallRefusal → ℕ → Fault → Type 0
-IsWritten (Err (store refusal)) code out =
-    (code ≡ OUT_OF_MEMORY) ⊎ IsStoreReport (documents.fault_of refusal) out
+abbrev pub IsWritten : Result Sending ClientFault → ℕ → Fault → Type 0
+IsWritten (Err (client.Store fault)) code out =
+    (code ≡ OUT_OF_MEMORY) ⊎ IsStoreReport fault out
 IsWritten result code out = Unit {0}
 
 -- Three texts that are UTF-8.
@@ -177,7 +176,7 @@ pub record IsTakenIn (stream : StreamData) (delivery : Delivery) (code : ℕ)
   pub answer : out ≡ delivered_out (as_sent delivery.delivered)
 
 -- A body is handled or out of memory, or refused.
-abbrev pub IsDeliveredTo : StreamData → Result Delivery CallRefusal → ℕ → Option Object → Answer →
+abbrev pub IsDeliveredTo : StreamData → Result Delivery ClientFault → ℕ → Option Object → Answer →
     Type 0
 IsDeliveredTo stream (Ok delivery) code stored out =
     (code ≡ OUT_OF_MEMORY) ⊎ IsTakenIn stream delivery code stored out

@@ -14,14 +14,14 @@ use Rattle.lsp_store.specs.Message.{else_refused, body_refusal, change_body, can
 use Rattle.lsp_store.specs.Table as documents_table
 use Rattle.lsp_message.specs.Params.{DocumentItem}
 use Rattle.lsp_store.specs.Table.{already_open, too_many_documents, text_too_long, not_open, too_many_changes, stale_version, edit, body_too_long, changes, command_refusal, table_after}
-use Rattle.lsp_client.specs.declared.fault.ClientFault.TheVariants.{NoMemory}
-use Rattle.lsp_client.specs.Step.{State, Sending, store, sent_body, sending_unless, command_result}
-use Rattle.lsp_client.specs.Seen.{IsFaultOf, IsSent, client_fault, fault_of}
+use Rattle.lsp_client.specs.declared.fault.ClientFault.TheVariants.{Store, NoMemory}
+use Rattle.lsp_client.specs.Step.{State, Sending, sent_body, sending_unless, command_result}
+use Rattle.lsp_client.specs.Seen.{IsFaultOf, IsSent, client_fault}
 
 -- ---- refusals
 
 -- A refusal of the store is a refusal of the client, with the store's fault.
-fault_kept : (refusal : documents_table.Refusal) → client_fault (documents.fault_of refusal) ≡ fault_of (store refusal)
+fault_kept : (refusal : documents_table.Refusal) → client_fault (documents.fault_of refusal) ≡ Store (documents.fault_of refusal)
 fault_kept already_open = refl
 fault_kept too_many_documents = refl
 fault_kept text_too_long = refl

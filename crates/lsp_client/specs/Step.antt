@@ -17,9 +17,12 @@ use Rattle.lsp_message.specs.Message.{IdData, whole, OutcomeData, given, failed,
 use Rattle.lsp_message.specs.Outgoing.{OutgoingData, initialize, initialized, did_open, did_close, shutdown, exit, error_reply, body_of}
 use Rattle.lsp_store.specs.Table as documents
 use Rattle.lsp_message.specs.Params.{DocumentItem}
+use Rattle.lsp_store.specs.Faults.{fault_of}
 use Rattle.lsp_store.specs.Table.{Command, command_refusal, table_after}
 use Rattle.lsp_store.specs.Message.{canonical_batch, whole_batch, change_message, body_refusal, else_refused}
 use Rattle.lsp_client.specs.declared.agreed.Agreed.{Agreed}
+use Rattle.lsp_client.specs.declared.fault.ClientFault.{ClientFault}
+use Rattle.lsp_client.specs.declared.fault.ClientFault.TheVariants.{WrongPhase, Store}
 use Rattle.lsp_client.specs.declared.phase.Phase.{Phase}
 use Rattle.lsp_client.specs.declared.phase.Phase.TheVariants.{New, Asked, Ready, Closing, Closed, Done, Failed}
 use Rattle.lsp_client.specs.declared.phase.Reason.{Reason}
@@ -52,11 +55,6 @@ pub data Order : Type 0 where
 pub data Call : Type 0 where
   starts shuts_down exits : Call
   orders : Order → Call
-
--- Why a call is refused.
-pub data CallRefusal : Type 0 where
-  wrong_phase : Phase → CallRefusal
-  store : documents.Refusal → CallRefusal
 
 -- What an accepted call sends, and the client's new state.
 pub record Sending : Type 0 where
@@ -98,12 +96,12 @@ order_refusal limits kind table command =
     (body_refusal limits (sent_body kind table command))
 
 -- What a call sends, unless there is a refusal.
-abbrev pub sending_unless : Option documents.Refusal → Sending → Result Sending CallRefusal
-sending_unless (Some refusal) sending = Err (store refusal)
+abbrev pub sending_unless : Option documents.Refusal → Sending → Result Sending ClientFault
+sending_unless (Some refusal) sending = Err (Store (fault_of refusal))
 sending_unless None sending = Ok sending
 
 -- What a command sends and the client's new state, or why it is refused.
-abbrev pub command_result : State → SyncKind → Command → Result Sending CallRefusal
+abbrev pub command_result : State → SyncKind → Command → Result Sending ClientFault
 command_result s kind command =
     sending_unless
     (order_refusal s.limits kind s.table command)
@@ -113,27 +111,27 @@ command_result s kind command =
     })
 
 -- What an order sends and the client's new state, or why it is refused.
-abbrev pub order_result : State → Order → Result Sending CallRefusal
+abbrev pub order_result : State → Order → Result Sending ClientFault
 order_result s order =
     command_result s (agreement s).kind (command_of (agreement s).encoding order)
 
 -- A message of the session's lifecycle is sent, and the client enters this phase.
-abbrev pub lifecycle_result : State → Phase → OutgoingData → Result Sending CallRefusal
+abbrev pub lifecycle_result : State → Phase → OutgoingData → Result Sending ClientFault
 lifecycle_result s phase m = Ok (record { message = m; state = record s { phase = phase } })
 
 -- ---- the table of calls: the first row that fits decides
 
 -- The result of a call, by phase.
-abbrev pub call_result_in : Phase → State → Call → Result Sending CallRefusal
+abbrev pub call_result_in : Phase → State → Call → Result Sending ClientFault
 call_result_in New s starts = lifecycle_result s Asked (initialize s.offers)
 call_result_in Ready s (orders order) = order_result s order
 call_result_in Ready s shuts_down = lifecycle_result s Closing shutdown
 call_result_in Closed s exits = lifecycle_result s Done exit
-call_result_in phase s call = Err (wrong_phase phase)
+call_result_in phase s call = Err (WrongPhase phase)
 
 -- What a call sends and the client's new state, or why it is refused. A refused call changes
 -- nothing.
-abbrev pub call_result : State → Call → Result Sending CallRefusal
+abbrev pub call_result : State → Call → Result Sending ClientFault
 call_result s call = call_result_in s.phase s call
 
 -- ---- what the server sends
@@ -232,10 +230,10 @@ is_listening (Failed reason) = false
 is_listening phase = true
 
 -- What a client does with a body, if it listens.
-abbrev pub if_listening : Bool → State → Reading → Result Delivery CallRefusal
+abbrev pub if_listening : Bool → State → Reading → Result Delivery ClientFault
 if_listening true s body = Ok (delivery_of s body)
-if_listening false s body = Err (wrong_phase s.phase)
+if_listening false s body = Err (WrongPhase s.phase)
 
 -- The result of a body that the server sent and the client's new state, or why the body is refused.
-abbrev pub delivery_result : State → Reading → Result Delivery CallRefusal
+abbrev pub delivery_result : State → Reading → Result Delivery ClientFault
 delivery_result s body = if_listening (is_listening s.phase) s body

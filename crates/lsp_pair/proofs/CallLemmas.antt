@@ -6,14 +6,15 @@ use Rattle.lsp_text.specs.declared.encoding.Encoding.{Encoding}
 use Rattle.lsp_text.specs.declared.encoding.Encoding.TheVariants.{Utf16}
 use Rattle.lsp_message.specs.declared.agreement.SyncKind.TheVariants.{Incremental}
 use Rattle.lsp_message.specs.Outgoing as outgoing
-use Rattle.lsp_message.specs.Outgoing.{OutgoingData, body_of}
+use Rattle.lsp_message.specs.Outgoing.{OutgoingData}
 use Rattle.lsp_store.specs.Table as documents
 use Rattle.lsp_store.specs.Table.{Command, table_after, table_of}
+use Rattle.lsp_client.specs.declared.fault.ClientFault.{ClientFault}
 use Rattle.lsp_client.specs.declared.agreed.Agreed.{Agreed}
 use Rattle.lsp_client.specs.declared.phase.Phase.{Phase}
 use Rattle.lsp_client.specs.declared.phase.Phase.TheVariants.{Asked, Closing, Done}
 use Rattle.lsp_client.specs.Step as client
-use Rattle.lsp_client.specs.Step.{State, Sending, Order, Call, opens, edits, closes, starts, shuts_down, exits, orders, call_result, call_result_in, command_result, command_of, message_of, order_refusal, sending_unless, agreement}
+use Rattle.lsp_client.specs.Step.{Sending, Order, Call, opens, edits, closes, starts, shuts_down, exits, orders, call_result, call_result_in, command_result, command_of, message_of, order_refusal, sending_unless, agreement}
 use Rattle.lsp_pair.specs.World.{Setting, ClientMessage, commands, lifecycle, World, commands_in, client_of, turn_of_call, message_of_call, calls, IsProperOrder, IsProperEvent}
 use Rattle.lsp_pair.specs.Pair.{message_frame, frame_of, table_with}
 use Rattle.lsp_pair.specs.Usual.{agreed_of}
@@ -27,7 +28,7 @@ pub record IsSending (setting : Setting) (w : World) (said : ClientMessage) (sen
   pub frame : message_frame sending.message ≡ frame_of (the_kind setting) (client_of setting w).table said
   pub next : WorldSound setting (turn_of_call w said (Ok sending)).world
 
-abbrev pub CallResult : Setting → World → (OutgoingData → ClientMessage) → Result Sending client.CallRefusal → Type 0
+abbrev pub CallResult : Setting → World → (OutgoingData → ClientMessage) → Result Sending ClientFault → Type 0
 CallResult setting w said (Ok sending) = IsSending setting w (said sending.message) sending
 CallResult setting w said (Err refusal) = ⊤
 

@@ -5,10 +5,10 @@ use Rattle.std.specs.declared.alloc.AllocError.{AllocError}
 use Rattle.std.proofs.lemmas.List.{map-append}
 use Rattle.lsp_server.specs.Step as server
 use Rattle.lsp_client.specs.declared.fault.ClientFault.{ClientFault}
-use Rattle.lsp_client.specs.declared.fault.ClientFault.TheVariants.{NoMemory}
+use Rattle.lsp_client.specs.declared.fault.ClientFault.TheVariants.{WrongPhase, Store, NoMemory}
 use Rattle.lsp_client.specs.Step as client
 use Rattle.lsp_client.specs.Step.{Sending, call_result}
-use Rattle.lsp_client.specs.Seen.{IsSent, IsFaultOf, fault_of}
+use Rattle.lsp_client.specs.Seen.{IsSent, IsFaultOf}
 use Rattle.lsp_pair.specs.declared.event.Event.{Event}
 use Rattle.lsp_pair.specs.declared.event.Event.TheVariants.{Start, Open, Edit, Close, Shutdown, Exit, ToServer, ToClient}
 use Rattle.lsp_pair.specs.declared.event.Happened.{Happened}
@@ -36,16 +36,17 @@ no_delivery e sent replies (Ok x) is = tt
 no_delivery e sent replies (Err x) is = ((λ same. absurd (subst IsCall same is)), λ same. absurd (subst IsCall same is))
 
 module _ (s : server.State) (c new : client.State) (q next : List (Vec ℕ Global)) (b : List (List ℕ)) where
-  sent_is : (r : Result Sending client.CallRefusal) (bytes : Vec ℕ Global) → IsSent r bytes.items new → next ≡ q ++ bytes ∷ [] → IsCallStep (both_ends c s (frames q) b) r Sent (both_ends new s (frames next) b)
+  sent_is : (r : Result Sending ClientFault) (bytes : Vec ℕ Global) → IsSent r bytes.items new → next ≡ q ++ bytes ∷ [] → IsCallStep (both_ends c s (frames q) b) r Sent (both_ends new s (frames next) b)
   sent_is (Ok sending) bytes sends pushed =
       (refl, λ i. both_ends (sends.1 i) s ((ap frames pushed ∙ (map-append (λ (f : Vec ℕ Global). f.items) q (bytes ∷ []) ∙ ap (λ (f : List ℕ). frames q ++ f ∷ []) sends.0)) i) b)
   sent_is (Err refusal) bytes sends pushed = absurd sends
 
-  refused_is : (r : Result Sending client.CallRefusal) (fault : ClientFault) → IsFaultOf r fault → fault ≢ NoMemory → new ≡ c → next ≡ q → IsCallStep (both_ends c s (frames q) b) r (Refused fault) (both_ends new s (frames next) b)
+  refused_is : (r : Result Sending ClientFault) (fault : ClientFault) → IsFaultOf r fault → fault ≢ NoMemory → new ≡ c → next ≡ q → IsCallStep (both_ends c s (frames q) b) r (Refused fault) (both_ends new s (frames next) b)
   refused_is (Ok sending) fault error other same stays = absurd (other error)
-  refused_is (Err (client.wrong_phase phase)) fault error other same stays = (ap Refused error, λ i. both_ends (same i) s (frames (stays i)) b)
-  refused_is (Err (client.store refusal)) fault error other same stays =
-      (⊎_elim (λ (e : fault ≡ NoMemory). absurd (other e)) (λ (e : fault ≡ fault_of (client.store refusal)). ap Refused e) error, λ i. both_ends (same i) s (frames (stays i)) b)
+  refused_is (Err (WrongPhase phase)) fault error other same stays = (ap Refused error, λ i. both_ends (same i) s (frames (stays i)) b)
+  refused_is (Err (Store why)) fault error other same stays =
+      (⊎_elim (λ (e : fault ≡ NoMemory). absurd (other e)) (λ (e : fault ≡ Store why). ap Refused e) error, λ i. both_ends (same i) s (frames (stays i)) b)
+  refused_is (Err NoMemory) fault error other same stays = absurd (other error)
 
   pub call_is : (e : EventData) (sent : Result (Vec ℕ Global) ClientFault) (result : Result Happened AllocError) → IsCall e
       → IfOk sent (λ bytes. HoldsOnCall e (λ k. IsSent (call_result c k) bytes.items new)) → OnErr sent (new ≡ c) → IfErr sent (λ fault. (fault ≡ NoMemory) ⊎ HoldsOnCall e (λ k. IsFaultOf (call_result c k) fault))
@@ -77,7 +78,7 @@ served_apart did fault e = cc
 heard_apart : (heard : Heard) (fault : ClientFault) → Client heard ≡ Refused fault → ⊥
 heard_apart heard fault e = cc
 
-refused_call : (old new : PairData) (result : Result Sending client.CallRefusal) (happened : Happened) (fault : ClientFault) → happened ≡ Refused fault → IsCallStep old result happened new → new ≡ old
+refused_call : (old new : PairData) (result : Result Sending ClientFault) (happened : Happened) (fault : ClientFault) → happened ≡ Refused fault → IsCallStep old result happened new → new ≡ old
 refused_call old new (Ok sending) happened fault is steps = absurd (sent_apart fault (sym steps.0 ∙ is))
 refused_call old new (Err refusal) happened fault is steps = steps.1
 

@@ -8,6 +8,7 @@ use Rattle.lsp_message.specs.Message.{message}
 use Rattle.lsp_message.specs.Sent.{sent}
 use Rattle.lsp_message.specs.Params.{DocumentItem}
 use Rattle.lsp_store.specs.Table.{table_of}
+use Rattle.lsp_client.specs.declared.fault.ClientFault.{ClientFault}
 use Rattle.lsp_client.specs.Step as client
 use Rattle.lsp_pair.specs.declared.event.Happened.{Happened}
 use Rattle.lsp_pair.specs.World.{Setting, ClientMessage, lifecycle, World, commands_in, EventData, calls, to_server, to_client, turn_of_call, to_server_event, to_client_event, turn_of_result, messages_in, turn, world_from, world_of, beginning, client_of}
@@ -32,7 +33,7 @@ record Grows (old new : List ClientMessage) : Type 0 where
 same_out : (out : List ClientMessage) → Grows out out
 same_out out = record { more = []; is = sym (append-nil out); few = omega arith }
 
-call_grows : (w : World) (m : ClientMessage) (result : Result client.Sending client.CallRefusal) → Grows w.out (turn_of_call w m result).world.out
+call_grows : (w : World) (m : ClientMessage) (result : Result client.Sending ClientFault) → Grows w.out (turn_of_call w m result).world.out
 call_grows w m (Ok sending) = record { more = m ∷ []; is = refl; few = omega arith }
 call_grows w m (Err refusal) = same_out w.out
 
@@ -42,7 +43,7 @@ few_messages client.noted = omega arith
 few_messages client.ignored = omega arith
 few_messages (client.bad_server reason) = omega arith
 
-result_grows : (w : World) (result : Result client.Delivery client.CallRefusal) → Grows w.out (turn_of_result w result).world.out
+result_grows : (w : World) (result : Result client.Delivery ClientFault) → Grows w.out (turn_of_result w result).world.out
 result_grows w (Ok delivery) = record { more = map lifecycle (messages_in delivery.delivered); is = refl; few = few_messages delivery.delivered }
 result_grows w (Err refusal) = same_out w.out
 

@@ -6,6 +6,7 @@ use Rattle.lsp_message.specs.Outgoing.{OutgoingData}
 use Rattle.lsp_message.specs.Message.{message}
 use Rattle.lsp_message.specs.Sent.{sent}
 use Rattle.lsp_message.specs.Params.{DocumentItem}
+use Rattle.lsp_client.specs.declared.fault.ClientFault.{ClientFault}
 use Rattle.lsp_client.specs.Step as client
 use Rattle.lsp_pair.specs.declared.event.Happened.{Happened}
 use Rattle.lsp_pair.specs.World.{Setting, ClientMessage, commands, lifecycle, World, EventData, calls, to_server, to_client, Turn, turn_of_call, turn_of_delivery, to_server_event, to_client_event, turn_of_result, turn, world_of, beginning, client_of, server_of}
@@ -79,7 +80,7 @@ one_more w said = λ i. record (history_of w) { sent = sym (tables-last [] w.out
 none_more : (w : World) → history_of w ≡ record (history_of w) { sent = tables_from [] (w.out ++ []) }
 none_more w = λ i. record (history_of w) { sent = tables_from [] (sym (append-nil w.out) i) }
 
-call_next : (setting : Setting) (w : World) (said : ClientMessage) (result : Result client.Sending client.CallRefusal) → IsNextHistory setting w (turn_of_call w said result)
+call_next : (setting : Setting) (w : World) (said : ClientMessage) (result : Result client.Sending ClientFault) → IsNextHistory setting w (turn_of_call w said result)
 call_next setting w said (Ok sending) = one_more w said
 call_next setting w said (Err refusal) = refl
 
@@ -89,7 +90,7 @@ delivery_next setting w client.noted s = none_more w
 delivery_next setting w client.ignored s = none_more w
 delivery_next setting w (client.bad_server reason) s = none_more w
 
-result_next : (setting : Setting) (w : World) (result : Result client.Delivery client.CallRefusal) → IsNextHistory setting w (turn_of_result w result)
+result_next : (setting : Setting) (w : World) (result : Result client.Delivery ClientFault) → IsNextHistory setting w (turn_of_result w result)
 result_next setting w (Ok delivery) = delivery_next setting w delivery.delivered delivery.state
 result_next setting w (Err refusal) = refl
 

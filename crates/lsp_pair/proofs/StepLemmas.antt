@@ -8,7 +8,7 @@ use Rattle.lsp_message.specs.Outgoing.{OutgoingData, body_of}
 use Rattle.lsp_message.specs.Params.{DocumentItem}
 use Rattle.lsp_store.specs.Table.{table_of}
 use Rattle.lsp_server.specs.Step as server
-use Rattle.lsp_client.specs.Step as client
+use Rattle.lsp_client.specs.declared.fault.ClientFault.{ClientFault}
 use Rattle.lsp_client.specs.Step.{Call, Sending, Delivery, call_result, delivery_of, sent_body}
 use Rattle.lsp_pair.specs.declared.event.Happened.{Happened}
 use Rattle.lsp_pair.specs.declared.event.Happened.TheVariants.{Server, Client}
@@ -66,7 +66,7 @@ module _ (setting : Setting) (sound : IsFitting setting) (w : World) (ok : World
       ap (λ (f : List ℕ). old.to_server ++ f ∷ []) is.frame ∙ queue_more said in
       λ i. record { client = client_is i; server = server_is i; to_server = queue i; to_client = old.to_client }
 
-  call_step : (call : Call) (result : Result Sending client.CallRefusal) (happened : Happened) (new : PairData) → CallResult setting w (message_of_call (client_of setting w) call) result
+  call_step : (call : Call) (result : Result Sending ClientFault) (happened : Happened) (new : PairData) → CallResult setting w (message_of_call (client_of setting w) call) result
       → IsCallStep old result happened new → AsTurn setting (turn_of_call w (message_of_call (client_of setting w) call (message_in result)) result) happened new
   call_step call (Ok sending) happened new is steps = record { happens = steps.0; leaves = steps.1 ∙ called_pair (message_of_call (client_of setting w) call sending.message) sending is }
   call_step call (Err refusal) happened new is steps = record { happens = steps.0; leaves = steps.1 }

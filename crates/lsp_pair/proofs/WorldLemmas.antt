@@ -4,6 +4,7 @@ use Rattle.std.specs.Prelude.{MatchOption}
 use Rattle.lsp_message.specs.Message.{message}
 use Rattle.lsp_message.specs.Outgoing.{OutgoingData}
 use Rattle.lsp_message.specs.Sent.{sent}
+use Rattle.lsp_client.specs.declared.fault.ClientFault.{ClientFault}
 use Rattle.lsp_client.specs.Step as client
 use Rattle.lsp_client.specs.Step.{Call, call_result}
 use Rattle.lsp_pair.specs.declared.event.Happened.TheVariants.{Server, Client, Nothing}
@@ -93,7 +94,7 @@ module _ (setting : Setting) (sound : IsFitting setting) (w : World) (ok : World
         next = r.next;
       })
 
-  call_turn : (call : Call) (result : Result client.Sending client.CallRefusal) → CallResult setting w (message_of_call (client_of setting w) call) result
+  call_turn : (call : Call) (result : Result client.Sending ClientFault) → CallResult setting w (message_of_call (client_of setting w) call) result
       → WorldSound setting (turn_of_call w (message_of_call (client_of setting w) call (message_in result)) result).world
   call_turn call (Ok sending) is = is.next
   call_turn call (Err refusal) is = ok

@@ -15,7 +15,7 @@ use Rattle.lsp_server.specs.declared.config.EncodingChoice.TheVariants.{Fixed, N
 use Rattle.lsp_server.specs.declared.phase.Phase.TheVariants.{Ended}
 use Rattle.lsp_server.specs.Choice.{announced_kind}
 use Rattle.lsp_server.specs.Step as server
-use Rattle.lsp_client.specs.Seen.{fault_of}
+use Rattle.lsp_client.specs.declared.fault.ClientFault.{ClientFault}
 use Rattle.lsp_client.specs.Step as client
 use Rattle.lsp_pair.specs.declared.event.Happened.{Happened}
 use Rattle.lsp_pair.specs.declared.event.Happened.TheVariants.{Sent, Refused, Server, Client, Nothing}
@@ -46,7 +46,7 @@ message_frame m = frame (body_of m)
 
 -- A call of the client. The frame of an accepted call comes last in the queue to the server, and a
 -- refused one changes nothing.
-abbrev pub IsCallStep : PairData → Result client.Sending client.CallRefusal → Happened → PairData →
+abbrev pub IsCallStep : PairData → Result client.Sending ClientFault → Happened → PairData →
     Type 0
 IsCallStep old (Ok sending) happened new =
     (happened ≡ Sent)
@@ -54,8 +54,7 @@ IsCallStep old (Ok sending) happened new =
       client = sending.state;
       to_server = old.to_server ++ message_frame sending.message ∷ [];
     })
-IsCallStep old (Err refusal) happened new =
-    (happened ≡ Refused (fault_of refusal)) × (new ≡ old)
+IsCallStep old (Err fault) happened new = (happened ≡ Refused fault) × (new ≡ old)
 
 -- The server, which has not ended, handles the first frame of its queue, and its reply comes last in
 -- the other.

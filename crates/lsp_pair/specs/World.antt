@@ -20,10 +20,10 @@ use Rattle.lsp_server.specs.Answer.{AnswerData, reply_code}
 use Rattle.lsp_server.specs.Incoming as incoming
 use Rattle.lsp_server.specs.Incoming.{IncomingData}
 use Rattle.lsp_server.specs.Step as server
+use Rattle.lsp_client.specs.declared.fault.ClientFault.{ClientFault}
 use Rattle.lsp_client.specs.declared.agreed.Agreed.{Agreed}
 use Rattle.lsp_client.specs.declared.phase.Phase as client_phase
 use Rattle.lsp_client.specs.declared.phase.Phase.TheVariants as client_phases
-use Rattle.lsp_client.specs.Seen.{fault_of}
 use Rattle.lsp_client.specs.Step as client
 use Rattle.lsp_client.specs.Step.{Call, orders, Order, DeliveredData}
 use Rattle.lsp_pair.specs.declared.event.Happened.{Happened}
@@ -138,7 +138,7 @@ pub record Turn : Type 0 where
   pub world : World
 
 -- The message of an accepted call comes last in `out`; a refused call changes nothing.
-abbrev pub turn_of_call : World → ClientMessage → Result client.Sending client.CallRefusal → Turn
+abbrev pub turn_of_call : World → ClientMessage → Result client.Sending ClientFault → Turn
 turn_of_call w sent (Ok sending) =
     record {
       happened = Sent;
@@ -148,8 +148,7 @@ turn_of_call w sent (Ok sending) =
         agreed = sending.state.agreed;
       };
     }
-turn_of_call w sent (Err refusal) =
-    record { happened = Refused (fault_of refusal); world = w }
+turn_of_call w sent (Err fault) = record { happened = Refused fault; world = w }
 
 -- The message of an accepted call, by the call and what was sent.
 abbrev pub message_of_call : client.State → Call → OutgoingData → ClientMessage
@@ -158,7 +157,7 @@ message_of_call s (orders order) m =
 message_of_call s call m = lifecycle m
 
 -- What an accepted call sends. (A refused one sends nothing; this is then any message.)
-abbrev pub message_in : Result client.Sending client.CallRefusal → OutgoingData
+abbrev pub message_in : Result client.Sending ClientFault → OutgoingData
 message_in (Ok sending) = sending.message
 message_in (Err refusal) = outgoing.exit
 
@@ -213,10 +212,9 @@ turn_of_delivery w delivery =
     }
 
 -- The turn of a delivery, or of its refusal, which changes nothing.
-abbrev pub turn_of_result : World → Result client.Delivery client.CallRefusal → Turn
+abbrev pub turn_of_result : World → Result client.Delivery ClientFault → Turn
 turn_of_result w (Ok delivery) = turn_of_delivery w delivery
-turn_of_result w (Err refusal) =
-    record { happened = Refused (fault_of refusal); world = w }
+turn_of_result w (Err fault) = record { happened = Refused fault; world = w }
 
 -- The client of this world handles the first message that waits for it.
 abbrev pub to_client_event : Setting → World → Option OutgoingData → Turn
