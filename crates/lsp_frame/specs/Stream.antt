@@ -7,6 +7,8 @@ use Rattle.lsp_frame.specs.Frame.{IsFrameOf, HasNoFrame}
 use Rattle.std.specs.Prelude.{Ok, true, false}
 use Rattle.lsp_frame.specs.Frame.{IsHopeless}
 use Rattle.lsp_frame.specs.Faults.{IsDecidedAt, IsDecided, place_after}
+use Rattle.lsp_frame.specs.declared.framer.stage.Stage.{Stage}
+use Rattle.lsp_frame.specs.declared.framer.stage.Stage.TheVariants as stage
 use Rattle.lsp_frame.specs.declared.fault.HeaderFault.{HeaderFault}
 use Rattle.lsp_frame.specs.declared.fault.FrameFault.{FrameFault}
 use Rattle.lsp_frame.specs.declared.fault.FrameFault.TheVariants.{BadHeader, HeaderTooLong, MissingLength, RepeatedHeader, BadLength, BodyTooLong, BadCharset, Failed, NoMemory}
@@ -18,6 +20,11 @@ pub record Framing : Type 0 where
   pub buffered : List ℕ
   pub failed : Bool
   pub limits : Bounds
+
+-- A fault was found.
+abbrev pub has_failed : Stage → Bool
+has_failed stage.Failed = true
+has_failed other = false
 
 -- The bytes are a whole frame.
 pub record IsFrame (max_body : ℕ) (bytes : List ℕ) : Type 0 where
