@@ -5,7 +5,7 @@ ghost use Rattle.lsp_message.specs.Message.{reading};
 ghost use Rattle.lsp_server.specs.declared.phase.Phase.TheVariants.{Running, Ended};
 ghost use Rattle.lsp_server.specs.Step.{new_server, with_encoding, step, step_on};
 ghost use Rattle.lsp_server.specs.Answer.{IsQuiet, as_sent};
-ghost use Rattle.lsp_server.specs.Seen.{answer_view};
+ghost use Rattle.lsp_server.specs.Seen.{answer_view, IsRefusing};
 ghost use Rattle.lsp_server.specs.Calls.{IsRowOf};
 ghost use Rattle.lsp_reader.specs.Incoming.{incoming_of};
 ghost use Rattle.lsp_reader.specs.Seen.{incoming_view};
@@ -139,10 +139,13 @@ impl Server {
     ///
     /// Costs one parse of the body, whose texts are moved into the store; then what the command
     /// costs there, or the reply's bytes.
+    #[tactic(auto, using(crate::proofs::RefusalLemmas::refused_stays))]
     pub fn handle(&mut self, body: &[u8]) -> Result<Answer, ServerFault>
         ensures answer { IfOk result
             (λ a. answer_view a ≡ as_sent (step self.old (reading body.now)).answer) }
         ensures state { OnOk result (self.new ≡ (step self.old (reading body.now)).state) }
+        // A message that isn't obeyed changes nothing.
+        ensures refused { IfOk result (λ a. IsRefusing a → self.new ≡ self.old) }
         ensures unchanged { OnErr result (self.new ≡ self.old) }
         ensures ended { IsErrOf result ServerFault.AlreadyEnded ↔ (self.old.phase ≡ Ended) }
     {
@@ -173,10 +176,12 @@ impl Server {
     /// Returns what [`handle`](Server::handle) returns for that body, with the same faults. It
     /// consumes what was read, so after [`ServerFault::NoMemory`] the body has to be read again.
     /// Nothing is parsed: costs a reply's bytes, or what the command costs in the store.
+    #[tactic(auto, using(crate::proofs::RefusalLemmas::refused_stays))]
     pub fn handle_incoming(&mut self, incoming: Incoming) -> Result<Answer, ServerFault>
         ensures answer { IfOk result
             (λ a. answer_view a ≡ as_sent (step_on self.old (incoming_view incoming)).answer) }
         ensures state { OnOk result (self.new ≡ (step_on self.old (incoming_view incoming)).state) }
+        ensures refused { IfOk result (λ a. IsRefusing a → self.new ≡ self.old) }
         ensures unchanged { OnErr result (self.new ≡ self.old) }
         // Only a reply, and a document that is opened or changed, take memory.
         ensures quiet { IsQuiet (step_on self.old (incoming_view incoming)).answer → IsOk result }
