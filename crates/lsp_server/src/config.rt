@@ -8,7 +8,8 @@ use lsp_message::{Offers, SyncKind};
 use lsp_text::Encoding;
 
 /// The configuration of a server: its limits, how it chooses the encoding of positions, and how it
-/// wants to be notified of changes.
+/// wants to be notified of changes. For editors that repeat versions or open an open document,
+/// choose [lenient](Limits::lenient) limits.
 #[derive(Clone, Copy, Debug, PartialEq, Eq)]
 pub struct Config {
     pub limits: Limits,
