@@ -1,6 +1,6 @@
 -- Both ends of a session and the frames between them, and when a pair is at the world of a list of
 -- events.
-use Rattle.std.specs.Prelude.{ℕ, ◌≡◌, Bool, true, false, nat_le, ◌&&◌, List, [], ◌∷◌, ◌++◌, drop, map, Result, Ok, Err}
+use Rattle.std.specs.Prelude.{ℕ, ◌≡◌, Bool, true, false, not, nat_le, ◌&&◌, ◌||◌, List, [], ◌∷◌, ◌++◌, drop, map, Result, Ok, Err}
 use Rattle.lsp_frame.specs.Frame.{frame, IsFrameOf}
 use Rattle.lsp_frame.specs.Limits.{Bounds, AreInRange}
 use Rattle.lsp_text.specs.declared.encoding.Encoding.TheVariants.{Utf8, Utf16, Utf32}
@@ -163,11 +163,12 @@ is_utf16 (Fixed Utf16) = true
 is_utf16 (Fixed Utf32) = false
 is_utf16 (Negotiated prefer) = true
 
--- Each of the limits is at most the other's.
+-- Each of the limits is at most the other's, and they are lenient only if the others are.
 abbrev pub are_within : Bounds → Bounds → Bool
 are_within small great =
     nat_le small.max_body great.max_body && nat_le small.max_text great.max_text
     && nat_le small.max_docs great.max_docs && nat_le small.max_changes great.max_changes
+    && (not small.lenient || great.lenient)
 
 -- A setting that a pair accepts.
 pub record IsSound (setting : Setting) : Type 0 where

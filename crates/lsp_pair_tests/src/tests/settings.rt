@@ -49,6 +49,32 @@ fn which_ends_fit(rt: HostRuntime) -> Result<(), Fail> {
     Ok(())
 }
 
+/// Are lenient ends refused where only the client is?
+fn lenient_ends_fit(alloc: Global) -> Result<bool, BadLimits> {
+    let limits = Limits::new(4_097, 8, 2, 2)?;
+    let strict = Config {
+        limits,
+        choice: UTF16,
+        sync: Sync::Incremental,
+    };
+    let lenient = Config {
+        limits: limits.lenient(),
+        ..strict
+    };
+    let refused = Pair::new(alloc, limits.lenient(), NO_OFFERS, strict).err();
+    Ok(
+        refused == Some(PairFault::LimitsTooSmall)
+            && Pair::new(alloc, limits, NO_OFFERS, lenient).is_ok()
+            && Pair::new(alloc, limits.lenient(), NO_OFFERS, lenient).is_ok(),
+    )
+}
+
+#[test]
+fn a_lenient_client_needs_a_lenient_server(rt: HostRuntime) -> Result<(), Fail> {
+    assert!(rt; lenient_ends_fit(rt.alloc())?);
+    Ok(())
+}
+
 static TEXTS: [(PairFault, &str); 2] = [
     (
         PairFault::NotUtf16,
