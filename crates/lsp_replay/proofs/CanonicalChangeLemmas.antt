@@ -1,6 +1,6 @@
 -- The canonical message of what some batch means on an open document: it is read as a change, which is accepted there, leaves what the batch
 -- leaves, and is its own canonical message.
-use Rattle.std.proofs.Common.{◌≡◌, ℕ, ℤ, ◌≤◌, false, nat_lt, int_le, List, map, length, IsUtf8, Some, None, Ok, refl, ap, ◌∙◌, subst, arith, w32, FitsSigned}
+use Rattle.std.proofs.Common.{◌≡◌, ℕ, ℤ, ◌≤◌, false, nat_lt, List, map, length, IsUtf8, Some, None, Ok, refl, ap, ◌∙◌, subst, arith, w32, FitsSigned}
 use Rattle.std.specs.Str.{chars}
 use Rattle.std.proofs.lemmas.Str.{scalars-chars}
 use Rattle.lsp_frame.specs.Limits.{AreInRange}
@@ -16,7 +16,7 @@ use Rattle.lsp_edit.specs.Indexed.{bytes_left}
 use Rattle.lsp_message.specs.Message.{reading}
 use Rattle.lsp_message.specs.Params.{DocumentItem, ChangeData}
 use Rattle.lsp_message.proofs.ReadBack.{reading-body_of, is_read_back, body_of-unique}
-use Rattle.lsp_store.specs.Table.{entry_at, entry_refusal, meant_text}
+use Rattle.lsp_store.specs.Table.{entry_at, entry_refusal, is_stale, meant_text}
 use Rattle.lsp_store.specs.Message.{AreTexts, IsReadAgain, written_edit, change_body, canonical_batch, canonical_body}
 use Rattle.lsp_store.specs.Squash.{SquashData, items_meant}
 use Rattle.lsp_store.proofs.MessageLemmas.{is_read}
@@ -40,7 +40,7 @@ pub record IsProperAt (t : State) (uri : List ℕ) (version : ℤ) (entry : Docu
   pub version_fits : FitsSigned w32 version
   pub means : meaning (units_in (encoding_of t)) (chars entry.text) batch ≡ Ok items
   pub texts : AreTexts batch
-  pub newer : int_le version entry.version ≡ false
+  pub newer : is_stale t.config.limits version entry.version ≡ false
   pub short : length (bytes_left entry.text items) ≤ t.config.limits.max_text
   pub few : nat_lt t.config.limits.max_changes (length (canonical (units_in (encoding_of t)) (chars entry.text) items)) ≡ false
 

@@ -1,5 +1,5 @@
 -- A change that is accepted is joined to the batches of the open run, or begins batches of its own.
-use Rattle.std.proofs.Common.{◌≡◌, ◌≢◌, inl, inr, ℕ, ℤ, Bool, true, false, List, [], ◌∷◌, map, length, int_le, ◌||◌, Option, Some, None, bytes_eq, refl, sym, ap, ◌∙◌, subst, ⊎_elim}
+use Rattle.std.proofs.Common.{◌≡◌, ◌≢◌, inl, inr, ℕ, ℤ, Bool, true, false, List, [], ◌∷◌, map, length, ◌||◌, Option, Some, None, bytes_eq, refl, sym, ap, ◌∙◌, subst, ⊎_elim}
 use Rattle.std.specs.Prelude.{⊤, if◌then◌else◌, nat_lt, Result, Ok, Err}
 use Rattle.std.proofs.lemmas.Bool.{cases_Bool}
 use Rattle.std.proofs.lemmas.Slice.Eq.{bytes_eq-Decides}
@@ -15,7 +15,7 @@ use Rattle.lsp_store.specs.declared.fault.StoreFault.TheVariants.{BodyTooLong}
 use Rattle.lsp_store.specs.Faults.{IsRefusal, fault_of}
 use Rattle.lsp_store.specs.Message.{else_refused}
 use Rattle.lsp_store.specs.Squash.{SquashData, HasReached, IsSquashAfter, squash_of}
-use Rattle.lsp_store.specs.Table.{Refusal, already_open, too_many_documents, not_open, stale_version, edit, body_too_long, text_too_long, too_many_changes, batch_bytes, greatest_batch, change_refusal, changed as changed_entry, entry_at, entry_refusal, meaning_refusal, refusal_on}
+use Rattle.lsp_store.specs.Table.{Refusal, already_open, too_many_documents, not_open, stale_version, edit, body_too_long, text_too_long, too_many_changes, batch_bytes, greatest_batch, change_refusal, is_stale, changed as changed_entry, entry_at, entry_refusal, meaning_refusal, refusal_on}
 use Rattle.lsp_store.proofs.LawLemmas.{found_changed}
 use Rattle.lsp_store.proofs.SquashLemmas.{after_is}
 use Rattle.lsp_server.specs.Answer.{changed}
@@ -48,7 +48,7 @@ meaning_not limits text (Ok items) = if_not _ (Some text_too_long) None tt tt
 on_not : (limits : Bounds) (units : ℕ → ℕ) (found : Option DocumentItem) (version : ℤ) (batch : List Edit) → IsNotTooLong (refusal_on limits units found version batch)
 on_not limits units None version batch = tt
 on_not limits units (Some entry) version batch =
-    if_not (int_le version entry.version) (Some (stale_version entry.version))
+    if_not (is_stale limits version entry.version) (Some (stale_version entry.version))
     (if nat_lt limits.max_changes (length batch) || nat_lt greatest_batch (batch_bytes batch) then Some too_many_changes else meaning_refusal limits entry.text (meaning units (chars entry.text) batch)) tt
     (if_not (nat_lt limits.max_changes (length batch) || nat_lt greatest_batch (batch_bytes batch)) (Some too_many_changes) (meaning_refusal limits entry.text (meaning units (chars entry.text) batch)) tt
     (meaning_not limits entry.text (meaning units (chars entry.text) batch)))

@@ -1,5 +1,5 @@
 -- A run that is open: what its batches make together of the document before it is the document that is open now.
-use Rattle.std.proofs.Common.{◌≡◌, ℕ, ℤ, ◌≤◌, true, false, nat_lt, int_le, List, [], ◌∷◌, ◌++◌, map, length, bytes_eq, encode_utf8_all, IsUtf8, Some, None, Ok, refl, sym, ap, ◌∙◌, subst, arith, w32, FitsSigned}
+use Rattle.std.proofs.Common.{◌≡◌, ℕ, ℤ, ◌≤◌, Bool, true, false, not, ◌&&◌, nat_lt, int_le, List, [], ◌∷◌, ◌++◌, map, length, bytes_eq, encode_utf8_all, IsUtf8, Some, None, Ok, refl, sym, ap, ◌∙◌, subst, arith, w32, FitsSigned}
 use Rattle.std.specs.Str.{chars}
 use Rattle.std.proofs.lemmas.Bool.{leb-false, lt-leb}
 use Rattle.std.proofs.Math.IntN.{pos, negsuc}
@@ -15,7 +15,7 @@ use Rattle.lsp_edit.proofs.ComposeLemmas.{text_of-then, then_means}
 use Rattle.lsp_edit.proofs.EditedLemmas.{plain_text}
 use Rattle.lsp_edit.specs.Indexed.{bytes_left}
 use Rattle.lsp_message.specs.Params.{DocumentItem, ChangeData}
-use Rattle.lsp_store.specs.Table.{entry_at, meant_text}
+use Rattle.lsp_store.specs.Table.{entry_at, is_stale, meant_text}
 use Rattle.lsp_store.specs.Message.{AreTexts}
 use Rattle.lsp_store.specs.Squash.{SquashData, items_meant, squash_batch, squash_of}
 use Rattle.lsp_store.proofs.MessageLemmas.{Accepts, accepted_parts}
@@ -42,7 +42,7 @@ pub record IsOpenFrom (t : State) (squash : SquashData) (now : State) : Type 0 w
   pub batch : List Edit
   pub means : meaning (units_in (encoding_of t)) (chars entry.text) batch ≡ Ok squash.items
   pub texts : AreTexts batch
-  pub newer : int_le squash.version entry.version ≡ false
+  pub newer : is_stale t.config.limits squash.version entry.version ≡ false
   pub short : length (bytes_left entry.text squash.items) ≤ t.config.limits.max_text
   pub uri : IsUtf8 squash.uri
   pub version : FitsSigned w32 squash.version
@@ -108,13 +108,17 @@ module _ (t : State) (p : ChangeData) (entry : DocumentItem) (found : entry_at t
 -- ---- a change goes on with it
 
 -- what is newer than a newer version is newer
-newer_still : (a b c : ℤ) → int_le a b ≡ false → int_le b c ≡ false → int_le a c ≡ false
-newer_still (pos a) (pos b) (pos c) over more = lt-leb a c (omega (arith, leb-false a b over, leb-false b c more))
-newer_still (pos a) b (negsuc c) over more = refl
-newer_still (pos a) (negsuc b) (pos c) over more = absurd (let wrong : true ≡ false = more in cc)
-newer_still (negsuc a) (pos b) c over more = absurd (let wrong : true ≡ false = over in cc)
-newer_still (negsuc a) (negsuc b) (pos c) over more = absurd (let wrong : true ≡ false = more in cc)
-newer_still (negsuc a) (negsuc b) (negsuc c) over more = lt-leb c a (omega (arith, leb-false b a over, leb-false c b more))
+newer_yet : (a b c : ℤ) → int_le a b ≡ false → int_le b c ≡ false → int_le a c ≡ false
+newer_yet (pos a) (pos b) (pos c) over more = lt-leb a c (omega (arith, leb-false a b over, leb-false b c more))
+newer_yet (pos a) b (negsuc c) over more = refl
+newer_yet (pos a) (negsuc b) (pos c) over more = absurd (let wrong : true ≡ false = more in cc)
+newer_yet (negsuc a) (pos b) c over more = absurd (let wrong : true ≡ false = over in cc)
+newer_yet (negsuc a) (negsuc b) (pos c) over more = absurd (let wrong : true ≡ false = more in cc)
+newer_yet (negsuc a) (negsuc b) (negsuc c) over more = lt-leb c a (omega (arith, leb-false b a over, leb-false c b more))
+
+newer_still : (lenient : Bool) (a b c : ℤ) → (not lenient && int_le a b) ≡ false → (not lenient && int_le b c) ≡ false → (not lenient && int_le a c) ≡ false
+newer_still true a b c over more = refl
+newer_still false a b c over more = newer_yet a b c over more
 
 module _ (t : State) (squash : SquashData) (now : State) (from : IsOpenFrom t squash now) (p : ChangeData) (same : bytes_eq p.uri squash.uri ≡ true) (proper : IsProperAsked p) (may : refusal_of now p ≡ None) where
   abbrev reached_text : List ℕ
@@ -169,7 +173,7 @@ module _ (t : State) (squash : SquashData) (now : State) (from : IsOpenFrom t sq
     batch = from.batch ++ map edit_from_data p.changes;
     means = then_means (units_in (encoding_of t)) (chars from.entry.text) from.batch (map edit_from_data p.changes) squash.items accepts_now.items from.means means_now ∙ ap Ok (sym longer_items);
     texts = texts_more from.batch (map edit_from_data p.changes) from.texts proper.texts;
-    newer = newer_still p.version squash.version from.entry.version accepts_now.newer from.newer;
+    newer = newer_still t.config.limits.lenient p.version squash.version from.entry.version accepts_now.newer from.newer;
     short = subst (λ (text : List ℕ). length text ≤ t.config.limits.max_text) left_now accepts_now.short;
     uri = from.uri;
     version = proper.version;

@@ -1,11 +1,11 @@
 -- What a server holds: texts in UTF-8, and within its limit.
 use Rattle.std.proofs.Common.{◌≡◌, ℕ, ℤ, ◌≤◌, Bool, true, false, List, [], ◌∷◌, map, length, Option, Some, None, refl, ⊎_elim}
-use Rattle.std.specs.Prelude.{⊤, if◌then◌else◌, nat_lt, nat_le, is_some}
+use Rattle.std.specs.Prelude.{⊤, if◌then◌else◌, nat_lt, nat_le}
 use Rattle.std.proofs.lemmas.Bool.{ltb-false}
 use Rattle.lsp_frame.specs.Limits.{Bounds}
 use Rattle.lsp_text.specs.Units.{units_in}
 use Rattle.lsp_message.specs.Params.{DocumentItem, ChangeData}
-use Rattle.lsp_store.specs.Table.{Refusal, already_open, too_many_documents, text_too_long, entry_at, open_refusal, change_refusal, close_refusal, unless_refused}
+use Rattle.lsp_store.specs.Table.{Refusal, already_open, too_many_documents, text_too_long, after_close, is_taken, open_refusal, change_refusal, close_refusal, unless_refused}
 use Rattle.lsp_store.specs.Laws.{AllWithin}
 use Rattle.lsp_store.proofs.LawLemmas.{within_end, within_change, within_close}
 use Rattle.lsp_server.specs.declared.phase.Phase.{Phase}
@@ -18,7 +18,7 @@ use Rattle.lsp_replay.proofs.AskedLemmas.{IsProperAsked, IsTextOpened, IsProperI
 -- ---- commands
 
 opened_short : (limits : Bounds) (table : List DocumentItem) (entry : DocumentItem) → open_refusal limits table entry ≡ None → length entry.text ≤ limits.max_text
-opened_short limits table entry e = by (is_some (entry_at table entry.uri)) (nat_le limits.max_docs (length table)) (nat_lt limits.max_text (length entry.text)) e (ltb-false limits.max_text (length entry.text))
+opened_short limits table entry e = by (is_taken limits table entry.uri) (nat_le limits.max_docs (length (after_close table entry.uri))) (nat_lt limits.max_text (length entry.text)) e (ltb-false limits.max_text (length entry.text))
   where
     by : (a b c : Bool) → (if a then Some already_open else if b then Some too_many_documents else if c then Some text_too_long else None) ≡ None
         → (c ≡ false → length entry.text ≤ limits.max_text) → length entry.text ≤ limits.max_text
