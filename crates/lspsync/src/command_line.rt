@@ -228,10 +228,13 @@ fn limits_of(options: &ArgMatches<'_>) -> Option<Limits>
     let max_text = number_of(options, "max-text")?;
     let max_docs = number_of(options, "max-docs")?;
     let max_changes = number_of(options, "max-changes")?;
-    match Limits::new(max_body, max_text, max_docs, max_changes) {
-        Ok(limits) => Some(limits),
-        Err(_) => None,
+    let Ok(limits) = Limits::new(max_body, max_text, max_docs, max_changes) else {
+        return None;
+    };
+    if options.get_flag("lenient") {
+        return Some(limits.lenient());
     }
+    Some(limits)
 }
 
 fn number_of(options: &ArgMatches<'_>, id: &str) -> Option<usize>
@@ -409,7 +412,7 @@ fn with_details<'a>(
         .arg(flag(alloc, "bodies", help.bodies))
 }
 
-/// Adds the options that set limits.
+/// Adds the options that set limits, and `--lenient`.
 fn with_limits<'a>(
     alloc: Global,
     command: Command<'a>,
@@ -421,7 +424,8 @@ fn with_limits<'a>(
         .arg(number(alloc, &limits.body))?
         .arg(number(alloc, &limits.text))?
         .arg(number(alloc, &limits.docs))?
-        .arg(number(alloc, &limits.changes))
+        .arg(number(alloc, &limits.changes))?
+        .arg(flag(alloc, "lenient", limits.lenient))
 }
 
 /// An option with one of these names.
