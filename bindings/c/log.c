@@ -33,7 +33,7 @@ static void print_output(laspidru_handle *output) {
 }
 
 int main(void) {
-    laspidru_log_settings settings = {16777216, 16777216, 1024, 65536, LASPIDRU_UTF16, 0};
+    laspidru_log_settings settings = {16777216, 16777216, 1024, 65536, LASPIDRU_UTF16, 0, 0};
     laspidru_handle output = {0};
     laspidru_ending ending = {0};
     size_t len;

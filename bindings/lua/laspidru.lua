@@ -12,7 +12,7 @@ typedef struct { size_t edit, other; bool at_end; } laspidru_edits_fault;
 typedef struct { size_t start, end_; } laspidru_line;
 typedef struct { size_t bytes, lines; } laspidru_length;
 typedef struct { size_t bytes, body_len; uint64_t place; uint32_t frame; bool is_whole; } laspidru_taken;
-typedef struct { size_t max_body, max_text, max_docs, max_changes; bool utf8, utf32; } laspidru_client_settings;
+typedef struct { size_t max_body, max_text, max_docs, max_changes; bool utf8, utf32, lenient; } laspidru_client_settings;
 typedef struct { uint32_t phase, reason, encoding; size_t documents; } laspidru_state;
 typedef struct { uint32_t kind, reason, status; int32_t error; size_t reply_len; } laspidru_answer;
 typedef struct { int32_t version; size_t bytes; } laspidru_opened;
@@ -257,7 +257,8 @@ end
 local Client = {}
 Client.__index = Client
 
--- Options are `utf8`, `utf32` (what it offers beside UTF-16), `max_body`, `max_text`, `max_docs`, `max_changes`.
+-- Options are `utf8`, `utf32` (what it offers beside UTF-16), `max_body`, `max_text`, `max_docs`, `max_changes`, and
+-- `lenient`: an edit of any version is taken, and an open document may be opened again.
 function Client.new(options)
     options = options or {}
     local self = setmetatable({ handle = new_handle(), rest = "" }, Client)
@@ -268,6 +269,7 @@ function Client.new(options)
         max_changes = number(options.max_changes or 65536, 0, 2 ^ 53),
         utf8 = options.utf8 and true or false,
         utf32 = options.utf32 and true or false,
+        lenient = options.lenient and true or false,
     })
     demand(C.laspidru_client_new(self.handle, settings))
     return self

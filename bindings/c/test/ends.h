@@ -61,7 +61,7 @@ static void test_framer(void) {
     laspidru_close(&framer);
 }
 
-static const laspidru_client_settings client_settings = {4096, 64, 2, 4, 1, 0};
+static const laspidru_client_settings client_settings = {4096, 64, 2, 4, 1, 0, 0};
 
 static laspidru_u32 client_open(laspidru_handle *client, const char *uri, laspidru_i32 version, const char *text, laspidru_size *len) {
     return laspidru_client_open(client, bytes(uri), strlen(uri), bytes("c"), 1, version, bytes(text), strlen(text), len);

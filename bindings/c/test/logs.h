@@ -3,8 +3,9 @@
 typedef laspidru_u32 command(laspidru_handle *output, const laspidru_log_settings *settings, const unsigned char *log,
                              laspidru_size log_len, laspidru_ending *ending);
 
-static const laspidru_log_settings log_settings = {4096, 64, 2, 4, LASPIDRU_UTF8, 0};
-static const laspidru_log_settings squashing = {4096, 64, 2, 4, LASPIDRU_UTF8, 1};
+static const laspidru_log_settings log_settings = {4096, 64, 2, 4, LASPIDRU_UTF8, 0, 0};
+static const laspidru_log_settings squashing = {4096, 64, 2, 4, LASPIDRU_UTF8, 1, 0};
+static const laspidru_log_settings lenient = {4096, 64, 2, 4, LASPIDRU_UTF8, 0, 1};
 static const char change_b[] = "{\"jsonrpc\":\"2.0\",\"method\":\"textDocument/didChange\",\"params\":{\"textDocument\":"
                                "{\"uri\":\"file:///a\",\"version\":8},\"contentChanges\":[{\"range\":{\"start\":"
                                "{\"line\":0,\"character\":0},\"end\":{\"line\":0,\"character\":0}},\"text\":\"!\"}]}}";
@@ -92,6 +93,8 @@ static void test_logs(void) {
     CHECK(writes(laspidru_log_check, &log_settings, log_of(stale), LASPIDRU_OK,
                  text_part("1 reply\n2 changed\n3 changed\n4 refused S5\n"), &ending));
     CHECK(is_outcome(ending, 1, 4, 1));
+    CHECK(writes(laspidru_log_check, &lenient, log_of(stale), LASPIDRU_OK,
+                 text_part("1 reply\n2 changed\n3 changed\n4 changed\n"), &ending));
     CHECK(writes(laspidru_log_replay, &log_settings, log, LASPIDRU_OK,
                  text_part("{\"languageId\":\"c\",\"text\":\"!ab\\nXYd\",\"uri\":\"file:///a\",\"version\":8}\n"), &ending));
     CHECK(is_outcome(ending, 0, 4, 0));
@@ -109,7 +112,7 @@ static void test_logs(void) {
 static void test_log_faults(void) {
     static const char *const session[] = {initialize, open_a, 0};
     static const char lines[] = "1 reply\n2 changed\n";
-    static const laspidru_log_settings long_texts = {4096, 8192, 2, 4, LASPIDRU_UTF8, 0};
+    static const laspidru_log_settings long_texts = {4096, 8192, 2, 4, LASPIDRU_UTF8, 0, 0};
     static char long_change[4097];
     part log = log_of(session), cut = log;
     laspidru_ending ending = {9, 9, 9, 9, 9, 9};

@@ -3,9 +3,9 @@
 typedef laspidru_u32 log_command(laspidru_handle *output, const laspidru_log_settings *settings, const unsigned char *log,
                                  laspidru_size log_len, laspidru_ending *ending);
 
-/* The settings of a command: six numbers, in the order of laspidru_log_settings. */
+/* The settings of a command: seven numbers, in the order of laspidru_log_settings. */
 static laspidru_log_settings settings_of(const laspidru_u32 *n) {
-    return (laspidru_log_settings){n[0], n[1], n[2], n[3], n[4], n[5] != 0};
+    return (laspidru_log_settings){n[0], n[1], n[2], n[3], n[4], n[5] != 0, n[6] != 0};
 }
 
 /* How a command ended, for index.js: {code, output, status, messages, refused, frame, place}. */

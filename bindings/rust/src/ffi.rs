@@ -61,6 +61,7 @@ pub struct Settings {
     pub encoding: u32,
     pub is_fixed: bool,
     pub is_full: bool,
+    pub lenient: bool,
 }
 
 #[repr(C)]
@@ -88,6 +89,7 @@ pub struct ClientSettings {
     pub max_changes: usize,
     pub utf8: bool,
     pub utf32: bool,
+    pub lenient: bool,
 }
 
 #[repr(C)]
@@ -117,6 +119,7 @@ pub struct LogSettings {
     pub max_changes: usize,
     pub encoding: u32,
     pub squash: bool,
+    pub lenient: bool,
 }
 
 #[repr(C)]

@@ -13,12 +13,22 @@ pub struct LogSettings {
     pub encoding: Encoding,
     /// Does [`normalise`] write changes of one document that follow each other as one message?
     pub squash: bool,
+    /// Is a change of any version taken, and may an open document be opened again?
+    pub lenient: bool,
 }
 
 impl Default for LogSettings {
     fn default() -> Self {
         let [max_body, max_text, max_docs, max_changes] = DEFAULT_LIMITS;
-        LogSettings { max_body, max_text, max_docs, max_changes, encoding: Encoding::Utf16, squash: false }
+        LogSettings {
+            max_body,
+            max_text,
+            max_docs,
+            max_changes,
+            encoding: Encoding::Utf16,
+            squash: false,
+            lenient: false,
+        }
     }
 }
 
@@ -103,6 +113,7 @@ fn run(command: ffi::Command, log: &[u8], settings: &LogSettings) -> Result<Outp
         max_changes: settings.max_changes,
         encoding: settings.encoding as u32,
         squash: settings.squash,
+        lenient: settings.lenient,
     };
     let (output, mut ending) = (ffi::Handle::empty(), ffi::Ending::default());
     let fault = match output.log_run(command, &settings, log, &mut ending) {

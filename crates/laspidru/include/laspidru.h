@@ -152,6 +152,7 @@ typedef struct laspidru_settings {
     laspidru_u32 encoding;
     laspidru_bool is_fixed;
     laspidru_bool is_full;
+    laspidru_bool lenient; /* whether a change of any version is taken, and an open document may be opened again */
 } laspidru_settings;
 
 /* What a server answers to a message. A member that isn't of its kind is 0. */
@@ -180,6 +181,7 @@ typedef struct laspidru_client_settings {
     laspidru_size max_changes; /* 1 to 1,048,576 in a message */
     laspidru_bool utf8;
     laspidru_bool utf32;
+    laspidru_bool lenient; /* as in laspidru_settings */
 } laspidru_client_settings;
 
 /* The state of a client's session. */
@@ -204,6 +206,7 @@ typedef struct laspidru_log_settings {
     laspidru_size max_changes; /* 1 to 1,048,576 in a message */
     laspidru_u32 encoding;     /* what positions count */
     laspidru_bool squash;      /* laspidru_log_normalise: changes of one document that follow each other as one message */
+    laspidru_bool lenient;     /* as in laspidru_settings */
 } laspidru_log_settings;
 
 /* How a command on a log ended. A member that isn't of the code is 0. */

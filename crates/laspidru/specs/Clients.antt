@@ -45,6 +45,7 @@ client_bounds settings = record {
   max_text = settings.max_text;
   max_docs = settings.max_docs;
   max_changes = settings.max_changes;
+  lenient = settings.lenient;
 }
 
 -- A client at the start of a session, if each limit is in its range. It has sent nothing.

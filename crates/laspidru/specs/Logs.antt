@@ -34,6 +34,7 @@ log_bounds settings = record {
   max_text = settings.max_text;
   max_docs = settings.max_docs;
   max_changes = settings.max_changes;
+  lenient = settings.lenient;
 }
 
 -- The settings of a log, if the encoding is known and each limit is in its range.

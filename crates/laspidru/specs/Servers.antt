@@ -43,6 +43,7 @@ bounds_of settings = record {
   max_text = settings.max_text;
   max_docs = settings.max_docs;
   max_changes = settings.max_changes;
+  lenient = settings.lenient;
 }
 
 -- The choice of encoding: fixed, or negotiated with a preference (LSP 3.17, PositionEncodingKind).
