@@ -70,7 +70,7 @@ fn the_smallest_limits(rt: HostRuntime) -> Result<(), Fail> {
     Ok(())
 }
 
-/// The numbers that `docs/FORMATS.md` has as the defaults, and the default of `serve`.
+/// The numbers that `docs/LSPSYNC.md` has as the defaults, and the default of `serve`.
 fn documented() -> Result<Config, BadLimits> {
     Ok(Config {
         limits: Limits::new(16_777_216, 16_777_216, 1_024, 65_536)?,
