@@ -66,7 +66,7 @@ static int writes(command *run, const laspidru_log_settings *how, part log, lasp
     laspidru_handle output = {0};
     laspidru_size copied = 99;
     int is_right = run(&output, how, log.bytes, log.len, ending) == code && output.is_full && ending->output_len == wanted.len &&
-                   laspidru_log_output(&output, 0, out, sizeof out, &copied) == LASPIDRU_OK && copied == wanted.len &&
+                   laspidru_output_copy(&output, 0, out, sizeof out, &copied) == LASPIDRU_OK && copied == wanted.len &&
                    memcmp(out, wanted.bytes, copied) == 0;
     laspidru_close(&output);
     return is_right;
@@ -151,8 +151,8 @@ static void test_log_refusals(void) {
     laspidru_size copied = 9, i;
     laspidru_ending ending = {9, 9, 9, 9, 9, 9};
     CHECK(open_text(&document, "a") == LASPIDRU_OK);
-    CHECK(laspidru_log_output(&output, 0, out, 7, &copied) == LASPIDRU_EMPTY && copied == 9);
-    CHECK(laspidru_log_output(&document, 0, out, 7, &copied) == LASPIDRU_OTHER_KIND && copied == 9);
+    CHECK(laspidru_output_copy(&output, 0, out, 7, &copied) == LASPIDRU_EMPTY && copied == 9);
+    CHECK(laspidru_output_copy(&document, 0, out, 7, &copied) == LASPIDRU_OTHER_KIND && copied == 9);
     for (i = 0; i < sizeof commands / sizeof commands[0]; i++) {
         laspidru_log_settings bad = log_settings;
         bad.max_changes = 0;
@@ -163,9 +163,9 @@ static void test_log_refusals(void) {
         CHECK(ending.status == 9 && ending.output_len == 9);
     }
     CHECK(laspidru_log_check(&output, &log_settings, log.bytes, log.len, &ending) == LASPIDRU_OK && ending.output_len == 8);
-    CHECK(laspidru_log_output(&output, 9, out, 7, &copied) == LASPIDRU_OUT_OF_RANGE && copied == 9 && out[0] == '-');
-    CHECK(laspidru_log_output(&output, 8, out, 7, &copied) == LASPIDRU_OK && copied == 0);
-    CHECK(laspidru_log_output(&output, 2, out, 3, &copied) == LASPIDRU_OK && copied == 3 && memcmp(out, "rep----", 7) == 0);
+    CHECK(laspidru_output_copy(&output, 9, out, 7, &copied) == LASPIDRU_OUT_OF_RANGE && copied == 9 && out[0] == '-');
+    CHECK(laspidru_output_copy(&output, 8, out, 7, &copied) == LASPIDRU_OK && copied == 0);
+    CHECK(laspidru_output_copy(&output, 2, out, 3, &copied) == LASPIDRU_OK && copied == 3 && memcmp(out, "rep----", 7) == 0);
     CHECK(laspidru_document_copy(&output, 0, out, 7, &copied) == LASPIDRU_OTHER_KIND && copied == 3);
     CHECK(laspidru_log_check(&output, &log_settings, log.bytes, log.len, &ending) == LASPIDRU_IN_USE);
     laspidru_close(&output);

@@ -346,7 +346,7 @@ static napi_value canonical_message(napi_env env, napi_callback_info info) {
     free_batch(&it);
     if (code != LASPIDRU_OK)
         return refuse_change(env, code, fault);
-    napi_value out = buffer_of(env, laspidru_log_output, &output, len);
+    napi_value out = buffer_of(env, laspidru_output_copy, &output, len);
     laspidru_close(&output);
     return out != NULL ? out : refuse(env, LASPIDRU_OUT_OF_MEMORY);
 }

@@ -37,7 +37,7 @@ static napi_value run_log(napi_env env, napi_callback_info info) {
     laspidru_u32 code = commands[command](&handle, &settings, log, log_len, &ending);
     if (!handle.is_full)
         return refuse(env, code);
-    output = buffer_of(env, laspidru_log_output, &handle, ending.output_len);
+    output = buffer_of(env, laspidru_output_copy, &handle, ending.output_len);
     laspidru_close(&handle);
     return output != NULL ? ended(env, code, output, ending) : refuse(env, LASPIDRU_OUT_OF_MEMORY);
 }

@@ -173,7 +173,7 @@ def _library() -> ctypes.CDLL:
         "log_replay": log,
         "log_normalise": log,
         "log_convert": log,
-        "log_output": [handle] + copied,
+        "output_copy": [handle] + copied,
     }
     for name, types in arguments.items():
         function = getattr(library, "laspidru_" + name)

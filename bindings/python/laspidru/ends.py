@@ -257,7 +257,7 @@ class Server(_End):
                 len(texts), byref(output), byref(fault), byref(length))
         demand_change(code, fault)
         try:
-            return copy_out(LIBRARY.laspidru_log_output, length.value, byref(output))
+            return copy_out(LIBRARY.laspidru_output_copy, length.value, byref(output))
         finally:
             LIBRARY.laspidru_close(byref(output))
 

@@ -28,7 +28,7 @@ def _run(name: str, log: bytes, encoding: str = "utf-16", max_body: int = 167772
     try:
         if code not in (0, CUT, BAD_FRAME, BODY_TOO_LONG, BAD_LOG):
             demand(code)
-        output = copy_out(LIBRARY.laspidru_log_output, ending.output_len, byref(handle))
+        output = copy_out(LIBRARY.laspidru_output_copy, ending.output_len, byref(handle))
     finally:
         LIBRARY.laspidru_close(byref(handle))
     if code:

@@ -488,8 +488,8 @@ impl Handle {
         unsafe { run(&mut *self.0.borrow_mut(), settings, log.as_ptr(), log.len(), ending) }
     }
 
-    pub fn log_output(&self, len: usize) -> Vec<u8> {
-        copied(len, |out, copied| unsafe { laspidru_log_output(&mut *self.0.borrow_mut(), 0, out, len, copied) })
+    pub fn output_copy(&self, len: usize) -> Vec<u8> {
+        copied(len, |out, copied| unsafe { laspidru_output_copy(&mut *self.0.borrow_mut(), 0, out, len, copied) })
     }
 }
 

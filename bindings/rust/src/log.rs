@@ -107,7 +107,7 @@ fn run(command: ffi::Command, log: &[u8], settings: &LogSettings) -> Result<Outp
     let (output, mut ending) = (ffi::Handle::empty(), ffi::Ending::default());
     let fault = match output.log_run(command, &settings, log, &mut ending) {
         ffi::OK => {
-            let bytes = output.log_output(ending.output_len);
+            let bytes = output.output_copy(ending.output_len);
             return Ok(Output { bytes, messages: ending.messages, refused: ending.refused });
         }
         ffi::OUT_OF_MEMORY => return Err(LogError::OutOfMemory),
@@ -119,5 +119,5 @@ fn run(command: ffi::Command, log: &[u8], settings: &LogSettings) -> Result<Outp
         ffi::BAD_LOG => LogFault::BadLog,
         code => unreachable!("code {code} of an empty handle and valid arguments"),
     };
-    Err(LogError::Fault { fault, place: ending.place, output: output.log_output(ending.output_len) })
+    Err(LogError::Fault { fault, place: ending.place, output: output.output_copy(ending.output_len) })
 }

@@ -237,7 +237,7 @@ impl Server {
         let (mut fault, output) = (ffi::Fault::default(), ffi::Handle::empty());
         let units = self.encoding().unwrap_or(Encoding::Utf16) as u32;
         match self.handle.server_canonical_message(uri, version, units, &edits, &texts, &output, &mut fault) {
-            (ffi::OK, len) => Ok(output.log_output(len)),
+            (ffi::OK, len) => Ok(output.output_copy(len)),
             (ffi::OUT_OF_MEMORY, _) => Err(MessageError::OutOfMemory),
             (ffi::INSIDE_CHARACTER, _) => {
                 Err(MessageError::InsideCharacter { change: fault.change, at_end: fault.at_end })
