@@ -29,7 +29,7 @@ use Rattle.laspidru.specs.Objects.{encoding_at, position_at, IsCopy}
 -- The range of an edit, if it isn't one of the whole text.
 abbrev pub range_if : Bool → Place → Place → Option Range
 range_if true start end = None
-range_if false start end = Some (record { start = position_at start; stop = position_at end })
+range_if false start end = Some (record { start = position_at start; end = position_at end })
 
 -- An edit whose new text has these bytes.
 abbrev pub edit_with : Edit → List ℕ → batch.Edit

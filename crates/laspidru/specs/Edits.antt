@@ -35,9 +35,9 @@ pub record Replacement : Type 0 where
 abbrev pub range_or : Bool → Place → Place → Range
 range_or true start end = record {
   start = record { line = 0; character = 0 };
-  stop = record { line = 4294967295; character = 4294967295 };
+  end = record { line = 4294967295; character = 4294967295 };
 }
-range_or false start end = record { start = position_at start; stop = position_at end }
+range_or false start end = record { start = position_at start; end = position_at end }
 
 -- an edit of C, whose new text has these bytes
 abbrev pub replacement_with : Edit → List ℕ → Replacement

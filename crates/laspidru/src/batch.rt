@@ -144,7 +144,7 @@ fn edit_of_change(change: &Change) -> Edit
         character: 0,
     };
     let (start, end) = match change.range {
-        Some(range) => (place_of(range.start), place_of(range.stop)),
+        Some(range) => (place_of(range.start), place_of(range.end)),
         None => (zero, zero),
     };
     Edit {

@@ -82,7 +82,7 @@ fn change_of(alloc: Global, edit: Edit, own: &[u8]) -> Result<Change, AllocError
     } else {
         Some(Range {
             start: position_of(edit.start),
-            stop: position_of(edit.end),
+            end: position_of(edit.end),
         })
     };
     Ok(Change { range, text })

@@ -42,7 +42,7 @@ fn range_of(is_whole: bool, start: Place, end: Place) -> Range
     };
     Range {
         start: position_of(start),
-        stop: position_of(end),
+        end: position_of(end),
     }
 }
 

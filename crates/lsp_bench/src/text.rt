@@ -74,15 +74,15 @@ pub fn keystroke(alloc: Global, turn: u32, lines: usize) -> Result<Change, Alloc
 }
 
 /// A change of what a line has from where letters are put in to this column.
-fn change(alloc: Global, line: u32, stop: u32, text: &str) -> Result<Change, AllocError> {
+fn change(alloc: Global, line: u32, end: u32, text: &str) -> Result<Change, AllocError> {
     let range = Range {
         start: Position {
             line,
             character: COLUMN,
         },
-        stop: Position {
+        end: Position {
             line,
-            character: stop,
+            character: end,
         },
     };
     Ok(Change {

@@ -31,14 +31,14 @@ pub(super) fn client_with(alloc: Global, offers: Offers) -> Result<Client, Fail>
 pub(super) fn change(
     alloc: Global,
     start: u32,
-    stop: u32,
+    end: u32,
     text: &str,
 ) -> Result<Change, AllocError> {
     let on = |character| Position { line: 0, character };
     Ok(Change {
         range: Some(Range {
             start: on(start),
-            stop: on(stop),
+            end: on(end),
         }),
         text: String::from_str(alloc, text)?,
     })
@@ -81,8 +81,8 @@ pub(super) fn answer_to(
     let sent = match asked {
         Ask::Start => client.start(),
         Ask::Open(text) => open_as(alloc, client, URI, text),
-        Ask::Edit(version, start, stop, text) => {
-            client.edit(URI, version, &[change(alloc, start, stop, text)?])
+        Ask::Edit(version, start, end, text) => {
+            client.edit(URI, version, &[change(alloc, start, end, text)?])
         }
         Ask::Close => client.close(URI),
         Ask::Shutdown => client.shutdown(),

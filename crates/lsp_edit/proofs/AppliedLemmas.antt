@@ -32,16 +32,16 @@ pub record AreEnds (units : ℕ → ℕ) (text : List ℕ) (range : Range) (star
   pub low : ℕ
   pub high : ℕ
   pub low_is : denoted units text range.start ≡ Some low
-  pub high_is : denoted units text range.stop ≡ Some high
+  pub high_is : denoted units text range.end ≡ Some high
   pub order : low ≤ high
   pub within : high ≤ length text
   pub start_is : place_of text low ≡ start
   pub stop_is : place_of text high ≡ stop
 
 pub ends_told : (units : ℕ → ℕ) (text : List ℕ) (range : Range) (number start stop : ℕ) → Ok (start, stop) ≡ places_at number text (ends_of units text range) → AreEnds units text range start stop
-ends_told units text range number start stop is = by_ends (denoted units text range.start) (denoted units text range.stop) refl refl is
+ends_told units text range number start stop is = by_ends (denoted units text range.start) (denoted units text range.end) refl refl is
   where
-    by_ends : (a b : Option ℕ) → denoted units text range.start ≡ a → denoted units text range.stop ≡ b → ◌≡◌ {A = Result (ℕ × ℕ) EditFault} (Ok (start, stop)) (places_at number text (in_order a b)) → AreEnds units text range start stop
+    by_ends : (a b : Option ℕ) → denoted units text range.start ≡ a → denoted units text range.end ≡ b → ◌≡◌ {A = Result (ℕ × ℕ) EditFault} (Ok (start, stop)) (places_at number text (in_order a b)) → AreEnds units text range start stop
     by_ends None b at_a at_b e = absurd (cc)
     by_ends (Some a) None at_a at_b e = absurd (cc)
     by_ends (Some a) (Some b) at_a at_b e =
@@ -55,7 +55,7 @@ ends_told units text range number start stop is = by_ends (denoted units text ra
           low_is = at_a;
           high_is = at_b;
           order = leb-true a b o;
-          within = (denoted_whole units text range.stop b at_b).within;
+          within = (denoted_whole units text range.end b at_b).within;
           start_is = sym (ap (λ (p : ℕ × ℕ). p.0) g);
           stop_is = sym (ap (λ (p : ℕ × ℕ). p.1) g);
         })
@@ -68,7 +68,7 @@ pub fault_told : (units : ℕ → ℕ) (old : List ℕ) (items : List Item) (cha
 fault_told units old items characters range number fault error =
     ⊎_elim
     (λ (e : Err fault ≡ Err NoMemory). inl (cc))
-    (λ (e : Err fault ≡ places_at number (text_of old items) (ends_of units (text_of old items) range)). by_ends (denoted units (text_of old items) range.start) (denoted units (text_of old items) range.stop) e)
+    (λ (e : Err fault ≡ places_at number (text_of old items) (ends_of units (text_of old items) range)). by_ends (denoted units (text_of old items) range.start) (denoted units (text_of old items) range.end) e)
     error
   where
     by_ends : (a b : Option ℕ) → ◌≡◌ {A = Result (ℕ × ℕ) EditFault} (Err fault) (places_at number (text_of old items) (in_order a b)) → IsFaultOfChange number (replaced items characters a b) fault

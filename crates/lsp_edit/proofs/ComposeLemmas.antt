@@ -73,8 +73,8 @@ module _ (units : ℕ → ℕ) (old : List ℕ) (first : List Item) where
       by_range : (range : Option Range) → changed_in units (text_of old first) items change.text range ≡ Ok next → changed_in units old (then_items first items) change.text range ≡ Ok (then_items first next)
       by_range None r = let e : map New change.text ≡ next = cc in ap (λ (is : List Item). Ok is) (sym (told_new first change.text) ∙ ap (then_items first) e)
       by_range (Some range) r =
-          subst (λ (met : List ℕ). replaced (then_items first items) change.text (denoted units met range.start) (denoted units met range.stop) ≡ Ok (then_items first next)) (sym (text_of-then old first items))
-          (at_indexes (denoted units (text_of (text_of old first) items) range.start) (denoted units (text_of (text_of old first) items) range.stop) r)
+          subst (λ (met : List ℕ). replaced (then_items first items) change.text (denoted units met range.start) (denoted units met range.end) ≡ Ok (then_items first next)) (sym (text_of-then old first items))
+          (at_indexes (denoted units (text_of (text_of old first) items) range.start) (denoted units (text_of (text_of old first) items) range.end) r)
 
   then-changes : (number : ℕ) (items last : List Item) (batch : List Edit) → after_changes units (text_of old first) number items batch ≡ Ok last → after_changes units old number (then_items first items) batch ≡ Ok (then_items first last)
   then-changes number items last [] is = let e : items ≡ last = cc in ap (λ (is : List Item). Ok (then_items first is)) e

@@ -102,7 +102,7 @@ module _ (size : ℕ) where
 
         by_range : (range : Option Range) → changed_in units old items change.text range ≡ Ok next → hunks size false 0 next ≤ suc (hunks size false 0 items)
         by_range None r = let e : map New change.text ≡ next = cc in subst (λ (n : List Item). hunks size false 0 n ≤ suc (hunks size false 0 items)) e (all_new change.text items)
-        by_range (Some range) r = at_indexes (denoted units (text_of old items) range.start) (denoted units (text_of old items) range.stop) r
+        by_range (Some range) r = at_indexes (denoted units (text_of old items) range.start) (denoted units (text_of old items) range.end) r
 
     changes_add : (number : ℕ) (items last : List Item) (batch : List Edit) → after_changes units old number items batch ≡ Ok last → hunks size false 0 last ≤ hunks size false 0 items + length batch
     changes_add number items last [] is = let e : items ≡ last = cc in omega (arith, ap (hunks size false 0) e)

@@ -19,12 +19,12 @@ place_found : (text : List ℕ) (found : Option ℕ) (place : ℕ) → Some plac
 place_found text None place e = absurd (cc)
 place_found text (Some k) place e = record { index = k; is = refl; at = cc }
 
-module _ (units : ℕ → ℕ) (text : List ℕ) (range : Range) (number start stop : ℕ) (at_start : Some start ≡ option_map (place_of text) (denoted units text range.start)) (at_stop : Some stop ≡ option_map (place_of text) (denoted units text range.stop)) where
+module _ (units : ℕ → ℕ) (text : List ℕ) (range : Range) (number start stop : ℕ) (at_start : Some start ≡ option_map (place_of text) (denoted units text range.start)) (at_stop : Some stop ≡ option_map (place_of text) (denoted units text range.end)) where
   a : IsPlaceOf text (denoted units text range.start) start
   a = place_found text (denoted units text range.start) start at_start
 
-  b : IsPlaceOf text (denoted units text range.stop) stop
-  b = place_found text (denoted units text range.stop) stop at_stop
+  b : IsPlaceOf text (denoted units text range.end) stop
+  b = place_found text (denoted units text range.end) stop at_stop
 
   pub places_in_order : start ≤ stop → Ok (start, stop) ≡ places_at number text (ends_of units text range)
   places_in_order order =
@@ -34,7 +34,7 @@ module _ (units : ℕ → ℕ) (text : List ℕ) (range : Range) (number start s
 
   pub places_reversed : stop < start → Err (ReversedRange number) ≡ places_at number text (ends_of units text range)
   places_reversed less =
-      let high : IsWhole text b.index = denoted_whole units text range.stop b.index b.is in
+      let high : IsWhole text b.index = denoted_whole units text range.end b.index b.is in
       let low : IsWhole text a.index = denoted_whole units text range.start a.index a.is in
       let falls : b.index < a.index
       = ⊎_elim

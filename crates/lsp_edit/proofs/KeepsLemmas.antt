@@ -146,9 +146,9 @@ module _ (old : List ℕ) where
       by_range (Some range) r =
           at_indexes
           (denoted units (text_of old items) range.start)
-          (denoted units (text_of old items) range.stop)
+          (denoted units (text_of old items) range.end)
           (denoted_whole units (text_of old items) range.start)
-          (denoted_whole units (text_of old items) range.stop)
+          (denoted_whole units (text_of old items) range.end)
           r
 
   pub after_changes_keeps : (units : ℕ → ℕ) (number : ℕ) (items last : List Item) (batch : List Edit) → Keeps old 0 items → after_changes units old number items batch ≡ Ok last → Keeps old 0 last

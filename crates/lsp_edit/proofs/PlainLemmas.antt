@@ -121,12 +121,12 @@ module _ (units : ℕ → ℕ) (old : List ℕ) (low high : ℕ) (text : List �
   pub gap_none : (changes : List Change) → high ≤ low → length text ≡ 0 → map edit_of changes ≡ map edit_of changes ++ change_at units old (gap_at low high text)
   gap_none changes falls none = rw (or_from (nat_lt low high) (nat_lt 0 (length text)) (le-ltb low high falls) (le-ltb 0 (length text) (omega arith))) (sym (append-nil (map edit_of changes)))
 
-  pub gap_one : (changes : List Change) (change : Change) (start stop : Position) → (low < high) ⊎ (0 < length text) → change.range ≡ Some (record { start = start; stop = stop }) → string_bytes change.text ≡ encode_utf8_all text
+  pub gap_one : (changes : List Change) (change : Change) (start stop : Position) → (low < high) ⊎ (0 < length text) → change.range ≡ Some (record { start = start; end = stop }) → string_bytes change.text ≡ encode_utf8_all text
       → start ≡ exact_position units old low → stop ≡ exact_position units old high → map edit_of (changes ++ change ∷ []) ≡ map edit_of changes ++ change_at units old (gap_at low high text)
   gap_one changes change start stop some range same at_start at_stop =
       let own : chars (string_bytes change.text) ≡ text = sym (chars_from_encodes text (string_bytes change.text) (IsUtf8-string_bytes change.text) (sym same)) in
       let e : edit_of change ≡ change_of units old (gap_at low high text)
-      = λ i. record { range = (range ∙ ap₂ (λ (x y : Position). Some (record { start = x; stop = y })) at_start at_stop) i; text = own i } in
+      = λ i. record { range = (range ∙ ap₂ (λ (x y : Position). Some (record { start = x; end = y })) at_start at_stop) i; text = own i } in
       map-append edit_of changes (change ∷ [])
       ∙ rw (gap_some some) (ap (λ (x : Edit). map edit_of changes ++ x ∷ []) e)
 

@@ -52,7 +52,7 @@ change_longer units old items next change is = by_range change.range is
 
     by_range : (range : Option Range) → changed_in units old items change.text range ≡ Ok next → Longer next
     by_range None r = let e : map New change.text ≡ next = cc in subst Longer e (omega (arith, ap (λ (cs : List ℕ). length (encode_utf8_all cs)) (text_of-new old change.text)))
-    by_range (Some range) r = at_indexes (denoted units (text_of old items) range.start) (denoted units (text_of old items) range.stop) r
+    by_range (Some range) r = at_indexes (denoted units (text_of old items) range.start) (denoted units (text_of old items) range.end) r
 
 -- the texts of changes, in bytes
 abbrev pub texts_len : List Change → ℕ

@@ -49,7 +49,7 @@ replaced_text old items new (Some start) (Some stop) =
 
 change_text : (units : ℕ → ℕ) (old : List ℕ) (items : List Item) (new : List ℕ) (range : Option Range) → text_changed units (text_of old items) new range ≡ text_result old (changed_in units old items new range)
 change_text units old items new None = ap (λ (t : List ℕ). Ok t) (sym (text_of-new old new))
-change_text units old items new (Some range) = replaced_text old items new (denoted units (text_of old items) range.start) (denoted units (text_of old items) range.stop)
+change_text units old items new (Some range) = replaced_text old items new (denoted units (text_of old items) range.start) (denoted units (text_of old items) range.end)
 
 pub changes_text : (units : ℕ → ℕ) (old : List ℕ) (number : ℕ) (items : List Item) (batch : List Edit) → text_after_changes units number (text_of old items) batch ≡ text_result old (after_changes units old number items batch)
 changes_text units old number items [] = refl
@@ -163,7 +163,7 @@ module _ (units : ℕ → ℕ) (number : ℕ) (before : List ℕ) (utf8 : IsUtf8
 
   pub range_faulted : (fault : EditFault) → Err fault ≡ places_at number (chars before) (ends_of units (chars before) range)
       → IsFaultOf number (text_after_change units (chars before) (record { range = Some range; text = chars new })) fault
-  range_faulted fault error = by_ends (denoted units (chars before) range.start) (denoted units (chars before) range.stop) error
+  range_faulted fault error = by_ends (denoted units (chars before) range.start) (denoted units (chars before) range.end) error
     where
       by_ends : (a b : Option ℕ) → ◌≡◌ {A = Result (ℕ × ℕ) EditFault} (Err fault) (places_at number (chars before) (in_order a b)) → IsFaultOf number (text_replaced (chars before) (chars new) a b) fault
       by_ends None b e = inr (InsideStart, refl, cc)

@@ -143,7 +143,7 @@ module _ (before : List ℕ) (utf8 : IsUtf8 before) where
       by_ends : AreEnds units (chars before) edit.range one.start one.stop → Lies before one
       by_ends e = record {
         at_start = (e.low, (denoted_whole units (chars before) edit.range.start e.low e.low_is).within, (denoted_whole units (chars before) edit.range.start e.low e.low_is).whole, e.start_is);
-        at_stop = (e.high, e.within, (denoted_whole units (chars before) edit.range.stop e.high e.high_is).whole, e.stop_is);
+        at_stop = (e.high, e.within, (denoted_whole units (chars before) edit.range.end e.high e.high_is).whole, e.stop_is);
         order = omega (arith, place_rises (chars before) e.low e.high e.order e.within, e.start_is, e.stop_is);
         utf8 = ap is_utf8 is.text ∙ is_utf8-from_IsUtf8 (string_bytes edit.new_text) (IsUtf8-string_bytes edit.new_text);
       }

@@ -93,7 +93,7 @@ module _ (before : List ℕ) (utf8 : IsUtf8 before) where
 
   -- What a gap adds to the changes.
   pub gap_put : (units : ℕ → ℕ) (low high : ℕ) (changes : List Change) (change : Change) (start stop : Position) → IsCharBoundary before low → IsCharBoundary before high → (low < high) ⊎ (0 < length (string_bytes change.text))
-      → change.range ≡ Some (record { start = start; stop = stop })
+      → change.range ≡ Some (record { start = start; end = stop })
       → ((k : ℕ) → k ≤ length (chars before) → place_of (chars before) k ≡ low → start ≡ exact_position units (chars before) k)
       → ((k : ℕ) → k ≤ length (chars before) → place_of (chars before) k ≡ high → stop ≡ exact_position units (chars before) k)
       → map edit_of (changes ++ change ∷ []) ≡ map edit_of changes ++ gap_change units before low high (string_bytes change.text)
@@ -101,7 +101,7 @@ module _ (before : List ℕ) (utf8 : IsUtf8 before) where
       let s : start ≡ exact_position units (chars before) (index_of (chars before) low) = position_exact units low start at_low low_exact in
       let t : stop ≡ exact_position units (chars before) (index_of (chars before) high) = position_exact units high stop at_high high_exact in
       let e : edit_of change ≡ change_of units (chars before) (gap_between before low high (string_bytes change.text))
-      = λ i. record { range = (range ∙ ap₂ (λ (x y : Position). Some (record { start = x; stop = y })) s t) i; text = chars (string_bytes change.text) } in
+      = λ i. record { range = (range ∙ ap₂ (λ (x y : Position). Some (record { start = x; end = y })) s t) i; text = chars (string_bytes change.text) } in
       map-append edit_of changes (change ∷ [])
       ∙ rw (gap_changed low high (string_bytes change.text) (IsUtf8-string_bytes change.text) at_low at_high changed) (ap (λ (x : Edit). map edit_of changes ++ x ∷ []) e)
 

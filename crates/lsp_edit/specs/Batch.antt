@@ -31,7 +31,7 @@ abbrev pub changed_in : (ℕ → ℕ) → List ℕ → List Item → List ℕ �
 changed_in units old items characters None = Ok (map New characters)
 changed_in units old items characters (Some range) =
     replaced items characters (denoted units (text_of old items) range.start)
-    (denoted units (text_of old items) range.stop)
+    (denoted units (text_of old items) range.end)
 
 -- The items after a change.
 abbrev pub after_change : (ℕ → ℕ) → List ℕ → List Item → Edit → Result (List Item) Fault

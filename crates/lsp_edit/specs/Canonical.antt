@@ -58,7 +58,7 @@ change_of units old gap =
     record {
       range = Some (record {
         start = exact_position units old gap.low;
-        stop = exact_position units old gap.high;
+        end = exact_position units old gap.high;
       });
       text = gap.text;
     }

@@ -11,11 +11,11 @@ use Rattle.lsp_edit.specs.Compose.{then_items}
 
 -- A change from one line and character to another.
 abbrev pub change : ℕ → ℕ → ℕ → ℕ → List ℕ → Edit
-change line character stop_line stop_character text =
+change line character end_line end_character text =
     record {
       range = Some (record {
         start = record { line = line; character = character };
-        stop = record { line = stop_line; character = stop_character };
+        end = record { line = end_line; character = end_character };
       });
       text = text;
     }
@@ -95,7 +95,7 @@ pub record HoldsOnExamples : Type 0 where
       ≡ Err (1, Reversed)
   -- Inside a character of two units.
   pub inside_the_start : leaves (0x1_F600 ∷ []) (change 0 1 0 1 [] ∷ []) ≡ Err (0, InsideStart)
-  pub inside_the_stop : leaves (0x1_F600 ∷ []) (change 0 2 0 1 [] ∷ []) ≡ Err (0, InsideStop)
+  pub inside_the_end : leaves (0x1_F600 ∷ []) (change 0 2 0 1 [] ∷ []) ≡ Err (0, InsideStop)
   -- A range is reversed by what it denotes, not by its numbers.
   pub past_the_end_twice : leaves (codes "abc") (change 0 9 0 3 [] ∷ []) ≡ left (codes "abc") []
   -- Ranges count in the text that they meet, those of the canonical batch also in the old text.

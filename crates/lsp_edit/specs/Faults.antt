@@ -33,7 +33,7 @@ in_order (Some start) (Some stop) = if nat_le start stop then Ok (start, stop) e
 
 -- The indexes of a range's two ends in a text, or the fault of the range.
 abbrev pub ends_of : (ℕ → ℕ) → List ℕ → Range → Result (ℕ × ℕ) Fault
-ends_of units text range = in_order (denoted units text range.start) (denoted units text range.stop)
+ends_of units text range = in_order (denoted units text range.start) (denoted units text range.end)
 
 -- Their byte offsets, or the fault of a change.
 abbrev pub places_at : ℕ → List ℕ → Result (ℕ × ℕ) Fault → Result (ℕ × ℕ) EditFault

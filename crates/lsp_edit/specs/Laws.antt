@@ -37,7 +37,7 @@ DenotesAlike units old met None = Unit {0}
 DenotesAlike units old met (Some range) =
     (start stop : ℕ) × (denoted units old range.start ≡ Some start)
     × (denoted units met range.start ≡ Some start)
-    × (denoted units old range.stop ≡ Some stop) × (denoted units met range.stop ≡ Some stop)
+    × (denoted units old range.end ≡ Some stop) × (denoted units met range.end ≡ Some stop)
 
 -- Each range of a batch denotes in the text that it meets what it denotes in the old text.
 abbrev pub RangesStay : (ℕ → ℕ) → List ℕ → List Item → List Edit → Type 0

@@ -26,7 +26,7 @@ pub fn ends(
             side: Side::Start,
         });
     };
-    let Ok(stop) = text.resolve(encoding, range.stop) else {
+    let Ok(stop) = text.resolve(encoding, range.end) else {
         return Err(EditFault::InsideCharacter {
             change,
             side: Side::Stop,

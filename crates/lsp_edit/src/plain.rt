@@ -381,8 +381,8 @@ fn put_gap(
     if low < high || !text.is_empty() {
         let alloc = *changes.allocator();
         let start = lines.position(before, encoding, place_of(alloc, old, low)?);
-        let stop = lines.position(before, encoding, place_of(alloc, old, high)?);
-        let range = Some(Range { start, stop });
+        let end = lines.position(before, encoding, place_of(alloc, old, high)?);
+        let range = Some(Range { start, end });
         let text = encoded(alloc, text)?;
         changes.push(Change { range, text })?;
     }

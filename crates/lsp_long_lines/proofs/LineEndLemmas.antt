@@ -72,15 +72,15 @@ ends_before-more units text line long is =
     ∙ map-append (line_end units text) earlier (cond long (line ∷ []) [])
 
 abbrev pub stops : List Range → List Position
-stops ranges = map (λ (range : Range). range.stop) ranges
+stops ranges = map (λ (range : Range). range.end) ranges
 
 pub stops-long : (units : ℕ → ℕ) (bytes shown : List ℕ) (line : ℕ) (ranges : List Range) (range : Range) → shown ≡ bytes → true ≡ is_long units (chars shown) line →
-    range.stop ≡ line_end units (chars shown) line → stops ranges ≡ ends_before units (chars bytes) line → stops (ranges ++ range ∷ []) ≡ ends_before units (chars bytes) (line + 1)
+    range.end ≡ line_end units (chars shown) line → stops ranges ≡ ends_before units (chars bytes) line → stops (ranges ++ range ∷ []) ≡ ends_before units (chars bytes) (line + 1)
 stops-long units bytes shown line ranges range same long end before =
     let text = chars bytes in
     let here : true ≡ is_long units text line = subst (λ (b : List ℕ). true ≡ is_long units (chars b) line) same long in
-    let at : range.stop ≡ line_end units text line = subst (λ (b : List ℕ). range.stop ≡ line_end units (chars b) line) same end in
-    map-append (λ (r : Range). r.stop) ranges (range ∷ []) ∙ ap (λ (ps : List Position). ps ++ range.stop ∷ []) before
+    let at : range.end ≡ line_end units text line = subst (λ (b : List ℕ). range.end ≡ line_end units (chars b) line) same end in
+    map-append (λ (r : Range). r.end) ranges (range ∷ []) ∙ ap (λ (ps : List Position). ps ++ range.end ∷ []) before
     ∙ ap (λ (p : Position). ends_before units text line ++ p ∷ []) at ∙ sym (ends_before-more units text line true here)
 
 pub stops-short : (units : ℕ → ℕ) (bytes shown : List ℕ) (line : ℕ) (ranges : List Range) → shown ≡ bytes → false ≡ is_long units (chars shown) line →

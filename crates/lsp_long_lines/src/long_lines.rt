@@ -23,7 +23,7 @@ pub fn long_lines(
 ) -> Result<Vec<Range>, AllocError>
     // There is a range for each long line and no other, in their order, up to the line's end.
     ensures { let units = units_in encoding in let text = chars document.now.text in
-        IfOk result (λ ranges. map (λ range. range.stop) ranges.items
+        IfOk result (λ ranges. map (λ range. range.end) ranges.items
         ≡ map (line_end units text) (long_lines_of units text)) }
 {
     let (text, lines) = (document.text(), document.lines());
@@ -41,11 +41,11 @@ fn excess(lines: &Lines, text: &str, encoding: Encoding, line: u32) -> Option<Ra
     requires indexed { Indexes lines.now text.now }
     requires line { line ≤ line_ends (chars text.now) }
     ensures long { is_some result ≡ is_long (units_in encoding) (chars text.now) line }
-    ensures stop { IfSome result (λ range.
-        range.stop ≡ line_end (units_in encoding) (chars text.now) line) }
+    ensures end { IfSome result (λ range.
+        range.end ≡ line_end (units_in encoding) (chars text.now) line) }
 {
-    let stop = end_of_line(lines, text, encoding, line);
-    if stop.character <= LIMIT {
+    let end = end_of_line(lines, text, encoding, line);
+    if end.character <= LIMIT {
         return None;
     }
     // The limit may lie inside a character: then that character is over it.
@@ -53,8 +53,8 @@ fn excess(lines: &Lines, text: &str, encoding: Encoding, line: u32) -> Option<Ra
         .rev()
         .map(|character| Position { line, character })
         .find(|start| lines.resolve(text, encoding, *start).is_ok())
-        .unwrap_or(stop);
-    Some(Range { start, stop })
+        .unwrap_or(end);
+    Some(Range { start, end })
 }
 
 /// The exact position of the end of a line's content.

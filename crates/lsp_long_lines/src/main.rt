@@ -99,7 +99,7 @@ fn diagnostics(alloc: Global, server: &Server, uri: &str) -> Result<Vec<u8>, All
 /// A warning over a range.
 fn diagnostic(alloc: Global, range: Range) -> Result<Value, AllocError> {
     let start = json!(in alloc; {"line": range.start.line, "character": range.start.character})?;
-    let end = json!(in alloc; {"line": range.stop.line, "character": range.stop.character})?;
+    let end = json!(in alloc; {"line": range.end.line, "character": range.end.character})?;
     let message = "a line of more than 100 characters";
     json!(in alloc; {"range": {"start": start, "end": end}, "severity": 2, "message": message})
 }

@@ -79,7 +79,7 @@ sound_position p h =
     sound_object _ refl (refl, sound_unsigned p.character (omega arith), (refl, sound_unsigned p.line (omega arith), tt))
 
 sound_range : (r : Range) → IsProperRange r → Sound (spec.range_value r)
-sound_range r h = sound_object _ refl (refl, sound_position r.stop h.stop, (refl, sound_position r.start h.start, tt))
+sound_range r h = sound_object _ refl (refl, sound_position r.end h.end, (refl, sound_position r.start h.start, tt))
 
 sound_edit : (r : Option Range) (s : List ℕ) → IfSome r IsProperRange → IsUtf8 s → Sound (spec.edit_value (record { range = r; text = s }))
 sound_edit None s h u = sound_object _ refl (refl, sound_string s u, tt)

@@ -82,7 +82,7 @@ position_in-position_value p h =
     rw (lt-ltb p.line (2 ^ 32) line, lt-ltb p.character (2 ^ 32) character) refl
 
 range_in-range_value : (r : Range) → IsProperRange r → range_in (Some (spec.range_value r)) ≡ Some r
-range_in-range_value r h = rw (position_in-position_value r.start h.start, position_in-position_value r.stop h.stop) refl
+range_in-range_value r h = rw (position_in-position_value r.start h.start, position_in-position_value r.end h.end) refl
 
 edit_in-edit_value : (r : Option Range) (s : List ℕ) → IfSome r IsProperRange → edit_in (spec.edit_value (record { range = r; text = s })) ≡ Some (record { range = r; text = s })
 edit_in-edit_value None s h = refl

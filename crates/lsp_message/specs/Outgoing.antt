@@ -145,7 +145,7 @@ position_value p
 -- A `Range`.
 abbrev pub range_value : Range → Data
 range_value r
-    = object (member (codes "end") (position_value r.stop)
+    = object (member (codes "end") (position_value r.end)
     (member (codes "start") (position_value r.start) no_members))
 
 -- The member `range` before the others, where a change has one.

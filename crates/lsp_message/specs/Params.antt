@@ -58,8 +58,8 @@ position_in value = do
 abbrev pub range_in : Option Data → Option Range
 range_in value = do
   start ← position_in (member_at (codes "start") value)
-  stop ← position_in (member_at (codes "end") value)
-  Some (record { start = start; stop = stop })
+  end ← position_in (member_at (codes "end") value)
+  Some (record { start = start; end = end })
 
 -- The range of a change. A missing range, or null, means the whole text.
 abbrev pub range_of : Option Data → Option (Option Range)

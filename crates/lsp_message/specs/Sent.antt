@@ -31,7 +31,7 @@ pub record IsProperPosition (p : Position) : Type 0 where
 -- Both ends of the range are such positions.
 pub record IsProperRange (r : Range) : Type 0 where
   pub start : IsProperPosition r.start
-  pub stop : IsProperPosition r.stop
+  pub end : IsProperPosition r.end
 
 -- The range, if there is one, is such a range, and the text is UTF-8.
 pub record IsProperEdit (e : EditData) : Type 0 where

@@ -175,8 +175,8 @@ fn range_in(value: &Value) -> Option<Range>
     ensures { result ≡ range_in (Some (view value.now)) }
 {
     let start = position_in(value.get("start"))?;
-    let stop = position_in(value.get("end"))?;
-    Some(Range { start, stop })
+    let end = position_in(value.get("end"))?;
+    Some(Range { start, end })
 }
 
 /// Reads the range of a change: `Some(None)` where it is missing or null and means the whole text.

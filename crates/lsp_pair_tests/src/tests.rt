@@ -47,10 +47,10 @@ pub(super) fn event(alloc: Global, script: Script) -> Result<Event, AllocError> 
             version: 1,
             text: String::from_str(alloc, text)?,
         }),
-        Script::Edit(version, start, stop, text) => Ok(Event::Edit {
+        Script::Edit(version, start, end, text) => Ok(Event::Edit {
             uri: String::from_str(alloc, URI)?,
             version,
-            changes: one_change(alloc, start, stop, text)?,
+            changes: one_change(alloc, start, end, text)?,
         }),
         Script::Close => Ok(Event::Close {
             uri: String::from_str(alloc, URI)?,
@@ -62,15 +62,15 @@ pub(super) fn event(alloc: Global, script: Script) -> Result<Event, AllocError> 
     }
 }
 
-fn one_change(alloc: Global, start: u32, stop: u32, text: &str) -> Result<Vec<Change>, AllocError> {
+fn one_change(alloc: Global, start: u32, end: u32, text: &str) -> Result<Vec<Change>, AllocError> {
     let range = Range {
         start: Position {
             line: 0,
             character: start,
         },
-        stop: Position {
+        end: Position {
             line: 0,
-            character: stop,
+            character: end,
         },
     };
     let mut changes = Vec::new(alloc);

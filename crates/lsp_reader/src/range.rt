@@ -16,7 +16,7 @@ use lsp_text::{Position, Range};
 #[derive(Clone, Copy, Drop)]
 pub(crate) struct RangeMembers {
     start: Option<Position>,
-    stop: Option<Position>,
+    end: Option<Position>,
 }
 
 impl RangeMembers {
@@ -36,7 +36,7 @@ impl RangeMembers {
     {
         match name {
             "start" => self.start = read_position(reader, depth)?,
-            "end" => self.stop = read_position(reader, depth)?,
+            "end" => self.end = read_position(reader, depth)?,
             _ => skip_value(reader, depth)?,
         }
         Ok(())
@@ -47,8 +47,8 @@ impl RangeMembers {
         ensures { (ms : Members) → IsRangeOf self ms → result ≡ range_of (Some (object ms)) }
     {
         let start = self.start?;
-        let stop = self.stop?;
-        Some(Some(Range { start, stop }))
+        let end = self.end?;
+        Some(Some(Range { start, end }))
     }
 }
 
@@ -63,7 +63,7 @@ fn read_range_members(reader: &mut Reader<'_>, depth: usize) -> Result<RangeMemb
 {
     let mut found = RangeMembers {
         start: None,
-        stop: None,
+        end: None,
     };
     'members: while let Some(name) = reader.next_key()? {
         found.read_member(reader, depth, name)?;

@@ -39,7 +39,7 @@ position_words p = codes "line " ++ decimal p.line ++ codes ", character " ++ de
 abbrev pub end_words : Side → Option Range → List ℕ
 end_words side None = []
 end_words Start (Some range) = codes " starts at " ++ position_words range.start
-end_words Stop (Some range) = codes " ends at " ++ position_words range.stop
+end_words Stop (Some range) = codes " ends at " ++ position_words range.end
 
 -- ---- why a notification was refused
 

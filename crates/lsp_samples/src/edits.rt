@@ -13,15 +13,15 @@ pub const ALL: u32 = 4294967295;
 
 /// Makes the change of a row.
 pub fn change(alloc: Global, edit: Edit) -> Result<Change, AllocError> {
-    let (line, character, stop_line, stop_character, text) = edit;
+    let (line, character, end_line, end_character, text) = edit;
     let range = if line == ALL {
         None
     } else {
         Some(Range {
             start: Position { line, character },
-            stop: Position {
-                line: stop_line,
-                character: stop_character,
+            end: Position {
+                line: end_line,
+                character: end_character,
             },
         })
     };
@@ -55,14 +55,14 @@ pub fn batch_again(
 
 /// Makes the text edit of a row, which has a range.
 fn text_edit(alloc: Global, edit: Edit) -> Result<TextEdit, AllocError> {
-    let (line, character, stop_line, stop_character, text) = edit;
+    let (line, character, end_line, end_character, text) = edit;
     let start = Position { line, character };
-    let stop = Position {
-        line: stop_line,
-        character: stop_character,
+    let end = Position {
+        line: end_line,
+        character: end_character,
     };
     Ok(TextEdit {
-        range: Range { start, stop },
+        range: Range { start, end },
         new_text: String::from_str(alloc, text)?,
     })
 }

@@ -64,7 +64,7 @@ module _ (units : ℕ → ℕ) (few : (c : ℕ) → units c ≤ len_utf8 c) (old
       ⊎_elim
       (λ (is : is_changed g ≡ true).
       let at : HasExactEnds old g = ends.0 is in
-      rw is (record { start = position_fits g.low (omega (arith, at.order, at.within)); stop = position_fits g.high at.within }, fit-gaps gs ends.1))
+      rw is (record { start = position_fits g.low (omega (arith, at.order, at.within)); end = position_fits g.high at.within }, fit-gaps gs ends.1))
       (λ (not : is_changed g ≡ false). rw not (fit-gaps gs ends.1))
       (cases_Bool (is_changed g))
 

@@ -63,7 +63,7 @@ scalar-changed units old items characters None next p all e =
     let is : map New characters ≡ next = cc in
     rw (← is) (scalar-new characters all)
 scalar-changed units old items characters (Some range) next p all e =
-    scalar-replaced items characters (denoted units (text_of old items) range.start) (denoted units (text_of old items) range.stop) next p all e
+    scalar-replaced items characters (denoted units (text_of old items) range.start) (denoted units (text_of old items) range.end) next p all e
 
 scalar-changes : (units : ℕ → ℕ) (old : List ℕ) (number : ℕ) (items : List Item) (batch : List Edit) (next : List Item) → NewAreScalar items → AreTexts batch → after_changes units old number items batch ≡ Ok next → NewAreScalar next
 scalar-changes units old number items [] next p texts e =

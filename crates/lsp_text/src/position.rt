@@ -14,9 +14,9 @@ pub struct Position {
     pub character: u32,
 }
 
-/// A range of a text (LSP 3.17, Range). `stop` is the protocol's `end`, and exclusive.
+/// A range of a text (LSP 3.17, Range). `end` is exclusive.
 #[derive(Clone, Copy, Debug, Default, PartialEq, Eq, Hash)]
 pub struct Range {
     pub start: Position,
-    pub stop: Position,
+    pub end: Position,
 }

@@ -36,7 +36,7 @@ fn change_value(alloc: Global, change: Change) -> Result<Value> {
 
 fn range_value(alloc: Global, range: Range) -> Result<Value> {
     let start = position_value(alloc, range.start)?;
-    let end = position_value(alloc, range.stop)?;
+    let end = position_value(alloc, range.end)?;
     Ok(json!(in alloc; {"start": start, "end": end})?)
 }
 

@@ -19,7 +19,7 @@ text_replaced text new (Some start) (Some stop) =
 abbrev pub text_changed : (ℕ → ℕ) → List ℕ → List ℕ → Option Range → Result (List ℕ) Fault
 text_changed units text new None = Ok new
 text_changed units text new (Some range)
-    = text_replaced text new (denoted units text range.start) (denoted units text range.stop)
+    = text_replaced text new (denoted units text range.start) (denoted units text range.end)
 
 -- The text after a change.
 abbrev pub text_after_change : (ℕ → ℕ) → List ℕ → Edit → Result (List ℕ) Fault

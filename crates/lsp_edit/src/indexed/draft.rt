@@ -76,7 +76,7 @@ pub fn ends_in(
             side: Side::Start,
         });
     };
-    let Ok(stop) = text.resolve(encoding, range.stop) else {
+    let Ok(stop) = text.resolve(encoding, range.end) else {
         return Err(EditFault::InsideCharacter {
             change,
             side: Side::Stop,

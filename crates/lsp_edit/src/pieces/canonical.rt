@@ -36,8 +36,8 @@ fn put_gap(
 {
     if low < high || !text.is_empty() {
         let start = before.position(encoding, low);
-        let stop = before.position(encoding, high);
-        let range = Some(Range { start, stop });
+        let end = before.position(encoding, high);
+        let range = Some(Range { start, end });
         changes.push(Change { range, text })?;
     }
     Ok(())

@@ -152,11 +152,11 @@ fn made_up(alloc: Global, numbers: &mut Numbers) -> Result<Change, AllocError> {
         return Ok(Change { range: None, text });
     }
     let start = position(numbers);
-    let mut stop = position(numbers);
+    let mut end = position(numbers);
     if numbers.below(4) != 0 {
-        stop.line = stop.line.max(start.line);
+        end.line = end.line.max(start.line);
     }
-    let range = Some(Range { start, stop });
+    let range = Some(Range { start, end });
     Ok(Change { range, text })
 }
 

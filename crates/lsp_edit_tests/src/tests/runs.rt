@@ -16,13 +16,13 @@ fn change(alloc: Global, number: u32) -> Result<Change, AllocError> {
         line: spread % 5,
         character: spread % 4,
     };
-    let stop = Position {
+    let end = Position {
         line: start.line,
         character: start.character + number % 2,
     };
     let text = if number % 3 == 0 { "" } else { "xy" };
     Ok(Change {
-        range: Some(Range { start, stop }),
+        range: Some(Range { start, end }),
         text: String::from_str(alloc, text)?,
     })
 }
@@ -68,12 +68,12 @@ fn reversed(alloc: Global) -> Result<Change, AllocError> {
         line: 1,
         character: 1,
     };
-    let stop = Position {
+    let end = Position {
         line: 0,
         character: 0,
     };
     Ok(Change {
-        range: Some(Range { start, stop }),
+        range: Some(Range { start, end }),
         text: String::new(alloc),
     })
 }
@@ -114,14 +114,14 @@ fn a_long_batch_may_leave_too_much(rt: HostRuntime) -> Result<(), Fail> {
 /// there is none left.
 fn deletions(alloc: Global) -> Result<Vec<Change>, AllocError> {
     let start = Position::default();
-    let stop = Position {
+    let end = Position {
         line: 0,
         character: 1,
     };
     let mut changes = Vec::with_capacity(alloc, 2_048)?;
     for _ in 0..2_048 {
         changes.push(Change {
-            range: Some(Range { start, stop }),
+            range: Some(Range { start, end }),
             text: String::new(alloc),
         })?;
     }
@@ -140,7 +140,7 @@ fn deletions_again(alloc: Global, refused: &mut usize) -> Result<Vec<Change>, Al
 /// Returns whether the batch deletes the first line's three characters, and the text is unchanged.
 fn deletes_the_first_line(text: &IndexedText, answer: &[Change]) -> bool {
     let start = Position::default();
-    let stop = Position {
+    let end = Position {
         line: 0,
         character: 3,
     };
@@ -148,7 +148,7 @@ fn deletes_the_first_line(text: &IndexedText, answer: &[Change]) -> bool {
         [change] => {
             text.text() == LINES
                 && change.text.is_empty()
-                && change.range == Some(Range { start, stop })
+                && change.range == Some(Range { start, end })
         }
         _ => false,
     }

@@ -147,7 +147,7 @@ fn range_value(writer: &mut Writer, range: Range) -> Result<(), AllocError>
 {
     writer.begin_object()?;
     writer.key("end")?;
-    position_value(writer, range.stop)?;
+    position_value(writer, range.end)?;
     writer.key("start")?;
     position_value(writer, range.start)?;
     writer.end_object()

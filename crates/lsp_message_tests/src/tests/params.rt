@@ -109,7 +109,7 @@ static CHANGED: [Row; 6] = [
         concat!(
             r#"Ok(ChangeParams { uri: "u", version: 2, changes: "#,
             "[Change { range: Some(Range { start: Position { line: 0, character: 1 }, ",
-            r#"stop: Position { line: 4294967295, character: 4294967295 } }), text: "" }] })"#,
+            r#"end: Position { line: 4294967295, character: 4294967295 } }), text: "" }] })"#,
         ),
     ),
     (
@@ -117,7 +117,7 @@ static CHANGED: [Row; 6] = [
         concat!(
             r#"Ok(ChangeParams { uri: "u", version: 2, changes: "#,
             "[Change { range: Some(Range { start: Position { line: 7, character: 0 }, ",
-            r#"stop: Position { line: 2, character: 3 } }), text: "a" }] })"#,
+            r#"end: Position { line: 2, character: 3 } }), text: "a" }] })"#,
         ),
     ),
     (

@@ -78,15 +78,15 @@ fn closed(alloc: Global) -> Result<CloseParams, AllocError> {
 }
 
 /// Returns a range of line 0.
-fn in_line(start: u32, stop: u32) -> Range {
+fn in_line(start: u32, end: u32) -> Range {
     Range {
         start: Position {
             line: 0,
             character: start,
         },
-        stop: Position {
+        end: Position {
             line: 0,
-            character: stop,
+            character: end,
         },
     }
 }
@@ -98,7 +98,7 @@ fn one_change(
     with: &str,
 ) -> Result<Vec<Change>, AllocError> {
     let change = Change {
-        range: range.map(|(start, stop)| in_line(start, stop)),
+        range: range.map(|(start, end)| in_line(start, end)),
         text: text(alloc, with)?,
     };
     Ok(vec![in alloc; change]?)

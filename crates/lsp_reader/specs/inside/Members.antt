@@ -48,7 +48,7 @@ IsPositionOf p ms =
 abbrev pub IsRangeOf : RangeMembers → Members → Type 0
 IsRangeOf r ms =
     (r.start ≡ position_in (get_member (codes "start") ms))
-    × (r.stop ≡ position_in (get_member (codes "end") ms))
+    × (r.end ≡ position_in (get_member (codes "end") ms))
 
 -- These are what is kept of the members of a change.
 abbrev pub IsChangeOf : ChangeMembers → Members → Type 0

@@ -120,7 +120,7 @@ static WANTED: [(&str, &str); 30] = [
     ),
     (
         r#"{"jsonrpc":"2.0","method":"textDocument/didChange","params":{"contentChanges":[{"range":{"end":{"line":2,"character":4294967295},"start":{"character":1,"line":0}},"text":"a"}],"textDocument":{"uri":"u","version":3}}}"#,
-        r#"DidChange(Some(ChangeParams { uri: "u", version: 3, changes: [Change { range: Some(Range { start: Position { line: 0, character: 1 }, stop: Position { line: 2, character: 4294967295 } }), text: "a" }] }))"#,
+        r#"DidChange(Some(ChangeParams { uri: "u", version: 3, changes: [Change { range: Some(Range { start: Position { line: 0, character: 1 }, end: Position { line: 2, character: 4294967295 } }), text: "a" }] }))"#,
     ),
     // Numbers of a position: 32 bits, no sign, no fraction.
     (

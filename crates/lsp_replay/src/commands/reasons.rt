@@ -220,7 +220,7 @@ fn push_side(buffer: &mut Vec<u8>, side: Side, range: Option<Range>) -> Result<(
         }
         Side::Stop => {
             buffer.extend_from_slice(b" ends at ")?;
-            push_position(buffer, range.stop)
+            push_position(buffer, range.end)
         }
     }
 }

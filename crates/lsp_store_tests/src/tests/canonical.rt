@@ -106,10 +106,10 @@ fn written(alloc: Global, text: &str) -> Result<String, AllocError> {
 
 /// Returns a change as it is written.
 fn written_change(alloc: Global, edit: &Edit) -> Result<String, AllocError> {
-    let (line, character, stop_line, stop_character, text) = *edit;
+    let (line, character, end_line, end_character, text) = *edit;
     let text = written(alloc, text)?;
     format!(in alloc;
-        "{{\"range\":{{\"end\":{{\"character\":{stop_character},\"line\":{stop_line}}},\"start\":{{\"character\":{character},\"line\":{line}}}}},\"text\":\"{text}\"}}"
+        "{{\"range\":{{\"end\":{{\"character\":{end_character},\"line\":{end_line}}},\"start\":{{\"character\":{character},\"line\":{line}}}}},\"text\":\"{text}\"}}"
     )
 }
 

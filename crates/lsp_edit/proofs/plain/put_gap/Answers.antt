@@ -15,8 +15,8 @@ some_left text e =
     (λ (l : length text ≤ 0). absurd (eqb-false (length text) 0 (sym e) (omega arith)))
     (cases_lt 0 (length text))
 
-pub position-stop-requires-clause-place : goal.position-stop-requires-clause-place
-position-stop-requires-clause-place c =
+pub position-end-requires-clause-place : goal.position-end-requires-clause-place
+position-end-requires-clause-place c =
     let changed : (c.args.low < c.args.high) ⊎ (0 < length c.args.text.now)
     = elim c.then-low-high.branch [ then-low-high-via-then-low-high w ↦ inl w.if-low-high.true | then-low-high-via-else-low-high+then-not-is_empty w ↦ inr (some_left c.args.text.now w.if-not-is_empty.ensures) ] in
     let ends : HasExactEnds (chars c.args.before.now) (gap_at c.args.low c.args.high c.args.text.now) = c.requires.ends (gap_some (units_in c.args.encoding) (chars c.args.before.now) c.args.low c.args.high c.args.text.now changed) in
@@ -28,6 +28,6 @@ returns-in_ok-push c =
     = elim c.then-low-high.branch [ then-low-high-via-then-low-high w ↦ inl w.if-low-high.true | then-low-high-via-else-low-high+then-not-is_empty w ↦ inr (some_left c.args.text.now w.if-not-is_empty.ensures) ] in
     let ends : HasExactEnds (chars c.args.before.now) (gap_at c.args.low c.args.high c.args.text.now) = c.requires.ends (gap_some (units_in c.args.encoding) (chars c.args.before.now) c.args.low c.args.high c.args.text.now changed) in
     rw c.in_ok-push.ensures.items
-    (gap_one (units_in c.args.encoding) (chars c.args.before.now) c.args.low c.args.high c.args.text.now _ _ c.position-start.result c.position-stop.result changed refl c.in_ok-text.ensures
+    (gap_one (units_in c.args.encoding) (chars c.args.before.now) c.args.low c.args.high c.args.text.now _ _ c.position-start.result c.position-end.result changed refl c.in_ok-text.ensures
     (c.position-start.ensures.exact c.args.low (omega (arith, ends.order, ends.within)) (sym (c.in_ok-place_of.ensures ∙ ap (λ (cs : List ℕ). length (encode_utf8_all (take c.args.low cs))) c.requires.old)))
-    (c.position-stop.ensures.exact c.args.high (omega (arith, ends.within)) (sym (c.in_ok-place_of-2.ensures ∙ ap (λ (cs : List ℕ). length (encode_utf8_all (take c.args.high cs))) c.requires.old))))
+    (c.position-end.ensures.exact c.args.high (omega (arith, ends.within)) (sym (c.in_ok-place_of-2.ensures ∙ ap (λ (cs : List ℕ). length (encode_utf8_all (take c.args.high cs))) c.requires.old))))

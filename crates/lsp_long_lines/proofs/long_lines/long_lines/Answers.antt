@@ -26,7 +26,7 @@ loop-line-preserved c =
           let items : c.match-excess.ranges.items ≡ c.loop-line.ranges.items ++ w.in-Some.range ∷ [] =
           ap (λ (v : Vec Range Global). v.items) w.ranges-is ∙ w.in_ok-push.ensures.items in
           ap stops items ∙ stops-long (units_in c.args.encoding) c.args.document.now.text c.text-text.result.now c.loop-line.line c.loop-line.ranges.items w.in-Some.range
-          c.text-text.ensures.text w.in-Some.ensures.long w.in-Some.ensures.stop c.loop-line.invariant
+          c.text-text.ensures.text w.in-Some.ensures.long w.in-Some.ensures.end c.loop-line.invariant
       | in_default w ↦
           let items : c.match-excess.ranges.items ≡ c.loop-line.ranges.items = ap (λ (v : Vec Range Global). v.items) w.ranges-is in
           ap stops items ∙ stops-short (units_in c.args.encoding) c.args.document.now.text c.text-text.result.now c.loop-line.line c.loop-line.ranges.items
