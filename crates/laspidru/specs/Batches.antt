@@ -9,8 +9,8 @@ use Rattle.lsp_edit.specs.declared.change.Change.{Change}
 use Rattle.lsp_edit.specs.declared.change.TheConstants.{MAX_NEW_TEXT}
 use Rattle.lsp_edit.specs.declared.composed.TheConstants.{MAX_OLD_TEXT}
 use Rattle.lsp_edit.specs.declared.fault.EditFault.TheVariants as edit
-use Rattle.lsp_edit.specs.declared.fault.Side.{Side}
-use Rattle.lsp_edit.specs.declared.fault.Side.TheVariants.{Start, Stop}
+use Rattle.lsp_edit.specs.declared.fault.RangeEnd.{RangeEnd}
+use Rattle.lsp_edit.specs.declared.fault.RangeEnd.TheVariants.{Start, End}
 use Rattle.lsp_edit.specs.declared.indexed.TextFault.{TextFault}
 use Rattle.lsp_edit.specs.declared.indexed.TextFault.TheVariants.{Edit as EditOf, TooLong, NoMemory}
 use Rattle.lsp_edit.specs.Batch as batch
@@ -78,8 +78,8 @@ left_by asked =
     text_within MAX_OLD_TEXT asked.text means
 
 -- The end of a range that a fault is about.
-abbrev pub side_at : Bool → Side
-side_at true = Stop
+abbrev pub side_at : Bool → RangeEnd
+side_at true = End
 side_at false = Start
 
 -- A fault is reported by its code. If it is one of a change, `out` has the number of the change and

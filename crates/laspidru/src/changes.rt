@@ -12,7 +12,7 @@ use crate::codes::{
     BAD_LENGTH, INSIDE_CHARACTER, NOT_UTF8, OUT_OF_MEMORY, REVERSED_RANGE, TOO_LONG,
 };
 use crate::place::{Edit, Fault, Place};
-use lsp_edit::{Change, EditFault, MAX_NEW_TEXT, Side, TextFault};
+use lsp_edit::{Change, EditFault, MAX_NEW_TEXT, RangeEnd, TextFault};
 use lsp_text::{Encoding, Position, Range};
 use std::alloc::{AllocError, Global};
 
@@ -119,7 +119,7 @@ pub(crate) fn report(fault: TextFault, out: &mut Fault) -> u32
         TextFault::Edit(EditFault::InsideCharacter { change, side }) => {
             *out = Fault {
                 change,
-                at_end: side == Side::Stop,
+                at_end: side == RangeEnd::End,
             };
             INSIDE_CHARACTER
         }

@@ -19,7 +19,7 @@ use crate::codes::{
 use crate::handle::Handle;
 use crate::object::Object;
 use crate::place::{Edit, EditsFault, Place};
-use lsp_edit::{Change, IndexedText, MAX_OLD_TEXT, Side, TextEdit, TextEditFault, TextFault};
+use lsp_edit::{Change, IndexedText, MAX_OLD_TEXT, RangeEnd, TextEdit, TextEditFault, TextFault};
 use lsp_text::{Encoding, Range};
 use std::alloc::{AllocError, Global};
 
@@ -84,7 +84,7 @@ pub(crate) fn report_edits(fault: TextEditFault, out: &mut EditsFault) -> u32
 {
     let (code, edit, other, at_end) = match fault {
         TextEditFault::InsideCharacter { edit, side } => {
-            (INSIDE_CHARACTER, edit, 0, side == Side::Stop)
+            (INSIDE_CHARACTER, edit, 0, side == RangeEnd::End)
         }
         TextEditFault::ReversedRange { edit } => (REVERSED_RANGE, edit, 0, false),
         TextEditFault::Overlap { first, second } => (OVERLAP, first, second, false),

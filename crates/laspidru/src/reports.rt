@@ -14,7 +14,7 @@ use crate::codes::{
 };
 use crate::place::Fault;
 use lsp_client::{ClientFault, Delivered, Phase, Reason};
-use lsp_edit::{EditFault, Side};
+use lsp_edit::{EditFault, RangeEnd};
 use lsp_store::StoreFault;
 use lsp_text::Encoding;
 use std::alloc::Global;
@@ -76,7 +76,7 @@ pub(crate) fn report_store(fault: StoreFault, out: &mut Fault) -> u32
         StoreFault::Edit(EditFault::InsideCharacter { change, side }) => {
             *out = Fault {
                 change,
-                at_end: side == Side::Stop,
+                at_end: side == RangeEnd::End,
             };
             code
         }

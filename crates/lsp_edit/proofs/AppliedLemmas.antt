@@ -14,7 +14,7 @@ use Rattle.lsp_edit.specs.declared.change.Change.{Change}
 use Rattle.lsp_edit.specs.declared.fault.EditFault.{EditFault}
 use Rattle.lsp_edit.specs.declared.fault.EditFault.TheVariants.{NoMemory}
 use Rattle.lsp_edit.specs.Items.{Item, New, character_of, text_of}
-use Rattle.lsp_edit.specs.Batch.{Edit, InsideStart, InsideStop, Reversed, replaced, after_change}
+use Rattle.lsp_edit.specs.Batch.{Edit, InsideStart, InsideEnd, Reversed, replaced, after_change}
 use Rattle.lsp_edit.specs.Faults.{fault_at, IsFaultOfChange, in_order, ends_of, places_at}
 use Rattle.lsp_edit.specs.inside.Faults.{IsPlaces}
 use Rattle.lsp_edit.specs.Keeps.{Keeps}
@@ -73,7 +73,7 @@ fault_told units old items characters range number fault error =
   where
     by_ends : (a b : Option ℕ) → ◌≡◌ {A = Result (ℕ × ℕ) EditFault} (Err fault) (places_at number (text_of old items) (in_order a b)) → IsFaultOfChange number (replaced items characters a b) fault
     by_ends None b e = inr (InsideStart, refl, cc)
-    by_ends (Some a) None e = inr (InsideStop, refl, cc)
+    by_ends (Some a) None e = inr (InsideEnd, refl, cc)
     by_ends (Some a) (Some b) e =
         ⊎_elim
         (λ (o : nat_le a b ≡ true). absurd (let f : ◌≡◌ {A = Result (ℕ × ℕ) EditFault} (Err fault) (Ok (place_of (text_of old items) a, place_of (text_of old items) b)) = rw o at e in cc))

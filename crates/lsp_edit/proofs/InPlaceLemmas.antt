@@ -16,7 +16,7 @@ use Rattle.lsp_edit.specs.declared.fault.EditFault.TheVariants as edit
 use Rattle.lsp_edit.specs.declared.indexed.TextFault.{TextFault}
 use Rattle.lsp_edit.specs.declared.indexed.TextFault.TheVariants.{Edit as EditOf, TooLong, NoMemory}
 use Rattle.lsp_edit.specs.Items.{Item, New, plain, character_of, text_of}
-use Rattle.lsp_edit.specs.Batch.{Fault, InsideStart, InsideStop, Reversed, after_change, meaning}
+use Rattle.lsp_edit.specs.Batch.{Fault, InsideStart, InsideEnd, Reversed, after_change, meaning}
 use Rattle.lsp_edit.specs.Faults.{fault_at, ends_of, places_at}
 use Rattle.lsp_edit.specs.Indexed.{alone, bytes_left, text_within, text_fault_of}
 use Rattle.lsp_edit.specs.Once.{put_items}
@@ -103,7 +103,7 @@ module _ (units : ℕ → ℕ) (before : List ℕ) (utf8 : IsUtf8 before) (range
 
   fault_edit : (number : ℕ) (why : Fault) → EditOf (fault_at number why) ≡ text_fault_of (fault_at number why)
   fault_edit number InsideStart = refl
-  fault_edit number InsideStop = refl
+  fault_edit number InsideEnd = refl
   fault_edit number Reversed = refl
 
   pub range_fault : (max_len : ℕ) (fault : EditFault) → Err fault ≡ places_at 0 (chars before) (ends_of units (chars before) range)

@@ -16,7 +16,7 @@ use Rattle.lsp_edit.specs.declared.fault.EditFault.TheVariants.{NoMemory}
 use Rattle.lsp_edit.specs.declared.indexed.TextFault.{TextFault}
 use Rattle.lsp_edit.specs.declared.indexed.TextFault.TheVariants.{Edit as EditOf, TooLong, NoMemory as OutOfMemory}
 use Rattle.lsp_edit.specs.Items.{Item, New, plain, character_of, text_of}
-use Rattle.lsp_edit.specs.Batch.{Edit, Fault, InsideStart, InsideStop, Reversed, replaced, changed_in, after_change, after_changes, continue_with, meaning}
+use Rattle.lsp_edit.specs.Batch.{Edit, Fault, InsideStart, InsideEnd, Reversed, replaced, changed_in, after_change, after_changes, continue_with, meaning}
 use Rattle.lsp_edit.specs.inside.TextBatch.{text_replaced, text_changed, text_after_change, text_after_changes, text_continue_with, IsFaultOf, IsFaultOfBatch}
 use Rattle.lsp_edit.specs.Faults.{fault_at, in_order, ends_of, places_at}
 use Rattle.lsp_edit.specs.Edited.{edit_of}
@@ -65,7 +65,7 @@ changes_text units old number items (change ∷ batch) =
 
 fault_edit : (number : ℕ) (why : Fault) → EditOf (fault_at number why) ≡ text_fault_of (fault_at number why)
 fault_edit number InsideStart = refl
-fault_edit number InsideStop = refl
+fault_edit number InsideEnd = refl
 fault_edit number Reversed = refl
 
 module _ (units : ℕ → ℕ) (before : List ℕ) (batch : List Edit) where
@@ -167,7 +167,7 @@ module _ (units : ℕ → ℕ) (number : ℕ) (before : List ℕ) (utf8 : IsUtf8
     where
       by_ends : (a b : Option ℕ) → ◌≡◌ {A = Result (ℕ × ℕ) EditFault} (Err fault) (places_at number (chars before) (in_order a b)) → IsFaultOf number (text_replaced (chars before) (chars new) a b) fault
       by_ends None b e = inr (InsideStart, refl, cc)
-      by_ends (Some a) None e = inr (InsideStop, refl, cc)
+      by_ends (Some a) None e = inr (InsideEnd, refl, cc)
       by_ends (Some a) (Some b) e =
           ⊎_elim
           (λ (o : nat_le a b ≡ true). absurd (let f : ◌≡◌ {A = Result (ℕ × ℕ) EditFault} (Err fault) (Ok (place_of (chars before) a, place_of (chars before) b)) = rw o at e in cc))

@@ -11,17 +11,17 @@ pub record Edit : Type 0 where
   pub range : Option Range
   pub text : List ℕ
 
--- Why a change has no result: its start denotes nothing, or else its stop, or the start denotes a
+-- Why a change has no result: its start denotes nothing, or else its end, or the start denotes a
 -- later index than the stop.
 pub data Fault : Type 0 where
-  InsideStart InsideStop Reversed : Fault
+  InsideStart InsideEnd Reversed : Fault
 
 -- The items with those between two indexes replaced by new characters.
 abbrev pub replaced : List Item → List ℕ → Option ℕ → Option ℕ → Result (List Item) Fault
-replaced items characters None stop = Err InsideStart
-replaced items characters (Some start) None = Err InsideStop
-replaced items characters (Some start) (Some stop) =
-    if nat_le start stop then Ok (take start items ++ (map New characters ++ drop stop items)) else
+replaced items characters None end = Err InsideStart
+replaced items characters (Some start) None = Err InsideEnd
+replaced items characters (Some start) (Some end) =
+    if nat_le start end then Ok (take start items ++ (map New characters ++ drop end items)) else
     Err Reversed
 
 -- The items after a change with these characters and this range, which counts in the text of the

@@ -5,7 +5,7 @@ use Rattle.lsp_text.specs.declared.encoding.Encoding.TheVariants.{Utf16}
 use Rattle.lsp_text.specs.Units.{units_in}
 use Rattle.lsp_text.specs.Positions.{denoted}
 use Rattle.lsp_edit.specs.Items.{Item, text_of}
-use Rattle.lsp_edit.specs.Batch.{Edit, Fault, InsideStart, InsideStop, Reversed, meaning}
+use Rattle.lsp_edit.specs.Batch.{Edit, Fault, InsideStart, InsideEnd, Reversed, meaning}
 use Rattle.lsp_edit.specs.Canonical.{canonical}
 use Rattle.lsp_edit.specs.Compose.{then_items}
 
@@ -95,7 +95,7 @@ pub record HoldsOnExamples : Type 0 where
       ≡ Err (1, Reversed)
   -- Inside a character of two units.
   pub inside_the_start : leaves (0x1_F600 ∷ []) (change 0 1 0 1 [] ∷ []) ≡ Err (0, InsideStart)
-  pub inside_the_end : leaves (0x1_F600 ∷ []) (change 0 2 0 1 [] ∷ []) ≡ Err (0, InsideStop)
+  pub inside_the_end : leaves (0x1_F600 ∷ []) (change 0 2 0 1 [] ∷ []) ≡ Err (0, InsideEnd)
   -- A range is reversed by what it denotes, not by its numbers.
   pub past_the_end_twice : leaves (codes "abc") (change 0 9 0 3 [] ∷ []) ≡ left (codes "abc") []
   -- Ranges count in the text that they meet, those of the canonical batch also in the old text.

@@ -5,14 +5,14 @@ use Rattle.lsp_text.specs.Text.{place_of}
 use Rattle.lsp_text.specs.Positions.{denoted}
 use Rattle.lsp_edit.specs.declared.fault.EditFault.{EditFault}
 use Rattle.lsp_edit.specs.declared.fault.EditFault.TheVariants.{InsideCharacter, ReversedRange, NoMemory}
-use Rattle.lsp_edit.specs.declared.fault.Side.TheVariants.{Start, Stop}
+use Rattle.lsp_edit.specs.declared.fault.RangeEnd.TheVariants.{Start, End}
 use Rattle.lsp_edit.specs.Items.{Item}
-use Rattle.lsp_edit.specs.Batch.{Fault, InsideStart, InsideStop, Reversed}
+use Rattle.lsp_edit.specs.Batch.{Fault, InsideStart, InsideEnd, Reversed}
 
 -- The fault of a change, with the change's number.
 abbrev pub fault_at : ℕ → Fault → EditFault
 fault_at number InsideStart = InsideCharacter number Start
-fault_at number InsideStop = InsideCharacter number Stop
+fault_at number InsideEnd = InsideCharacter number End
 fault_at number Reversed = ReversedRange number
 
 -- The fault is out of memory, or why the change of this number has no result.
@@ -27,9 +27,9 @@ IsFaultOfChanges changed fault = (fault ≡ NoMemory)
 
 -- The indexes that the two ends of a range denote, if both denote and are in order.
 abbrev pub in_order : Option ℕ → Option ℕ → Result (ℕ × ℕ) Fault
-in_order None stop = Err InsideStart
-in_order (Some start) None = Err InsideStop
-in_order (Some start) (Some stop) = if nat_le start stop then Ok (start, stop) else Err Reversed
+in_order None end = Err InsideStart
+in_order (Some start) None = Err InsideEnd
+in_order (Some start) (Some end) = if nat_le start end then Ok (start, end) else Err Reversed
 
 -- The indexes of a range's two ends in a text, or the fault of the range.
 abbrev pub ends_of : (ℕ → ℕ) → List ℕ → Range → Result (ℕ × ℕ) Fault

@@ -5,7 +5,7 @@ ghost use Rattle.std.specs.Str.{chars};
 ghost use Rattle.lsp_text.specs.Units.{units_in};
 ghost use Rattle.lsp_edit.specs.Faults.{ends_of, places_at};
 
-use crate::fault::{EditFault, Side};
+use crate::fault::{EditFault, RangeEnd};
 use crate::old_text::OldText;
 use lsp_text::{Encoding, Range};
 
@@ -23,13 +23,13 @@ pub fn ends(
     let Ok(start) = text.resolve(encoding, range.start) else {
         return Err(EditFault::InsideCharacter {
             change,
-            side: Side::Start,
+            side: RangeEnd::Start,
         });
     };
     let Ok(stop) = text.resolve(encoding, range.end) else {
         return Err(EditFault::InsideCharacter {
             change,
-            side: Side::Stop,
+            side: RangeEnd::End,
         });
     };
     if start > stop {

@@ -8,20 +8,20 @@ use thiserror::Error;
 
 /// The end of a change's range that a fault is about.
 #[derive(Clone, Copy, Debug, PartialEq, Eq)]
-pub enum Side {
+pub enum RangeEnd {
     Start,
-    Stop,
+    End,
 }
 
 /// Why a batch has no result.
 ///
 /// Changes are counted from 0, and the first faulty one decides: first by its start, then by its
-/// stop, then by their order.
+/// end, then by their order.
 #[derive(Clone, Copy, Debug, PartialEq, Eq, Error)]
 pub enum EditFault {
     /// An end of the change's range lies inside a character.
     #[error("change {change}: {side:?} lies inside a character")]
-    InsideCharacter { change: usize, side: Side },
+    InsideCharacter { change: usize, side: RangeEnd },
     /// The change's range starts after its end.
     #[error("change {change}: the range is reversed")]
     ReversedRange { change: usize },

@@ -38,7 +38,7 @@ mod text_edits;
 pub use change::{Change, MAX_NEW_TEXT, fits};
 pub use composed::{MAX_OLD_TEXT, compose, compose_buffer, compose_over};
 pub use delta::Delta;
-pub use fault::{EditFault, Side};
+pub use fault::{EditFault, RangeEnd};
 pub use indexed::{IndexedText, TextFault};
 pub use joined::Joined;
 pub use laws::batch_laws;

@@ -8,7 +8,7 @@ ghost use Rattle.lsp_edit.specs.Parts.{new_parts, parts_of};
 ghost use Rattle.lsp_edit.specs.TextEdits.{AreApart, ArePlaced, DoOverlap, IsEditsFault, IsInOrder, LiesNowhere, AreLeftByEdits, fault_of, old_parts, parts_left};
 
 use crate::ends::ends;
-use crate::fault::{EditFault, Side};
+use crate::fault::{EditFault, RangeEnd};
 use crate::old_text::OldText;
 use crate::pieces::span::Span;
 use lsp_text::{Encoding, Range};
@@ -26,16 +26,16 @@ pub struct TextEdit {
 /// Why text edits have no meaning.
 ///
 /// Edits are counted from 0. The first edit with a faulty range decides: first by its start, then
-/// by its stop, then by their order. An overlap is reported only if no range is faulty.
+/// by its end, then by their order. An overlap is reported only if no range is faulty.
 #[derive(Clone, Copy, Debug, PartialEq, Eq, Error)]
 pub enum TextEditFault {
     /// An end of the edit's range lies inside a character.
     #[error("edit {edit}: {side:?} lies inside a character")]
-    InsideCharacter { edit: usize, side: Side },
+    InsideCharacter { edit: usize, side: RangeEnd },
     /// The edit's range starts after its end.
     #[error("edit {edit}: the range is reversed")]
     ReversedRange { edit: usize },
-    /// The second edit starts before the first one stops. An insertion at the start of another edit
+    /// The second edit starts before the first one ends. An insertion at the start of another edit
     /// must come before it in the list.
     #[error("edits {first} and {second} overlap")]
     Overlap { first: usize, second: usize },

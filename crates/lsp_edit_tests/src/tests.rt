@@ -15,7 +15,7 @@ mod text_edits;
 
 ghost use Rattle.std.specs.Prelude.{◌≡◌, IfOk};
 
-use lsp_edit::{Change, EditFault, IndexedText, MAX_OLD_TEXT, Pieces, Side, TextFault, fits};
+use lsp_edit::{Change, EditFault, IndexedText, MAX_OLD_TEXT, Pieces, RangeEnd, TextFault, fits};
 use lsp_samples::edits::{ALL, Edit, batch, change};
 use lsp_text::Encoding;
 use std::alloc::{AllocError, Global};
@@ -101,7 +101,7 @@ pub(super) static FAULTS: [Faulty; 5] = [
         &[(0, 1, 0, 1, "")],
         EditFault::InsideCharacter {
             change: 0,
-            side: Side::Start,
+            side: RangeEnd::Start,
         },
     ),
     (
@@ -109,7 +109,7 @@ pub(super) static FAULTS: [Faulty; 5] = [
         &[(0, 2, 0, 1, "")],
         EditFault::InsideCharacter {
             change: 0,
-            side: Side::Stop,
+            side: RangeEnd::End,
         },
     ),
     (
@@ -121,7 +121,7 @@ pub(super) static FAULTS: [Faulty; 5] = [
         ],
         EditFault::InsideCharacter {
             change: 2,
-            side: Side::Start,
+            side: RangeEnd::Start,
         },
     ),
     (

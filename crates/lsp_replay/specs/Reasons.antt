@@ -7,8 +7,8 @@ use Rattle.lsp_text.specs.declared.position.Position.{Position}
 use Rattle.lsp_text.specs.declared.position.Range.{Range}
 use Rattle.lsp_edit.specs.declared.fault.EditFault.{EditFault}
 use Rattle.lsp_edit.specs.declared.fault.EditFault.TheVariants.{InsideCharacter, ReversedRange, NoMemory as NoMemoryToEdit}
-use Rattle.lsp_edit.specs.declared.fault.Side.{Side}
-use Rattle.lsp_edit.specs.declared.fault.Side.TheVariants.{Start, Stop}
+use Rattle.lsp_edit.specs.declared.fault.RangeEnd.{RangeEnd}
+use Rattle.lsp_edit.specs.declared.fault.RangeEnd.TheVariants.{Start, End}
 use Rattle.lsp_message.specs.declared.outgoing.ErrorCode.{ErrorCode}
 use Rattle.lsp_message.specs.declared.outgoing.ErrorCode.TheVariants.{ParseError, InvalidRequest, MethodNotFound, InvalidParams, ServerNotInitialized}
 use Rattle.lsp_message.specs.Params.{ChangeData}
@@ -36,10 +36,10 @@ abbrev pub position_words : Position → List ℕ
 position_words p = codes "line " ++ decimal p.line ++ codes ", character " ++ decimal p.character
 
 -- One end of a range, as it was sent.
-abbrev pub end_words : Side → Option Range → List ℕ
+abbrev pub end_words : RangeEnd → Option Range → List ℕ
 end_words side None = []
 end_words Start (Some range) = codes " starts at " ++ position_words range.start
-end_words Stop (Some range) = codes " ends at " ++ position_words range.end
+end_words End (Some range) = codes " ends at " ++ position_words range.end
 
 -- ---- why a notification was refused
 
@@ -50,7 +50,7 @@ edit_reason p (InsideCharacter change side) =
     ++ codes ", inside a character"
 edit_reason p (ReversedRange change) =
     codes "change " ++ decimal (one_more change) ++ end_words Start (range_sent p change)
-    ++ codes ", after it" ++ end_words Stop (range_sent p change)
+    ++ codes ", after it" ++ end_words End (range_sent p change)
 edit_reason p NoMemoryToEdit = []
 
 abbrev pub store_reason : Bounds → Option ChangeData → StoreFault → List ℕ

@@ -79,7 +79,7 @@ mod server;
 pub use answer::{Answer, Refusal, ServerFault};
 pub use config::{Config, EncodingChoice, Sync};
 pub use laws::step_laws;
-pub use lsp_edit::{Change, EditFault, Side, TextEdit, TextEditFault};
+pub use lsp_edit::{Change, EditFault, RangeEnd, TextEdit, TextEditFault};
 pub use lsp_frame::{BadLimits, Limits};
 pub use lsp_message::{ChangeParams, CloseParams, ErrorCode, Id, Offers, OpenParams, SyncKind};
 pub use lsp_reader::Incoming;

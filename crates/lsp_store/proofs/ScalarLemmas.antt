@@ -9,7 +9,7 @@ use Rattle.lsp_text.specs.TextLines.{numbers_from}
 use Rattle.lsp_text.specs.declared.position.Range.{Range}
 use Rattle.lsp_text.specs.Positions.{denoted}
 use Rattle.lsp_edit.specs.Items.{Item, Old, New, plain, text_of}
-use Rattle.lsp_edit.specs.Batch.{Edit, Fault, InsideStart, InsideStop, Reversed, replaced, changed_in, after_change, after_changes, continue_with, meaning}
+use Rattle.lsp_edit.specs.Batch.{Edit, Fault, InsideStart, InsideEnd, Reversed, replaced, changed_in, after_change, after_changes, continue_with, meaning}
 use Rattle.lsp_edit.specs.Canonical.{canonical}
 use Rattle.lsp_edit.specs.Laws.{IsCanonical}
 use Rattle.lsp_store.specs.Message.{AreTexts}
@@ -47,7 +47,7 @@ scalar-old (index ∷ indexes) = scalar-old indexes
 
 scalar-replaced : (items : List Item) (characters : List ℕ) (start stop : Option ℕ) (next : List Item) → NewAreScalar items → all_scalars characters ≡ true → replaced items characters start stop ≡ Ok next → NewAreScalar next
 scalar-replaced items characters None stop next p all e = let bad : ◌≡◌ {A = Result (List Item) Fault} (Err InsideStart) (Ok next) = e in absurd (cc)
-scalar-replaced items characters (Some start) None next p all e = let bad : ◌≡◌ {A = Result (List Item) Fault} (Err InsideStop) (Ok next) = e in absurd (cc)
+scalar-replaced items characters (Some start) None next p all e = let bad : ◌≡◌ {A = Result (List Item) Fault} (Err InsideEnd) (Ok next) = e in absurd (cc)
 scalar-replaced items characters (Some start) (Some stop) next p all e =
     ⊎_elim
     (λ (o : nat_le start stop ≡ true).

@@ -1,7 +1,7 @@
 //! Why a case has no meaning, as a value of JSON.
 
 use anyhow::{Result, bail};
-use lsp_edit::{EditFault, Side, TextEditFault};
+use lsp_edit::{EditFault, RangeEnd, TextEditFault};
 use lsp_store::StoreFault;
 use serde_json::{Value, json};
 use std::alloc::Global;
@@ -63,9 +63,9 @@ pub fn word_of(fault: StoreFault) -> Result<&'static str> {
     }
 }
 
-fn end_of(side: Side) -> &'static str {
+fn end_of(side: RangeEnd) -> &'static str {
     match side {
-        Side::Start => "start",
-        Side::Stop => "end",
+        RangeEnd::Start => "start",
+        RangeEnd::End => "end",
     }
 }

@@ -5,15 +5,15 @@ use Rattle.lsp_text.specs.declared.position.Range.{Range}
 use Rattle.lsp_text.specs.Positions.{denoted}
 use Rattle.lsp_edit.specs.declared.fault.EditFault.{EditFault}
 use Rattle.lsp_edit.specs.declared.fault.EditFault.TheVariants.{NoMemory}
-use Rattle.lsp_edit.specs.Batch.{Edit, Fault, InsideStart, InsideStop, Reversed}
+use Rattle.lsp_edit.specs.Batch.{Edit, Fault, InsideStart, InsideEnd, Reversed}
 use Rattle.lsp_edit.specs.Faults.{fault_at}
 
 -- The text with the characters between two indexes replaced by new ones.
 abbrev pub text_replaced : List ℕ → List ℕ → Option ℕ → Option ℕ → Result (List ℕ) Fault
-text_replaced text new None stop = Err InsideStart
-text_replaced text new (Some start) None = Err InsideStop
-text_replaced text new (Some start) (Some stop) =
-    if nat_le start stop then Ok (take start text ++ (new ++ drop stop text)) else Err Reversed
+text_replaced text new None end = Err InsideStart
+text_replaced text new (Some start) None = Err InsideEnd
+text_replaced text new (Some start) (Some end) =
+    if nat_le start end then Ok (take start text ++ (new ++ drop end text)) else Err Reversed
 
 -- The text after a change with this new text and range.
 abbrev pub text_changed : (ℕ → ℕ) → List ℕ → List ℕ → Option Range → Result (List ℕ) Fault

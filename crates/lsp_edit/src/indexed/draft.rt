@@ -10,7 +10,7 @@ ghost use Rattle.lsp_edit.specs.inside.TextBatch.{IsFaultOf, IsFaultOfBatch, tex
 
 use crate::change::{Change, MAX_NEW_TEXT};
 use crate::composed::MAX_OLD_TEXT;
-use crate::fault::{EditFault, Side};
+use crate::fault::{EditFault, RangeEnd};
 use crate::pieces::MAX_TEXT;
 use lsp_text::{Encoding, GapText, Lines, Range};
 use std::alloc::{AllocError, Global};
@@ -73,13 +73,13 @@ pub fn ends_in(
     let Ok(start) = text.resolve(encoding, range.start) else {
         return Err(EditFault::InsideCharacter {
             change,
-            side: Side::Start,
+            side: RangeEnd::Start,
         });
     };
     let Ok(stop) = text.resolve(encoding, range.end) else {
         return Err(EditFault::InsideCharacter {
             change,
-            side: Side::Stop,
+            side: RangeEnd::End,
         });
     };
     if start > stop {

@@ -1,6 +1,6 @@
 //! The text of each fault.
 
-use lsp_edit::{EditFault, Side, TextFault};
+use lsp_edit::{EditFault, RangeEnd, TextFault};
 use std::alloc::{AllocError, Global};
 use std::process::Abort;
 use std::test::Fail;
@@ -9,16 +9,16 @@ static EDIT_FAULTS: [(EditFault, &str); 4] = [
     (
         EditFault::InsideCharacter {
             change: 0,
-            side: Side::Start,
+            side: RangeEnd::Start,
         },
         "change 0: Start lies inside a character",
     ),
     (
         EditFault::InsideCharacter {
             change: 7,
-            side: Side::Stop,
+            side: RangeEnd::End,
         },
-        "change 7: Stop lies inside a character",
+        "change 7: End lies inside a character",
     ),
     (
         EditFault::ReversedRange { change: 1 },

@@ -2,7 +2,7 @@
 //! changes where they fail. Ranges are counted in UTF-16.
 
 use super::{applied, kept, kept_again};
-use lsp_edit::{Change, EditFault, IndexedText, MAX_OLD_TEXT, MAX_TEXT, Side, TextFault};
+use lsp_edit::{Change, EditFault, IndexedText, MAX_OLD_TEXT, MAX_TEXT, RangeEnd, TextFault};
 use lsp_samples::edits::{ALL, Edit, batch, batch_again};
 use lsp_text::{Encoding, Lines, Position};
 use std::alloc::{AllocError, Global};
@@ -68,7 +68,7 @@ static FAULTS: [Faulty; 3] = [
         &[(0, 0, 0, 1, "x"), (0, 2, 0, 3, "")],
         TextFault::Edit(EditFault::InsideCharacter {
             change: 1,
-            side: Side::Start,
+            side: RangeEnd::Start,
         }),
     ),
     (

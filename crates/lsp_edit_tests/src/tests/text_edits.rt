@@ -2,7 +2,7 @@
 //! leave, and their faults. In UTF-16.
 
 use super::{applied, kept};
-use lsp_edit::{Change, MAX_OLD_TEXT, Side, TextEdit, TextEditFault, TextFault};
+use lsp_edit::{Change, MAX_OLD_TEXT, RangeEnd, TextEdit, TextEditFault, TextFault};
 use lsp_samples::edits::{Edit, batch, text_edits};
 use lsp_text::Encoding;
 use std::alloc::{AllocError, Global};
@@ -20,7 +20,7 @@ static EDITED: [Edited; 13] = [
         "aXYbc",
         &[(0, 1, 0, 1, "XY")],
     ),
-    // an insertion at the start of a replacement, and one at its stop
+    // an insertion at the start of a replacement, and one at its end
     (
         "abc",
         &[(0, 1, 0, 1, "X"), (0, 1, 0, 2, "Y")],
@@ -128,7 +128,7 @@ static FAULTS: [(&str, &[Edit], TextEditFault); 8] = [
         &[(0, 0, 0, 0, "a"), (0, 1, 0, 2, "")],
         TextEditFault::InsideCharacter {
             edit: 1,
-            side: Side::Start,
+            side: RangeEnd::Start,
         },
     ),
     (
@@ -136,7 +136,7 @@ static FAULTS: [(&str, &[Edit], TextEditFault); 8] = [
         &[(0, 0, 0, 1, "")],
         TextEditFault::InsideCharacter {
             edit: 0,
-            side: Side::Stop,
+            side: RangeEnd::End,
         },
     ),
     (
@@ -156,9 +156,9 @@ static TEXTS: [(TextEditFault, &str); 4] = [
     (
         TextEditFault::InsideCharacter {
             edit: 3,
-            side: Side::Stop,
+            side: RangeEnd::End,
         },
-        "edit 3: Stop lies inside a character",
+        "edit 3: End lies inside a character",
     ),
     (
         TextEditFault::ReversedRange { edit: 1 },

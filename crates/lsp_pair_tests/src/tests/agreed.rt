@@ -2,7 +2,7 @@
 
 use super::{Row, Script, new_pair, wrong_row};
 use lsp_client::ClientFault;
-use lsp_edit::{EditFault, Side};
+use lsp_edit::{EditFault, RangeEnd};
 use lsp_message::Offers;
 use lsp_pair::{Did, Happened, Heard, Pair};
 use lsp_server::{EncodingChoice, Sync};
@@ -37,7 +37,7 @@ static IN_UTF8: &[Row] = &[
         Script::Edit(2, 1, 1, "b"),
         Happened::Refused(ClientFault::Store(StoreFault::Edit(EditFault::InsideCharacter {
             change: 0,
-            side: Side::Start,
+            side: RangeEnd::Start,
         }))),
         Some((1, FACE)),
         Some((1, FACE)),

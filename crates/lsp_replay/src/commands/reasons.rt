@@ -2,7 +2,7 @@
 
 ghost use Rattle.std.specs.Prelude.{◌≡◌, ◌++◌, OnOk, codes, decimal, option_map};
 ghost use Rattle.std.specs.Fmt.{signed_decimal};
-ghost use Rattle.lsp_edit.specs.declared.fault.Side.TheVariants.{Start, Stop};
+ghost use Rattle.lsp_edit.specs.declared.fault.RangeEnd.TheVariants.{Start, End};
 ghost use Rattle.lsp_message.specs.Seen.{change_view};
 ghost use Rattle.lsp_server.specs.Seen.{answer_view};
 ghost use Rattle.lsp_stream.specs.Ports as ports;
@@ -11,7 +11,7 @@ ghost use Rattle.lsp_replay.specs.Reasons.{reason_words, refusal_reason, store_r
 
 use crate::members::{push_number, push_signed, push_words};
 use crate::session::counting::one_more;
-use lsp_edit::{EditFault, Side};
+use lsp_edit::{EditFault, RangeEnd};
 use lsp_frame::Limits;
 use lsp_message::{ChangeParams, ErrorCode};
 use lsp_server::{Answer, Refusal};
@@ -173,7 +173,7 @@ fn push_edit_reason(
 fn push_inside(
     buffer: &mut Vec<u8>,
     index: usize,
-    side: Side,
+    side: RangeEnd,
     range: Option<Range>,
 ) -> Result<(), AllocError>
     ensures { OnOk result (buffer.new.items ≡ buffer.old.items ++ codes "change "
@@ -189,12 +189,12 @@ fn push_inside(
 fn push_reversed(buffer: &mut Vec<u8>, index: usize, range: Option<Range>) -> Result<(), AllocError>
     ensures { OnOk result (buffer.new.items ≡ buffer.old.items ++ codes "change "
         ++ decimal (ports.one_more index) ++ end_words Start range ++ codes ", after it"
-        ++ end_words Stop range) }
+        ++ end_words End range) }
 {
     push_change(buffer, index)?;
-    push_side(buffer, Side::Start, range)?;
+    push_side(buffer, RangeEnd::Start, range)?;
     push_words(buffer, ", after it")?;
-    push_side(buffer, Side::Stop, range)
+    push_side(buffer, RangeEnd::End, range)
 }
 
 /// Writes the number of a change, from 1.
@@ -207,18 +207,18 @@ fn push_change(buffer: &mut Vec<u8>, index: usize) -> Result<(), AllocError>
 }
 
 /// Writes where an end of a range is.
-fn push_side(buffer: &mut Vec<u8>, side: Side, range: Option<Range>) -> Result<(), AllocError>
+fn push_side(buffer: &mut Vec<u8>, side: RangeEnd, range: Option<Range>) -> Result<(), AllocError>
     ensures { OnOk result (buffer.new.items ≡ buffer.old.items ++ end_words side range) }
 {
     let Some(range) = range else {
         return Ok(());
     };
     match side {
-        Side::Start => {
+        RangeEnd::Start => {
             buffer.extend_from_slice(b" starts at ")?;
             push_position(buffer, range.start)
         }
-        Side::Stop => {
+        RangeEnd::End => {
             buffer.extend_from_slice(b" ends at ")?;
             push_position(buffer, range.end)
         }

@@ -2,7 +2,7 @@
 //! committed.
 
 use super::lead;
-use lsp_edit::{EditFault, Side};
+use lsp_edit::{EditFault, RangeEnd};
 use lsp_frame::{BadLimits, Limits, frame};
 use lsp_samples::bodies::{CANONICAL, CHANGE, EXIT, INITIALIZE, OPEN, SHUTDOWN};
 use lsp_samples::edits::{ALL, Edit, batch};
@@ -123,7 +123,7 @@ static ROWS: [Row; 24] = [
         (B, 6, &[(0, 2, 0, 3, "")]),
         Fate::Refused(StoreFault::Edit(EditFault::InsideCharacter {
             change: 0,
-            side: Side::Start,
+            side: RangeEnd::Start,
         })),
     ),
     (
@@ -131,7 +131,7 @@ static ROWS: [Row; 24] = [
         (B, 6, &[(0, 1, 0, 1, "a"), (0, 2, 0, 3, "")]),
         Fate::Refused(StoreFault::Edit(EditFault::InsideCharacter {
             change: 1,
-            side: Side::Stop,
+            side: RangeEnd::End,
         })),
     ),
     (

@@ -1,7 +1,7 @@
 //! Calls that open, change and close documents, and each refusal in its order.
 
 use super::{Row, Step, URI, answer, change, frame_len, is_current, narrow, store_of};
-use lsp_edit::{Change, EditFault, Side};
+use lsp_edit::{Change, EditFault, RangeEnd};
 use lsp_frame::Limits;
 use lsp_samples::edits::{ALL, Edit, batch};
 use lsp_store::{Store, StoreFault};
@@ -14,7 +14,7 @@ const REVERSED: StoreFault = StoreFault::Edit(EditFault::ReversedRange { change:
 
 const INSIDE: StoreFault = StoreFault::Edit(EditFault::InsideCharacter {
     change: 0,
-    side: Side::Stop,
+    side: RangeEnd::End,
 });
 
 /// A text of version 5, a version, a batch, and the refusal that comes first.
