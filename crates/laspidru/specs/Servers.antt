@@ -17,8 +17,8 @@ use Rattle.lsp_server.specs.declared.answer.Refusal.TheVariants as refusal
 use Rattle.lsp_server.specs.declared.config.Config.{Config}
 use Rattle.lsp_server.specs.declared.config.EncodingChoice.{EncodingChoice}
 use Rattle.lsp_server.specs.declared.config.EncodingChoice.TheVariants.{Fixed, Negotiated}
-use Rattle.lsp_server.specs.declared.config.Sync.{Sync}
-use Rattle.lsp_server.specs.declared.config.Sync.TheVariants.{Incremental, Full}
+use Rattle.lsp_server.specs.declared.config.ChangeForm.{ChangeForm}
+use Rattle.lsp_server.specs.declared.config.ChangeForm.TheVariants.{Incremental, Full}
 use Rattle.lsp_server.specs.declared.phase.Phase.{Phase}
 use Rattle.lsp_server.specs.declared.phase.Phase.TheVariants.{New, Running, Down, Ended}
 use Rattle.lsp_server.specs.Answer.{AnswerData, Sent, as_sent, reply, changed, dropped, ignored, already_ended, refused, exits}
@@ -51,7 +51,7 @@ choice_of true encoding = Fixed encoding
 choice_of false encoding = Negotiated encoding
 
 -- The kind of synchronisation (LSP 3.17, TextDocumentSyncKind).
-abbrev pub sync_of : Bool → Sync
+abbrev pub sync_of : Bool → ChangeForm
 sync_of true = Full
 sync_of false = Incremental
 

@@ -15,7 +15,7 @@ use crate::codes::{
 use lsp_edit::EditFault;
 use lsp_frame::Limits;
 use lsp_message::ErrorCode;
-use lsp_server::{Config, EncodingChoice, Refusal, Sync};
+use lsp_server::{ChangeForm, Config, EncodingChoice, Refusal};
 use lsp_store::StoreFault;
 
 /// The set-up of a server: its limits, the number of its encoding, and its kind of synchronisation.
@@ -97,9 +97,9 @@ pub(crate) fn config_of(settings: &Settings) -> Result<Config, u32>
         EncodingChoice::Negotiated { prefer: encoding }
     };
     let sync = if settings.is_full {
-        Sync::Full
+        ChangeForm::Full
     } else {
-        Sync::Incremental
+        ChangeForm::Incremental
     };
     Ok(Config {
         limits,

@@ -14,8 +14,8 @@ use Rattle.lsp_message.specs.Sent.{sent}
 use Rattle.lsp_message.proofs.ReadBack.{reading-body_of, is_read_back}
 use Rattle.lsp_server.specs.declared.config.EncodingChoice.{EncodingChoice}
 use Rattle.lsp_server.specs.declared.config.EncodingChoice.TheVariants.{Fixed, Negotiated}
-use Rattle.lsp_server.specs.declared.config.Sync.{Sync}
-use Rattle.lsp_server.specs.declared.config.Sync.TheVariants.{Incremental, Full}
+use Rattle.lsp_server.specs.declared.config.ChangeForm.{ChangeForm}
+use Rattle.lsp_server.specs.declared.config.ChangeForm.TheVariants.{Incremental, Full}
 use Rattle.lsp_server.specs.Choice.{chosen, kind_of}
 use Rattle.lsp_server.proofs.LawLemmas.{offered_if}
 use Rattle.lsp_client.specs.declared.phase.Phase.{Phase}
@@ -82,11 +82,11 @@ offered_is (Fixed Utf16) offers e = refl
 offered_is (Fixed Utf32) offers e = absurd (let bad : false ≡ true = e in cc)
 offered_is (Negotiated prefer) offers e = offered_if prefer offers (is_offered offers prefer) refl
 
-agrees_on : (s : State) (encoding : Encoding) (sync : Sync) → is_offered s.offers encoding ≡ true → begin_if_synced s true (kind_of sync) (Some encoding) ≡ begin_in s encoding (kind_of sync)
+agrees_on : (s : State) (encoding : Encoding) (sync : ChangeForm) → is_offered s.offers encoding ≡ true → begin_if_synced s true (kind_of sync) (Some encoding) ≡ begin_in s encoding (kind_of sync)
 agrees_on s encoding Incremental e = rw e refl
 agrees_on s encoding Full e = rw e refl
 
-begins_given : (s : State) (encoding : Encoding) (sync : Sync) → is_offered s.offers encoding ≡ true
+begins_given : (s : State) (encoding : Encoding) (sync : ChangeForm) → is_offered s.offers encoding ≡ true
     → begin_as_announced s (announced_of (initialize_value encoding (kind_of sync))) ≡ begin_in s encoding (kind_of sync)
 begins_given s encoding sync e = ap (begin_as_announced s) (is_read_back (first_result encoding (kind_of sync)) (record { sfits = omega arith })) ∙ agrees_on s encoding sync e
 

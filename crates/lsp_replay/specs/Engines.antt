@@ -28,7 +28,7 @@ use Rattle.lsp_log.specs.Log.{LogRules, Record, version_line, mark_of}
 use Rattle.lsp_replay.specs.RunOutput.{RunOutput, written_first, stopped}
 use Rattle.lsp_server.specs.declared.config.Config.{Config}
 use Rattle.lsp_server.specs.declared.config.EncodingChoice.TheVariants.{Fixed}
-use Rattle.lsp_server.specs.declared.config.Sync.TheVariants.{Incremental}
+use Rattle.lsp_server.specs.declared.config.ChangeForm.TheVariants.{Incremental}
 use Rattle.lsp_replay.specs.declared.engines.Settings.{Settings}
 use Rattle.lsp_replay.specs.Session.{Session, opened, Verdict, answered, recorded, bad, Judged, judge, outcome_of}
 

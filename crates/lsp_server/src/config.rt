@@ -13,7 +13,7 @@ use lsp_text::Encoding;
 pub struct Config {
     pub limits: Limits,
     pub choice: EncodingChoice,
-    pub sync: Sync,
+    pub sync: ChangeForm,
 }
 
 impl Default for Config {
@@ -28,7 +28,7 @@ impl Default for Config {
             choice: EncodingChoice::Negotiated {
                 prefer: Encoding::Utf16,
             },
-            sync: Sync::Incremental,
+            sync: ChangeForm::Incremental,
         }
     }
 }
@@ -59,21 +59,21 @@ impl EncodingChoice {
 /// How the server wants to be notified of changes (LSP 3.17, TextDocumentSyncKind). It accepts both
 /// forms, whichever it announces.
 #[derive(Clone, Copy, Debug, PartialEq, Eq, Hash)]
-pub enum Sync {
+pub enum ChangeForm {
     /// With the changed ranges.
     Incremental,
     /// With the whole text.
     Full,
 }
 
-impl Sync {
+impl ChangeForm {
     /// Returns the kind that the server announces.
     pub fn kind(self) -> SyncKind
         ensures { result ≡ kind_of self }
     {
         match self {
-            Sync::Incremental => SyncKind::Incremental,
-            Sync::Full => SyncKind::Full,
+            ChangeForm::Incremental => SyncKind::Incremental,
+            ChangeForm::Full => SyncKind::Full,
         }
     }
 }

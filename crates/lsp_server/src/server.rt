@@ -14,7 +14,7 @@ mod documents;
 mod lifecycle;
 
 use crate::answer::{Answer, ServerFault};
-use crate::config::{Config, EncodingChoice, Sync};
+use crate::config::{ChangeForm, Config, EncodingChoice};
 use crate::phase::Phase;
 use lsp_message::ErrorCode;
 use lsp_reader::{Incoming, Scratch};
@@ -30,7 +30,7 @@ use std::marker::Model;
 pub struct Server {
     alloc: Global,
     choice: EncodingChoice,
-    sync: Sync,
+    sync: ChangeForm,
     phase: Phase,
     encoding: Option<Encoding>,
     store: Store,

@@ -7,7 +7,7 @@ use clap::builder::ValueParser;
 use clap::{Arg, ArgAction, ArgMatches, Command, Error};
 use lsp_frame::Limits;
 use lsp_message::Offers;
-use lsp_server::{Config, EncodingChoice, Sync};
+use lsp_server::{ChangeForm, Config, EncodingChoice};
 use lsp_text::Encoding;
 use std::alloc::{AllocError, Global};
 
@@ -29,8 +29,8 @@ pub fn parse<'a>(alloc: Global, words: &'a [&'a str]) -> Result<Option<Setting>,
 
 fn setting_of(options: &ArgMatches<'_>) -> Option<Setting> {
     let sync = match options.get_str("sync")? {
-        "full" => Sync::Full,
-        _ => Sync::Incremental,
+        "full" => ChangeForm::Full,
+        _ => ChangeForm::Incremental,
     };
     Some(Setting {
         limits: client_limits(options)?,

@@ -17,8 +17,8 @@ use Rattle.lsp_text.specs.Units.{encoding_named}
 use Rattle.lsp_text.specs.declared.encoding.Encoding.{Encoding}
 use Rattle.lsp_server.specs.declared.config.Config.{Config}
 use Rattle.lsp_server.specs.declared.config.EncodingChoice.TheVariants.{Negotiated}
-use Rattle.lsp_server.specs.declared.config.Sync.{Sync}
-use Rattle.lsp_server.specs.declared.config.Sync.TheVariants.{Incremental, Full}
+use Rattle.lsp_server.specs.declared.config.ChangeForm.{ChangeForm}
+use Rattle.lsp_server.specs.declared.config.ChangeForm.TheVariants.{Incremental, Full}
 use Rattle.lsp_replay.specs.declared.engines.Settings.{Settings}
 use Rattle.lsp_replay.specs.declared.engines.parts.Part.{Part}
 use Rattle.lsp_replay.specs.declared.engines.traced.Details.{Details}
@@ -48,11 +48,11 @@ encoding_given options
     = option_and_then encoding_named (first_value (found_of options) (codes "encoding"))
 
 -- The meaning of a name of `--sync`.
-abbrev pub sync_named : List ℕ → Sync
+abbrev pub sync_named : List ℕ → ChangeForm
 sync_named name = if bytes_eq name (codes "full") then Full else Incremental
 
 -- The kind of synchronisation that the options name.
-abbrev pub sync_given : ArgMatches → Option Sync
+abbrev pub sync_given : ArgMatches → Option ChangeForm
 sync_given options = option_map sync_named (first_value (found_of options) (codes "sync"))
 
 -- A flag is set exactly if its option is there: `clap` finds the text `true` then, else `false`.

@@ -22,7 +22,7 @@ use clap::builder::ValueParser;
 use clap::{Arg, ArgAction, ArgMatches, Command, Error};
 use lsp_frame::Limits;
 use lsp_replay::{Details, Part, Settings};
-use lsp_server::{Config, EncodingChoice, Sync};
+use lsp_server::{ChangeForm, Config, EncodingChoice};
 use lsp_text::Encoding;
 use std::alloc::{AllocError, Global};
 
@@ -191,12 +191,12 @@ fn config_of(options: &ArgMatches<'_>) -> Option<Config>
     })
 }
 
-fn sync_of(options: &ArgMatches<'_>) -> Option<Sync>
+fn sync_of(options: &ArgMatches<'_>) -> Option<ChangeForm>
     ensures { result ≡ sync_given options.now }
 {
     match options.get_str("sync")? {
-        "full" => Some(Sync::Full),
-        _ => Some(Sync::Incremental),
+        "full" => Some(ChangeForm::Full),
+        _ => Some(ChangeForm::Incremental),
     }
 }
 

@@ -3,7 +3,7 @@
 use super::{NO_OFFERS, UTF16};
 use lsp_frame::{BadLimits, Limits};
 use lsp_pair::{Pair, PairFault};
-use lsp_server::{Config, EncodingChoice, Sync};
+use lsp_server::{ChangeForm, Config, EncodingChoice};
 use lsp_text::Encoding;
 use std::alloc::{AllocError, Global};
 use std::test::Fail;
@@ -36,7 +36,7 @@ fn is_fault(alloc: Global, row: &Setting) -> Result<bool, BadLimits> {
     let config = Config {
         limits: Limits::new(limits.0, limits.1, limits.2, limits.3)?,
         choice,
-        sync: Sync::Incremental,
+        sync: ChangeForm::Incremental,
     };
     Ok(Pair::new(alloc, Limits::new(4_097, 8, 2, 2)?, NO_OFFERS, config).err() == wanted)
 }

@@ -4,7 +4,9 @@ use super::{Row, is_answer, new_server, usual, wrong_row, wrong_row_of_new};
 use lsp_frame::{BadLimits, Limits};
 use lsp_message::{ErrorCode, Message, read};
 use lsp_samples::bodies::{ACCEPTED, CHANGE, INITIALIZE, OPEN, PARSE_ERROR};
-use lsp_server::{Answer, Config, EncodingChoice, Incoming, Phase, Server, ServerFault, Sync};
+use lsp_server::{
+    Answer, ChangeForm, Config, EncodingChoice, Incoming, Phase, Server, ServerFault,
+};
 use lsp_text::Encoding;
 use std::alloc::{AllocError, Global};
 use std::test::Fail;
@@ -64,7 +66,7 @@ fn the_smallest_limits(rt: HostRuntime) -> Result<(), Fail> {
     let config = Config {
         limits: Limits::new(4_096, 0, 1, 1)?,
         choice: EncodingChoice::Fixed(Encoding::Utf16),
-        sync: Sync::Incremental,
+        sync: ChangeForm::Incremental,
     };
     assert!(rt; wrong_row_of_new(rt.alloc(), config, &SMALLEST)?.is_none());
     Ok(())
@@ -77,7 +79,7 @@ fn documented() -> Result<Config, BadLimits> {
         choice: EncodingChoice::Negotiated {
             prefer: Encoding::Utf16,
         },
-        sync: Sync::Incremental,
+        sync: ChangeForm::Incremental,
     })
 }
 
