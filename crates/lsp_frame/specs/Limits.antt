@@ -1,5 +1,7 @@
 -- The four limits and their ranges.
 use Rattle.std.specs.Prelude.{ℕ, ◌≤◌, Bool, ◌||◌, nat_lt, if◌then◌else◌, Option, Some, None}
+use Rattle.lsp_frame.specs.declared.limits.BadLimits.{BadLimits}
+use Rattle.lsp_frame.specs.declared.limits.BadLimits.TheVariants.{MaxBody, MaxText, MaxDocs, MaxChanges}
 
 -- The four limits: bytes of a body, bytes of a text, open documents, changes of one message.
 pub record Bounds : Type 0 where
@@ -18,13 +20,13 @@ default_limits
 abbrev pub is_outside : ℕ → ℕ → ℕ → Bool
 is_outside least greatest n = nat_lt n least || nat_lt greatest n
 
--- The first limit that is out of its range, counted from 1.
-abbrev pub first_out_of_range : Bounds → Option ℕ
+-- The first limit that is out of its range.
+abbrev pub first_out_of_range : Bounds → Option BadLimits
 first_out_of_range b =
-    if is_outside 4096 1073741824 b.max_body then Some 1
-    else if is_outside 0 1073741824 b.max_text then Some 2
-    else if is_outside 1 65536 b.max_docs then Some 3
-    else if is_outside 1 1048576 b.max_changes then Some 4
+    if is_outside 4096 1073741824 b.max_body then Some MaxBody
+    else if is_outside 0 1073741824 b.max_text then Some MaxText
+    else if is_outside 1 65536 b.max_docs then Some MaxDocs
+    else if is_outside 1 1048576 b.max_changes then Some MaxChanges
     else None
 
 -- Each limit is in its range.

@@ -45,14 +45,17 @@ impl Model for Limits {
     } };
 }
 
-/// A limit that is out of its range.
-///
-/// `which` is the first such limit: 1 for `max_body`, 2 for `max_text`, 3 for `max_docs`, 4 for
-/// `max_changes`.
+/// The first limit that is out of its range.
 #[derive(Clone, Copy, Debug, PartialEq, Eq, Error)]
-#[error("limit {which} is out of range")]
-pub struct BadLimits {
-    pub which: u8,
+pub enum BadLimits {
+    #[error("max_body is out of its range")]
+    MaxBody,
+    #[error("max_text is out of its range")]
+    MaxText,
+    #[error("max_docs is out of its range")]
+    MaxDocs,
+    #[error("max_changes is out of its range")]
+    MaxChanges,
 }
 
 impl Default for Limits {
@@ -109,19 +112,19 @@ impl Limits {
               max_changes = max_changes;
             } in
             MatchResult result (λ limits. (limits ≡ given) × (first_out_of_range given ≡ None))
-            (λ bad. first_out_of_range given ≡ Some bad.which) }
+            (λ bad. first_out_of_range given ≡ Some bad) }
     {
         if max_body < Self::LEAST_BODY || max_body > Self::GREATEST_BODY {
-            return Err(BadLimits { which: 1 });
+            return Err(BadLimits::MaxBody);
         }
         if max_text > Self::GREATEST_TEXT {
-            return Err(BadLimits { which: 2 });
+            return Err(BadLimits::MaxText);
         }
         if max_docs < 1 || max_docs > Self::GREATEST_DOCS {
-            return Err(BadLimits { which: 3 });
+            return Err(BadLimits::MaxDocs);
         }
         if max_changes < 1 || max_changes > Self::GREATEST_CHANGES {
-            return Err(BadLimits { which: 4 });
+            return Err(BadLimits::MaxChanges);
         }
         Ok(Limits {
             max_body,

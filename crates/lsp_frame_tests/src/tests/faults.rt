@@ -49,9 +49,17 @@ fn prints_encode_fault(alloc: Global, row: &(EncodeFault, &str)) -> Result<bool,
     Ok(text.as_str() == row.1)
 }
 
-fn prints_bad_limits(alloc: Global, bad: BadLimits, wanted: &str) -> Result<bool, AllocError> {
+static BAD_LIMITS: [(BadLimits, &str); 4] = [
+    (BadLimits::MaxBody, "max_body is out of its range"),
+    (BadLimits::MaxText, "max_text is out of its range"),
+    (BadLimits::MaxDocs, "max_docs is out of its range"),
+    (BadLimits::MaxChanges, "max_changes is out of its range"),
+];
+
+fn prints_bad_limits(alloc: Global, row: &(BadLimits, &str)) -> Result<bool, AllocError> {
+    let bad = row.0;
     let text = format!(in alloc; "{bad}")?;
-    Ok(text.as_str() == wanted)
+    Ok(text.as_str() == row.1)
 }
 
 #[test]
@@ -62,7 +70,8 @@ fn each_fault_has_its_text(rt: HostRuntime) -> Result<(), Fail> {
     for row in &ENCODE_FAULTS {
         assert!(rt; prints_encode_fault(rt.alloc(), row)?, "{}", row.1);
     }
-    let bad = BadLimits { which: 3 };
-    assert!(rt; prints_bad_limits(rt.alloc(), bad, "limit 3 is out of range")?);
+    for row in &BAD_LIMITS {
+        assert!(rt; prints_bad_limits(rt.alloc(), row)?, "{}", row.1);
+    }
     Ok(())
 }

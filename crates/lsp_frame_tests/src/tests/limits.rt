@@ -12,21 +12,20 @@ fn limits(four: &Four) -> Result<Limits, BadLimits> {
 }
 
 /// Numbers out of range, and which of them is the first.
-static BAD: [(Four, u8); 7] = [
-    ([4_095, 0, 1, 1], 1),
-    ([4_096, 1_073_741_825, 0, 1], 2),
-    ([1_073_741_825, 0, 1, 1], 1),
-    ([4_096, 0, 0, 0], 3),
-    ([4_096, 0, 65_537, 1], 3),
-    ([4_096, 0, 1, 0], 4),
-    ([4_096, 0, 1, 1_048_577], 4),
+static BAD: [(Four, BadLimits); 7] = [
+    ([4_095, 0, 1, 1], BadLimits::MaxBody),
+    ([4_096, 1_073_741_825, 0, 1], BadLimits::MaxText),
+    ([1_073_741_825, 0, 1, 1], BadLimits::MaxBody),
+    ([4_096, 0, 0, 0], BadLimits::MaxDocs),
+    ([4_096, 0, 65_537, 1], BadLimits::MaxDocs),
+    ([4_096, 0, 1, 0], BadLimits::MaxChanges),
+    ([4_096, 0, 1, 1_048_577], BadLimits::MaxChanges),
 ];
 
 #[test]
 fn the_first_bad_limit_is_named(rt: HostRuntime) -> Result<(), Fail> {
-    for (four, which) in &BAD {
-        let bad = BadLimits { which: *which };
-        assert!(rt; limits(four) == Err(bad), "{four:?}");
+    for (four, bad) in &BAD {
+        assert!(rt; limits(four) == Err(*bad), "{four:?}");
     }
     Ok(())
 }
