@@ -7,13 +7,13 @@ ghost use Rattle.lsp_message.specs.Seen.{outgoing_view};
 ghost use Rattle.lsp_store.specs.Faults.{IsRefusal};
 ghost use Rattle.lsp_store.specs.Message.{body_refusal};
 
-use lsp_frame::{Limits, encode};
+use lsp_frame::{Limits, frame_within};
 use lsp_message::{Outgoing, write};
 use lsp_store::StoreFault;
 use std::alloc::Global;
 
 /// Returns the frame of a message, unless its body is too long.
-pub(crate) fn framed_within(
+pub(crate) fn message_frame_within(
     alloc: Global,
     limits: &Limits,
     message: &Outgoing,
@@ -25,5 +25,5 @@ pub(crate) fn framed_within(
         (IsRefusal (body_refusal limits.now (body_of (outgoing_view message.now)))) }
 {
     let body = write(alloc, message)?;
-    Ok(encode(alloc, limits, &body)?)
+    Ok(frame_within(alloc, limits, &body)?)
 }

@@ -22,4 +22,4 @@ pub use framer::Framer;
 pub use laws::frame_laws;
 pub use limits::{BadLimits, Limits};
 pub use stream::{Frames, read_frames};
-pub use written::{EncodeFault, MOST_HEADER, encode, frame, put_before, put_header};
+pub use written::{EncodeFault, MOST_HEADER, frame, frame_within, put_before, put_header};

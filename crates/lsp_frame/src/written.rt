@@ -151,7 +151,7 @@ impl From<AllocError> for EncodeFault {
 /// Returns the frame of a body that is no longer than `max_body` (LSP 3.17, Base Protocol).
 ///
 /// Fails if the body is longer, or if it is out of memory. Linear in the body.
-pub fn encode(alloc: Global, limits: &Limits, body: &[u8]) -> Result<Vec<u8>, EncodeFault>
+pub fn frame_within(alloc: Global, limits: &Limits, body: &[u8]) -> Result<Vec<u8>, EncodeFault>
     ensures framed { IfOk result (λ bytes. bytes.items ≡ frame body.now) }
     ensures is_frame_of { IfOk result
         (λ bytes. IsFrameOf limits.now.max_body bytes.items body.now) }

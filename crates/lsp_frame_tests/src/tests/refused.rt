@@ -2,7 +2,7 @@
 //! before, and the same call succeeds the second time. `.ci/refused` runs these.
 
 use super::narrow;
-use lsp_frame::{EncodeFault, FrameFault, Framer, encode, frame, read_frames};
+use lsp_frame::{EncodeFault, FrameFault, Framer, frame, frame_within, read_frames};
 use std::alloc::{AllocError, Global};
 use std::test::Fail;
 
@@ -98,21 +98,21 @@ fn refused_frame(rt: HostRuntime) -> Result<(), Fail> {
     Ok(())
 }
 
-fn encode_again(alloc: Global, refused: &mut usize) -> Result<Vec<u8>, Fail> {
+fn frame_within_again(alloc: Global, refused: &mut usize) -> Result<Vec<u8>, Fail> {
     let limits = narrow()?;
-    match encode(alloc, &limits, b"[]") {
+    match frame_within(alloc, &limits, b"[]") {
         Err(EncodeFault::NoMemory) => {
             *refused = refused.saturating_add(1);
-            Ok(encode(alloc, &limits, b"[]")?)
+            Ok(frame_within(alloc, &limits, b"[]")?)
         }
         other => Ok(other?),
     }
 }
 
 #[test]
-fn refused_encode(rt: HostRuntime) -> Result<(), Fail> {
+fn refused_frame_within(rt: HostRuntime) -> Result<(), Fail> {
     let mut refused: usize = 0;
-    let bytes = encode_again(rt.alloc(), &mut refused)?;
+    let bytes = frame_within_again(rt.alloc(), &mut refused)?;
     assert!(rt; bytes.as_slice() == b"Content-Length: 2\r\n\r\n[]".as_slice());
     println!(rt; "refused {refused}")?;
     Ok(())

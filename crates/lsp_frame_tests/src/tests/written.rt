@@ -1,7 +1,7 @@
 //! Frames as they are written.
 
 use super::narrow;
-use lsp_frame::{EncodeFault, encode, frame};
+use lsp_frame::{EncodeFault, frame, frame_within};
 use std::alloc::{AllocError, Global};
 use std::test::Fail;
 
@@ -32,7 +32,7 @@ fn encoded(alloc: Global, len: usize) -> Result<Vec<u8>, EncodeFault> {
     let Ok(limits) = narrow() else {
         return Err(EncodeFault::BodyTooLong { len: 0 });
     };
-    encode(alloc, &limits, &body)
+    frame_within(alloc, &limits, &body)
 }
 
 #[test]

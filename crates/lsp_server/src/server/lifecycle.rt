@@ -3,7 +3,7 @@
 use super::Server;
 use crate::answer::Answer;
 use crate::phase::Phase;
-use lsp_message::{ErrorCode, Id, Offers, Outgoing, write_frame};
+use lsp_message::{ErrorCode, Id, Offers, Outgoing, message_frame};
 use std::alloc::AllocError;
 
 impl Server {
@@ -21,7 +21,7 @@ impl Server {
         ensures { IsStepOf (fails self.now (option_map id_view id) error) result
             self.now self.now }
     {
-        let frame = write_frame(self.alloc, &Outgoing::ErrorReply { id, error })?;
+        let frame = message_frame(self.alloc, &Outgoing::ErrorReply { id, error })?;
         Ok(Answer::Reply {
             frame,
             code: Some(error),
@@ -55,7 +55,7 @@ impl Server {
             encoding,
             kind: self.sync.kind(),
         };
-        let frame = write_frame(self.alloc, &accepted)?;
+        let frame = message_frame(self.alloc, &accepted)?;
         self.phase = Phase::Running;
         self.encoding = Some(encoding);
         Ok(Answer::Reply { frame, code: None })
@@ -68,7 +68,7 @@ impl Server {
         match self.phase {
             Phase::New => self.fail(Some(id), ErrorCode::ServerNotInitialized),
             Phase::Running => {
-                let frame = write_frame(self.alloc, &Outgoing::ShutdownResult { id })?;
+                let frame = message_frame(self.alloc, &Outgoing::ShutdownResult { id })?;
                 self.phase = Phase::Down;
                 Ok(Answer::Reply { frame, code: None })
             }
