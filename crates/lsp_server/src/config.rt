@@ -45,7 +45,7 @@ pub enum EncodingChoice {
 
 impl EncodingChoice {
     /// Returns the encoding for a client that offers these.
-    pub fn chosen(self, offers: Offers) -> Encoding
+    pub fn choose(self, offers: Offers) -> Encoding
         ensures { result ≡ chosen self offers }
     {
         match self {

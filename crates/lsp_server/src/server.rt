@@ -211,7 +211,7 @@ impl Server {
     /// log that names another server's choice.
     ///
     /// Before an accepted `initialize` it does nothing. Takes no memory.
-    pub fn settle(&mut self, encoding: Encoding)
+    pub fn set_encoding(&mut self, encoding: Encoding)
         ensures { self.new ≡ with_encoding self.old encoding }
     {
         if self.encoding.is_some() {

@@ -69,7 +69,7 @@ impl Squash {
         let stored = document.stored;
         let uri = String::from_str(alloc, document.uri)?;
         let joined = Joined::over(alloc, &stored.text)?;
-        let text = stored.text.copied(alloc)?;
+        let text = stored.text.clone_in(alloc)?;
         let reached = Stored {
             language: String::new(alloc),
             version: stored.version,

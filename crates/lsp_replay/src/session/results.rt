@@ -43,7 +43,7 @@ impl Session {
         let Some(encoding) = announced.encoding else {
             return Verdict::Bad;
         };
-        self.server.settle(encoding);
+        self.server.set_encoding(encoding);
         self.expected = None;
         Verdict::Recorded
     }

@@ -49,7 +49,7 @@ impl Server {
     fn begin(&mut self, id: Id, offers: Offers) -> Result<Answer, AllocError>
         ensures { IsStepOf (begins self.old (id_view id) offers) result self.old self.new }
     {
-        let encoding = self.choice.chosen(offers);
+        let encoding = self.choice.choose(offers);
         let accepted = Outgoing::InitializeResult {
             id,
             encoding,

@@ -204,7 +204,7 @@ static SETTLED: [Settled; 5] = [
 fn is_settled(alloc: Global, server: &mut Server, row: &Settled) -> Result<bool, AllocError> {
     let (settled, encoding, body, wanted) = *row;
     if let Some(encoding) = settled {
-        server.settle(encoding);
+        server.set_encoding(encoding);
     }
     if server.encoding() != encoding {
         return Ok(false);
