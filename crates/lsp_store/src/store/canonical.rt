@@ -201,6 +201,7 @@ impl Store {
         let bytes = change_frame(alloc, &self.limits, uri, version, changes)?;
         Ok(bytes)
     }
+
     /// Appends the body of that message, so that a caller can put its header before it
     /// ([`lsp_frame::put_header`]).
     ///
