@@ -3,8 +3,8 @@ use Rattle.std.specs.Prelude.{ℕ, ◌≡◌, ◌≢◌, Bool, true, false, List
 use Rattle.lsp_frame.specs.Limits.{Bounds}
 use Rattle.lsp_frame.specs.declared.fault.FrameFault.{FrameFault}
 use Rattle.lsp_frame.specs.declared.fault.FrameFault.TheVariants as frame
-use Rattle.lsp_stream.specs.declared.fault.EngineFault.{EngineFault}
-use Rattle.lsp_stream.specs.declared.fault.EngineFault.TheVariants.{Read, Write, Frame, Truncated, BodyTooLong, NoMemory, TooManyTurns, BadLog}
+use Rattle.lsp_stream.specs.declared.fault.StreamFault.{StreamFault}
+use Rattle.lsp_stream.specs.declared.fault.StreamFault.TheVariants.{Read, Write, Frame, Truncated, BodyTooLong, NoMemory, TooManyTurns, BadLog}
 use Rattle.lsp_log.specs.Log.{LogRules, Record}
 use Rattle.lsp_replay.specs.declared.engines.Settings.{Settings}
 use Rattle.lsp_replay.specs.declared.outcome.Outcome.{Outcome}
@@ -67,7 +67,7 @@ command_output Convert settings = converted settings
 
 -- What `normalise` and `convert` write of a log is a log again, of which `replay` reports the same.
 abbrev pub IsLawful : Command → Settings →
-    (left_old left_new received_old received_new : Option (List ℕ)) → Result Outcome EngineFault →
+    (left_old left_new received_old received_new : Option (List ℕ)) → Result Outcome StreamFault →
     Type 0
 IsLawful Check settings left_old left_new received_old received_new answer = Unit {0}
 IsLawful Replay settings left_old left_new received_old received_new answer = Unit {0}
@@ -84,7 +84,7 @@ IsLawful Convert settings left_old left_new received_old received_new answer =
 -- A command ran over the bytes of a log, with this output and this result. It read the bytes in
 -- order, up to those that are left.
 pub record RanOn (command : Command) (settings : Settings) (log output : List ℕ)
-    (answer : Result Outcome EngineFault) : Type 0 where
+    (answer : Result Outcome StreamFault) : Type 0 where
   pub left : List ℕ
   -- Did it come to the end of the log?
   pub ended : Bool
@@ -128,7 +128,7 @@ frame_out len frame.Failed = record (fault_out len 0) { frame = 8 }
 frame_out len frame.NoMemory = record (fault_out len 0) { frame = 9 }
 
 -- The code of a result, and the ending. After a fault that isn't the log's there is only a code.
-abbrev pub ending_out : ℕ → Result Outcome EngineFault → Result (ℕ × Ending) ℕ
+abbrev pub ending_out : ℕ → Result Outcome StreamFault → Result (ℕ × Ending) ℕ
 ending_out len (Ok outcome) = Ok (OK, outcome_out len outcome)
 ending_out len (Err (Frame fault)) = Ok (BAD_FRAME, frame_out len fault)
 ending_out len (Err (Truncated place)) = Ok (CUT, fault_out len place)
@@ -165,7 +165,7 @@ IsKept (Ok ended) output code stored out = (code ≡ ended.0) × (output_in stor
 IsKept (Err fault) output code stored out = code ≡ fault
 
 -- The same by the result of the command.
-abbrev pub IsEnded : List ℕ → Result Outcome EngineFault → ℕ → Option Object → Ending → Type 0
+abbrev pub IsEnded : List ℕ → Result Outcome StreamFault → ℕ → Option Object → Ending → Type 0
 IsEnded output answer code stored out
     = IsKept (ending_out (length output) answer) output code stored out
 
@@ -173,6 +173,6 @@ IsEnded output answer code stored out
 pub record IsRun (command : Command) (settings : Settings) (log : List ℕ) (code : ℕ)
     (stored : Option Object) (out : Ending) : Type 0 where
   pub output : List ℕ
-  pub answer : Result Outcome EngineFault
+  pub answer : Result Outcome StreamFault
   pub ran : RanOn command settings log output answer
   pub ended : IsEnded output answer code stored out

@@ -3,11 +3,11 @@
 ghost use Rattle.std.specs.Prelude.{◌≡◌, ◌≢◌, Err, Some, [], false, true};
 ghost use Rattle.lsp_replay.specs.Engine.{Called, state_of};
 ghost use Rattle.lsp_replay.specs.AllRecords.{RanOver};
-ghost use Rattle.lsp_stream.specs.declared.fault.EngineFault.TheVariants.{Read, TooManyTurns};
+ghost use Rattle.lsp_stream.specs.declared.fault.StreamFault.TheVariants.{Read, TooManyTurns};
 ghost use Rattle.laspidru.specs.Logs.{IsLawful, RanOn, allowed_turns, command_output, reading_of};
 
 use crate::log_reader::LogReader;
-use lsp_replay::{EngineFault, Outcome, Settings, Told, check, convert, normalise, replay};
+use lsp_replay::{Outcome, Settings, StreamFault, Told, check, convert, normalise, replay};
 use std::alloc::Global;
 
 /// A command on a log.
@@ -26,7 +26,7 @@ pub enum Command {
 /// The result of a command, and its output.
 #[derive(Drop)]
 pub struct Run {
-    pub(crate) answer: Result<Outcome, EngineFault>,
+    pub(crate) answer: Result<Outcome, StreamFault>,
     pub(crate) output: Vec<u8>,
 }
 
@@ -37,7 +37,7 @@ fn run_between(
     settings: Settings,
     reader: &mut LogReader,
     writer: &mut Told<Vec<u8>>,
-) -> Result<Outcome, EngineFault>
+) -> Result<Outcome, StreamFault>
     ensures ran { RanOver (reading_of command settings) (command_output command settings)
         (state_of reader.old.ended reader.new.ended false)
         (Some reader.old.rest.now) (Some reader.new.rest.now)

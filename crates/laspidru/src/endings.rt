@@ -10,7 +10,7 @@ use crate::codes::{
     BAD_ENCODING, BAD_FRAME, BAD_LOG, BODY_TOO_LONG, CUT, OK, OUT_OF_MEMORY, TOO_MANY_TURNS,
 };
 use lsp_frame::FrameFault;
-use lsp_replay::{EngineFault, Outcome, Settings};
+use lsp_replay::{Outcome, Settings, StreamFault};
 
 /// How a log is read: the limits, and the number of the encoding of its positions. With `squash`
 /// changes of one document that follow each other are normalised to one message.
@@ -117,21 +117,21 @@ fn frame_ending(output_len: usize, fault: FrameFault) -> Ending
 /// returns only the code: the output isn't kept.
 pub(crate) fn ending_of(
     output_len: usize,
-    answer: Result<Outcome, EngineFault>,
+    answer: Result<Outcome, StreamFault>,
 ) -> Result<(u32, Ending), u32>
     ensures ending { result ≡ ending_out output_len answer }
     ensures kept { IfOk result (λ ended. IsUnlessEnded ended.0 ⊥) }
 {
     match answer {
         Ok(outcome) => Ok((OK, outcome_ending(output_len, outcome))),
-        Err(EngineFault::Frame(fault)) => Ok((BAD_FRAME, frame_ending(output_len, fault))),
-        Err(EngineFault::Truncated { place }) => Ok((CUT, fault_ending(output_len, place))),
-        Err(EngineFault::BodyTooLong { place }) => {
+        Err(StreamFault::Frame(fault)) => Ok((BAD_FRAME, frame_ending(output_len, fault))),
+        Err(StreamFault::Truncated { place }) => Ok((CUT, fault_ending(output_len, place))),
+        Err(StreamFault::BodyTooLong { place }) => {
             Ok((BODY_TOO_LONG, fault_ending(output_len, place)))
         }
-        Err(EngineFault::BadLog { place }) => Ok((BAD_LOG, fault_ending(output_len, place))),
-        Err(EngineFault::TooManyTurns) => Err(TOO_MANY_TURNS),
+        Err(StreamFault::BadLog { place }) => Ok((BAD_LOG, fault_ending(output_len, place))),
+        Err(StreamFault::TooManyTurns) => Err(TOO_MANY_TURNS),
         // No read fails, and a write into memory fails only if out of memory.
-        Err(EngineFault::NoMemory | EngineFault::Read | EngineFault::Write) => Err(OUT_OF_MEMORY),
+        Err(StreamFault::NoMemory | StreamFault::Read | StreamFault::Write) => Err(OUT_OF_MEMORY),
     }
 }

@@ -6,7 +6,7 @@ use Rattle.lsp_frame.specs.Frame.{IsFrameOf}
 use Rattle.lsp_frame.specs.Header.{header_of, lines_bytes}
 use Rattle.lsp_frame.specs.Faults.{place_after, IsDecided}
 use Rattle.lsp_frame.specs.Stream.{Framing, IsFrame, IsPart, HoldsOne, IsFeedFault, IsStreamFault, released}
-use Rattle.lsp_stream.specs.Faults.{engine_fault}
+use Rattle.lsp_stream.specs.Faults.{stream_fault}
 use Rattle.lsp_frame.specs.declared.fault.FrameFault.{FrameFault}
 use Rattle.lsp_frame.specs.declared.fault.FrameFault.TheVariants as fault_of
 use Rattle.lsp_frame.proofs.StreamLemmas.{nothing_part}
@@ -92,7 +92,7 @@ malformed reading input piece records s side n fault is why at =
     }
 
 split_fault : (reading : LogRules) (input piece : List ℕ) (records : List Record) (s : Splitter) (side : Side) (n : Framing) (fault : FrameFault) → s.side ≡ Some side
-    → IsFeedFault s.framer n piece fault → s.framer.failed ≡ false → IsAfter reading input piece records s → IsSplitFault reading.max_body input (log_at s records piece) (engine_fault fault)
+    → IsFeedFault s.framer n piece fault → s.framer.failed ≡ false → IsAfter reading input piece records s → IsSplitFault reading.max_body input (log_at s records piece) (stream_fault fault)
 split_fault reading input piece records s side n (fault_of.BadHeader place) is why sound at = malformed reading input piece records s side n (fault_of.BadHeader place) is why at
 split_fault reading input piece records s side n (fault_of.HeaderTooLong place) is why sound at = malformed reading input piece records s side n (fault_of.HeaderTooLong place) is why at
 split_fault reading input piece records s side n (fault_of.MissingLength place) is why sound at = malformed reading input piece records s side n (fault_of.MissingLength place) is why at
@@ -104,7 +104,7 @@ split_fault reading input piece records s side n fault_of.Failed is why sound at
 split_fault reading input piece records s side n fault_of.NoMemory is why sound at = tt
 
 pub feed_fault : (reading : LogRules) (input piece : List ℕ) (records : List Record) (s : Splitter) (n : Framing) (fault : FrameFault) → (s.side ≡ None → ⊥)
-    → IsFeedFault s.framer n piece fault → s.framer.failed ≡ false → IsAfter reading input piece records s → IsSplitFault reading.max_body input (log_at s records piece) (engine_fault fault)
+    → IsFeedFault s.framer n piece fault → s.framer.failed ≡ false → IsAfter reading input piece records s → IsSplitFault reading.max_body input (log_at s records piece) (stream_fault fault)
 feed_fault reading input piece records s n fault some why sound at =
     let known : KnownSide s.side = known_side s.side some in
     split_fault reading input piece records s known.side n fault known.is why sound at

@@ -7,8 +7,8 @@ use Rattle.lsp_log.specs.declared.record.Version.TheVariants.{One, Two}
 use Rattle.lsp_log.specs.declared.record.Side.{Side}
 use Rattle.lsp_log.specs.declared.record.Side.TheVariants.{Client}
 use Rattle.lsp_log.specs.declared.record.Head.{Head}
-use Rattle.lsp_stream.specs.declared.fault.EngineFault.{EngineFault}
-use Rattle.lsp_stream.specs.declared.fault.EngineFault.TheVariants.{Read, Write, Frame, Truncated, BodyTooLong, NoMemory, TooManyTurns, BadLog}
+use Rattle.lsp_stream.specs.declared.fault.StreamFault.{StreamFault}
+use Rattle.lsp_stream.specs.declared.fault.StreamFault.TheVariants.{Read, Write, Frame, Truncated, BodyTooLong, NoMemory, TooManyTurns, BadLog}
 use Rattle.lsp_log.specs.declared.splitter.Splitter.{Splitter}
 use Rattle.lsp_log.specs.Log.{LogRules, Record, Log, IsVersion, IsReadAs, IsMalformed, IsBadMark, line_of, mark_of, is_line_due}
 
@@ -79,7 +79,7 @@ abbrev pub record_at : Splitter → List ℕ → Record
 record_at s body = record { head = head_of s; raw = s.framer.buffered; body = body }
 
 -- Why the rest of the input isn't taken.
-abbrev pub IsSplitFault : ℕ → List ℕ → Log → EngineFault → Type 0
+abbrev pub IsSplitFault : ℕ → List ℕ → Log → StreamFault → Type 0
 IsSplitFault max_body input log Read = ⊥
 IsSplitFault max_body input log Write = ⊥
 IsSplitFault max_body input log (Frame fault) = IsMalformed max_body input fault log
@@ -90,7 +90,7 @@ IsSplitFault max_body input log TooManyTurns = ⊥
 IsSplitFault max_body input log (BadLog place) = IsBadMark input place log
 
 -- The faults of splitting: a faulty frame, out of memory, a byte that is no mark.
-abbrev pub IsSplitterFault : EngineFault → Type 0
+abbrev pub IsSplitterFault : StreamFault → Type 0
 IsSplitterFault Read = ⊥
 IsSplitterFault Write = ⊥
 IsSplitterFault (Frame fault) = Unit {0}

@@ -7,7 +7,7 @@ ghost use Rattle.lsp_log.specs.Log.{IsVersion, line_of, version_line};
 ghost use Rattle.lsp_log.specs.Opening.{IsLineFront, IsBelowLine};
 
 use crate::record::{VERSION_LINE, Version};
-use lsp_stream::{EngineFault, Source, Turns, read_piece};
+use lsp_stream::{Source, StreamFault, Turns, read_piece};
 
 /// The first bytes of an input: its version, how many bytes were read, and whether the end came.
 #[derive(Clone, Copy)]
@@ -21,13 +21,13 @@ pub struct Opening {
 /// that is one read.
 ///
 /// # Errors
-/// [`EngineFault::Read`] if a read fails, [`EngineFault::TooManyTurns`] if no turn is left for one.
+/// [`StreamFault::Read`] if a read fails, [`StreamFault::TooManyTurns`] if no turn is left for one.
 pub fn read_opening<R: Source>(
     reader: &mut R,
     buf: &mut [u8],
     versions: bool,
     turns: &mut Turns,
-) -> Result<Opening, EngineFault>
+) -> Result<Opening, StreamFault>
     requires { 18 ≤ length buf.old }
     ensures bound { IfOk result (λ opening. opening.len ≤ length buf.new) }
     ensures fits { IfOk result (λ opening. opening.len < 2 ^ 64) }

@@ -9,7 +9,7 @@ ghost use Rattle.lsp_log.specs.Splitting.{IsReady, IsFed, IsAfter, IsSplitFault,
 
 use crate::record::{Head, Side, Version};
 use lsp_frame::{Framer, Limits};
-use lsp_stream::EngineFault;
+use lsp_stream::StreamFault;
 use std::alloc::Global;
 
 /// Splits a log into its records, in whatever pieces it comes. It begins after the line of the
@@ -49,9 +49,9 @@ impl Splitter {
     /// record. Returns how many.
     ///
     /// # Errors
-    /// [`EngineFault::Frame`] at a faulty frame, [`EngineFault::BadLog`] at a byte that is no mark,
-    /// [`EngineFault::NoMemory`].
-    pub fn feed(&mut self, piece: &[u8]) -> Result<usize, EngineFault>
+    /// [`StreamFault::Frame`] at a faulty frame, [`StreamFault::BadLog`] at a byte that is no mark,
+    /// [`StreamFault::NoMemory`].
+    pub fn feed(&mut self, piece: &[u8]) -> Result<usize, StreamFault>
         requires { IsReady self.old }
         ensures taken { IfOk result (λ k. k ≤ length piece.now) }
         ensures some { IfOk result (λ k. 0 < length piece.now → 0 < k) }
@@ -74,7 +74,7 @@ impl Splitter {
     }
 
     /// Takes the mark of a record.
-    fn take_mark(&mut self, piece: &[u8]) -> Result<usize, EngineFault>
+    fn take_mark(&mut self, piece: &[u8]) -> Result<usize, StreamFault>
         requires ready { IsReady self.old }
         requires between { self.old.side ≡ None }
         ensures taken { IfOk result (λ k. k ≤ length piece.now) }
@@ -100,7 +100,7 @@ impl Splitter {
                 self.framer.skip(1);
                 Ok(1)
             }
-            None => Err(EngineFault::BadLog { place: self.place }),
+            None => Err(StreamFault::BadLog { place: self.place }),
         }
     }
 

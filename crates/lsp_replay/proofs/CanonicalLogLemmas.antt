@@ -30,7 +30,7 @@ use Rattle.lsp_log.specs.Log.{Record}
 use Rattle.lsp_replay.specs.inside.Verdicts.{IsAppended}
 use Rattle.lsp_replay.specs.declared.session.writing.Appended.TheVariants.{Body, TooLong}
 use Rattle.lsp_frame.specs.Frame.{frame}
-use Rattle.lsp_stream.specs.declared.fault.EngineFault.TheVariants as fault
+use Rattle.lsp_stream.specs.declared.fault.StreamFault.TheVariants as fault
 
 -- a record that isn't answered has no canonical message
 none_unless_answered : (server : State) (change : Option ChangeData) (verdict : Verdict) → (verdict ≡ recorded) ⊎ (verdict ≡ bad)

@@ -13,7 +13,7 @@ use Rattle.lsp_log.specs.declared.record.Version.{Version}
 use Rattle.lsp_log.specs.declared.record.Side.{Side}
 use Rattle.lsp_log.specs.declared.record.Side.TheVariants.{Client, Server}
 use Rattle.lsp_log.specs.Log.{Record}
-use Rattle.lsp_stream.specs.declared.fault.EngineFault.TheVariants.{BadLog, BodyTooLong}
+use Rattle.lsp_stream.specs.declared.fault.StreamFault.TheVariants.{BadLog, BodyTooLong}
 use Rattle.lsp_stream.specs.Ports.{one_more}
 use Rattle.lsp_frame.specs.Frame.{frame}
 use Rattle.lsp_replay.specs.Engines.{change_in, canonical_if, canonical_change_body}

@@ -11,7 +11,7 @@ use Rattle.lsp_message.specs.Outgoing.{OutgoingData, body_of}
 use Rattle.lsp_server.specs.Answer.{AnswerData, Sent, reply, changed, dropped, ignored, already_ended, refused, exits, as_sent, sent}
 use Rattle.lsp_server.specs.Incoming.{incoming_of}
 use Rattle.lsp_server.specs.Step.{State, step_on}
-use Rattle.lsp_stream.specs.declared.fault.EngineFault.TheVariants.{BadLog}
+use Rattle.lsp_stream.specs.declared.fault.StreamFault.TheVariants.{BadLog}
 use Rattle.lsp_log.specs.declared.record.Version.{Version}
 use Rattle.lsp_log.specs.declared.record.Version.TheVariants.{One, Two}
 use Rattle.lsp_log.specs.declared.record.Side.TheVariants.{Client, Server}

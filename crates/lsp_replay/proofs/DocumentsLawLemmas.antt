@@ -3,7 +3,7 @@ use Rattle.std.proofs.Common.{◌≡◌, ℕ, Bool, true, false, ◌||◌, List,
 use Rattle.std.specs.Prelude.{Result, Ok, Err, IfOk}
 use Rattle.std.specs.Io.KnownBytes.{Consumes}
 use Rattle.lsp_frame.specs.Limits.{AreInRange}
-use Rattle.lsp_stream.specs.declared.fault.EngineFault.{EngineFault}
+use Rattle.lsp_stream.specs.declared.fault.StreamFault.{StreamFault}
 use Rattle.lsp_log.specs.declared.record.Version.{Version}
 use Rattle.lsp_log.specs.declared.record.Version.TheVariants.{One, Two}
 use Rattle.lsp_log.specs.Log.{Record, Log, IsReadAs, AreRecords, is_line_due, line_of, together}
@@ -163,7 +163,7 @@ module _ (settings : Settings) (ranges : AreInRange settings.limits) (left_old l
         (documents_law settings ranges input end.log end.reads end.whole end.continues);
   }
 
-  pub wrote_documents : (state : PortState) (result : Result Outcome EngineFault) → Ran (as_log settings) (documents settings) state left_old left_new received_old received_new result
+  pub wrote_documents : (state : PortState) (result : Result Outcome StreamFault) → Ran (as_log settings) (documents settings) state left_old left_new received_old received_new result
       → IfOk result (WroteDocuments settings left_old left_new received_old received_new)
   wrote_documents state (Err fault) ran = tt
   wrote_documents state (Ok outcome) ran =
@@ -183,7 +183,7 @@ as_squashed : (settings : Settings) → settings.squash ≡ true → (P : (List 
 as_squashed settings e P p = subst (λ (b : Bool). P (λ rs. output_of_kept (normalised_if b settings) (kept settings rs))) (sym e) p
 
 -- What the engines wrote, and that each is the engine of these settings.
-module _ (settings : Settings) (ranges : AreInRange settings.limits) (left_old left_new received_old received_new : Option (List ℕ)) (state : PortState) (result : Result Outcome EngineFault) where
+module _ (settings : Settings) (ranges : AreInRange settings.limits) (left_old left_new received_old received_new : Option (List ℕ)) (state : PortState) (result : Result Outcome StreamFault) where
   pub wrote_each : settings.squash ≡ false → Ran (as_log settings) (each_of_kept (opened (log_config settings)) nothing_selected) state left_old left_new received_old received_new result
       → IfOk result (WroteDocuments settings left_old left_new received_old received_new)
   wrote_each squash ran =
@@ -196,7 +196,7 @@ module _ (settings : Settings) (ranges : AreInRange settings.limits) (left_old l
       wrote_documents settings ranges left_old left_new received_old received_new state result
       (as_squashed settings squash (λ (f : List Record → RunOutput). Ran (as_log settings) f state left_old left_new received_old received_new result) ran)
 
-module _ (settings : Settings) (max_turns : ℕ) (before after : Ports) (result : Result Outcome EngineFault) where
+module _ (settings : Settings) (max_turns : ℕ) (before after : Ports) (result : Result Outcome StreamFault) where
   abbrev RunsAs : (List Record → RunOutput) → Type 0
   RunsAs f = IsEngineRun (record { reading = as_log settings; run_output = f; flushes = false; in_parts = false }) max_turns before after result
 

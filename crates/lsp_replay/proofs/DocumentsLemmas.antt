@@ -2,8 +2,8 @@
 use Rattle.std.proofs.Common.{◌≡◌, ◌≢◌, ◌⊎◌, inl, inr, ℕ, Bool, true, false, ◌||◌, List, [], ◌∷◌, ◌++◌, Option, Some, None, refl, sym, ap, ◌∙◌, subst}
 use Rattle.std.specs.Prelude.{not, if◌then◌else◌, Result, Ok, Err}
 use Rattle.lsp_replay.specs.declared.outcome.Outcome.{Outcome}
-use Rattle.lsp_stream.specs.declared.fault.EngineFault.{EngineFault}
-use Rattle.lsp_stream.specs.declared.fault.EngineFault.TheVariants.{BadLog, NoMemory}
+use Rattle.lsp_stream.specs.declared.fault.StreamFault.{StreamFault}
+use Rattle.lsp_stream.specs.declared.fault.StreamFault.TheVariants.{BadLog, NoMemory}
 use Rattle.lsp_stream.specs.Ports.{Ports}
 use Rattle.lsp_log.specs.declared.record.Head.{Head}
 use Rattle.lsp_log.specs.declared.record.Side.{Side}
@@ -76,7 +76,7 @@ each_step s t u r same session out gives more =
     ∙ ap (λ (g : RecordOutput). continue_with g.out g.end (run_output_in normalising (judge t r).session more)) gives
     ∙ ap (λ (v : Session). written_first out (run_output_in normalising v more)) (sym session)
 
-pub each_step_ends : (s t : Session) (r : Record) → t ≡ s → (fault : EngineFault) → each_output t r ≡ ends [] (Err fault)
+pub each_step_ends : (s t : Session) (r : Record) → t ≡ s → (fault : StreamFault) → each_output t r ≡ ends [] (Err fault)
     → (more : List Record) → run_output_in normalising s (r ∷ more) ≡ stopped [] (Err fault)
 each_step_ends s t r same fault gives more =
     ap (λ (v : Session). run_output_in normalising v (r ∷ more)) (sym same)
@@ -144,13 +144,13 @@ module _ (s : Session) (c d : Selection) (head : Head) (raw body : List ℕ) (wr
         ∙ ap (λ (k : Kept). with_due k.due (written_first out (squashed_in t next k.records))) (same_kept more)
 
   -- it ends the run of the command
-  pub each_ends : (fault : EngineFault) → each_output s its ≡ ends [] (Err fault) → (more : List Record) → each_of_kept s c (r ∷ more) ≡ stopped [] (Err fault)
+  pub each_ends : (fault : StreamFault) → each_output s its ≡ ends [] (Err fault) → (more : List Record) → each_of_kept s c (r ∷ more) ≡ stopped [] (Err fault)
   each_ends fault gives more =
       ap (output_of_kept (run_output_in normalising s)) (kept_true s c r more stays.stays)
       ∙ ap (λ (g : RecordOutput). with_due (later more).due (continue_with g.out g.end (run_output_in normalising (judge s r).session (later more).records)))
       (ap (each_output s) (sym its_is) ∙ gives)
 
-  pub squashed_ends : (run : Option Run) (fault : EngineFault) → squash_step s run its (judge s its) ≡ faulty fault → (more : List Record)
+  pub squashed_ends : (run : Option Run) (fault : StreamFault) → squash_step s run its (judge s its) ≡ faulty fault → (more : List Record)
       → squashed_of_kept (record { session = s; run = run }) c (r ∷ more) ≡ stopped [] (Err fault)
   squashed_ends run fault gives more =
       ap (output_of_kept (squashed_in s run)) (kept_true s c r more stays.stays)
@@ -176,7 +176,7 @@ module _ (s : Session) (c d : Selection) (head : Head) (raw body : List ℕ) (wr
         each_stays s c d head raw body written_head stays t (subst (λ (v : Session). t ≡ (judge_at v written_head body).session) same (session body read_again)) out
         (subst (λ (v : Session). each_output v (record { head = written_head; raw = raw; body = body }) ≡ writes out) same (gives body read_again)) more
 
-    pub each_failed : (fault : EngineFault)
+    pub each_failed : (fault : StreamFault)
         → ((b : List ℕ) → read ≡ body_read written_head.version written_head.side b
         → (fault ≡ NoMemory) ⊎ (IsRecordFault fault × (each_output u (record { head = written_head; raw = raw; body = b }) ≡ ends [] (Err fault))))
         → (fault ≡ NoMemory) ⊎ (IsRecordFault fault × ((more : List Record) → each_of_kept s c (given ∷ more) ≡ stopped [] (Err fault)))
@@ -200,7 +200,7 @@ module _ (q : Squashing) (c d : Selection) (head : Head) (raw body : List ℕ) (
       let step = subst (λ (x : Squashing). IsSquashStep x (record { head = written_head; raw = raw; body = body }) out next) same (gives body (read_again q.session c d head raw body written_head stays read is)) in
       squashed_stays q.session c d head raw body written_head stays next.session step.session q.run next.run out step.step more
 
-  pub squashed_failed : (fault : EngineFault)
+  pub squashed_failed : (fault : StreamFault)
       → ((b : List ℕ) → read ≡ body_read written_head.version written_head.side b
       → (fault ≡ NoMemory) ⊎ (IsRecordFault fault × (step_at p (record { head = written_head; raw = raw; body = b }) ≡ faulty fault)))
       → (fault ≡ NoMemory) ⊎ (IsRecordFault fault × ((more : List Record) → squashed_of_kept q c (record { head = head; raw = raw; body = body } ∷ more) ≡ stopped [] (Err fault)))
@@ -222,13 +222,13 @@ step_writes q next r out is more =
     ap (λ (step : Step). continue_with step.out step.end (squashed_in (judge q.session r).session step.run more)) is.step
     ∙ ap (λ (u : Session). written_first out (squashed_in u next.run more)) (sym is.session)
 
-pub step_ends : (q : Squashing) (r : Record) (fault : EngineFault) → step_at q r ≡ faulty fault → (more : List Record) → squashed_in q.session q.run (r ∷ more) ≡ stopped [] (Err fault)
+pub step_ends : (q : Squashing) (r : Record) (fault : StreamFault) → step_at q r ≡ faulty fault → (more : List Record) → squashed_in q.session q.run (r ∷ more) ≡ stopped [] (Err fault)
 step_ends q r fault is more = ap (λ (step : Step). continue_with step.out step.end (squashed_in (judge q.session r).session step.run more)) is
 
 abbrev pub squashing_at : Session → Option Run → Squashing
 squashing_at s run = record { session = s; run = run }
 
-pub step_failed : (q p : Squashing) (r : Record) → p ≡ q → (fault : EngineFault) → (fault ≡ NoMemory) ⊎ (IsRecordFault fault × (step_at p r ≡ faulty fault))
+pub step_failed : (q p : Squashing) (r : Record) → p ≡ q → (fault : StreamFault) → (fault ≡ NoMemory) ⊎ (IsRecordFault fault × (step_at p r ≡ faulty fault))
     → (fault ≡ NoMemory) ⊎ (IsRecordFault fault × ((more : List Record) → squashed_in q.session q.run (r ∷ more) ≡ stopped [] (Err fault)))
 step_failed q p r same fault (inl memory) = inl memory
 step_failed q p r same fault (inr ended) = inr (ended.0, step_ends q r fault (subst (λ (x : Squashing). step_at x r ≡ faulty fault) same ended.1))
@@ -259,16 +259,16 @@ kept_more s c (q ∷ rs) more =
 abbrev IsEven : RunOutput → Type 0
 IsEven c = (due other : Bool) → with_due due c ≡ with_due other c
 
-even_on : (out : List ℕ) (end : Option (Result Outcome EngineFault)) (c : RunOutput) (answer : Result Outcome EngineFault) → (continue_with out end c).stop ≡ Some answer → (c.stop ≡ Some answer → IsEven c) → IsEven (continue_with out end c)
+even_on : (out : List ℕ) (end : Option (Result Outcome StreamFault)) (c : RunOutput) (answer : Result Outcome StreamFault) → (continue_with out end c).stop ≡ Some answer → (c.stop ≡ Some answer → IsEven c) → IsEven (continue_with out end c)
 even_on out None c answer e even = λ due other. ap (written_first out) (even e due other)
 even_on out (Some given) c answer e even = λ due other. refl
 
-each_even : (s : Session) (rs : List Record) (answer : Result Outcome EngineFault) → (run_output_in normalising s rs).stop ≡ Some answer → IsEven (run_output_in normalising s rs)
+each_even : (s : Session) (rs : List Record) (answer : Result Outcome StreamFault) → (run_output_in normalising s rs).stop ≡ Some answer → IsEven (run_output_in normalising s rs)
 each_even s [] answer e = absurd (let wrong : None ≡ Some answer = e in cc)
 each_even s (r ∷ rs) answer e =
     even_on (each_output s r).out (each_output s r).end (run_output_in normalising (judge s r).session rs) answer e (each_even (judge s r).session rs answer)
 
-squash_even : (s : Session) (run : Option Run) (rs : List Record) (answer : Result Outcome EngineFault) → (squashed_in s run rs).stop ≡ Some answer → IsEven (squashed_in s run rs)
+squash_even : (s : Session) (run : Option Run) (rs : List Record) (answer : Result Outcome StreamFault) → (squashed_in s run rs).stop ≡ Some answer → IsEven (squashed_in s run rs)
 squash_even s run [] answer e = absurd (let wrong : None ≡ Some answer = e in cc)
 squash_even s run (r ∷ rs) answer e =
     let step = squash_step s run r (judge s r) in
@@ -279,7 +279,7 @@ module _ (s : Session) (c : Selection) (g : List Record → RunOutput) where
   abbrev of_kept : List Record → RunOutput
   of_kept rs = output_of_kept g (kept_in s c rs)
 
-  kept_settles : Settles g → ((rs : List Record) (answer : Result Outcome EngineFault) → (g rs).stop ≡ Some answer → IsEven (g rs)) → Settles of_kept
+  kept_settles : Settles g → ((rs : List Record) (answer : Result Outcome StreamFault) → (g rs).stop ≡ Some answer → IsEven (g rs)) → Settles of_kept
   kept_settles settles even rs more answer e =
       let longer = kept_more s c rs more in
       let ks = (kept_in s c rs).records in
@@ -294,13 +294,13 @@ module _ (s : Session) (c : Selection) (g : List Record → RunOutput) where
       let rest = grows_all (kept_in s c rs).records longer.0 in
       (rest.0, ap (λ (xs : List Record). (g xs).out) longer.1 ∙ rest.1)
 
-pub run_of_each_kept : FirstLaw → VersionLaw → (s : Session) (c : Selection) {reading : LogRules} {max_turns : ℕ} {before after : Ports} {result : Result Outcome EngineFault}
+pub run_of_each_kept : FirstLaw → VersionLaw → (s : Session) (c : Selection) {reading : LogRules} {max_turns : ℕ} {before after : Ports} {result : Result Outcome StreamFault}
     → IsLoopRun reading (each_of_kept s c) false max_turns before after result → NoneCut false reading (each_of_kept s c) before after result
     → IsEngineRun (record { reading = reading; run_output = each_of_kept s c; flushes = false; in_parts = false }) max_turns before after result
 run_of_each_kept first version s c run whole =
     run_of_course first version (each_of_kept s c) (kept_settles s c (run_output_in normalising s) (settled normalising s) (each_even s)) (kept_grows s c (run_output_in normalising s) (grows normalising s)) false run whole
 
-pub run_of_squashed_kept : FirstLaw → VersionLaw → (q : Squashing) (c : Selection) {reading : LogRules} {max_turns : ℕ} {before after : Ports} {result : Result Outcome EngineFault}
+pub run_of_squashed_kept : FirstLaw → VersionLaw → (q : Squashing) (c : Selection) {reading : LogRules} {max_turns : ℕ} {before after : Ports} {result : Result Outcome StreamFault}
     → IsLoopRun reading (squashed_of_kept q c) false max_turns before after result → NoneCut false reading (squashed_of_kept q c) before after result
     → IsEngineRun (record { reading = reading; run_output = squashed_of_kept q c; flushes = false; in_parts = false }) max_turns before after result
 run_of_squashed_kept first version q c run whole =

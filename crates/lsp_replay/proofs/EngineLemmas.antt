@@ -7,8 +7,8 @@ use Rattle.std.specs.Io.KnownBytes.{Appends}
 use Rattle.std.proofs.KnownBytes.{Appends-trans, Appends-nil}
 use Rattle.lsp_frame.specs.Frame.{IsFrameOf}
 use Rattle.lsp_replay.specs.declared.outcome.Outcome.{Outcome}
-use Rattle.lsp_stream.specs.declared.fault.EngineFault.{EngineFault}
-use Rattle.lsp_stream.specs.declared.fault.EngineFault.TheVariants.{Read, Write, Frame, Truncated, BodyTooLong, NoMemory, TooManyTurns, BadLog}
+use Rattle.lsp_stream.specs.declared.fault.StreamFault.{StreamFault}
+use Rattle.lsp_stream.specs.declared.fault.StreamFault.TheVariants.{Read, Write, Frame, Truncated, BodyTooLong, NoMemory, TooManyTurns, BadLog}
 use Rattle.lsp_log.specs.declared.record.Head.{Head}
 use Rattle.lsp_log.specs.declared.splitter.Splitter.{Splitter}
 use Rattle.lsp_stream.specs.Turns.{AppendsFront, AppendsShort}
@@ -43,7 +43,7 @@ module _ (reading : LogRules) (run_output : List Record → RunOutput) (received
     wrote = Appends-trans received received_now received_new w.out on.out w.wrote on.wrote;
   }
 
-  pub went_to_end : (log : Log) (more : List ℕ) (s : Splitter) (now : List Record → RunOutput) (received_now received_new : Option (List ℕ)) (r : Record) (answer : Result Outcome EngineFault) (w : IsProgress reading run_output received input more s now received_now)
+  pub went_to_end : (log : Log) (more : List ℕ) (s : Splitter) (now : List Record → RunOutput) (received_now received_new : Option (List ℕ)) (r : Record) (answer : Result Outcome StreamFault) (w : IsProgress reading run_output received input more s now received_now)
       → IsReadAs reading input log → log.records ≡ w.records ++ r ∷ [] → Ends now received_now received_new r answer → Stopped reading run_output input received received_new answer
   went_to_end log more s now received_now received_new r answer w reads is ends =
       let whole : run_output log.records ≡ written_first w.out (stopped ends.out answer) = ap run_output is ∙ w.outputs (r ∷ []) ∙ ap (written_first w.out) (ends.run_output []) in
@@ -89,7 +89,7 @@ module _ (reading : LogRules) (run_output : List Record → RunOutput) (received
       }
 
   -- a fault at a record
-  pub record_fault : (unflushed : Bool) (log : Log) (more : List ℕ) (s : Splitter) (now : List Record → RunOutput) (received_now received_new : Option (List ℕ)) (r : Record) (fault : EngineFault) (w : IsProgress reading run_output received input more s now received_now)
+  pub record_fault : (unflushed : Bool) (log : Log) (more : List ℕ) (s : Splitter) (now : List Record → RunOutput) (received_now received_new : Option (List ℕ)) (r : Record) (fault : StreamFault) (w : IsProgress reading run_output received input more s now received_now)
       → IsReadAs reading input log → log.records ≡ w.records ++ r ∷ [] → IsQuiet now → IsHandleFault now unflushed received_now received_new r fault → IsPieceFault reading run_output unflushed input received received_new fault
   record_fault unflushed log more s now received_now received_new r Read w reads is quiet why = absurd why
   record_fault unflushed log more s now received_now received_new r Write w reads is quiet why = broken_at log more s now received_now received_new r w reads is why
@@ -101,7 +101,7 @@ module _ (reading : LogRules) (run_output : List Record → RunOutput) (received
   record_fault unflushed log more s now received_now received_new r (BadLog place) w reads is quiet why = inl (went_to_end log more s now received_now received_new r (Err (BadLog place)) w reads is why)
 
   -- a fault in front of the next record
-  pub split_faults : (unflushed : Bool) (more : List ℕ) (s : Splitter) (now : List Record → RunOutput) (received_now received_new : Option (List ℕ)) (fault : EngineFault) (w : IsProgress reading run_output received input more s now received_now)
+  pub split_faults : (unflushed : Bool) (more : List ℕ) (s : Splitter) (now : List Record → RunOutput) (received_now received_new : Option (List ℕ)) (fault : StreamFault) (w : IsProgress reading run_output received input more s now received_now)
       → IsQuiet now → Appends received_now received_new [] → IsSplitFault reading.max_body input (log_at s w.records more) fault → IsPieceFault reading run_output unflushed input received received_new fault
   split_faults unflushed more s now received_now received_new Read w quiet nothing why = absurd why
   split_faults unflushed more s now received_now received_new Write w quiet nothing why = absurd why
@@ -120,7 +120,7 @@ module _ (reading : LogRules) (run_output : List Record → RunOutput) (received
       → IsFrameOf s.framer.limits.max_body s.framer.buffered body → IsFrameOf reading.max_body s.framer.buffered body
   is_frame_here more s now received_now body w is_frame_of = subst (λ (m : ℕ). IsFrameOf m s.framer.buffered body) w.is_after.limit is_frame_of
 
-  pub taken_fault : (unflushed : Bool) → BufferedLaw → (more : List ℕ) (s : Splitter) (now : List Record → RunOutput) (received_now received_new : Option (List ℕ)) (head : Head) (raw body : List ℕ) (fault : EngineFault) → IsFed s
+  pub taken_fault : (unflushed : Bool) → BufferedLaw → (more : List ℕ) (s : Splitter) (now : List Record → RunOutput) (received_now received_new : Option (List ℕ)) (head : Head) (raw body : List ℕ) (fault : StreamFault) → IsFed s
       → head ≡ head_of s → raw ≡ s.framer.buffered → IsFrameOf s.framer.limits.max_body s.framer.buffered body → IsQuiet now
       → IsHandleFault now unflushed received_now received_new (record { head = head; raw = raw; body = body }) fault
       → IsProgress reading run_output received input more s now received_now → IsPieceFault reading run_output unflushed input received received_new fault
@@ -162,7 +162,7 @@ module _ (reading : LogRules) (run_output : List Record → RunOutput) (received
         wrote = w.wrote;
       }
 
-  pub fed_fault : (unflushed : Bool) (piece bytes : List ℕ) (at : ℕ) (s : Splitter) (now : List Record → RunOutput) (received_now received_new : Option (List ℕ)) (fault : EngineFault) → at ≤ length piece → bytes ≡ take (length piece - at) (drop at piece)
+  pub fed_fault : (unflushed : Bool) (piece bytes : List ℕ) (at : ℕ) (s : Splitter) (now : List Record → RunOutput) (received_now received_new : Option (List ℕ)) (fault : StreamFault) → at ≤ length piece → bytes ≡ take (length piece - at) (drop at piece)
       → ((records : List Record) → IsAfter reading input bytes records s → IsSplitFault reading.max_body input (log_at s records bytes) fault) → IsQuiet now → Appends received_now received_new []
       → IsProgress reading run_output received input (drop at piece) s now received_now → IsPieceFault reading run_output unflushed input received received_new fault
   fed_fault unflushed piece bytes at s now received_now received_new fault within is fed quiet nothing w =
@@ -243,7 +243,7 @@ module _ (reading : LogRules) (run_output : List Record → RunOutput) (received
     short = cut.4;
   }
 
-  pub last_fault : (unflushed : Bool) (place : ℕ) (s : Splitter) (now : List Record → RunOutput) (received_now received_new : Option (List ℕ)) (fault : EngineFault) → IsQuiet now → buffered_of s ≡ []
+  pub last_fault : (unflushed : Bool) (place : ℕ) (s : Splitter) (now : List Record → RunOutput) (received_now received_new : Option (List ℕ)) (fault : StreamFault) → IsQuiet now → buffered_of s ≡ []
       → AppendsFront received_now received_new ((now []).last s.line_due) → (fault ≡ TooManyTurns → AppendsShort unflushed received_now received_new ((now []).last s.line_due)) → IsLastFault fault → IsProgress reading run_output received input [] s now received_now → IsEndFault reading run_output unflushed input received received_new place fault
   last_fault unflushed place s now received_now received_new Read quiet nothing cut short kind w = absurd kind
   last_fault unflushed place s now received_now received_new Write quiet nothing cut short kind w = broken_last s now received_now received_new quiet nothing cut w
@@ -289,7 +289,7 @@ record_out old new r out None is silent = ap (λ (c : RunOutput). c.out) is ∙ 
 record_out old new r out (Some outcome) is silent = ap (λ (c : RunOutput). c.out) is
 
 -- a fault in writing a record's output
-pub write_fault : (unflushed : Bool) (old new : List Record → RunOutput) (received_old received_new : Option (List ℕ)) (r : Record) (bytes out : List ℕ) (end : Option Outcome) (fault : EngineFault)
+pub write_fault : (unflushed : Bool) (old new : List Record → RunOutput) (received_old received_new : Option (List ℕ)) (r : Record) (bytes out : List ℕ) (end : Option Outcome) (fault : StreamFault)
     → ((more : List Record) → old (r ∷ more) ≡ after out end (new more)) → (new []).out ≡ [] → bytes ≡ out → (fault ≡ Write) ⊎ (fault ≡ TooManyTurns)
     → AppendsFront received_old received_new bytes → (fault ≡ TooManyTurns → AppendsShort unflushed received_old received_new bytes) → IsHandleFault old unflushed received_old received_new r fault
 write_fault unflushed old new received_old received_new r bytes out end fault writes silent is (inl at) front short =

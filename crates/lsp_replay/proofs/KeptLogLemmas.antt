@@ -9,8 +9,8 @@ use Rattle.lsp_message.specs.Params.{ChangeData}
 use Rattle.lsp_server.specs.Answer.{AnswerData, Sent}
 use Rattle.lsp_server.specs.Incoming.{incoming_of}
 use Rattle.lsp_server.specs.Step.{State}
-use Rattle.lsp_stream.specs.declared.fault.EngineFault.{EngineFault}
-use Rattle.lsp_stream.specs.declared.fault.EngineFault.TheVariants.{BadLog, BodyTooLong}
+use Rattle.lsp_stream.specs.declared.fault.StreamFault.{StreamFault}
+use Rattle.lsp_stream.specs.declared.fault.StreamFault.TheVariants.{BadLog, BodyTooLong}
 use Rattle.lsp_log.specs.declared.record.Version.{Version}
 use Rattle.lsp_log.specs.declared.record.Version.TheVariants.{One, Two}
 use Rattle.lsp_log.specs.Log.{Record, AreRecords, is_line_due, record_bytes}
@@ -69,8 +69,8 @@ single_none server r bad not_bad none = absurd (not_bad refl)
 single_none server r recorded not_bad none = written_none server.config.limits.max_body r (front_of r.head) _ none
 single_none server r (answered a) not_bad none = written_none server.config.limits.max_body r (front_of r.head) _ none
 
-goes_on_after : (out : List ℕ) (end : Option (Result Outcome EngineFault)) (c : RunOutput) → end ≡ None → (continue_with out end c).stop ≡ c.stop
-goes_on_after out end c e = ap (λ (o : Option (Result Outcome EngineFault)). (continue_with out o c).stop) e
+goes_on_after : (out : List ℕ) (end : Option (Result Outcome StreamFault)) (c : RunOutput) → end ≡ None → (continue_with out end c).stop ≡ c.stop
+goes_on_after out end c e = ap (λ (o : Option (Result Outcome StreamFault)). (continue_with out o c).stop) e
 
 pub kept_stop : (s t : Session) (c : Selection) (rs : List Record) → IsAlike s t → (run_output_in normalising t (kept_in t c rs).records).stop ≡ (run_output_in normalising s rs).stop
 kept_stop s t c [] like = refl

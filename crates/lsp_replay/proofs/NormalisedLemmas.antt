@@ -7,8 +7,8 @@ use Rattle.lsp_frame.specs.Frame.{frame, IsFrameOf}
 use Rattle.lsp_frame.specs.Limits.{Bounds, AreInRange}
 use Rattle.lsp_frame.proofs.WrittenLemmas.{written_is_frame}
 use Rattle.lsp_replay.specs.declared.outcome.Outcome.{Outcome}
-use Rattle.lsp_stream.specs.declared.fault.EngineFault.{EngineFault}
-use Rattle.lsp_stream.specs.declared.fault.EngineFault.TheVariants.{BadLog, BodyTooLong}
+use Rattle.lsp_stream.specs.declared.fault.StreamFault.{StreamFault}
+use Rattle.lsp_stream.specs.declared.fault.StreamFault.TheVariants.{BadLog, BodyTooLong}
 use Rattle.lsp_log.specs.declared.record.Version.{Version}
 use Rattle.lsp_log.specs.declared.record.Version.TheVariants.{One, Two}
 use Rattle.lsp_log.specs.declared.record.Head.{Head}
@@ -32,7 +32,7 @@ pub command_output : (view : View) (s : Session) (r : Record) (rs : List Record)
 command_output view s r rs j out is gives_it =
     ap (λ (k : Judged). course_by view s r rs k (view.record_output s r k)) is ∙ ap (course_by view s r rs j) gives_it
 
-pub went_on : (out : List ℕ) (end : Option (Result Outcome EngineFault)) (c : RunOutput) → (continue_with out end c).stop ≡ None → (end ≡ None) × (c.stop ≡ None)
+pub went_on : (out : List ℕ) (end : Option (Result Outcome StreamFault)) (c : RunOutput) → (continue_with out end c).stop ≡ None → (end ≡ None) × (c.stop ≡ None)
 went_on out None c e = (refl, e)
 went_on out (Some answer) c e = absurd (let bad_one : Some answer ≡ None = e in cc)
 

@@ -4,8 +4,8 @@ use Rattle.std.specs.Prelude.{Result, Ok, Err, if◌then◌else◌, flat_map}
 use Rattle.std.proofs.lemmas.List.{append_assoc}
 use Rattle.lsp_message.specs.Params.{DocumentItem}
 use Rattle.lsp_replay.specs.declared.outcome.Outcome.{Outcome}
-use Rattle.lsp_stream.specs.declared.fault.EngineFault.{EngineFault}
-use Rattle.lsp_stream.specs.declared.fault.EngineFault.TheVariants.{NoMemory}
+use Rattle.lsp_stream.specs.declared.fault.StreamFault.{StreamFault}
+use Rattle.lsp_stream.specs.declared.fault.StreamFault.TheVariants.{NoMemory}
 use Rattle.lsp_stream.specs.Ports.{Ports}
 use Rattle.lsp_log.specs.Log.{LogRules, Record}
 use Rattle.lsp_log.specs.Laws.{FirstLaw, VersionLaw}
@@ -55,7 +55,7 @@ module _ (part : PartData) (old : Option (List ℕ)) (s : Session) (r : Record) 
 
 -- ---- all records
 
-part_settled : (part : PartData) (last : Option (List ℕ)) (s : Session) (rs more : List Record) (answer : Result Outcome EngineFault) → (replayed_in part last s rs).stop ≡ Some answer → replayed_in part last s (rs ++ more) ≡ replayed_in part last s rs
+part_settled : (part : PartData) (last : Option (List ℕ)) (s : Session) (rs more : List Record) (answer : Result Outcome StreamFault) → (replayed_in part last s rs).stop ≡ Some answer → replayed_in part last s (rs ++ more) ≡ replayed_in part last s rs
 part_settled part last s [] more answer e = absurd (let wrong : None ≡ Some answer = e in cc)
 part_settled part last s (r ∷ rs) more answer e =
     let given = part_output part last r (judge s r) in
@@ -70,7 +70,7 @@ part_grows part last s (r ∷ rs) more =
     let given = part_output part last r (judge s r) in
     grows_on given.out given.end _ _ (part_grows part (next_text part last (judge s r)) (judge s r).session rs more)
 
-pub run_of_part : FirstLaw → VersionLaw → (part : PartData) (last : Option (List ℕ)) (s : Session) {reading : LogRules} {max_turns : ℕ} {before after : Ports} {result : Result Outcome EngineFault}
+pub run_of_part : FirstLaw → VersionLaw → (part : PartData) (last : Option (List ℕ)) (s : Session) {reading : LogRules} {max_turns : ℕ} {before after : Ports} {result : Result Outcome StreamFault}
     → IsLoopRun reading (replayed_in part last s) false max_turns before after result → NoneCut false reading (replayed_in part last s) before after result
     → IsEngineRun (record { reading = reading; run_output = replayed_in part last s; flushes = false; in_parts = false }) max_turns before after result
 run_of_part first version part last s run whole =

@@ -2,7 +2,7 @@
 use Rattle.std.proofs.Common.{◌≡◌, ℕ, List, [], ◌∷◌, ◌++◌, Option, Some, None, refl, ap, ◌∙◌}
 use Rattle.std.specs.Prelude.{Result}
 use Rattle.lsp_replay.specs.declared.outcome.Outcome.{Outcome}
-use Rattle.lsp_stream.specs.declared.fault.EngineFault.{EngineFault}
+use Rattle.lsp_stream.specs.declared.fault.StreamFault.{StreamFault}
 use Rattle.lsp_log.specs.Log.{Record}
 use Rattle.lsp_replay.specs.RunOutput.{RunOutput}
 use Rattle.lsp_replay.specs.Session.{Session, Verdict, answered, recorded, bad, judge, opened}
@@ -14,7 +14,7 @@ quiet_gives r (answered answer) = refl
 quiet_gives r recorded = refl
 quiet_gives r bad = refl
 
-quiet_on : (out : List ℕ) (end : Option (Result Outcome EngineFault)) (c : RunOutput) → out ≡ [] → c.out ≡ [] → (continue_with out end c).out ≡ []
+quiet_on : (out : List ℕ) (end : Option (Result Outcome StreamFault)) (c : RunOutput) → out ≡ [] → c.out ≡ [] → (continue_with out end c).out ≡ []
 quiet_on out None c here later = ap (λ z. z ++ c.out) here ∙ later
 quiet_on out (Some answer) c here later = here
 

@@ -10,8 +10,8 @@ use Rattle.lsp_frame.specs.Frame.{IsFrameOf}
 use Rattle.lsp_frame.specs.Header.{lines_bytes}
 use Rattle.lsp_frame.proofs.FrameLemmas.{or-true}
 use Rattle.lsp_replay.specs.declared.outcome.Outcome.{Outcome}
-use Rattle.lsp_stream.specs.declared.fault.EngineFault.{EngineFault}
-use Rattle.lsp_stream.specs.declared.fault.EngineFault.TheVariants.{Read, Write, Frame, Truncated, BodyTooLong, NoMemory, TooManyTurns, BadLog}
+use Rattle.lsp_stream.specs.declared.fault.StreamFault.{StreamFault}
+use Rattle.lsp_stream.specs.declared.fault.StreamFault.TheVariants.{Read, Write, Frame, Truncated, BodyTooLong, NoMemory, TooManyTurns, BadLog}
 use Rattle.lsp_log.specs.declared.record.Version.{Version}
 use Rattle.lsp_log.specs.declared.record.Version.TheVariants.{One, Two}
 use Rattle.lsp_log.specs.declared.splitter.Splitter.{Splitter}
@@ -165,7 +165,7 @@ module _ (reading : LogRules) (run_output : List Record → RunOutput) (left rec
   ran_to_end left_now ended state place s now received_now received_new outcome error ends r = record { input = r.input; read = r.read; came = inr (error, ends r.input r.progress) }
 
   -- It ended with a fault.
-  piece_fault : (state : PortState) (input : List ℕ) (received_new : Option (List ℕ)) (fault : EngineFault) → IsPieceFault reading run_output state.unflushed input received received_new fault → IsRunFault reading run_output state input received received_new fault
+  piece_fault : (state : PortState) (input : List ℕ) (received_new : Option (List ℕ)) (fault : StreamFault) → IsPieceFault reading run_output state.unflushed input received received_new fault → IsRunFault reading run_output state input received received_new fault
   piece_fault state input received_new Read why = absurd why
   piece_fault state input received_new Write why = inl why
   piece_fault state input received_new (Frame fault) why = why
@@ -176,13 +176,13 @@ module _ (reading : LogRules) (run_output : List Record → RunOutput) (left rec
   piece_fault state input received_new (BadLog place) (inl why) = inl why
   piece_fault state input received_new (BadLog place) (inr why) = inr (inl why)
 
-  pub ran_into_fault : (left_now : Option (List ℕ)) (ended : Bool) (state : PortState) (place : ℕ) (piece : List ℕ) (s : Splitter) (now : List Record → RunOutput) (received_now received_new : Option (List ℕ)) (fault : EngineFault)
+  pub ran_into_fault : (left_now : Option (List ℕ)) (ended : Bool) (state : PortState) (place : ℕ) (piece : List ℕ) (s : Splitter) (now : List Record → RunOutput) (received_now received_new : Option (List ℕ)) (fault : StreamFault)
       → ((input : List ℕ) → IsProgress reading run_output received input piece s now received_now → IsPieceFault reading run_output state.unflushed input received received_new fault)
       → Runs reading run_output left received left_now ended place piece s now received_now → Ran reading run_output state left left_now received received_new (Err fault)
   ran_into_fault left_now ended state place piece s now received_now received_new fault fails r =
       record { input = r.input; read = r.read; came = piece_fault state r.input received_new fault (fails r.input r.progress) }
 
-  end_fault : (state : PortState) (input : List ℕ) (place : ℕ) (received_new : Option (List ℕ)) (fault : EngineFault) → state.ended ≡ true → place ≡ place_after 0 (length input)
+  end_fault : (state : PortState) (input : List ℕ) (place : ℕ) (received_new : Option (List ℕ)) (fault : StreamFault) → state.ended ≡ true → place ≡ place_after 0 (length input)
       → IsEndFault reading run_output state.unflushed input received received_new place fault → IsRunFault reading run_output state input received received_new fault
   end_fault state input place received_new Read error placed why = absurd why
   end_fault state input place received_new Write error placed why = inr (error, why)
@@ -193,21 +193,21 @@ module _ (reading : LogRules) (run_output : List Record → RunOutput) (left rec
   end_fault state input place received_new TooManyTurns error placed why = inr (inl (error, why))
   end_fault state input place received_new (BadLog at) error placed why = absurd why
 
-  pub ran_into_end_fault : (left_now : Option (List ℕ)) (ended : Bool) (state : PortState) (place : ℕ) (s : Splitter) (now : List Record → RunOutput) (received_now received_new : Option (List ℕ)) (fault : EngineFault) → state.ended ≡ true
+  pub ran_into_end_fault : (left_now : Option (List ℕ)) (ended : Bool) (state : PortState) (place : ℕ) (s : Splitter) (now : List Record → RunOutput) (received_now received_new : Option (List ℕ)) (fault : StreamFault) → state.ended ≡ true
       → ((input : List ℕ) → IsProgress reading run_output received input [] s now received_now → IsEndFault reading run_output state.unflushed input received received_new place fault)
       → Runs reading run_output left received left_now ended place [] s now received_now → Ran reading run_output state left left_now received received_new (Err fault)
   ran_into_end_fault left_now ended state place s now received_now received_new fault error fails r =
       record { input = r.input; read = r.read; came = end_fault state r.input place received_new fault error r.placed (fails r.input r.progress) }
 
   -- No more could be read.
-  read_fault : (state : PortState) (input : List ℕ) (received_new : Option (List ℕ)) (fault : EngineFault) → (fault ≡ Read) ⊎ (fault ≡ TooManyTurns)
+  read_fault : (state : PortState) (input : List ℕ) (received_new : Option (List ℕ)) (fault : StreamFault) → (fault ≡ Read) ⊎ (fault ≡ TooManyTurns)
       → (fault ≡ TooManyTurns → state.ended_before ≡ false → state.ended ≡ false) → Reached reading run_output input received received_new (IsUnfinished reading input) → IsRunFault reading run_output state input received received_new fault
   read_fault state input received_new fault (inl is) not_ended reached = subst (IsRunFault reading run_output state input received received_new) (sym is) reached
   read_fault state input received_new fault (inr is) not_ended reached =
       subst (IsRunFault reading run_output state input received received_new) (sym is)
       (inr (inr (not_ended is, reached)))
 
-  pub ran_unread : (left_now left_new : Option (List ℕ)) (ended : Bool) (state : PortState) (place : ℕ) (s : Splitter) (now : List Record → RunOutput) (received_now : Option (List ℕ)) (fault : EngineFault) → RestLaw → IsReady s → IsQuiet now
+  pub ran_unread : (left_now left_new : Option (List ℕ)) (ended : Bool) (state : PortState) (place : ℕ) (s : Splitter) (now : List Record → RunOutput) (received_now : Option (List ℕ)) (fault : StreamFault) → RestLaw → IsReady s → IsQuiet now
       → Keeps left_now left_new → (fault ≡ Read) ⊎ (fault ≡ TooManyTurns) → (fault ≡ TooManyTurns → state.ended_before ≡ false → state.ended ≡ false)
       → Runs reading run_output left received left_now ended place [] s now received_now → Ran reading run_output state left left_new received received_now (Err fault)
   ran_unread left_now left_new ended state place s now received_now fault rest_law ready quiet kept kind not_ended r = record {
@@ -217,7 +217,7 @@ module _ (reading : LogRules) (run_output : List Record → RunOutput) (left rec
   }
 
   -- A log of version 2 was refused.
-  pub ran_refused : (left_now : Option (List ℕ)) (state : PortState) (fault : EngineFault) (input : List ℕ) (version : Version) → (fault ≡ BadLog 0) × (reading.only_one ≡ true) × (version ≡ Two)
+  pub ran_refused : (left_now : Option (List ℕ)) (state : PortState) (fault : StreamFault) (input : List ℕ) (version : Version) → (fault ≡ BadLog 0) × (reading.only_one ≡ true) × (version ≡ Two)
       → Consumes left left_now input → ((more : List ℕ) → more ≡ [] → IsVersion reading.versions version (input ++ more)) → Ran reading run_output state left left_now received received (Err fault)
   ran_refused left_now state fault input version why read known =
       let two : IsVersion reading.versions Two input = subst (λ (v : Version). IsVersion reading.versions v input) why.2 (subst (λ (z : List ℕ). IsVersion reading.versions version z) (append-nil input) (known [] refl)) in
@@ -228,7 +228,7 @@ module _ (reading : LogRules) (run_output : List Record → RunOutput) (left rec
       }
 
   -- Some first bytes of the line are no log of version 2, and begin no frame.
-  pub ran_unopened : (left_new : Option (List ℕ)) (state : PortState) (fault : EngineFault) → IsQuiet run_output → IsBelowLine reading.versions left left_new → (fault ≡ Read) ⊎ (fault ≡ TooManyTurns) → (fault ≡ TooManyTurns → state.ended_before ≡ false → state.ended ≡ false)
+  pub ran_unopened : (left_new : Option (List ℕ)) (state : PortState) (fault : StreamFault) → IsQuiet run_output → IsBelowLine reading.versions left left_new → (fault ≡ Read) ⊎ (fault ≡ TooManyTurns) → (fault ≡ TooManyTurns → state.ended_before ≡ false → state.ended ≡ false)
       → Ran reading run_output state left left_new received received (Err fault)
   ran_unopened left_new state fault quiet below kind not_ended = record {
     input = below.0;
@@ -250,7 +250,7 @@ module _ (reading : LogRules) (run_output : List Record → RunOutput) (left rec
     });
   }
 
-  pub ran_finished : (left_now : Option (List ℕ)) (ended : Bool) (state : PortState) (place : ℕ) (s : Splitter) (now : List Record → RunOutput) (received_now received_new : Option (List ℕ)) (answer : Result Outcome EngineFault) → state.ended ≡ true
+  pub ran_finished : (left_now : Option (List ℕ)) (ended : Bool) (state : PortState) (place : ℕ) (s : Splitter) (now : List Record → RunOutput) (received_now received_new : Option (List ℕ)) (answer : Result Outcome StreamFault) → state.ended ≡ true
       → IfOk answer (λ outcome. (rules : LogRules) (at_first : List Record → RunOutput) (held_first : Option (List ℕ)) (input : List ℕ) → IsProgress rules at_first held_first input [] s now received_now → AtEnd rules at_first input held_first received_new outcome)
       → IfErr answer (λ fault. (rules : LogRules) (at_first : List Record → RunOutput) (held_first : Option (List ℕ)) (input : List ℕ) → IsProgress rules at_first held_first input [] s now received_now → IsEndFault rules at_first state.unflushed input held_first received_new place fault)
       → Runs reading run_output left received left_now ended place [] s now received_now → Ran reading run_output state left left_now received received_new answer
@@ -258,24 +258,24 @@ module _ (reading : LogRules) (run_output : List Record → RunOutput) (left rec
   ran_finished left_now ended state place s now received_now received_new (Err fault) error ends fails r = ran_into_end_fault left_now ended state place s now received_now received_new fault error (fails reading run_output received) r
 
   -- Memory ran out at a record.
-  pub piece_whole : (left_now : Option (List ℕ)) (ended : Bool) (place : ℕ) (piece : List ℕ) (s : Splitter) (now : List Record → RunOutput) (received_now received_new : Option (List ℕ)) (unflushed : Bool) (fault : EngineFault)
+  pub piece_whole : (left_now : Option (List ℕ)) (ended : Bool) (place : ℕ) (piece : List ℕ) (s : Splitter) (now : List Record → RunOutput) (received_now received_new : Option (List ℕ)) (unflushed : Bool) (fault : StreamFault)
       → ((input : List ℕ) → IsProgress reading run_output received input piece s now received_now → IsPieceFault reading run_output unflushed input received received_new fault)
-      → Runs reading run_output left received left_now ended place piece s now received_now → ◌≡◌ {A = Result Outcome EngineFault} (Err fault) (Err NoMemory) → WroteRecords reading run_output left left_now received received_new
+      → Runs reading run_output left received left_now ended place piece s now received_now → ◌≡◌ {A = Result Outcome StreamFault} (Err fault) (Err NoMemory) → WroteRecords reading run_output left left_now received received_new
   piece_whole left_now ended place piece s now received_now received_new unflushed fault fails r is =
       let same : fault ≡ NoMemory = cc in
       record { input = r.input; read = r.read; reached = subst (IsPieceFault reading run_output unflushed r.input received received_new) same (fails r.input r.progress) }
 
   -- And at the end of the input.
-  pub end_whole : (left_now : Option (List ℕ)) (ended : Bool) (place : ℕ) (s : Splitter) (now : List Record → RunOutput) (received_now received_new : Option (List ℕ)) (Holds : Type 0) (answer : Result Outcome EngineFault)
+  pub end_whole : (left_now : Option (List ℕ)) (ended : Bool) (place : ℕ) (s : Splitter) (now : List Record → RunOutput) (received_now received_new : Option (List ℕ)) (Holds : Type 0) (answer : Result Outcome StreamFault)
       → IfErr answer (λ fault. fault ≡ NoMemory → Holds → (rules : LogRules) (at_first : List Record → RunOutput) (held_first : Option (List ℕ)) (input : List ℕ) → IsProgress rules at_first held_first input [] s now received_now → Reached rules at_first input held_first received_new (λ _. Unit {0}))
       → Holds → Runs reading run_output left received left_now ended place [] s now received_now → answer ≡ Err NoMemory → WroteRecords reading run_output left left_now received received_new
-  end_whole left_now ended place s now received_now received_new Holds (Ok outcome) whole one r is = absurd (let two : ◌≡◌ {A = Result Outcome EngineFault} (Ok outcome) (Err NoMemory) = is in cc)
+  end_whole left_now ended place s now received_now received_new Holds (Ok outcome) whole one r is = absurd (let two : ◌≡◌ {A = Result Outcome StreamFault} (Ok outcome) (Err NoMemory) = is in cc)
   end_whole left_now ended place s now received_now received_new Holds (Err fault) whole one r is =
       let same : fault ≡ NoMemory = cc in
       record { input = r.input; read = r.read; reached = whole same one reading run_output received r.input r.progress }
 
 -- Which calls were made when a fault came.
-pub called_fault : (reads_old reads_new writes_old writes_new allowed turns : ℕ) (read_failed write_failed ended : Bool) (left : Option (List ℕ)) (fault : EngineFault) → BothSpend reads_old reads_new writes_old writes_new allowed turns
+pub called_fault : (reads_old reads_new writes_old writes_new allowed turns : ℕ) (read_failed write_failed ended : Bool) (left : Option (List ℕ)) (fault : StreamFault) → BothSpend reads_old reads_new writes_old writes_new allowed turns
     → (fault ≡ TooManyTurns → turns ≡ 0) → (fault ≡ Read → (read_failed ≡ true) × Rose reads_old reads_new) → (fault ≡ Write → (write_failed ≡ true) × Rose writes_old writes_new)
     → ((fault ≡ TooManyTurns → ⊥) → ended ≡ true → IsAtEnd left × Rose reads_old reads_new) → Called reads_old reads_new writes_old writes_new allowed read_failed write_failed ended left (Err fault)
 called_fault reads_old reads_new writes_old writes_new allowed turns read_failed write_failed ended left fault spent none read write at_end = record {
@@ -286,7 +286,7 @@ called_fault reads_old reads_new writes_old writes_new allowed turns read_failed
   at_end = λ other ended_now. at_end (λ is. other (ap Err is)) ended_now;
 }
 
-pub piece_not_read : (reading : LogRules) (run_output : List Record → RunOutput) (unflushed : Bool) (input : List ℕ) (old new : Option (List ℕ)) (fault : EngineFault) → IsPieceFault reading run_output unflushed input old new fault → fault ≡ Read → ⊥
+pub piece_not_read : (reading : LogRules) (run_output : List Record → RunOutput) (unflushed : Bool) (input : List ℕ) (old new : Option (List ℕ)) (fault : StreamFault) → IsPieceFault reading run_output unflushed input old new fault → fault ≡ Read → ⊥
 piece_not_read reading run_output unflushed input old new fault why is = subst (IsPieceFault reading run_output unflushed input old new) is why
 
 -- the calls of the writer
@@ -323,11 +323,11 @@ both_at_start reads_old reads_new writes allowed turns left is spent = record {
 pub rose_more : (old now new : ℕ) → old ≤ now → Rose now new → Rose old new
 rose_more old now new more rose = λ room. omega (arith, rose room)
 
-pub read_not_write : (fault : EngineFault) → (fault ≡ Read) ⊎ (fault ≡ TooManyTurns) → fault ≡ Write → ⊥
+pub read_not_write : (fault : StreamFault) → (fault ≡ Read) ⊎ (fault ≡ TooManyTurns) → fault ≡ Write → ⊥
 read_not_write fault (inl is) other = let two : Read ≡ Write = sym is ∙ other in cc
 read_not_write fault (inr is) other = let two : TooManyTurns ≡ Write = sym is ∙ other in cc
 
-pub read_not_ended : (fault : EngineFault) (ended : Bool) (A B : Type 0) → (fault ≡ Read) ⊎ (fault ≡ TooManyTurns) → (fault ≡ Read → A × (ended ≡ false) × B) → (fault ≡ TooManyTurns → ⊥) → ended ≡ true → ⊥
+pub read_not_ended : (fault : StreamFault) (ended : Bool) (A B : Type 0) → (fault ≡ Read) ⊎ (fault ≡ TooManyTurns) → (fault ≡ Read → A × (ended ≡ false) × B) → (fault ≡ TooManyTurns → ⊥) → ended ≡ true → ⊥
 read_not_ended fault ended A B (inl is) failed other error = ended_not ended (failed is).1 error
 read_not_ended fault ended A B (inr is) failed other error = other is
 
@@ -339,7 +339,7 @@ pub zero_is : (n : ℕ) → nat_eq n 0 ≡ true → n ≡ 0
 zero_is n is = eqb-true n 0 is
 
 -- No failure was passed over when a fault came.
-pub told_fault : (read_failed_old read_failed_new write_failed_old write_failed_new : Bool) (fault : EngineFault) → (fault ≢ Read → StaysWell read_failed_old read_failed_new)
+pub told_fault : (read_failed_old read_failed_new write_failed_old write_failed_new : Bool) (fault : StreamFault) → (fault ≢ Read → StaysWell read_failed_old read_failed_new)
     → (fault ≢ Write → StaysWell write_failed_old write_failed_new) → NonePassedOver read_failed_old read_failed_new write_failed_old write_failed_new (Err fault)
 told_fault read_failed_old read_failed_new write_failed_old write_failed_new fault reads writes = record {
   reads = λ other. reads (λ is. other (ap Err is));
@@ -347,7 +347,7 @@ told_fault read_failed_old read_failed_new write_failed_old write_failed_new fau
 }
 
 -- The same of what a call answered.
-pub told_result : (read_failed_old read_failed_new write_failed_old write_failed_mid write_failed_new : Bool) (r : Result Outcome EngineFault) → StaysWell read_failed_old read_failed_new
+pub told_result : (read_failed_old read_failed_new write_failed_old write_failed_mid write_failed_new : Bool) (r : Result Outcome StreamFault) → StaysWell read_failed_old read_failed_new
     → StaysWell write_failed_old write_failed_mid → OnOk r (StaysWell write_failed_mid write_failed_new) → IfErr r (λ fault. fault ≢ Write → StaysWell write_failed_mid write_failed_new)
     → NonePassedOver read_failed_old read_failed_new write_failed_old write_failed_new r
 told_result read_failed_old read_failed_new write_failed_old write_failed_mid write_failed_new (Ok t) reads before ok err = record {
@@ -360,12 +360,12 @@ told_result read_failed_old read_failed_new write_failed_old write_failed_mid wr
 }
 
 -- Nothing was kept back when a fault came.
-pub passed_fault : {T : Type 0} (flushes old new : Bool) (fault : EngineFault) → (flushes ≡ true → fault ≢ Write → fault ≢ TooManyTurns → StaysFlushed old new)
-    → flushes ≡ true → ◌≢◌ {A = Result T EngineFault} (Err fault) (Err Write) → ◌≢◌ {A = Result T EngineFault} (Err fault) (Err TooManyTurns) → StaysFlushed old new
+pub passed_fault : {T : Type 0} (flushes old new : Bool) (fault : StreamFault) → (flushes ≡ true → fault ≢ Write → fault ≢ TooManyTurns → StaysFlushed old new)
+    → flushes ≡ true → ◌≢◌ {A = Result T StreamFault} (Err fault) (Err Write) → ◌≢◌ {A = Result T StreamFault} (Err fault) (Err TooManyTurns) → StaysFlushed old new
 passed_fault flushes old new fault passed holds not_write not_turns = passed holds (λ is. not_write (ap Err is)) (λ is. not_turns (ap Err is))
 
 -- Nor was anything by what a call answered.
-pub passed_result : {T : Type 0} (flushes old new : Bool) (r : Result T EngineFault) → OnOk r (flushes ≡ true → StaysFlushed old new)
+pub passed_result : {T : Type 0} (flushes old new : Bool) (r : Result T StreamFault) → OnOk r (flushes ≡ true → StaysFlushed old new)
     → IfErr r (λ fault. flushes ≡ true → fault ≢ Write → fault ≢ TooManyTurns → StaysFlushed old new)
     → flushes ≡ true → r ≢ Err Write → r ≢ Err TooManyTurns → StaysFlushed old new
 passed_result flushes old new (Ok t) ok err holds not_write not_turns = ok holds

@@ -4,8 +4,8 @@ use Rattle.std.specs.Prelude.{Result, Ok, Err, MatchResult}
 use Rattle.std.specs.Io.KnownBytes.{Appends}
 use Rattle.lsp_frame.specs.declared.fault.FrameFault.{FrameFault}
 use Rattle.lsp_replay.specs.declared.outcome.Outcome.{Outcome}
-use Rattle.lsp_stream.specs.declared.fault.EngineFault.{EngineFault}
-use Rattle.lsp_stream.specs.declared.fault.EngineFault.TheVariants.{Read, Write, Frame, Truncated, BodyTooLong, NoMemory, TooManyTurns, BadLog}
+use Rattle.lsp_stream.specs.declared.fault.StreamFault.{StreamFault}
+use Rattle.lsp_stream.specs.declared.fault.StreamFault.TheVariants.{Read, Write, Frame, Truncated, BodyTooLong, NoMemory, TooManyTurns, BadLog}
 use Rattle.lsp_log.specs.declared.record.Version.{Version}
 use Rattle.lsp_log.specs.declared.record.Version.TheVariants.{One, Two}
 use Rattle.lsp_log.specs.declared.record.Side.{Side}
@@ -29,9 +29,9 @@ use Rattle.lsp_replay.proofs.EngineLemmas.{empty_rest, still_short}
 -- ---- outputs: a record that ended a run ends it whatever follows, and more records give more output
 
 abbrev IsCanonicalOf : View → Session → List Record → Type 0
-IsCanonicalOf view s rs = (more : List Record) (answer : Result Outcome EngineFault) → (run_output_in view s rs).stop ≡ Some answer → run_output_in view s (rs ++ more) ≡ run_output_in view s rs
+IsCanonicalOf view s rs = (more : List Record) (answer : Result Outcome StreamFault) → (run_output_in view s rs).stop ≡ Some answer → run_output_in view s (rs ++ more) ≡ run_output_in view s rs
 
-pub settled_on : (out : List ℕ) (end : Option (Result Outcome EngineFault)) (c longer : RunOutput) (answer : Result Outcome EngineFault) → (continue_with out end c).stop ≡ Some answer → (c.stop ≡ Some answer → longer ≡ c) → continue_with out end longer ≡ continue_with out end c
+pub settled_on : (out : List ℕ) (end : Option (Result Outcome StreamFault)) (c longer : RunOutput) (answer : Result Outcome StreamFault) → (continue_with out end c).stop ≡ Some answer → (c.stop ≡ Some answer → longer ≡ c) → continue_with out end longer ≡ continue_with out end c
 settled_on out None c longer answer e same = ap (continue_with out None) (same e)
 settled_on out (Some other) c longer answer e same = refl
 
@@ -44,7 +44,7 @@ settled view s (r ∷ rs) more answer e =
 unfoldable pub Grows : RunOutput → RunOutput → Type 0
 Grows c longer = (rest : List ℕ) × (longer.out ≡ c.out ++ rest)
 
-pub grows_on : (out : List ℕ) (end : Option (Result Outcome EngineFault)) (c longer : RunOutput) → Grows c longer → Grows (continue_with out end c) (continue_with out end longer)
+pub grows_on : (out : List ℕ) (end : Option (Result Outcome StreamFault)) (c longer : RunOutput) → Grows c longer → Grows (continue_with out end c) (continue_with out end longer)
 unfolding Grows
 grows_on out None c longer more = (more.0, ap (λ z. out ++ z) more.1 ∙ sym (append_assoc out c.out more.0))
 grows_on out (Some answer) c longer more = ([], sym (append-nil out))
@@ -56,12 +56,12 @@ grows view s (r ∷ rs) more = grows_on (view.record_output s r (judge s r)).out
 
 -- the same of any course
 abbrev pub Settles : (List Record → RunOutput) → Type 0
-Settles run_output = (rs more : List Record) (answer : Result Outcome EngineFault) → (run_output rs).stop ≡ Some answer → run_output (rs ++ more) ≡ run_output rs
+Settles run_output = (rs more : List Record) (answer : Result Outcome StreamFault) → (run_output rs).stop ≡ Some answer → run_output (rs ++ more) ≡ run_output rs
 
 abbrev pub GrowsAll : (List Record → RunOutput) → Type 0
 GrowsAll run_output = (rs more : List Record) → Grows (run_output rs) (run_output (rs ++ more))
 
-pub squashed_settled : (s : Session) (run : Option Run) (rs more : List Record) (answer : Result Outcome EngineFault) → (squashed_in s run rs).stop ≡ Some answer → squashed_in s run (rs ++ more) ≡ squashed_in s run rs
+pub squashed_settled : (s : Session) (run : Option Run) (rs more : List Record) (answer : Result Outcome StreamFault) → (squashed_in s run rs).stop ≡ Some answer → squashed_in s run (rs ++ more) ≡ squashed_in s run rs
 squashed_settled s run [] more answer e = absurd (let wrong : None ≡ Some answer = e in cc)
 squashed_settled s run (r ∷ rs) more answer e =
     let step = squash_step s run r (judge s r) in
@@ -99,7 +99,7 @@ bad_rest max_body input place log is side raw body more is_frame_of e = bad_mark
 -- ---- from some records to all
 
 module _ (first_of : FirstLaw) (same_version : VersionLaw) (reading : LogRules) (run_output : List Record → RunOutput) (settles : Settles run_output) (grows_all : GrowsAll run_output) (state : PortState) (input : List ℕ) (received_old received_new : Option (List ℕ)) (all : Log) (reads : IsReadAs reading input all) (ends : HasNoRecord reading.max_body all) where
-  ended_by : (answer : Result Outcome EngineFault) → Stopped reading run_output input received_old received_new answer → EndedBy run_output received_old received_new answer all
+  ended_by : (answer : Result Outcome StreamFault) → Stopped reading run_output input received_old received_new answer → EndedBy run_output received_old received_new answer all
   ended_by answer stopped =
       let f : IsFirstOf reading stopped.log all = first_of reading input stopped.log all stopped.reads reads ends in
       let same : run_output all.records ≡ run_output stopped.log.records = ap run_output f.all_are ∙ settles stopped.log.records f.more answer stopped.stops in
@@ -169,7 +169,7 @@ module _ (first_of : FirstLaw) (same_version : VersionLaw) (reading : LogRules) 
   refused : (place : ℕ) → RefusesInput reading input received_old received_new place → ⊥
   refused place is = let one : Two ≡ One = same_version reading.versions Two all.version input is.version reads.version ∙ reads.accepted is.only_one in absurd (cc)
 
-  fault_told : (fault : EngineFault) → IsRunFault reading run_output state input received_old received_new fault → IsFaultReported reading run_output state input received_old received_new all fault
+  fault_told : (fault : StreamFault) → IsRunFault reading run_output state input received_old received_new fault → IsFaultReported reading run_output state input received_old received_new all fault
   fault_told Read r = reached (IsUnfinished reading input) (λ log is. is.none) r
   fault_told Write (inl b) = inl (broken b)
   fault_told Write (inr b) = inr (cut b)
@@ -190,7 +190,7 @@ module _ (first_of : FirstLaw) (same_version : VersionLaw) (reading : LogRules) 
   ok_told outcome (inl stopped) = inl (ended_by (Ok outcome) stopped)
   ok_told outcome (inr at) = inr (at.0, at_end outcome at.1)
 
-  is_told : (result : Result Outcome EngineFault)
+  is_told : (result : Result Outcome StreamFault)
       → MatchResult result (λ outcome. Stopped reading run_output input received_old received_new (Ok outcome) ⊎ ((state.ended ≡ true) × AtEnd reading run_output input received_old received_new outcome))
       (IsRunFault reading run_output state input received_old received_new) → IsRunReport reading run_output state input received_old received_new all result
   is_told (Ok outcome) came = ok_told outcome came
@@ -198,14 +198,14 @@ module _ (first_of : FirstLaw) (same_version : VersionLaw) (reading : LogRules) 
 
 -- ---- version 2, where it is refused
 
-abbrev IsBadFromStart : Option (List ℕ) → Option (List ℕ) → Result Outcome EngineFault → Type 0
+abbrev IsBadFromStart : Option (List ℕ) → Option (List ℕ) → Result Outcome StreamFault → Type 0
 IsBadFromStart received_old received_new result = (result ≡ Err (BadLog 0)) × Appends received_old received_new []
 
 module _ (same_version : VersionLaw) (reading : LogRules) (run_output : List Record → RunOutput) (state : PortState) (input : List ℕ) (received_old received_new : Option (List ℕ)) (only_one : reading.only_one ≡ true) (two : IsVersion reading.versions Two input) where
   unread : (log : Log) → IsReadAs reading input log → ⊥
   unread log reads = let one : Two ≡ One = same_version reading.versions Two log.version input two reads.version ∙ reads.accepted only_one in absurd (cc)
 
-  fault_answered : (fault : EngineFault) → IsRunFault reading run_output state input received_old received_new fault → IsBadFromStart received_old received_new (Err fault)
+  fault_answered : (fault : StreamFault) → IsRunFault reading run_output state input received_old received_new fault → IsBadFromStart received_old received_new (Err fault)
   fault_answered Read r = absurd (unread r.log r.reads)
   fault_answered Write (inl b) = absurd (unread b.log b.reads)
   fault_answered Write (inr b) = absurd (unread b.1.log b.1.reads)
@@ -225,14 +225,14 @@ module _ (same_version : VersionLaw) (reading : LogRules) (run_output : List Rec
   ok_answered outcome (inl stopped) = absurd (unread stopped.log stopped.reads)
   ok_answered outcome (inr at) = absurd (unread at.1.log at.1.reads)
 
-  is_answered : (result : Result Outcome EngineFault)
+  is_answered : (result : Result Outcome StreamFault)
       → MatchResult result (λ outcome. Stopped reading run_output input received_old received_new (Ok outcome) ⊎ ((state.ended ≡ true) × AtEnd reading run_output input received_old received_new outcome))
       (IsRunFault reading run_output state input received_old received_new) → IsBadFromStart received_old received_new result
   is_answered (Ok outcome) came = ok_answered outcome came
   is_answered (Err fault) came = fault_answered fault came
 
 -- What is told by some records of the input is told by all.
-over_course : FirstLaw → VersionLaw → (reading : LogRules) (run_output : List Record → RunOutput) → Settles run_output → GrowsAll run_output → (state : PortState) (left_old left_new received_old received_new : Option (List ℕ)) (result : Result Outcome EngineFault)
+over_course : FirstLaw → VersionLaw → (reading : LogRules) (run_output : List Record → RunOutput) → Settles run_output → GrowsAll run_output → (state : PortState) (left_old left_new received_old received_new : Option (List ℕ)) (result : Result Outcome StreamFault)
     → Ran reading run_output state left_old left_new received_old received_new result → RanOver reading run_output state left_old left_new received_old received_new result
 over_course first version reading run_output settles grows_all state left_old left_new received_old received_new result ran = record {
   input = ran.input;
@@ -241,23 +241,23 @@ over_course first version reading run_output settles grows_all state left_old le
   refused = λ only_one two. is_answered version reading run_output state ran.input received_old received_new only_one two result ran.came;
 }
 
-pub ran_over : FirstLaw → VersionLaw → (reading : LogRules) (view : View) (s : Session) (state : PortState) (left_old left_new received_old received_new : Option (List ℕ)) (result : Result Outcome EngineFault)
+pub ran_over : FirstLaw → VersionLaw → (reading : LogRules) (view : View) (s : Session) (state : PortState) (left_old left_new received_old received_new : Option (List ℕ)) (result : Result Outcome StreamFault)
     → Ran reading (run_output_in view s) state left_old left_new received_old received_new result → RanOver reading (run_output_in view s) state left_old left_new received_old received_new result
 ran_over first version reading view s state left_old left_new received_old received_new result ran =
     over_course first version reading (run_output_in view s) (settled view s) (grows view s) state left_old left_new received_old received_new result ran
 
-pub ran_over_squashed : FirstLaw → VersionLaw → (reading : LogRules) (s : Session) (run : Option Run) (state : PortState) (left_old left_new received_old received_new : Option (List ℕ)) (result : Result Outcome EngineFault)
+pub ran_over_squashed : FirstLaw → VersionLaw → (reading : LogRules) (s : Session) (run : Option Run) (state : PortState) (left_old left_new received_old received_new : Option (List ℕ)) (result : Result Outcome StreamFault)
     → Ran reading (squashed_in s run) state left_old left_new received_old received_new result → RanOver reading (squashed_in s run) state left_old left_new received_old received_new result
 ran_over_squashed first version reading s run state left_old left_new received_old received_new result ran =
     over_course first version reading (squashed_in s run) (squashed_settled s run) (squashed_grows s run) state left_old left_new received_old received_new result ran
 
 -- ---- what the contract of an engine says, from what the loop does
 
-abbrev pub NoneCut : Bool → LogRules → (List Record → RunOutput) → Ports → Ports → Result Outcome EngineFault → Type 0
+abbrev pub NoneCut : Bool → LogRules → (List Record → RunOutput) → Ports → Ports → Result Outcome StreamFault → Type 0
 NoneCut in_parts reading run_output before after result =
     in_parts ≡ false → result ≡ Err NoMemory → WroteRecords reading run_output before.reader.left after.reader.left before.writer.written after.writer.written
 
-pub run_of : FirstLaw → VersionLaw → (view : View) (s : Session) (in_parts : Bool) {reading : LogRules} {flushes : Bool} {max_turns : ℕ} {before after : Ports} {result : Result Outcome EngineFault}
+pub run_of : FirstLaw → VersionLaw → (view : View) (s : Session) (in_parts : Bool) {reading : LogRules} {flushes : Bool} {max_turns : ℕ} {before after : Ports} {result : Result Outcome StreamFault}
     → IsLoopRun reading (run_output_in view s) flushes max_turns before after result → NoneCut in_parts reading (run_output_in view s) before after result
     → IsEngineRun (record { reading = reading; run_output = run_output_in view s; flushes = flushes; in_parts = in_parts }) max_turns before after result
 run_of first version view s in_parts {reading} {flushes} {max_turns} {before} {after} {result} run whole = record {
@@ -268,7 +268,7 @@ run_of first version view s in_parts {reading} {flushes} {max_turns} {before} {a
   passed_on = run.passed_on;
 }
 
-pub run_of_squashed : FirstLaw → VersionLaw → (s : Session) (run_now : Option Run) {reading : LogRules} {flushes : Bool} {max_turns : ℕ} {before after : Ports} {result : Result Outcome EngineFault}
+pub run_of_squashed : FirstLaw → VersionLaw → (s : Session) (run_now : Option Run) {reading : LogRules} {flushes : Bool} {max_turns : ℕ} {before after : Ports} {result : Result Outcome StreamFault}
     → IsLoopRun reading (squashed_in s run_now) flushes max_turns before after result → NoneCut false reading (squashed_in s run_now) before after result
     → IsEngineRun (record { reading = reading; run_output = squashed_in s run_now; flushes = flushes; in_parts = false }) max_turns before after result
 run_of_squashed first version s run_now {reading} {flushes} {max_turns} {before} {after} {result} run whole = record {
@@ -280,7 +280,7 @@ run_of_squashed first version s run_now {reading} {flushes} {max_turns} {before}
 }
 
 -- the same of any output, which in one part is that of its end
-pub run_of_course : FirstLaw → VersionLaw → (run_output : List Record → RunOutput) → Settles run_output → GrowsAll run_output → (in_parts : Bool) {reading : LogRules} {flushes : Bool} {max_turns : ℕ} {before after : Ports} {result : Result Outcome EngineFault}
+pub run_of_course : FirstLaw → VersionLaw → (run_output : List Record → RunOutput) → Settles run_output → GrowsAll run_output → (in_parts : Bool) {reading : LogRules} {flushes : Bool} {max_turns : ℕ} {before after : Ports} {result : Result Outcome StreamFault}
     → IsLoopRun reading run_output flushes max_turns before after result → NoneCut in_parts reading run_output before after result
     → IsEngineRun (record { reading = reading; run_output = run_output; flushes = flushes; in_parts = in_parts }) max_turns before after result
 run_of_course first version run_output settles grows_all in_parts {reading} {flushes} {max_turns} {before} {after} {result} run whole = record {

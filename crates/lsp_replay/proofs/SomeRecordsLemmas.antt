@@ -7,8 +7,8 @@ use Rattle.std.specs.Io.KnownBytes.{Appends}
 use Rattle.lsp_frame.proofs.FaultLemmas.{one_front}
 use Rattle.lsp_replay.specs.declared.engines.Settings.{Settings}
 use Rattle.lsp_replay.specs.declared.outcome.Outcome.{Outcome}
-use Rattle.lsp_stream.specs.declared.fault.EngineFault.{EngineFault}
-use Rattle.lsp_stream.specs.declared.fault.EngineFault.TheVariants.{Read, Write, Frame, Truncated, BodyTooLong, NoMemory, TooManyTurns, BadLog}
+use Rattle.lsp_stream.specs.declared.fault.StreamFault.{StreamFault}
+use Rattle.lsp_stream.specs.declared.fault.StreamFault.TheVariants.{Read, Write, Frame, Truncated, BodyTooLong, NoMemory, TooManyTurns, BadLog}
 use Rattle.lsp_stream.specs.Ports.{Ports}
 use Rattle.lsp_log.specs.declared.record.Version.{Version}
 use Rattle.lsp_log.specs.declared.record.Version.TheVariants.{One, Two}
@@ -61,7 +61,7 @@ module _ (reading : LogRules) (run_output : List Record → RunOutput) (state : 
   reached : (P : Log → Type 0) → P all → Passed run_output old new all → Reached reading run_output input old new P
   reached P rest passed = record { log = all; reads = reads; rest = rest; continues = passed.continues; wrote = passed.wrote }
 
-  stopped : (answer : Result Outcome EngineFault) → EndedBy run_output old new answer all → Stopped reading run_output input old new answer
+  stopped : (answer : Result Outcome StreamFault) → EndedBy run_output old new answer all → Stopped reading run_output input old new answer
   stopped answer ended = record { log = all; reads = reads; stops = ended.stops; wrote = ended.wrote }
 
   broken_at_end : (all.rest ≡ []) → (run_output all.records).stop ≡ None → (first others : List ℕ) → last_of run_output all ≡ first ++ others → Appends old new ((run_output all.records).out ++ first) → BrokenAtEnd reading run_output input old new
@@ -137,7 +137,7 @@ module _ (reading : LogRules) (run_output : List Record → RunOutput) (state : 
   ran_short (inr (inr at)) = inr (inr (at.0, reached (IsUnfinished reading input) at.1 at.2))
 
   -- all but out of memory, of which the field `whole` speaks
-  fault_came : (fault : EngineFault) → fault ≢ NoMemory → IsFaultReported reading run_output state input old new all fault → IsRunFault reading run_output state input old new fault
+  fault_came : (fault : StreamFault) → fault ≢ NoMemory → IsFaultReported reading run_output state input old new all fault → IsRunFault reading run_output state input old new fault
   fault_came Read other r = reached (IsUnfinished reading input) r.0 r.1
   fault_came Write other r = first_part r
   fault_came (Frame fault) other r = reached (IsMalformed reading.max_body input fault) r.0 r.1
@@ -191,11 +191,11 @@ module _ (reading : LogRules) (run_output : List Record → RunOutput) (state : 
 abbrev state_in : Engine → Ports → Ports → PortState
 state_in engine before after = state_of before.reader.ended after.reader.ended (engine.flushes && not after.writer.flushed)
 
-abbrev RanAs : Engine → Ports → Ports → Result Outcome EngineFault → Type 0
+abbrev RanAs : Engine → Ports → Ports → Result Outcome StreamFault → Type 0
 RanAs engine before after result = Ran engine.reading engine.run_output (state_in engine before after) before.reader.left after.reader.left before.writer.written after.writer.written result
 
 -- the field `came` of that
-abbrev Came : Engine → Ports → Ports → List ℕ → Result Outcome EngineFault → Type 0
+abbrev Came : Engine → Ports → Ports → List ℕ → Result Outcome StreamFault → Type 0
 Came engine before after input result =
     MatchResult result
     (λ outcome. Stopped engine.reading engine.run_output input before.writer.written after.writer.written (Ok outcome)
@@ -204,12 +204,12 @@ Came engine before after input result =
 
 module _ (all_records : AllRecordsLaw) (engine : Engine) (silent : engine.in_parts ≡ true → IsSilent engine.run_output) (max_turns : ℕ) (before after : Ports) where
   -- a log of version 2 where that is refused
-  refused_came : (input : List ℕ) (result : Result Outcome EngineFault) → IsRefusedInput engine.reading input → (result ≡ Err (BadLog 0)) × Appends before.writer.written after.writer.written [] → Came engine before after input result
+  refused_came : (input : List ℕ) (result : Result Outcome StreamFault) → IsRefusedInput engine.reading input → (result ≡ Err (BadLog 0)) × Appends before.writer.written after.writer.written [] → Came engine before after input result
   refused_came input result refused bad =
       let here : RefusesInput engine.reading input before.writer.written after.writer.written 0 = record { only_one = refused.0; version = refused.1; placed = refl; wrote = bad.1 } in
       subst (Came engine before after input) (sym bad.0) (inr (inr here))
 
-  by_input : (result : Result Outcome EngineFault) (over : RanOver engine.reading engine.run_output (state_in engine before after) before.reader.left after.reader.left before.writer.written after.writer.written result)
+  by_input : (result : Result Outcome StreamFault) (over : RanOver engine.reading engine.run_output (state_in engine before after) before.reader.left after.reader.left before.writer.written after.writer.written result)
       → ((all : Log) → IsReadAs engine.reading over.input all → IsRunReport engine.reading engine.run_output (state_in engine before after) over.input before.writer.written after.writer.written all result → Came engine before after over.input result)
       → RanAs engine before after result
   by_input result over by_all =
@@ -235,12 +235,12 @@ module _ (all_records : AllRecordsLaw) (engine : Engine) (silent : engine.in_par
         | inr whole ↦ whole_came (run.whole whole refl)
       ]
 
-  other_came : (fault : EngineFault) → fault ≢ NoMemory → IsEngineRun engine max_turns before after (Err fault) → RanAs engine before after (Err fault)
+  other_came : (fault : StreamFault) → fault ≢ NoMemory → IsEngineRun engine max_turns before after (Err fault) → RanAs engine before after (Err fault)
   other_came fault other run =
       by_input (Err fault) run.all_records
       (λ all reads reported. fault_came engine.reading engine.run_output (state_in engine before after) run.all_records.input before.writer.written after.writer.written all reads fault other reported)
 
-  on_fault : (fault : EngineFault) → IsEngineRun engine max_turns before after (Err fault) → RanAs engine before after (Err fault)
+  on_fault : (fault : StreamFault) → IsEngineRun engine max_turns before after (Err fault) → RanAs engine before after (Err fault)
   on_fault Read run = other_came Read (λ e. let wrong : Read ≡ NoMemory = e in cc) run
   on_fault Write run = other_came Write (λ e. let wrong : Write ≡ NoMemory = e in cc) run
   on_fault (Frame fault) run = other_came (Frame fault) (λ e. let wrong : Frame fault ≡ NoMemory = e in cc) run
@@ -251,7 +251,7 @@ module _ (all_records : AllRecordsLaw) (engine : Engine) (silent : engine.in_par
   on_fault (BadLog place) run = other_came (BadLog place) (λ e. let wrong : BadLog place ≡ NoMemory = e in cc) run
 
   -- What was written and returned, by some first records of the bytes that were read.
-  pub by_some_records : (result : Result Outcome EngineFault) → IsEngineRun engine max_turns before after result → RanAs engine before after result
+  pub by_some_records : (result : Result Outcome StreamFault) → IsEngineRun engine max_turns before after result → RanAs engine before after result
   by_some_records (Ok outcome) run =
       by_input (Ok outcome) run.all_records
       (λ all reads reported. ok_came engine.reading engine.run_output (state_in engine before after) run.all_records.input before.writer.written after.writer.written all reads outcome reported)

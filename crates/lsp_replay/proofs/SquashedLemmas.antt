@@ -7,7 +7,7 @@ use Rattle.lsp_server.specs.Answer.{reply, changed, dropped, ignored, refused, e
 use Rattle.lsp_server.specs.Incoming.{incoming_of}
 use Rattle.lsp_server.specs.Step.{State}
 use Rattle.lsp_replay.specs.declared.outcome.Outcome.{Outcome}
-use Rattle.lsp_stream.specs.declared.fault.EngineFault.{EngineFault}
+use Rattle.lsp_stream.specs.declared.fault.StreamFault.{StreamFault}
 use Rattle.lsp_log.specs.Log.{Record}
 use Rattle.lsp_replay.specs.RunOutput.{RunOutput}
 use Rattle.lsp_replay.specs.Engines.{RecordOutput, change_in, run_output_in, front_of, continue_with, log_config, canonical_change_body, canonical_if, normalising, unless_bad, written}
@@ -46,7 +46,7 @@ step_end server r front run (Some p) (answered changed) =
     (λ (within : nat_lt server.config.limits.max_body (length (canonical_change_body server p)) ≡ false). rw within (change_end server p front _ run))
     (cases_Bool (nat_lt server.config.limits.max_body (length (canonical_change_body server p))))
 
-pub stop_on : (out bytes : List ℕ) (end also : Option (Result Outcome EngineFault)) (c d : RunOutput) → end ≡ also → c.stop ≡ d.stop → (continue_with out end c).stop ≡ (continue_with bytes also d).stop
+pub stop_on : (out bytes : List ℕ) (end also : Option (Result Outcome StreamFault)) (c d : RunOutput) → end ≡ also → c.stop ≡ d.stop → (continue_with out end c).stop ≡ (continue_with bytes also d).stop
 stop_on out bytes None None c d same stops = stops
 stop_on out bytes None (Some a) c d same stops = absurd (cc)
 stop_on out bytes (Some e) None c d same stops = absurd (cc)
@@ -58,7 +58,7 @@ stops_in s run (r ∷ rs) =
     stop_on _ _ _ _ _ _ (step_end s.server r (front_of r.head) run (change_in (incoming_of (reading r.body))) (judge s r).verdict)
     (stops_in (judge s r).session (squash_step s run r (judge s r)).run rs)
 
-outcome_on : (out bytes : List ℕ) (end also : Option (Result Outcome EngineFault)) (c d : RunOutput) → end ≡ also → c.outcome ≡ d.outcome → (continue_with out end c).outcome ≡ (continue_with bytes also d).outcome
+outcome_on : (out bytes : List ℕ) (end also : Option (Result Outcome StreamFault)) (c d : RunOutput) → end ≡ also → c.outcome ≡ d.outcome → (continue_with out end c).outcome ≡ (continue_with bytes also d).outcome
 outcome_on out bytes None None c d same outcomes = outcomes
 outcome_on out bytes None (Some a) c d same outcomes = absurd (cc)
 outcome_on out bytes (Some e) None c d same outcomes = absurd (cc)

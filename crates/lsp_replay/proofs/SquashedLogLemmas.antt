@@ -14,7 +14,7 @@ use Rattle.lsp_log.specs.Log.{Record, Log, IsRecord, AreRecords, together, recor
 use Rattle.lsp_log.proofs.LogLemmas.{due_after}
 use Rattle.lsp_replay.specs.declared.engines.Settings.{Settings}
 use Rattle.lsp_replay.specs.declared.outcome.Outcome.{Outcome}
-use Rattle.lsp_stream.specs.declared.fault.EngineFault.{EngineFault}
+use Rattle.lsp_stream.specs.declared.fault.StreamFault.{StreamFault}
 use Rattle.lsp_replay.specs.RunOutput.{RunOutput}
 use Rattle.lsp_replay.specs.Engines.{change_in, run_output_in, front_of, continue_with, line_if, canonical_if, log_config, replaying, report}
 use Rattle.lsp_replay.specs.Laws.{SquashedLaw, IsSquashed, LeavesAlike, all_of}
@@ -177,7 +177,7 @@ same_outcome settings rs goes = outcome_on (opened (log_config settings)) None r
     outcome_on s run (r ∷ rs) goes =
         let step = squash_step s run r (judge s r) in
         let on = went_on step.out step.end (squashed_in (judge s r).session step.run rs) goes in
-        ap (λ (o : Option (Result Outcome EngineFault)). (continue_with step.out o (squashed_in (judge s r).session step.run rs)).outcome) on.0
+        ap (λ (o : Option (Result Outcome StreamFault)). (continue_with step.out o (squashed_in (judge s r).session step.run rs)).outcome) on.0
         ∙ outcome_on (judge s r).session step.run rs on.1
         ∙ sym (ap (λ (c : RunOutput). c.outcome) (report_on s r rs (not_bad_of s.server r (front_of r.head) run (change_in (incoming_of (reading r.body))) (judge s r).verdict on.0)))
 

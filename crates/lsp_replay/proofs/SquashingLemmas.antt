@@ -7,7 +7,7 @@ use Rattle.lsp_store.specs.Squash.{SquashData}
 use Rattle.lsp_server.specs.Answer.{reply, changed, dropped, ignored, already_ended, refused, exits}
 use Rattle.lsp_server.specs.Step.{State}
 use Rattle.lsp_log.specs.Log.{Record}
-use Rattle.lsp_stream.specs.declared.fault.EngineFault.TheVariants.{BadLog, BodyTooLong}
+use Rattle.lsp_stream.specs.declared.fault.StreamFault.TheVariants.{BadLog, BodyTooLong}
 use Rattle.lsp_message.specs.Message.{reading}
 use Rattle.lsp_server.specs.Incoming.{incoming_of}
 use Rattle.lsp_replay.specs.RunOutput.{written_first}

@@ -9,7 +9,7 @@ use Rattle.lsp_message.specs.Message.{IdData, reading}
 use Rattle.lsp_server.specs.Answer.{as_sent}
 use Rattle.lsp_server.specs.Incoming.{IncomingData, incoming_of}
 use Rattle.lsp_server.specs.Step.{step_on}
-use Rattle.lsp_stream.specs.declared.fault.EngineFault.{EngineFault}
+use Rattle.lsp_stream.specs.declared.fault.StreamFault.{StreamFault}
 use Rattle.lsp_stream.specs.Ports.{Ports, one_more}
 use Rattle.lsp_log.specs.declared.record.Version.{Version}
 use Rattle.lsp_log.specs.declared.record.Side.{Side}
@@ -120,7 +120,7 @@ module _ (details : Details) (mentions : List Mention) (s : Session) (r : Record
 
 -- ---- all records
 
-trace_settled : (details : Details) (mentions : List Mention) (s : Session) (rs more : List Record) (answer : Result Outcome EngineFault) → (traced_in details mentions s rs).stop ≡ Some answer → traced_in details mentions s (rs ++ more) ≡ traced_in details mentions s rs
+trace_settled : (details : Details) (mentions : List Mention) (s : Session) (rs more : List Record) (answer : Result Outcome StreamFault) → (traced_in details mentions s rs).stop ≡ Some answer → traced_in details mentions s (rs ++ more) ≡ traced_in details mentions s rs
 trace_settled details mentions s [] more answer e = absurd (let wrong : None ≡ Some answer = e in cc)
 trace_settled details mentions s (r ∷ rs) more answer e =
     let given = trace_output details mentions s r (judge s r) in
@@ -136,7 +136,7 @@ trace_grows details mentions s (r ∷ rs) more =
     let next = mentions_after mentions r (judge s r) (incoming_of (reading r.body)) in
     grows_on given.out given.end _ _ (trace_grows details next (judge s r).session rs more)
 
-pub run_of_trace : FirstLaw → VersionLaw → (details : Details) (mentions : List Mention) (s : Session) {reading : LogRules} {max_turns : ℕ} {before after : Ports} {result : Result Outcome EngineFault}
+pub run_of_trace : FirstLaw → VersionLaw → (details : Details) (mentions : List Mention) (s : Session) {reading : LogRules} {max_turns : ℕ} {before after : Ports} {result : Result Outcome StreamFault}
     → IsLoopRun reading (traced_in details mentions s) false max_turns before after result → NoneCut false reading (traced_in details mentions s) before after result
     → IsEngineRun (record { reading = reading; run_output = traced_in details mentions s; flushes = false; in_parts = false }) max_turns before after result
 run_of_trace first version details mentions s run whole =

@@ -6,8 +6,8 @@ use Rattle.lsp_frame.specs.Frame.{frame}
 use Rattle.lsp_frame.specs.Limits.{AreInRange}
 use Rattle.lsp_replay.specs.declared.engines.Settings.{Settings}
 use Rattle.lsp_replay.specs.declared.outcome.Outcome.{Outcome}
-use Rattle.lsp_stream.specs.declared.fault.EngineFault.{EngineFault}
-use Rattle.lsp_stream.specs.declared.fault.EngineFault.TheVariants.{BodyTooLong}
+use Rattle.lsp_stream.specs.declared.fault.StreamFault.{StreamFault}
+use Rattle.lsp_stream.specs.declared.fault.StreamFault.TheVariants.{BodyTooLong}
 use Rattle.lsp_log.specs.Log.{Record}
 use Rattle.lsp_replay.specs.RunOutput.{RunOutput}
 use Rattle.lsp_replay.specs.Session.{Session, Verdict, answered, recorded, bad, judge, opened}
@@ -23,12 +23,12 @@ use Rattle.lsp_replay.proofs.ConvertedLogLemmas.{converted_law}
 
 -- ---- no record ends the run of `normalise` or `convert` well
 
-abbrev pub IsNotOk : Option (Result Outcome EngineFault) → Type 0
+abbrev pub IsNotOk : Option (Result Outcome StreamFault) → Type 0
 IsNotOk None = ⊤
 IsNotOk (Some (Ok outcome)) = ⊥
 IsNotOk (Some (Err fault)) = ⊤
 
-pub not_ok_on : (out : List ℕ) (end : Option (Result Outcome EngineFault)) (c : RunOutput) → IsNotOk end → IsNotOk c.stop → IsNotOk (continue_with out end c).stop
+pub not_ok_on : (out : List ℕ) (end : Option (Result Outcome StreamFault)) (c : RunOutput) → IsNotOk end → IsNotOk c.stop → IsNotOk (continue_with out end c).stop
 not_ok_on out None c here later = later
 not_ok_on out (Some answer) c here later = here
 
@@ -60,7 +60,7 @@ converted_not_ok s (r ∷ rs) =
     not_ok_on (unless_bad r (judge s r).verdict g).out (unless_bad r (judge s r).verdict g).end (run_output_in converting (judge s r).session rs)
     (unless_not_ok r (judge s r).verdict g tt) (converted_not_ok (judge s r).session rs)
 
-pub stops_not_ok : (stop : Option (Result Outcome EngineFault)) (outcome : Outcome) → IsNotOk stop → stop ≢ Some (Ok outcome)
+pub stops_not_ok : (stop : Option (Result Outcome StreamFault)) (outcome : Outcome) → IsNotOk stop → stop ≢ Some (Ok outcome)
 stops_not_ok None outcome not_ok e = absurd (cc)
 stops_not_ok (Some (Ok other)) outcome not_ok e = not_ok
 stops_not_ok (Some (Err fault)) outcome not_ok e = absurd (cc)
@@ -82,7 +82,7 @@ module _ (settings : Settings) (ranges : AreInRange settings.limits) (left_old l
         holds = holds;
       }
 
-  pub wrote_normal : (state : PortState) (result : Result Outcome EngineFault) → Ran (as_log settings) (canonical_log settings) state left_old left_new received_old received_new result
+  pub wrote_normal : (state : PortState) (result : Result Outcome StreamFault) → Ran (as_log settings) (canonical_log settings) state left_old left_new received_old received_new result
       → IfOk result (Wrote settings (IsCanonicalLog settings) left_old left_new received_old received_new)
   wrote_normal state (Err fault) ran = tt
   wrote_normal state (Ok outcome) ran =
@@ -108,7 +108,7 @@ module _ (settings : Settings) (ranges : AreInRange settings.limits) (left_old l
         holds = holds;
       }
 
-  pub wrote_converted : (state : PortState) (result : Result Outcome EngineFault) → Ran (as_converted settings) (converted settings) state left_old left_new received_old received_new result
+  pub wrote_converted : (state : PortState) (result : Result Outcome StreamFault) → Ran (as_converted settings) (converted settings) state left_old left_new received_old received_new result
       → IfOk result (Wrote settings (IsConverted settings) left_old left_new received_old received_new)
   wrote_converted state (Err fault) ran = tt
   wrote_converted state (Ok outcome) ran =
@@ -140,7 +140,7 @@ module _ (settings : Settings) (ranges : AreInRange settings.limits) (left_old l
         holds = holds;
       }
 
-  pub wrote_squashed : (state : PortState) (result : Result Outcome EngineFault) → Ran (as_log settings) (squashed settings) state left_old left_new received_old received_new result
+  pub wrote_squashed : (state : PortState) (result : Result Outcome StreamFault) → Ran (as_log settings) (squashed settings) state left_old left_new received_old received_new result
       → IfOk result (Wrote settings (IsSquashed settings) left_old left_new received_old received_new)
   wrote_squashed state (Err fault) ran = tt
   wrote_squashed state (Ok outcome) ran =

@@ -4,8 +4,8 @@ use Rattle.std.specs.Prelude.{ℕ, ◌≡◌, ◌⊎◌, Bool, true, false, List
 use Rattle.std.specs.Io.KnownBytes.{Consumes, Appends}
 use Rattle.lsp_frame.specs.Faults.{place_after}
 use Rattle.lsp_replay.specs.declared.outcome.Outcome.{Outcome}
-use Rattle.lsp_stream.specs.declared.fault.EngineFault.{EngineFault}
-use Rattle.lsp_stream.specs.declared.fault.EngineFault.TheVariants.{Read, Write, Frame, Truncated, BodyTooLong, NoMemory, TooManyTurns, BadLog}
+use Rattle.lsp_stream.specs.declared.fault.StreamFault.{StreamFault}
+use Rattle.lsp_stream.specs.declared.fault.StreamFault.TheVariants.{Read, Write, Frame, Truncated, BodyTooLong, NoMemory, TooManyTurns, BadLog}
 use Rattle.lsp_log.specs.declared.record.Version.TheVariants.{Two}
 use Rattle.lsp_stream.specs.Turns.{AppendsFront, AppendsShort}
 use Rattle.lsp_log.specs.Log.{LogRules, Record, Log, IsVersion, IsReadAs, HasNoRecord, IsCut, IsMalformed, IsBadMark}
@@ -16,7 +16,7 @@ use Rattle.lsp_replay.specs.Laws.{all_of}
 
 -- A record ended the run: the output up to it was written.
 pub record EndedBy (run_output : List Record → RunOutput)
-    (received_old received_new : Option (List ℕ)) (answer : Result Outcome EngineFault)
+    (received_old received_new : Option (List ℕ)) (answer : Result Outcome StreamFault)
     (all : Log) : Type 0 where
   pub stops : (run_output all.records).stop ≡ Some answer
   pub wrote : Appends received_old received_new (run_output all.records).out
@@ -71,7 +71,7 @@ IsShort reading run_output state input received_old received_new all =
 
 -- What each fault says of the input and of the output.
 abbrev pub IsFaultReported : LogRules → (List Record → RunOutput) → PortState → List ℕ →
-    Option (List ℕ) → Option (List ℕ) → Log → EngineFault → Type 0
+    Option (List ℕ) → Option (List ℕ) → Log → StreamFault → Type 0
 IsFaultReported reading run_output state input received_old received_new all Read
     = IsUnfinished reading input all × Passed run_output received_old received_new all
 IsFaultReported reading run_output state input received_old received_new all Write
@@ -93,7 +93,7 @@ IsFaultReported reading run_output state input received_old received_new all (Ba
 
 -- What each result says of the input and of the output.
 abbrev pub IsRunReport : LogRules → (List Record → RunOutput) → PortState → List ℕ →
-    Option (List ℕ) → Option (List ℕ) → Log → Result Outcome EngineFault → Type 0
+    Option (List ℕ) → Option (List ℕ) → Log → Result Outcome StreamFault → Type 0
 IsRunReport reading run_output state input received_old received_new all (Ok outcome) =
     EndedBy run_output received_old received_new (Ok outcome) all
     ⊎ ((state.ended ≡ true) × PassedEnd run_output received_old received_new outcome all)
@@ -104,7 +104,7 @@ IsRunReport reading run_output state input received_old received_new all (Err fa
 -- its output and its result. An input of version 2, where that is refused, has no such records.
 pub record RanOver (reading : LogRules) (run_output : List Record → RunOutput) (state : PortState)
     (left_old left_new received_old received_new : Option (List ℕ))
-    (result : Result Outcome EngineFault) : Type 0 where
+    (result : Result Outcome StreamFault) : Type 0 where
   pub input : List ℕ
   pub read : Consumes left_old left_new input
   pub reported : (all : Log) → IsReadAs reading input all → HasNoRecord reading.max_body all →

@@ -8,7 +8,7 @@ use Rattle.lsp_message.specs.Message.{IdData, Reading, reading}
 use Rattle.lsp_message.specs.Message as read
 use Rattle.lsp_server.specs.declared.phase.Phase.{Phase}
 use Rattle.lsp_server.specs.Incoming.{IncomingData, response, initialize, shutdown, other_request, other_notification, incoming_of}
-use Rattle.lsp_stream.specs.declared.fault.EngineFault.{EngineFault}
+use Rattle.lsp_stream.specs.declared.fault.StreamFault.{StreamFault}
 use Rattle.lsp_stream.specs.Ports.{Ports}
 use Rattle.lsp_log.specs.declared.record.Side.{Side}
 use Rattle.lsp_log.specs.declared.record.Side.TheVariants.{Client, Server}
@@ -182,7 +182,7 @@ pub record WroteDocuments (settings : Settings)
   pub wrote : Appends received_old received_new bytes
   pub keeps : KeepsDocuments settings log.records outcome bytes
 
-abbrev pub WritesDocuments : Settings → Ports → Ports → Result Outcome EngineFault → Type 0
+abbrev pub WritesDocuments : Settings → Ports → Ports → Result Outcome StreamFault → Type 0
 WritesDocuments settings before after result =
     IfOk result (WroteDocuments settings before.reader.left after.reader.left before.writer.written
     after.writer.written)

@@ -2,8 +2,8 @@
 use Rattle.std.specs.Prelude.{ℕ, ◌≡◌, ◌≢◌, ◌+◌, ◌≤◌, ◌<◌, ◌^◌, Bool, true, List, Option, None, Result, Err}
 use Rattle.std.specs.Io.KnownBytes.{Consumes, Appends, IsAtEnd}
 use Rattle.lsp_replay.specs.declared.outcome.Outcome.{Outcome}
-use Rattle.lsp_stream.specs.declared.fault.EngineFault.{EngineFault}
-use Rattle.lsp_stream.specs.declared.fault.EngineFault.TheVariants.{Read, Write, TooManyTurns}
+use Rattle.lsp_stream.specs.declared.fault.StreamFault.{StreamFault}
+use Rattle.lsp_stream.specs.declared.fault.StreamFault.TheVariants.{Read, Write, TooManyTurns}
 use Rattle.lsp_stream.specs.Ports.{Rose}
 use Rattle.lsp_stream.specs.Turns.{StaysWell}
 use Rattle.lsp_log.specs.Log.{LogRules, Record, Log, IsReadAs, is_line_due}
@@ -48,7 +48,7 @@ pub record WroteRecords (reading : LogRules) (run_output : List Record → RunOu
 -- Which calls the reader and the writer had.
 pub record Called (reads_old reads_new writes_old writes_new allowed : ℕ)
     (read_failed write_failed ended : Bool) (left : Option (List ℕ))
-    (result : Result Outcome EngineFault) : Type 0 where
+    (result : Result Outcome StreamFault) : Type 0 where
   -- at most as many calls as allowed
   pub turns : reads_new + writes_new ≤ reads_old + writes_old + allowed
   -- after `TooManyTurns` as many as allowed
@@ -64,6 +64,6 @@ pub record Called (reads_old reads_new writes_old writes_new allowed : ℕ)
 -- No failure was passed over. If the last read failed, the result is `Read`; if the last write or
 -- flush failed, it is `Write`. A failure from before the run doesn't count.
 pub record NonePassedOver (read_failed_old read_failed_new write_failed_old write_failed_new : Bool)
-    (result : Result Outcome EngineFault) : Type 0 where
+    (result : Result Outcome StreamFault) : Type 0 where
   pub reads : result ≢ Err Read → StaysWell read_failed_old read_failed_new
   pub writes : result ≢ Err Write → StaysWell write_failed_old write_failed_new

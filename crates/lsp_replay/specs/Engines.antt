@@ -21,8 +21,8 @@ use Rattle.lsp_server.specs.Incoming.{IncomingData, incoming_of, did_change}
 use Rattle.lsp_server.specs.Step.{State, encoding_of, edit_from_data}
 use Rattle.lsp_server.specs.Answer.{AnswerData, reply, changed, dropped, ignored, refused, exits, already_ended, Sent}
 use Rattle.lsp_replay.specs.declared.outcome.Outcome.{Outcome}
-use Rattle.lsp_stream.specs.declared.fault.EngineFault.{EngineFault}
-use Rattle.lsp_stream.specs.declared.fault.EngineFault.TheVariants.{BadLog, BodyTooLong}
+use Rattle.lsp_stream.specs.declared.fault.StreamFault.{StreamFault}
+use Rattle.lsp_stream.specs.declared.fault.StreamFault.TheVariants.{BadLog, BodyTooLong}
 use Rattle.lsp_log.specs.declared.record.Head.{Head}
 use Rattle.lsp_log.specs.Log.{LogRules, Record, version_line, mark_of}
 use Rattle.lsp_replay.specs.RunOutput.{RunOutput, written_first, stopped}
@@ -37,18 +37,18 @@ use Rattle.lsp_replay.specs.Session.{Session, opened, Verdict, answered, recorde
 -- The output of a record, and the result with which it ends the run, if it does.
 pub record RecordOutput : Type 0 where
   pub out : List ℕ
-  pub end : Option (Result Outcome EngineFault)
+  pub end : Option (Result Outcome StreamFault)
 
 -- Some output, after which the run continues.
 abbrev pub writes : List ℕ → RecordOutput
 writes out = record { out = out; end = None }
 
 -- Some output, after which the run ends with this result.
-abbrev pub ends : List ℕ → Result Outcome EngineFault → RecordOutput
+abbrev pub ends : List ℕ → Result Outcome StreamFault → RecordOutput
 ends out answer = record { out = out; end = Some answer }
 
 -- A record's output, and then that of the records after it, unless the run has ended.
-abbrev pub continue_with : List ℕ → Option (Result Outcome EngineFault) → RunOutput → RunOutput
+abbrev pub continue_with : List ℕ → Option (Result Outcome StreamFault) → RunOutput → RunOutput
 continue_with out None c = written_first out c
 continue_with out (Some answer) c = stopped out answer
 

@@ -1,8 +1,8 @@
 -- What each engine does between a reader and a writer.
 use Rattle.std.specs.Prelude.{ℕ, ◌≡◌, ◌≢◌, ◌&&◌, not, Bool, true, false, List, Result, Err, IfOk}
 use Rattle.lsp_server.specs.declared.config.Config.{Config}
-use Rattle.lsp_stream.specs.declared.fault.EngineFault.{EngineFault}
-use Rattle.lsp_stream.specs.declared.fault.EngineFault.TheVariants.{NoMemory, TooManyTurns, Write}
+use Rattle.lsp_stream.specs.declared.fault.StreamFault.{StreamFault}
+use Rattle.lsp_stream.specs.declared.fault.StreamFault.TheVariants.{NoMemory, TooManyTurns, Write}
 use Rattle.lsp_stream.specs.Ports.{Ports}
 use Rattle.lsp_stream.specs.Turns.{StaysFlushed}
 use Rattle.lsp_log.specs.Log.{LogRules, Record}
@@ -28,7 +28,7 @@ pub record Engine : Type 0 where
 
 -- An engine that ran between a reader and a writer.
 pub record IsEngineRun (engine : Engine) (max_turns : ℕ) (before after : Ports)
-    (result : Result Outcome EngineFault) : Type 0 where
+    (result : Result Outcome StreamFault) : Type 0 where
   -- What was written and answered, by all records that are whole in the bytes that were read.
   pub all_records : RanOver engine.reading engine.run_output
       (state_of before.reader.ended after.reader.ended (engine.flushes && not after.writer.flushed))
@@ -106,7 +106,7 @@ convert_engine settings
 
 -- An engine that came to the end of a log wrote a log of which this holds.
 abbrev pub WritesLog : Settings → (List Record → List ℕ → Type 0) → Ports → Ports →
-    Result Outcome EngineFault → Type 0
+    Result Outcome StreamFault → Type 0
 WritesLog settings Holds before after result =
     IfOk result (Wrote settings Holds before.reader.left after.reader.left before.writer.written
     after.writer.written)

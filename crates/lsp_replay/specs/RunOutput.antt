@@ -1,7 +1,7 @@
 -- The output of an engine for the records of a log and for its end.
 use Rattle.std.specs.Prelude.{ℕ, Bool, List, [], ◌++◌, Option, Some, Result}
 use Rattle.lsp_replay.specs.declared.outcome.Outcome.{Outcome}
-use Rattle.lsp_stream.specs.declared.fault.EngineFault.{EngineFault}
+use Rattle.lsp_stream.specs.declared.fault.StreamFault.{StreamFault}
 use Rattle.lsp_replay.specs.declared.handler.Output.TheVariants as output
 
 -- The output of an engine for some records, one after another.
@@ -9,7 +9,7 @@ pub record RunOutput : Type 0 where
   -- the output of the records
   pub out : List ℕ
   -- the result of the record that ended the run, if one did
-  pub stop : Option (Result Outcome EngineFault)
+  pub stop : Option (Result Outcome StreamFault)
   -- the output at the end of the input: with the line of version 2 due, and without
   pub last : Bool → List ℕ
   -- the outcome at the end of the input
@@ -21,7 +21,7 @@ written_first bytes c = record c { out = bytes ++ c.out }
 
 -- Some output, and then a result: nothing after it is read, so there is no end of the input. What the
 -- two other fields have means nothing.
-abbrev pub stopped : List ℕ → Result Outcome EngineFault → RunOutput
+abbrev pub stopped : List ℕ → Result Outcome StreamFault → RunOutput
 stopped bytes answer
     = record {
       out = bytes;

@@ -12,8 +12,8 @@ use Rattle.lsp_server.specs.Step.{State, encoding_of, edit_from_data}
 use Rattle.lsp_server.specs.Answer.{changed}
 use Rattle.lsp_replay.specs.declared.engines.Settings.{Settings}
 use Rattle.lsp_replay.specs.declared.outcome.Outcome.{Outcome}
-use Rattle.lsp_stream.specs.declared.fault.EngineFault.{EngineFault}
-use Rattle.lsp_stream.specs.declared.fault.EngineFault.TheVariants.{BadLog, BodyTooLong}
+use Rattle.lsp_stream.specs.declared.fault.StreamFault.{StreamFault}
+use Rattle.lsp_stream.specs.declared.fault.StreamFault.TheVariants.{BadLog, BodyTooLong}
 use Rattle.lsp_log.specs.Log.{Record}
 use Rattle.lsp_replay.specs.RunOutput.{RunOutput}
 use Rattle.lsp_replay.specs.Engines.{continue_with, front_of, change_in, canonical_change_body, line_if, log_config, canonical_log}
@@ -75,11 +75,11 @@ longer run p single
 -- is open after it.
 pub record Step : Type 0 where
   pub out : List ℕ
-  pub end : Option (Result Outcome EngineFault)
+  pub end : Option (Result Outcome StreamFault)
   pub run : Option Run
 
 -- After a fault nothing more is written, the open run neither.
-abbrev pub faulty : EngineFault → Step
+abbrev pub faulty : StreamFault → Step
 faulty fault = record { out = []; end = Some (Err fault); run = None }
 
 -- An accepted change joins the open run if it is of the same document. Else it ends that run and

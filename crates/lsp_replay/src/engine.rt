@@ -18,7 +18,7 @@ use crate::handler::{Handler, Output};
 use crate::outcome::Outcome;
 use lsp_frame::Limits;
 use lsp_log::{Head, Splitter, Version, read_opening, reading_laws};
-use lsp_stream::{Duplex, EngineFault, Sink, Source, Turns, read_piece, write_given};
+use lsp_stream::{Duplex, Sink, Source, StreamFault, Turns, read_piece, write_given};
 use std::alloc::Global;
 
 /// The most bytes that one read asks for.
@@ -35,13 +35,13 @@ pub struct InputRules {
 }
 
 /// Refuses a log of version 2 if only version 1 is accepted.
-fn accept(version: Version, only_one: bool) -> Result<(), EngineFault>
+fn accept(version: Version, only_one: bool) -> Result<(), StreamFault>
     ensures ok { OnOk result (only_one ≡ true → version ≡ Version.One) }
-    ensures error { IfErr result (λ fault. (fault ≡ EngineFault.BadLog 0) × (only_one ≡ true)
+    ensures error { IfErr result (λ fault. (fault ≡ StreamFault.BadLog 0) × (only_one ≡ true)
         × (version ≡ Version.Two)) }
 {
     match version {
-        Version::Two if only_one => Err(EngineFault::BadLog { place: 0 }),
+        Version::Two if only_one => Err(StreamFault::BadLog { place: 0 }),
         _ => Ok(()),
     }
 }
@@ -66,7 +66,7 @@ fn handle_record<W: Sink, H: Handler>(
     raw: &[u8],
     body: &[u8],
     turns: &mut Turns,
-) -> Result<Option<Outcome>, EngineFault>
+) -> Result<Option<Outcome>, StreamFault>
     requires { (max_body : ℕ) × IsFrameOf max_body raw.now body.now }
     ensures handled { IfOk result
         (IsHandled (H.run_output handler.old) (H.run_output handler.new) (W.seen writer.old).written
@@ -98,7 +98,7 @@ fn take_record<W: Sink, H: Handler>(
     writer: &mut W,
     buffer: &mut Vec<u8>,
     turns: &mut Turns,
-) -> Result<Option<Outcome>, EngineFault>
+) -> Result<Option<Outcome>, StreamFault>
     requires { IsFed splitter.old }
     ensures ready { OnOk result (IsReady splitter.new) }
     ensures version { splitter.new.version ≡ splitter.old.version }
@@ -143,7 +143,7 @@ fn take_piece<W: Sink, H: Handler>(
     buffer: &mut Vec<u8>,
     piece: &[u8],
     turns: &mut Turns,
-) -> Result<Option<Outcome>, EngineFault>
+) -> Result<Option<Outcome>, StreamFault>
     requires { IsReady splitter.old }
     ensures ready { OnOk result (IsReady splitter.new) }
     ensures version { splitter.new.version ≡ splitter.old.version }
@@ -185,7 +185,7 @@ fn write_last<W: Sink, H: Handler>(
     buffer: &mut Vec<u8>,
     line_due: bool,
     turns: &mut Turns,
-) -> Result<Outcome, EngineFault>
+) -> Result<Outcome, StreamFault>
     ensures wrote { OnOk result
         (Appends (W.seen writer.old).written (W.seen writer.new).written
         ((H.run_output handler.old []).last line_due)) }
@@ -193,13 +193,13 @@ fn write_last<W: Sink, H: Handler>(
     ensures front { OnErr result
         (AppendsFront (W.seen writer.old).written (W.seen writer.new).written
         ((H.run_output handler.old []).last line_due)) }
-    ensures short { IfErr result (λ fault. fault ≡ EngineFault.TooManyTurns →
+    ensures short { IfErr result (λ fault. fault ≡ StreamFault.TooManyTurns →
         AppendsShort (H.FLUSHES && not (W.seen writer.new).flushed) (W.seen writer.old).written
         (W.seen writer.new).written
         ((H.run_output handler.old []).last line_due)) }
     ensures kind { IfErr result IsLastFault }
     // Where the end has one part, none of it is written when memory runs out.
-    ensures whole { IfErr result (λ fault. fault ≡ EngineFault.NoMemory → H.parts handler.old ≡ 0 →
+    ensures whole { IfErr result (λ fault. fault ≡ StreamFault.NoMemory → H.parts handler.old ≡ 0 →
         Appends (W.seen writer.old).written (W.seen writer.new).written []) }
     ensures calls { WritesWithin turns.old.left turns.new.left
         (W.seen writer.old) (W.seen writer.new) result }
@@ -225,7 +225,7 @@ fn finish_run<W: Sink, H: Handler>(
     buffer: &mut Vec<u8>,
     place: u64,
     turns: &mut Turns,
-) -> Result<Outcome, EngineFault>
+) -> Result<Outcome, StreamFault>
     requires { IsReady splitter.now }
     ensures at_end { IfOk result
         (λ outcome. (reading : LogRules) (run_output : List Record → RunOutput)
@@ -240,20 +240,20 @@ fn finish_run<W: Sink, H: Handler>(
         (W.seen writer.old).written →
         IsEndFault reading run_output (H.FLUSHES && not (W.seen writer.new).flushed) input received
         (W.seen writer.new).written place fault) }
-    ensures whole { IfErr result (λ fault. fault ≡ EngineFault.NoMemory → H.parts handler.old ≡ 0 →
+    ensures whole { IfErr result (λ fault. fault ≡ StreamFault.NoMemory → H.parts handler.old ≡ 0 →
         (reading : LogRules) (run_output : List Record → RunOutput)
         (received : Option (List ℕ)) (input : List ℕ) →
         IsProgress reading run_output received input [] splitter.now (H.run_output handler.old)
         (W.seen writer.old).written →
         Reached reading run_output input received (W.seen writer.new).written (λ _. Unit {0})) }
-    ensures not_read { IfErr result (λ fault. fault ≢ EngineFault.Read) }
+    ensures not_read { IfErr result (λ fault. fault ≢ StreamFault.Read) }
     ensures calls { WritesWithin turns.old.left turns.new.left
         (W.seen writer.old) (W.seen writer.new) result }
     ensures passed_on { PassesOn H.FLUSHES (W.seen writer.old) (W.seen writer.new) result }
 {
     reading_laws();
     if !splitter.at_rest() {
-        return Err(EngineFault::Truncated { place });
+        return Err(StreamFault::Truncated { place });
     }
     write_last(handler, writer, buffer, splitter.line_due(), turns)
 }
@@ -266,13 +266,13 @@ pub fn run_on<R: Source, W: Sink, H: Handler>(
     handler: &mut H,
     rules: InputRules,
     max_turns: u64,
-) -> Result<Outcome, EngineFault>
+) -> Result<Outcome, StreamFault>
     ensures run { IsLoopRun (reading_by rules) (H.run_output handler.old) H.FLUSHES max_turns
         (ports (R.seen ends.old.reader.now) (W.seen ends.old.writer.now))
         (ports (R.seen ends.new.reader.now) (W.seen ends.new.writer.now)) result }
     // Where the end has one part, what is written when memory runs out is the output of records,
     // each whole.
-    ensures whole { ((h : H) → H.parts h ≡ 0) → result ≡ Err EngineFault.NoMemory →
+    ensures whole { ((h : H) → H.parts h ≡ 0) → result ≡ Err StreamFault.NoMemory →
         WroteRecords (reading_by rules) (H.run_output handler.old)
         (R.seen ends.old.reader.now).left (R.seen ends.new.reader.now).left
         (W.seen ends.old.writer.now).written (W.seen ends.new.writer.now).written }
@@ -333,13 +333,13 @@ pub fn run_engine<R: Source, W: Sink, H: Handler>(
     handler: &mut H,
     rules: InputRules,
     max_turns: u64,
-) -> Result<Outcome, EngineFault>
+) -> Result<Outcome, StreamFault>
     ensures run { IsLoopRun (reading_by rules) (H.run_output handler.old) H.FLUSHES max_turns
         (ports (R.seen reader.old) (W.seen writer.old))
         (ports (R.seen reader.new) (W.seen writer.new)) result }
     // Where the end has one part, what is written when memory runs out is the output of records,
     // each whole.
-    ensures whole { ((h : H) → H.parts h ≡ 0) → result ≡ Err EngineFault.NoMemory →
+    ensures whole { ((h : H) → H.parts h ≡ 0) → result ≡ Err StreamFault.NoMemory →
         WroteRecords (reading_by rules) (H.run_output handler.old)
         (R.seen reader.old).left (R.seen reader.new).left
         (W.seen writer.old).written (W.seen writer.new).written }

@@ -31,7 +31,7 @@ pub use crate::engines::traced::{Details, trace};
 use crate::outcome::Outcome;
 use lsp_frame::Limits;
 use lsp_server::{ChangeForm, Config, EncodingChoice};
-use lsp_stream::{Duplex, EngineFault, Sink, Source};
+use lsp_stream::{Duplex, Sink, Source, StreamFault};
 use lsp_text::Encoding;
 use std::alloc::Global;
 
@@ -102,7 +102,7 @@ impl Settings {
 /// one, the status is 1.
 ///
 /// # Errors
-/// Each fault of [`EngineFault`], but [`EngineFault::BodyTooLong`] and [`EngineFault::BadLog`]. A
+/// Each fault of [`StreamFault`], but [`StreamFault::BodyTooLong`] and [`StreamFault::BadLog`]. A
 /// message that the server refuses is no fault.
 ///
 /// # Costs
@@ -114,7 +114,7 @@ pub fn serve<R: Source, W: Sink>(
     writer: &mut W,
     config: Config,
     max_turns: u64,
-) -> Result<Outcome, EngineFault>
+) -> Result<Outcome, StreamFault>
     ensures run { IsEngineRun (serve_engine config) max_turns
         (ports (R.seen reader.old) (W.seen writer.old))
         (ports (R.seen reader.new) (W.seen writer.new)) result }
@@ -131,7 +131,7 @@ pub fn serve_on<R: Source, W: Sink>(
     ends: &mut Duplex<'_, R, W>,
     config: Config,
     max_turns: u64,
-) -> Result<Outcome, EngineFault>
+) -> Result<Outcome, StreamFault>
     ensures run { IsEngineRun (serve_engine config) max_turns
         (ports (R.seen ends.old.reader.now) (W.seen ends.old.writer.now))
         (ports (R.seen ends.new.reader.now) (W.seen ends.new.writer.now)) result }
@@ -154,14 +154,14 @@ pub fn serve_on<R: Source, W: Sink>(
 /// answers to it. It is written as soon as the record is complete. The status is 1 if something was
 /// refused, else 0.
 ///
-/// Errors, costs and memory are those of [`serve`], and [`EngineFault::BadLog`].
+/// Errors, costs and memory are those of [`serve`], and [`StreamFault::BadLog`].
 pub fn check<R: Source, W: Sink>(
     alloc: Global,
     reader: &mut R,
     writer: &mut W,
     settings: Settings,
     max_turns: u64,
-) -> Result<Outcome, EngineFault>
+) -> Result<Outcome, StreamFault>
     ensures run { IsEngineRun (check_engine settings) max_turns
         (ports (R.seen reader.old) (W.seen writer.old))
         (ports (R.seen reader.new) (W.seen writer.new)) result }
@@ -175,14 +175,14 @@ pub fn check<R: Source, W: Sink>(
 /// opening. The status is 1 if something was refused, else 0. After a fault while reading nothing
 /// is written.
 ///
-/// Errors, costs and memory are those of [`serve`], and [`EngineFault::BadLog`].
+/// Errors, costs and memory are those of [`serve`], and [`StreamFault::BadLog`].
 pub fn replay<R: Source, W: Sink>(
     alloc: Global,
     reader: &mut R,
     writer: &mut W,
     settings: Settings,
     max_turns: u64,
-) -> Result<Outcome, EngineFault>
+) -> Result<Outcome, StreamFault>
     ensures run { IsEngineRun (replay_engine settings) max_turns
         (ports (R.seen reader.old) (W.seen writer.old))
         (ports (R.seen reader.new) (W.seen writer.new)) result }
@@ -196,14 +196,14 @@ pub fn replay<R: Source, W: Sink>(
 /// with its mark, and after it the server's reply, if there is one. The status is 1 if something
 /// was refused, else 0. A log of version 2 is refused as soon as its line was read.
 ///
-/// Errors, costs and memory are those of [`serve`], and [`EngineFault::BadLog`].
+/// Errors, costs and memory are those of [`serve`], and [`StreamFault::BadLog`].
 pub fn convert<R: Source, W: Sink>(
     alloc: Global,
     reader: &mut R,
     writer: &mut W,
     settings: Settings,
     max_turns: u64,
-) -> Result<Outcome, EngineFault>
+) -> Result<Outcome, StreamFault>
     ensures run { IsEngineRun (convert_engine settings) max_turns
         (ports (R.seen reader.old) (W.seen writer.old))
         (ports (R.seen reader.new) (W.seen writer.new)) result }
@@ -227,8 +227,8 @@ pub fn convert<R: Source, W: Sink>(
 /// limit, each change is written as without squash.
 ///
 /// # Errors
-/// [`EngineFault::BodyTooLong`] at an accepted change whose canonical body is over the limit,
-/// [`EngineFault::BadLog`], and those of [`serve`]. After a fault a run that hasn't ended isn't
+/// [`StreamFault::BodyTooLong`] at an accepted change whose canonical body is over the limit,
+/// [`StreamFault::BadLog`], and those of [`serve`]. After a fault a run that hasn't ended isn't
 /// written.
 ///
 /// # Costs
@@ -240,7 +240,7 @@ pub fn normalise<R: Source, W: Sink>(
     writer: &mut W,
     settings: Settings,
     max_turns: u64,
-) -> Result<Outcome, EngineFault>
+) -> Result<Outcome, StreamFault>
     ensures run { IsEngineRun (normalise_engine settings) max_turns
         (ports (R.seen reader.old) (W.seen writer.old))
         (ports (R.seen reader.new) (W.seen writer.new)) result }
@@ -268,7 +268,7 @@ fn normalise_each<R: Source, W: Sink>(
     writer: &mut W,
     settings: Settings,
     max_turns: u64,
-) -> Result<Outcome, EngineFault>
+) -> Result<Outcome, StreamFault>
     ensures run { IsEngineRun (each_engine settings) max_turns
         (ports (R.seen reader.old) (W.seen writer.old))
         (ports (R.seen reader.new) (W.seen writer.new)) result }
@@ -288,7 +288,7 @@ fn normalise_squashed<R: Source, W: Sink>(
     writer: &mut W,
     settings: Settings,
     max_turns: u64,
-) -> Result<Outcome, EngineFault>
+) -> Result<Outcome, StreamFault>
     ensures run { IsEngineRun (squash_engine settings) max_turns
         (ports (R.seen reader.old) (W.seen writer.old))
         (ports (R.seen reader.new) (W.seen writer.new)) result }

@@ -8,7 +8,7 @@ ghost use Rattle.lsp_replay.specs.inside.RunOutput.{after, output_of, IsRecordFa
 
 use crate::outcome::Outcome;
 use lsp_log::Head;
-use lsp_stream::EngineFault;
+use lsp_stream::StreamFault;
 
 /// Which bytes are a record's output.
 #[derive(Clone, Copy, Debug, PartialEq, Eq)]
@@ -59,7 +59,7 @@ pub trait Handler {
         raw: &[u8],
         body: &[u8],
         buffer: &mut Vec<u8>,
-    ) -> Result<Given, EngineFault>
+    ) -> Result<Given, StreamFault>
         requires is_frame_of { (max_body : ℕ) × IsFrameOf max_body raw.now body.now }
         requires empty { buffer.old.items ≡ [] }
         ensures ok { IfOk result (λ given. (more : List Record) →
@@ -68,7 +68,7 @@ pub trait Handler {
             after (output_of given.output raw.now buffer.new.items) given.end
             (run_output self.new more)) }
         ensures error { IfErr result
-            (λ fault. (fault ≡ EngineFault.NoMemory)
+            (λ fault. (fault ≡ StreamFault.NoMemory)
             ⊎ (IsRecordFault fault × ((more : List Record) →
             run_output self.old
             (record { head = head; raw = raw.now; body = body.now } ∷ more)
@@ -81,7 +81,7 @@ pub trait Handler {
         &mut self,
         line_due: bool,
         buffer: &mut Vec<u8>,
-    ) -> Result<Option<Outcome>, EngineFault>
+    ) -> Result<Option<Outcome>, StreamFault>
         requires { buffer.old.items ≡ [] }
         ensures ok { IfOk result (λ end. MatchOption end
             (((run_output self.old []).last line_due
@@ -90,7 +90,7 @@ pub trait Handler {
             × (parts self.new < parts self.old))
             (λ outcome. ((run_output self.old []).last line_due ≡ buffer.new.items)
             × (outcome ≡ (run_output self.old []).outcome))) }
-        ensures error { IfErr result (λ fault. fault ≡ EngineFault.NoMemory) };
+        ensures error { IfErr result (λ fault. fault ≡ StreamFault.NoMemory) };
 
     // Without records nothing is written, and nothing ends the run.
     ghost silent: { (h : Self) → (run_output h []).out ≡ [] };

@@ -31,7 +31,7 @@ use crate::session::results::copied;
 use lsp_log::{Head, Side, Version};
 use lsp_message::{ChangeParams, Id};
 use lsp_server::{Answer, Config, Incoming, Phase, Server};
-use lsp_stream::EngineFault;
+use lsp_stream::StreamFault;
 use std::alloc::{AllocError, Global};
 use std::marker::Model;
 
@@ -149,14 +149,14 @@ impl Session {
     }
 
     /// Judges a record as [`Session::judge`] does. If it can't be in a log, it is
-    /// [`EngineFault::BadLog`], at its first byte.
-    pub fn accept(&mut self, head: Head, body: &[u8]) -> Result<Verdict, EngineFault>
+    /// [`StreamFault::BadLog`], at its first byte.
+    pub fn accept(&mut self, head: Head, body: &[u8]) -> Result<Verdict, StreamFault>
         ensures verdict { IfOk result
             (λ v. verdict_view v ≡ (judge_at self.old head body.now).verdict) }
         ensures in_log { IfOk result (λ v. verdict_view v ≢ bad) }
         ensures session { OnOk result (self.new ≡ (judge_at self.old head body.now).session) }
-        ensures error { IfErr result (λ fault. (fault ≡ EngineFault.NoMemory)
-            ⊎ ((fault ≡ EngineFault.BadLog head.place)
+        ensures error { IfErr result (λ fault. (fault ≡ StreamFault.NoMemory)
+            ⊎ ((fault ≡ StreamFault.BadLog head.place)
             × ((judge_at self.old head body.now).verdict ≡ bad))) }
     {
         let verdict = self.judge(head, body)?;
@@ -275,13 +275,13 @@ impl Session {
 }
 
 /// Refuses a record that can't be in a log, and whose first byte is at this offset.
-pub(crate) fn in_log(verdict: &Verdict, place: u64) -> Result<(), EngineFault>
+pub(crate) fn in_log(verdict: &Verdict, place: u64) -> Result<(), StreamFault>
     ensures in_log { OnOk result (verdict_view verdict.now ≢ bad) }
     ensures error { IfErr result
-        (λ fault. (fault ≡ EngineFault.BadLog place) × (verdict_view verdict.now ≡ bad)) }
+        (λ fault. (fault ≡ StreamFault.BadLog place) × (verdict_view verdict.now ≡ bad)) }
 {
     if *verdict == Verdict::Bad {
-        return Err(EngineFault::BadLog { place });
+        return Err(StreamFault::BadLog { place });
     }
     Ok(())
 }

@@ -15,7 +15,7 @@ mod words;
 
 use lsp_frame::{Limits, frame};
 use lsp_replay::{
-    Call, Details, EngineFault, Outcome, Part, Settings, Sink, Source, StopReader, StopWriter,
+    Call, Details, Outcome, Part, Settings, Sink, Source, StopReader, StopWriter, StreamFault,
     Told, check, convert, explain, normalise, normalise_documents, replay, replay_part, serve,
     trace,
 };
@@ -188,7 +188,7 @@ const SINGLE: Calls<'static> = Calls {
     turns: u64::MAX,
 };
 
-type Answer = Result<Outcome, EngineFault>;
+type Answer = Result<Outcome, StreamFault>;
 
 /// The result, the output and the calls of a run.
 #[derive(Drop)]
@@ -323,7 +323,7 @@ fn change(alloc: Global, version: i32, changes: &str) -> Result<String, AllocErr
 enum End {
     /// With a status, so many messages, and so many of them refused.
     Ended(u8, u64, u64),
-    Fault(EngineFault),
+    Fault(StreamFault),
 }
 
 use End::{Ended, Fault};

@@ -1,8 +1,8 @@
 -- How many calls were made, and how much is written.
 use Rattle.std.specs.Prelude.{◌≡◌, ◌≢◌, ◌⊎◌, Bool, true, false, ℕ, ◌+◌, ◌<◌, ◌≤◌, ◌^◌, List, ◌++◌, length, Option, Result, IfErr, OnOk}
 use Rattle.std.specs.Io.KnownBytes.{Appends}
-use Rattle.lsp_stream.specs.declared.fault.EngineFault.{EngineFault}
-use Rattle.lsp_stream.specs.declared.fault.EngineFault.TheVariants.{Read, Write, TooManyTurns}
+use Rattle.lsp_stream.specs.declared.fault.StreamFault.{StreamFault}
+use Rattle.lsp_stream.specs.declared.fault.StreamFault.TheVariants.{Read, Write, TooManyTurns}
 use Rattle.lsp_stream.specs.Ports.{ReaderState, Rose, WriterState}
 
 -- Each call used one of the turns that were left. Once a count is at its greatest value, it no
@@ -34,7 +34,7 @@ StaysFlushed flushed_old flushed_new = flushed_old ≡ true → flushed_new ≡ 
 
 -- Reads were made, each in one of the turns that were left.
 pub record ReadsWithin {A : Type 0} (left_before left_after : ℕ) (before after : ReaderState)
-    (result : Result A EngineFault) : Type 0 where
+    (result : Result A StreamFault) : Type 0 where
   -- An answer comes after a read, and none that failed is passed over.
   pub rose : OnOk result (Rose before.calls after.calls)
   pub well : OnOk result (StaysWell before.failed after.failed)
@@ -51,7 +51,7 @@ pub record ReadsWithin {A : Type 0} (left_before left_after : ℕ) (before after
 
 -- Writes and flushes were made, each in one of the turns that were left.
 pub record WritesWithin {A : Type 0} (left_before left_after : ℕ) (before after : WriterState)
-    (result : Result A EngineFault) : Type 0 where
+    (result : Result A StreamFault) : Type 0 where
   -- None that failed is passed over.
   pub well : OnOk result (StaysWell before.failed after.failed)
   -- The last call failed.

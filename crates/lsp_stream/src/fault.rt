@@ -1,8 +1,8 @@
 //! Why a run from a reader to a writer ends early.
 
 ghost use Rattle.std.specs.Prelude.{◌≡◌};
-ghost use Rattle.lsp_stream.specs.declared.fault.EngineFault.TheVariants.{NoMemory};
-ghost use Rattle.lsp_stream.specs.Faults.{engine_fault};
+ghost use Rattle.lsp_stream.specs.declared.fault.StreamFault.TheVariants.{NoMemory};
+ghost use Rattle.lsp_stream.specs.Faults.{stream_fault};
 
 use lsp_frame::FrameFault;
 use std::alloc::AllocError;
@@ -11,7 +11,7 @@ use thiserror::Error;
 /// Why a run ended early. A `place` is a byte offset in the input. It stays at the greatest value
 /// of a `u64`.
 #[derive(Clone, Copy, Debug, PartialEq, Eq, Error)]
-pub enum EngineFault {
+pub enum StreamFault {
     /// P1: a read failed.
     #[error("read fault")]
     Read,
@@ -39,21 +39,21 @@ pub enum EngineFault {
     BadLog { place: u64 },
 }
 
-impl From<AllocError> for EngineFault {
+impl From<AllocError> for StreamFault {
     ghost from_gives = { λ _ fault. fault ≡ NoMemory };
 
-    fn from(_error: AllocError) -> EngineFault {
-        EngineFault::NoMemory
+    fn from(_error: AllocError) -> StreamFault {
+        StreamFault::NoMemory
     }
 }
 
-impl From<FrameFault> for EngineFault {
-    ghost from_gives = { λ fault engine. engine ≡ engine_fault fault };
+impl From<FrameFault> for StreamFault {
+    ghost from_gives = { λ fault engine. engine ≡ stream_fault fault };
 
-    fn from(fault: FrameFault) -> EngineFault {
+    fn from(fault: FrameFault) -> StreamFault {
         match fault {
-            FrameFault::NoMemory => EngineFault::NoMemory,
-            _ => EngineFault::Frame(fault),
+            FrameFault::NoMemory => StreamFault::NoMemory,
+            _ => StreamFault::Frame(fault),
         }
     }
 }

@@ -17,7 +17,7 @@ mod turns;
 
 pub use adapter::Told;
 pub use duplex::Duplex;
-pub use fault::EngineFault;
+pub use fault::StreamFault;
 pub use port::{Sink, Source};
 pub use stop::{Call, StopReader, StopWriter};
 pub use turns::{Turns, flush_out, read_piece, write_given};

@@ -6,7 +6,7 @@ ghost use Rattle.lsp_stream.specs.Ports.{Rose};
 ghost use Rattle.lsp_stream.specs.Turns.{AppendsFront, AppendsShort, ReadsWithin, WritesWithin};
 
 use crate::adapter::is_interrupted;
-use crate::fault::EngineFault;
+use crate::fault::StreamFault;
 use crate::port::{Sink, Source};
 
 /// How many reads, writes and flushes may still be made.
@@ -24,14 +24,14 @@ impl Turns {
     }
 
     /// Uses one turn, if there is one.
-    fn spend(&mut self) -> Result<(), EngineFault>
+    fn spend(&mut self) -> Result<(), StreamFault>
         ensures spent { OnOk result (self.new.left + 1 ≡ self.old.left) }
         ensures none { IfErr result
-            (λ fault. (fault ≡ EngineFault.TooManyTurns) × (self.old.left ≡ 0)
+            (λ fault. (fault ≡ StreamFault.TooManyTurns) × (self.old.left ≡ 0)
             × (self.new.left ≡ 0)) }
     {
         if self.left == 0 {
-            return Err(EngineFault::TooManyTurns);
+            return Err(StreamFault::TooManyTurns);
         }
         self.left -= 1;
         Ok(())
@@ -42,12 +42,12 @@ impl Turns {
 /// repeated.
 ///
 /// # Errors
-/// [`EngineFault::Read`] if a read fails, [`EngineFault::TooManyTurns`] if no turn is left for one.
+/// [`StreamFault::Read`] if a read fails, [`StreamFault::TooManyTurns`] if no turn is left for one.
 pub fn read_piece<R: Source>(
     reader: &mut R,
     buf: &mut [u8],
     turns: &mut Turns,
-) -> Result<usize, EngineFault>
+) -> Result<usize, StreamFault>
     requires { 0 < length buf.old }
     ensures bound { IfOk result (λ n. n ≤ length buf.new) }
     ensures read { IfOk result
@@ -65,7 +65,7 @@ pub fn read_piece<R: Source>(
             Ok(n) => return Ok(n),
             Err(error) => {
                 if !is_interrupted(&error) {
-                    return Err(EngineFault::Read);
+                    return Err(StreamFault::Read);
                 }
             }
         }
@@ -74,14 +74,14 @@ pub fn read_piece<R: Source>(
 
 /// Writes all of the bytes, each time all that are left. An interrupted write is repeated, and one
 /// that takes nothing is a fault.
-fn write_out<W: Sink>(writer: &mut W, bytes: &[u8], turns: &mut Turns) -> Result<(), EngineFault>
+fn write_out<W: Sink>(writer: &mut W, bytes: &[u8], turns: &mut Turns) -> Result<(), StreamFault>
     ensures wrote { OnOk result
         (Appends (W.seen writer.old).written (W.seen writer.new).written bytes.now) }
     ensures front { OnErr result
         (AppendsFront (W.seen writer.old).written (W.seen writer.new).written bytes.now) }
     ensures error { IfErr result
-        (λ fault. (fault ≡ EngineFault.Write) ⊎ (fault ≡ EngineFault.TooManyTurns)) }
-    ensures short { IfErr result (λ fault. fault ≡ EngineFault.TooManyTurns →
+        (λ fault. (fault ≡ StreamFault.Write) ⊎ (fault ≡ StreamFault.TooManyTurns)) }
+    ensures short { IfErr result (λ fault. fault ≡ StreamFault.TooManyTurns →
         AppendsShort false (W.seen writer.old).written (W.seen writer.new).written bytes.now) }
     ensures calls { WritesWithin turns.old.left turns.new.left
         (W.seen writer.old) (W.seen writer.new) result }
@@ -90,11 +90,11 @@ fn write_out<W: Sink>(writer: &mut W, bytes: &[u8], turns: &mut Turns) -> Result
     'writes: while at < bytes.len() {
         turns.spend()?;
         match writer.write(&bytes[at..]) {
-            Ok(0) => return Err(EngineFault::Write),
+            Ok(0) => return Err(StreamFault::Write),
             Ok(n) => at += n,
             Err(error) => {
                 if !is_interrupted(&error) {
-                    return Err(EngineFault::Write);
+                    return Err(StreamFault::Write);
                 }
             }
         }
@@ -105,9 +105,9 @@ fn write_out<W: Sink>(writer: &mut W, bytes: &[u8], turns: &mut Turns) -> Result
 /// Flushes the writer, which passes on what was written. An interrupted flush is repeated.
 ///
 /// # Errors
-/// [`EngineFault::Write`] if a flush fails, [`EngineFault::TooManyTurns`] if no turn is left for
+/// [`StreamFault::Write`] if a flush fails, [`StreamFault::TooManyTurns`] if no turn is left for
 /// one.
-pub fn flush_out<W: Sink>(writer: &mut W, turns: &mut Turns) -> Result<(), EngineFault>
+pub fn flush_out<W: Sink>(writer: &mut W, turns: &mut Turns) -> Result<(), StreamFault>
     ensures kept { Keeps (W.seen writer.old).written (W.seen writer.new).written }
     // The last flush was made, and did not fail.
     ensures flushed { OnOk result
@@ -117,7 +117,7 @@ pub fn flush_out<W: Sink>(writer: &mut W, turns: &mut Turns) -> Result<(), Engin
     ensures not_passed_on { OnErr result
         ((W.seen writer.new).flushed ≡ (W.seen writer.old).flushed) }
     ensures error { IfErr result
-        (λ fault. (fault ≡ EngineFault.Write) ⊎ (fault ≡ EngineFault.TooManyTurns)) }
+        (λ fault. (fault ≡ StreamFault.Write) ⊎ (fault ≡ StreamFault.TooManyTurns)) }
     ensures calls { WritesWithin turns.old.left turns.new.left
         (W.seen writer.old) (W.seen writer.new) result }
 {
@@ -127,7 +127,7 @@ pub fn flush_out<W: Sink>(writer: &mut W, turns: &mut Turns) -> Result<(), Engin
             Ok(()) => return Ok(()),
             Err(error) => {
                 if !is_interrupted(&error) {
-                    return Err(EngineFault::Write);
+                    return Err(StreamFault::Write);
                 }
             }
         }
@@ -138,22 +138,22 @@ pub fn flush_out<W: Sink>(writer: &mut W, turns: &mut Turns) -> Result<(), Engin
 /// that was written, if something isn't passed on yet.
 ///
 /// # Errors
-/// [`EngineFault::Write`] if a write or a flush fails, or a write takes nothing.
-/// [`EngineFault::TooManyTurns`] if no turn is left for a call.
+/// [`StreamFault::Write`] if a write or a flush fails, or a write takes nothing.
+/// [`StreamFault::TooManyTurns`] if no turn is left for a call.
 pub fn write_given<W: Sink>(
     writer: &mut W,
     bytes: &[u8],
     flush: bool,
     turns: &mut Turns,
-) -> Result<(), EngineFault>
+) -> Result<(), StreamFault>
     ensures wrote { OnOk result
         (Appends (W.seen writer.old).written (W.seen writer.new).written bytes.now) }
     ensures front { OnErr result
         (AppendsFront (W.seen writer.old).written (W.seen writer.new).written bytes.now) }
     ensures error { IfErr result
-        (λ fault. (fault ≡ EngineFault.Write) ⊎ (fault ≡ EngineFault.TooManyTurns)) }
+        (λ fault. (fault ≡ StreamFault.Write) ⊎ (fault ≡ StreamFault.TooManyTurns)) }
     // Where the turns ran out, bytes were still to be written, or to be passed on.
-    ensures short { IfErr result (λ fault. fault ≡ EngineFault.TooManyTurns →
+    ensures short { IfErr result (λ fault. fault ≡ StreamFault.TooManyTurns →
         AppendsShort (flush && not (W.seen writer.new).flushed) (W.seen writer.old).written
         (W.seen writer.new).written bytes.now) }
     ensures flushed { OnOk result (flush ≡ true → (W.seen writer.new).flushed ≡ true) }

@@ -1,13 +1,13 @@
 -- What the last flush answered.
 use Rattle.std.specs.Prelude.{ℕ, ◌≡◌, ◌⊎◌, true, false, Result, Ok, Err, OnOk, IfErr}
 use Rattle.std.proofs.Common.{inl, inr, subst}
-use Rattle.lsp_stream.specs.declared.fault.EngineFault.{EngineFault}
-use Rattle.lsp_stream.specs.declared.fault.EngineFault.TheVariants.{TooManyTurns, Write}
+use Rattle.lsp_stream.specs.declared.fault.StreamFault.{StreamFault}
+use Rattle.lsp_stream.specs.declared.fault.StreamFault.TheVariants.{TooManyTurns, Write}
 use Rattle.lsp_stream.specs.Ports.{Rose, WriterState}
 use Rattle.lsp_stream.specs.Turns.{Spends, WritesWithin}
 use Rattle.lspsync.specs.Run.{IsFlushed, allowed_turns}
 
-pub flushed_of : (before after : WriterState) (most left : ℕ) (answer : Result (Unit {0}) EngineFault) → most ≡ allowed_turns
+pub flushed_of : (before after : WriterState) (most left : ℕ) (answer : Result (Unit {0}) StreamFault) → most ≡ allowed_turns
     → OnOk answer ((after.failed ≡ false) × Rose before.calls after.calls) → OnOk answer (after.flushed ≡ true)
     → IfErr answer (λ fault. (fault ≡ Write) ⊎ (fault ≡ TooManyTurns))
     → WritesWithin most left before after answer → IsFlushed before after answer

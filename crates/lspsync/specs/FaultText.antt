@@ -2,8 +2,8 @@
 use Rattle.std.specs.Prelude.{ℕ, List, ◌++◌, codes, decimal}
 use Rattle.lsp_frame.specs.declared.fault.FrameFault.{FrameFault}
 use Rattle.lsp_frame.specs.declared.fault.FrameFault.TheVariants as frame
-use Rattle.lsp_stream.specs.declared.fault.EngineFault.{EngineFault}
-use Rattle.lsp_stream.specs.declared.fault.EngineFault.TheVariants as engine
+use Rattle.lsp_stream.specs.declared.fault.StreamFault.{StreamFault}
+use Rattle.lsp_stream.specs.declared.fault.StreamFault.TheVariants as engine
 
 -- A fault of a frame: its number, and the byte offset at which it is certain.
 abbrev pub frame_text : FrameFault → List ℕ
@@ -18,7 +18,7 @@ frame_text frame.Failed = codes "frame fault F8"
 frame_text frame.NoMemory = codes "out of memory"
 
 -- A fault of a run, with its byte offset in the input if it has one.
-abbrev pub fault_text : EngineFault → List ℕ
+abbrev pub fault_text : StreamFault → List ℕ
 fault_text engine.Read = codes "read fault"
 fault_text engine.Write = codes "write fault"
 fault_text (engine.Frame fault) = frame_text fault

@@ -5,8 +5,8 @@ use Rattle.clap.specs.Values.{kind_of}
 use Rattle.clap.specs.declared.error.Error.{Error}
 use Rattle.clap.specs.declared.error.kind.ErrorKind.{ErrorKind}
 use Rattle.clap.specs.declared.error.kind.ErrorKind.TheVariants as kind
-use Rattle.lsp_stream.specs.declared.fault.EngineFault.{EngineFault}
-use Rattle.lsp_stream.specs.declared.fault.EngineFault.TheVariants.{Read, Write, Frame, Truncated, BodyTooLong, NoMemory, TooManyTurns, BadLog}
+use Rattle.lsp_stream.specs.declared.fault.StreamFault.{StreamFault}
+use Rattle.lsp_stream.specs.declared.fault.StreamFault.TheVariants.{Read, Write, Frame, Truncated, BodyTooLong, NoMemory, TooManyTurns, BadLog}
 use Rattle.lsp_stream.specs.Ports.{Ports, Rose, WriterState, ports}
 use Rattle.lsp_stream.specs.Turns.{Spends}
 use Rattle.lsp_replay.specs.declared.outcome.Outcome.{Outcome}
@@ -22,7 +22,7 @@ use Rattle.lspsync.specs.Call.{IsRead}
 use Rattle.lspsync.specs.FaultText.{fault_text}
 
 -- The status of a fault: 3 if a stream failed, 4 if out of memory, 5 if the input is no log.
-abbrev pub status_of : EngineFault → ℕ
+abbrev pub status_of : StreamFault → ℕ
 status_of Read = 3
 status_of Write = 3
 status_of (Frame fault) = 5
@@ -50,7 +50,7 @@ allowed_turns = 1099511627776
 
 -- The last flush, and what it answered. After one that succeeded all that was written is flushed.
 -- Else the writer failed at it, or each flush that was allowed was made and interrupted.
-abbrev pub IsFlushed : WriterState → WriterState → Result (Unit {0}) EngineFault → Type 0
+abbrev pub IsFlushed : WriterState → WriterState → Result (Unit {0}) StreamFault → Type 0
 IsFlushed before after (Ok _) = (after.flushed ≡ true) × (after.failed ≡ false)
     × Rose before.calls after.calls
 IsFlushed before after (Err fault) =
@@ -58,8 +58,8 @@ IsFlushed before after (Err fault) =
     ⊎ ((fault ≡ TooManyTurns) × Spends before.calls after.calls allowed_turns 0)
 
 -- A fault of the engine comes before one of the flush.
-abbrev pub answer_of : Result Outcome EngineFault → Result (Unit {0}) EngineFault →
-    Result ℕ EngineFault
+abbrev pub answer_of : Result Outcome StreamFault → Result (Unit {0}) StreamFault →
+    Result ℕ StreamFault
 answer_of (Ok outcome) (Ok _) = Ok outcome.status
 answer_of (Ok outcome) (Err fault) = Err fault
 answer_of (Err fault) flushed = Err fault
@@ -67,9 +67,9 @@ answer_of (Err fault) flushed = Err fault
 -- The engine of a call ran, and then its output was flushed, whatever the engine answered. The
 -- answer is the outcome's status, or the first fault. With a status all output was flushed.
 pub record IsPerformed (asked : Call) (before after : Ports)
-    (answer : Result ℕ EngineFault) : Type 0 where
-  pub result : Result Outcome EngineFault
-  pub flushed : Result (Unit {0}) EngineFault
+    (answer : Result ℕ StreamFault) : Type 0 where
+  pub result : Result Outcome StreamFault
+  pub flushed : Result (Unit {0}) StreamFault
   -- the writer between the engine and the flush
   pub writer : WriterState
   pub ran : IsEngineRun (engine_of asked) allowed_turns before (ports after.reader writer) result
@@ -78,12 +78,12 @@ pub record IsPerformed (asked : Call) (before after : Ports)
   pub answered : answer ≡ answer_of result flushed
 
 -- The line that reports a fault.
-abbrev pub fault_line : EngineFault → List ℕ
+abbrev pub fault_line : StreamFault → List ℕ
 fault_line fault = (codes "lspsync: " ++ fault_text fault) ++ 10 ∷ []
 
 -- A fault ends the program with its status, and its line follows what was printed before. `None` is
 -- what isn't known.
-abbrev pub IsReported : EngineFault → Option (List ℕ) → Option (List ℕ) → Ending → Type 0
+abbrev pub IsReported : StreamFault → Option (List ℕ) → Option (List ℕ) → Ending → Type 0
 IsReported fault before after ending = (ending.status ≡ status_of fault)
     × OnOk ending.printed (Appends before after (fault_line fault))
 
@@ -103,7 +103,7 @@ IsStatus (Some line) status before after ending = (ending.status ≡ 1)
     × OnOk ending.printed (Appends before after line)
 
 -- A status ends the program. A fault is reported.
-abbrev pub IsEnding : Result ℕ EngineFault → Option (List ℕ) → Option (List ℕ) → Ending → Type 0
+abbrev pub IsEnding : Result ℕ StreamFault → Option (List ℕ) → Option (List ℕ) → Ending → Type 0
 IsEnding (Ok status) before after ending
     = IsStatus (missing_line status) status before after ending
 IsEnding (Err fault) before after ending = IsReported fault before after ending
@@ -119,13 +119,13 @@ pub record Streams : Type 0 where
 
 -- The engine of a call ran, and the program ends with its status or reports its fault.
 pub record IsCalled (asked : Call) (s : Streams) (ending : Ending) : Type 0 where
-  pub answer : Result ℕ EngineFault
+  pub answer : Result ℕ StreamFault
   pub performed : IsPerformed asked s.before s.after answer
   pub ends : IsEnding answer s.errors_before s.errors ending
 
 -- A text of help was written and flushed, with status 0. Else memory ran out and nothing was
 -- written, the writer failed, or each call that was allowed was made.
-abbrev pub IsHelp : WriterState → WriterState → Result ℕ EngineFault → Type 0
+abbrev pub IsHelp : WriterState → WriterState → Result ℕ StreamFault → Type 0
 IsHelp before after (Ok status) = (status ≡ 0) × (after.flushed ≡ true)
     × ((text : List ℕ) × Appends before.written after.written text)
 IsHelp before after (Err fault) = ((fault ≡ NoMemory) × (after ≡ before))
@@ -143,7 +143,7 @@ pub record IsExplained (k : ErrorKind) (s : Streams) (ending : Ending) : Type 0 
       (k ≡ kind.DisplayVersion → ⊥)
       → (s.after.writer ≡ s.before.writer) × (ending.status ≡ 2)
   pub help : (k ≡ kind.DisplayHelp) ⊎ (k ≡ kind.DisplayVersion)
-      → (answer : Result ℕ EngineFault)
+      → (answer : Result ℕ StreamFault)
       × IsHelp s.before.writer s.after.writer answer
       × IsEnding answer s.errors_before s.errors ending
 

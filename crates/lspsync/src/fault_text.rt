@@ -4,26 +4,26 @@ ghost use Rattle.std.specs.Prelude.{Some};
 ghost use Rattle.lspsync.specs.FaultText.{fault_text, frame_text};
 
 use lsp_frame::FrameFault;
-use lsp_replay::EngineFault;
+use lsp_replay::StreamFault;
 use std::fmt;
 
 /// The text of a fault.
 #[derive(Clone, Copy)]
-pub struct FaultText(pub EngineFault);
+pub struct FaultText(pub StreamFault);
 
 impl fmt::Display for FaultText {
     ghost output = { λ text. Some (fault_text text.0) };
 
     fn fmt<W: fmt::Write>(&self, f: &mut fmt::Formatter<W>) -> fmt::Result {
         match self.0 {
-            EngineFault::Read => write!(f, "read fault"),
-            EngineFault::Write => write!(f, "write fault"),
-            EngineFault::Frame(fault) => FrameText(fault).fmt(f),
-            EngineFault::Truncated { place } => write!(f, "truncated at {place}"),
-            EngineFault::BodyTooLong { place } => write!(f, "body too long at {place}"),
-            EngineFault::NoMemory => write!(f, "out of memory"),
-            EngineFault::TooManyTurns => write!(f, "too many turns"),
-            EngineFault::BadLog { place } => write!(f, "bad log at {place}"),
+            StreamFault::Read => write!(f, "read fault"),
+            StreamFault::Write => write!(f, "write fault"),
+            StreamFault::Frame(fault) => FrameText(fault).fmt(f),
+            StreamFault::Truncated { place } => write!(f, "truncated at {place}"),
+            StreamFault::BodyTooLong { place } => write!(f, "body too long at {place}"),
+            StreamFault::NoMemory => write!(f, "out of memory"),
+            StreamFault::TooManyTurns => write!(f, "too many turns"),
+            StreamFault::BadLog { place } => write!(f, "bad log at {place}"),
         }
     }
 }

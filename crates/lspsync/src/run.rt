@@ -16,7 +16,7 @@ use crate::command_line::{Call, parse};
 use crate::fault_text::FaultText;
 use clap::error as clap_error;
 use lsp_replay::{
-    EngineFault, NEVER_OPEN, NO_RECORD, Outcome, Sink, Source, check, convert, normalise,
+    NEVER_OPEN, NO_RECORD, Outcome, Sink, Source, StreamFault, check, convert, normalise,
     normalise_documents, replay, replay_part, serve, trace,
 };
 use lsp_stream::{Turns, flush_out, write_given};
@@ -78,7 +78,7 @@ pub fn run<R: Source, W: Sink, E: Write>(
 }
 
 /// Ends with a status, or reports a fault.
-fn end_with<E: Write>(answer: Result<u8, EngineFault>, errors: &mut E) -> Ending
+fn end_with<E: Write>(answer: Result<u8, StreamFault>, errors: &mut E) -> Ending
     ensures { IsEnding answer (E.contents errors.old) (E.contents errors.new) result }
 {
     match answer {
@@ -125,7 +125,7 @@ pub fn perform<R: Source, W: Sink>(
     call: Call,
     input: &mut R,
     output: &mut W,
-) -> Result<u8, EngineFault>
+) -> Result<u8, StreamFault>
     ensures performed { IsPerformed call
         (ports (R.seen input.old) (W.seen output.old))
         (ports (R.seen input.new) (W.seen output.new)) result }
@@ -137,9 +137,9 @@ pub fn perform<R: Source, W: Sink>(
 
 /// A fault of the engine comes before one of the flush.
 fn answer_with(
-    ran: Result<Outcome, EngineFault>,
-    flushed: Result<(), EngineFault>,
-) -> Result<u8, EngineFault>
+    ran: Result<Outcome, StreamFault>,
+    flushed: Result<(), StreamFault>,
+) -> Result<u8, StreamFault>
     ensures { result ≡ answer_of ran flushed }
 {
     match (ran, flushed) {
@@ -155,7 +155,7 @@ fn obey<R: Source, W: Sink>(
     call: Call,
     input: &mut R,
     output: &mut W,
-) -> Result<Outcome, EngineFault>
+) -> Result<Outcome, StreamFault>
     ensures { IsEngineRun (engine_of call) allowed_turns
         (ports (R.seen input.old) (W.seen output.old))
         (ports (R.seen input.new) (W.seen output.new)) result }
@@ -190,17 +190,17 @@ fn explain<W: Sink, E: Write>(
 ) -> Ending
     ensures memory { kind_of error.now ≡ OutOfMemory →
         (W.seen output.new ≡ W.seen output.old)
-        × IsReported EngineFault.NoMemory (E.contents errors.old) (E.contents errors.new) result }
+        × IsReported StreamFault.NoMemory (E.contents errors.old) (E.contents errors.new) result }
     ensures mistake { kind_of error.now ≢ OutOfMemory → kind_of error.now ≢ DisplayHelp
         → kind_of error.now ≢ DisplayVersion →
         (W.seen output.new ≡ W.seen output.old) × (result.status ≡ 2) }
     ensures help { (kind_of error.now ≡ DisplayHelp) ⊎ (kind_of error.now ≡ DisplayVersion)
-        → (answer : Result ℕ EngineFault)
+        → (answer : Result ℕ StreamFault)
         × IsHelp (W.seen output.old) (W.seen output.new) answer
         × IsEnding answer (E.contents errors.old) (E.contents errors.new) result }
 {
     if error.kind() == clap_error::ErrorKind::OutOfMemory {
-        return report(EngineFault::NoMemory, errors);
+        return report(StreamFault::NoMemory, errors);
     }
     if error.use_stderr() {
         let printed = write!(errors, "{error}");
@@ -214,7 +214,7 @@ fn explain<W: Sink, E: Write>(
 }
 
 /// Writes a text of help and flushes it. Returns the status.
-fn print_help<W: Sink>(alloc: Global, help: &clap::Error, output: &mut W) -> Result<u8, EngineFault>
+fn print_help<W: Sink>(alloc: Global, help: &clap::Error, output: &mut W) -> Result<u8, StreamFault>
     ensures { IsHelp (W.seen output.old) (W.seen output.new) result }
 {
     let text = format!(in alloc; "{help}")?;
@@ -224,7 +224,7 @@ fn print_help<W: Sink>(alloc: Global, help: &clap::Error, output: &mut W) -> Res
 }
 
 /// Flushes the output. An interrupted flush is repeated.
-fn flush<W: Sink>(output: &mut W) -> Result<(), EngineFault>
+fn flush<W: Sink>(output: &mut W) -> Result<(), StreamFault>
     ensures kept { Keeps (W.seen output.old).written (W.seen output.new).written }
     ensures flushed { IsFlushed (W.seen output.old) (W.seen output.new) result }
 {
@@ -235,14 +235,14 @@ fn flush<W: Sink>(output: &mut W) -> Result<(), EngineFault>
 /// UTF-8.
 pub fn refuse<E: Write>(kind: ErrorKind, errors: &mut E) -> Ending
     ensures memory { kind ≡ ErrorKind.OutOfMemory →
-        IsReported EngineFault.NoMemory (E.contents errors.old) (E.contents errors.new) result }
+        IsReported StreamFault.NoMemory (E.contents errors.old) (E.contents errors.new) result }
     ensures status { kind ≢ ErrorKind.OutOfMemory → result.status ≡ 2 }
     ensures line { kind ≢ ErrorKind.OutOfMemory → OnOk result.printed
         (Appends (E.contents errors.old) (E.contents errors.new)
         (codes "lspsync: the command line is not UTF-8\n")) }
 {
     if kind == ErrorKind::OutOfMemory {
-        return report(EngineFault::NoMemory, errors);
+        return report(StreamFault::NoMemory, errors);
     }
     let printed = writeln!(errors, "lspsync: the command line is not UTF-8");
     Ending {
@@ -259,7 +259,7 @@ pub fn exit_code(ending: &Ending) -> ExitCode
 }
 
 /// Prints the line of a fault, and ends with its status.
-pub fn report<E: Write>(fault: EngineFault, errors: &mut E) -> Ending
+pub fn report<E: Write>(fault: StreamFault, errors: &mut E) -> Ending
     ensures { IsReported fault (E.contents errors.old) (E.contents errors.new) result }
 {
     let text = FaultText(fault);
@@ -271,15 +271,15 @@ pub fn report<E: Write>(fault: EngineFault, errors: &mut E) -> Ending
 }
 
 /// The status of a fault.
-fn status_of(fault: EngineFault) -> u8
+fn status_of(fault: StreamFault) -> u8
     ensures { result ≡ status_of fault }
 {
     match fault {
-        EngineFault::Read | EngineFault::Write | EngineFault::TooManyTurns => STREAM_FAULT,
-        EngineFault::NoMemory => OUT_OF_MEMORY,
-        EngineFault::Frame(_)
-        | EngineFault::Truncated { .. }
-        | EngineFault::BodyTooLong { .. }
-        | EngineFault::BadLog { .. } => BAD_LOG,
+        StreamFault::Read | StreamFault::Write | StreamFault::TooManyTurns => STREAM_FAULT,
+        StreamFault::NoMemory => OUT_OF_MEMORY,
+        StreamFault::Frame(_)
+        | StreamFault::Truncated { .. }
+        | StreamFault::BodyTooLong { .. }
+        | StreamFault::BadLog { .. } => BAD_LOG,
     }
 }

@@ -5,8 +5,8 @@ use Rattle.std.specs.Io.KnownBytes.{Consumes, Appends}
 use Rattle.lsp_frame.specs.Faults.{place_after}
 use Rattle.lsp_replay.specs.declared.engine.InputRules.{InputRules}
 use Rattle.lsp_replay.specs.declared.outcome.Outcome.{Outcome}
-use Rattle.lsp_stream.specs.declared.fault.EngineFault.{EngineFault}
-use Rattle.lsp_stream.specs.declared.fault.EngineFault.TheVariants.{Read, Write, Frame, Truncated, BodyTooLong, NoMemory, TooManyTurns, BadLog}
+use Rattle.lsp_stream.specs.declared.fault.StreamFault.{StreamFault}
+use Rattle.lsp_stream.specs.declared.fault.StreamFault.TheVariants.{Read, Write, Frame, Truncated, BodyTooLong, NoMemory, TooManyTurns, BadLog}
 use Rattle.lsp_log.specs.declared.record.Version.TheVariants.{Two}
 use Rattle.lsp_stream.specs.Ports.{Ports}
 use Rattle.lsp_stream.specs.Turns.{AppendsFront, AppendsShort, StaysFlushed}
@@ -17,7 +17,7 @@ use Rattle.lsp_replay.specs.Engine.{Called, NonePassedOver, PortState, Reached, 
 
 -- A record ended the run: the output of the records up to it was written.
 pub record Stopped (reading : LogRules) (run_output : List Record → RunOutput) (input : List ℕ)
-    (old new : Option (List ℕ)) (answer : Result Outcome EngineFault) : Type 0 where
+    (old new : Option (List ℕ)) (answer : Result Outcome StreamFault) : Type 0 where
   pub log : Log
   pub reads : IsReadAs reading input log
   pub stops : (run_output log.records).stop ≡ Some answer
@@ -92,7 +92,7 @@ TurnsRanOut reading run_output state input old new =
 
 -- What is written when a fault comes, and what the fault says of the input.
 abbrev pub IsRunFault : LogRules → (List Record → RunOutput) → PortState → List ℕ →
-    Option (List ℕ) → Option (List ℕ) → EngineFault → Type 0
+    Option (List ℕ) → Option (List ℕ) → StreamFault → Type 0
 IsRunFault reading run_output state input old new Read
     = Reached reading run_output input old new (IsUnfinished reading input)
 IsRunFault reading run_output state input old new Write = Broken reading run_output input old new
@@ -117,7 +117,7 @@ IsRunFault reading run_output state input old new (BadLog place) =
 -- An engine ran: its output and its result are those of `run_output` for the bytes that it read.
 pub record Ran (reading : LogRules) (run_output : List Record → RunOutput) (state : PortState)
     (left_old left_new received_old received_new : Option (List ℕ))
-    (result : Result Outcome EngineFault) : Type 0 where
+    (result : Result Outcome StreamFault) : Type 0 where
   -- the bytes that were read
   pub input : List ℕ
   pub read : Consumes left_old left_new input
@@ -131,7 +131,7 @@ pub record Ran (reading : LogRules) (run_output : List Record → RunOutput) (st
 -- What is written when a fault comes before the end of the input, and what the fault says of the
 -- input. Here no read fails, and no input is cut.
 abbrev pub IsPieceFault : LogRules → (List Record → RunOutput) → Bool → List ℕ → Option (List ℕ) →
-    Option (List ℕ) → EngineFault → Type 0
+    Option (List ℕ) → StreamFault → Type 0
 IsPieceFault reading run_output unflushed input old new Read = ⊥
 IsPieceFault reading run_output unflushed input old new Write
     = Broken reading run_output input old new
@@ -159,7 +159,7 @@ reading_by rules
 
 -- The loop of the engines ran between a reader and a writer.
 pub record IsLoopRun (reading : LogRules) (run_output : List Record → RunOutput) (flushes : Bool)
-    (max_turns : ℕ) (before after : Ports) (result : Result Outcome EngineFault) : Type 0 where
+    (max_turns : ℕ) (before after : Ports) (result : Result Outcome StreamFault) : Type 0 where
   -- What was written and answered.
   pub ran : Ran reading run_output
       (state_of before.reader.ended after.reader.ended (flushes && not after.writer.flushed))

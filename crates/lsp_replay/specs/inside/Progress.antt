@@ -3,8 +3,8 @@ use Rattle.std.specs.Prelude.{ℕ, ◌≡◌, ◌+◌, ◌≤◌, ◌<◌, ◌^�
 use Rattle.std.specs.Io.KnownBytes.{Consumes, Appends}
 use Rattle.lsp_frame.specs.Faults.{place_after}
 use Rattle.lsp_replay.specs.declared.outcome.Outcome.{Outcome}
-use Rattle.lsp_stream.specs.declared.fault.EngineFault.{EngineFault}
-use Rattle.lsp_stream.specs.declared.fault.EngineFault.TheVariants.{Read, Write, Frame, Truncated, BodyTooLong, NoMemory, TooManyTurns, BadLog}
+use Rattle.lsp_stream.specs.declared.fault.StreamFault.{StreamFault}
+use Rattle.lsp_stream.specs.declared.fault.StreamFault.TheVariants.{Read, Write, Frame, Truncated, BodyTooLong, NoMemory, TooManyTurns, BadLog}
 use Rattle.lsp_log.specs.declared.splitter.Splitter.{Splitter}
 use Rattle.lsp_stream.specs.Turns.{AppendsFront, AppendsShort}
 use Rattle.lsp_log.specs.Log.{LogRules, Record, IsVersion, IsCut}
@@ -22,7 +22,7 @@ pub record Continues (old new : List Record → RunOutput)
 
 -- A record's output was written, and it ended the run.
 pub record Ends (old : List Record → RunOutput) (received_old received_new : Option (List ℕ))
-    (r : Record) (answer : Result Outcome EngineFault) : Type 0 where
+    (r : Record) (answer : Result Outcome StreamFault) : Type 0 where
   pub out : List ℕ
   pub run_output : (more : List Record) → old (r ∷ more) ≡ stopped out answer
   pub wrote : Appends received_old received_new out
@@ -36,7 +36,7 @@ IsHandled old new received_old received_new r (Some outcome)
 
 -- What is written when a fault comes at a record.
 abbrev pub IsHandleFault : (List Record → RunOutput) → Bool → Option (List ℕ) → Option (List ℕ) →
-    Record → EngineFault → Type 0
+    Record → StreamFault → Type 0
 IsHandleFault old unflushed received_old received_new r Read = ⊥
 IsHandleFault old unflushed received_old received_new r Write
     = AppendsFront received_old received_new (old (r ∷ [])).out
@@ -88,7 +88,7 @@ pub record BothSpend
       reads_new + writes_new + left_new ≡ reads_old + writes_old + left_old
 
 -- The faults of writing the output at the end of the input.
-abbrev pub IsLastFault : EngineFault → Type 0
+abbrev pub IsLastFault : StreamFault → Type 0
 IsLastFault Read = ⊥
 IsLastFault Write = Unit {0}
 IsLastFault (Frame fault) = ⊥
@@ -100,7 +100,7 @@ IsLastFault (BadLog place) = ⊥
 
 -- What is written when a fault comes at the end of the input, and what the fault says of the input.
 abbrev pub IsEndFault : LogRules → (List Record → RunOutput) → Bool → List ℕ → Option (List ℕ) →
-    Option (List ℕ) → ℕ → EngineFault → Type 0
+    Option (List ℕ) → ℕ → StreamFault → Type 0
 IsEndFault reading run_output unflushed input old new len Read = ⊥
 IsEndFault reading run_output unflushed input old new len Write
     = BrokenAtEnd reading run_output input old new

@@ -1,8 +1,8 @@
 -- What only proofs and private contracts use of `RunOutput`.
 use Rattle.std.specs.Prelude.{ℕ, List, [], ◌++◌, drop, Option, Some, None, Ok}
 use Rattle.lsp_replay.specs.declared.outcome.Outcome.{Outcome}
-use Rattle.lsp_stream.specs.declared.fault.EngineFault.{EngineFault}
-use Rattle.lsp_stream.specs.declared.fault.EngineFault.TheVariants.{Read, Write, Frame, Truncated, BodyTooLong, NoMemory, TooManyTurns, BadLog}
+use Rattle.lsp_stream.specs.declared.fault.StreamFault.{StreamFault}
+use Rattle.lsp_stream.specs.declared.fault.StreamFault.TheVariants.{Read, Write, Frame, Truncated, BodyTooLong, NoMemory, TooManyTurns, BadLog}
 use Rattle.lsp_replay.specs.declared.handler.Output.{Output}
 use Rattle.lsp_replay.specs.declared.handler.Output.TheVariants as output
 use Rattle.lsp_replay.specs.RunOutput.{RunOutput, written_first, stopped}
@@ -21,7 +21,7 @@ output_of output.Bytes raw buffer = buffer
 output_of (output.BytesFrom start) raw buffer = drop start buffer
 
 -- The faults with which a record can end a run: a body too long, a bad log.
-abbrev pub IsRecordFault : EngineFault → Type 0
+abbrev pub IsRecordFault : StreamFault → Type 0
 IsRecordFault Read = ⊥
 IsRecordFault Write = ⊥
 IsRecordFault (Frame fault) = ⊥

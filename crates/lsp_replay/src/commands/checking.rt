@@ -16,7 +16,7 @@ use lsp_log::Head;
 use lsp_message::ErrorCode;
 use lsp_server::{Answer, Config, Refusal};
 use lsp_store::StoreFault;
-use lsp_stream::EngineFault;
+use lsp_stream::StreamFault;
 use std::alloc::{AllocError, Global};
 
 /// Writes a line for each record.
@@ -62,7 +62,7 @@ impl Handler for Check {
         _raw: &[u8],
         body: &[u8],
         buffer: &mut Vec<u8>,
-    ) -> Result<Given, EngineFault> {
+    ) -> Result<Given, StreamFault> {
         let verdict = self.session.accept(head, body)?;
         self.push_last(buffer, &verdict)?;
         Ok(Given::more(Output::Bytes))
@@ -72,7 +72,7 @@ impl Handler for Check {
         &mut self,
         _line_due: bool,
         _made: &mut Vec<u8>,
-    ) -> Result<Option<Outcome>, EngineFault> {
+    ) -> Result<Option<Outcome>, StreamFault> {
         Ok(Some(self.session.outcome()))
     }
 }

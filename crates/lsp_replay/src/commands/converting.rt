@@ -11,7 +11,7 @@ use crate::outcome::Outcome;
 use crate::session::{Session, Verdict};
 use lsp_log::Head;
 use lsp_server::{Answer, Config};
-use lsp_stream::EngineFault;
+use lsp_stream::StreamFault;
 use std::alloc::{AllocError, Global};
 
 /// Writes each record with its mark, and after it the reply.
@@ -57,7 +57,7 @@ impl Handler for Convert {
         raw: &[u8],
         body: &[u8],
         buffer: &mut Vec<u8>,
-    ) -> Result<Given, EngineFault> {
+    ) -> Result<Given, StreamFault> {
         self.push_first_line(buffer)?;
         let verdict = self.session.accept(head, body)?;
         buffer.extend_from_slice(b">")?;
@@ -70,7 +70,7 @@ impl Handler for Convert {
         &mut self,
         _line_due: bool,
         buffer: &mut Vec<u8>,
-    ) -> Result<Option<Outcome>, EngineFault> {
+    ) -> Result<Option<Outcome>, StreamFault> {
         self.push_first_line(buffer)?;
         Ok(Some(self.session.outcome()))
     }

@@ -14,7 +14,7 @@ use crate::outcome::Outcome;
 use crate::session::selecting::Selection;
 use lsp_log::Head;
 use lsp_server::Config;
-use lsp_stream::EngineFault;
+use lsp_stream::StreamFault;
 use std::alloc::Global;
 
 /// The output of a record that is left out, and with squash that of each record.
@@ -63,7 +63,7 @@ impl Handler for Documents {
         raw: &[u8],
         body: &[u8],
         buffer: &mut Vec<u8>,
-    ) -> Result<Given, EngineFault> {
+    ) -> Result<Given, StreamFault> {
         let session = &mut self.normalise.session;
         let Some(selected) = self.selection.select(session, head, body)? else {
             return Ok(FILLED);
@@ -77,7 +77,7 @@ impl Handler for Documents {
         &mut self,
         line_due: bool,
         buffer: &mut Vec<u8>,
-    ) -> Result<Option<Outcome>, EngineFault> {
+    ) -> Result<Option<Outcome>, StreamFault> {
         push_line(buffer, self.selection.is_due() || line_due)?;
         Ok(Some(self.normalise.session.outcome()))
     }
@@ -122,7 +122,7 @@ impl Handler for SquashedDocuments {
         raw: &[u8],
         body: &[u8],
         buffer: &mut Vec<u8>,
-    ) -> Result<Given, EngineFault> {
+    ) -> Result<Given, StreamFault> {
         let Some(selected) = self.squashing.select(&mut self.selection, head, body)? else {
             return Ok(FILLED);
         };
@@ -135,7 +135,7 @@ impl Handler for SquashedDocuments {
         &mut self,
         line_due: bool,
         buffer: &mut Vec<u8>,
-    ) -> Result<Option<Outcome>, EngineFault> {
+    ) -> Result<Option<Outcome>, StreamFault> {
         self.squashing.push_open(buffer)?;
         push_line(buffer, self.selection.is_due() || line_due)?;
         Ok(Some(self.squashing.outcome()))

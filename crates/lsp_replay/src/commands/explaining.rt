@@ -20,7 +20,7 @@ use crate::session::tracing::uri_of;
 use crate::session::{Session, Verdict};
 use lsp_log::{Head, Side};
 use lsp_server::{Config, Incoming};
-use lsp_stream::EngineFault;
+use lsp_stream::StreamFault;
 use std::alloc::{AllocError, Global};
 
 /// Writes a line for each record, and at the end what to do next.
@@ -103,7 +103,7 @@ impl Handler for Explain {
         _raw: &[u8],
         body: &[u8],
         buffer: &mut Vec<u8>,
-    ) -> Result<Given, EngineFault> {
+    ) -> Result<Given, StreamFault> {
         let verdict = self.session.accept(head, body)?;
         self.push_last(buffer, head.side, body, &verdict)?;
         Ok(Given::more(Output::Bytes))
@@ -113,7 +113,7 @@ impl Handler for Explain {
         &mut self,
         _line_due: bool,
         buffer: &mut Vec<u8>,
-    ) -> Result<Option<Outcome>, EngineFault> {
+    ) -> Result<Option<Outcome>, StreamFault> {
         push_words(buffer, advice(self.session.refusals()))?;
         Ok(Some(self.session.outcome()))
     }

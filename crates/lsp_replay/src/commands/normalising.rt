@@ -18,7 +18,7 @@ use crate::session::{RecordBody, Session, in_log};
 use lsp_frame::{put_before, put_header};
 use lsp_log::Head;
 use lsp_server::Config;
-use lsp_stream::EngineFault;
+use lsp_stream::StreamFault;
 use std::alloc::{AllocError, Global};
 
 /// Writes each record as it is, and an accepted change as its canonical message.
@@ -44,7 +44,7 @@ impl Normalise {
         raw: &[u8],
         read: RecordBody<'_>,
         buffer: &mut Vec<u8>,
-    ) -> Result<Output, EngineFault>
+    ) -> Result<Output, StreamFault>
         requires { buffer.old.items ≡ [] }
         ensures session { (body : List ℕ) → IsReadOf head body read.entry →
             OnOk result (self.new.session ≡ (judge_at self.old.session head body).session) }
@@ -53,7 +53,7 @@ impl Normalise {
             (record { head = head; raw = raw.now; body = body })
             ≡ writes (output_of output raw.now buffer.new.items)) }
         ensures error { (body : List ℕ) → IsReadOf head body read.entry → IfErr result
-            (λ fault. (fault ≡ EngineFault.NoMemory)
+            (λ fault. (fault ≡ StreamFault.NoMemory)
             ⊎ (IsRecordFault fault × (each_output self.old.session
             (record { head = head; raw = raw.now; body = body }) ≡ ends [] (Err fault)))) }
     {
@@ -83,7 +83,7 @@ impl Handler for Normalise {
         raw: &[u8],
         body: &[u8],
         buffer: &mut Vec<u8>,
-    ) -> Result<Given, EngineFault> {
+    ) -> Result<Given, StreamFault> {
         let read = self.session.read(head, body)?;
         let output = self.write_read(head, raw, read, buffer)?;
         Ok(Given::more(output))
@@ -93,7 +93,7 @@ impl Handler for Normalise {
         &mut self,
         line_due: bool,
         buffer: &mut Vec<u8>,
-    ) -> Result<Option<Outcome>, EngineFault> {
+    ) -> Result<Option<Outcome>, StreamFault> {
         push_line(buffer, line_due)?;
         Ok(Some(self.session.outcome()))
     }
@@ -110,7 +110,7 @@ fn push_record(
     head: Head,
     raw: &[u8],
     appended: Option<Appended>,
-) -> Result<Output, EngineFault>
+) -> Result<Output, StreamFault>
     requires { FRONT_ROOM ≤ vec_len buffer.old }
     ensures ok { IfOk result
         (λ output. (max_body : ℕ) (canonical_log : Option (List ℕ)) (body room : List ℕ) →
@@ -119,12 +119,12 @@ fn push_record(
         written max_body (record { head = head; raw = raw.now; body = body })
         (front_of head) canonical_log ≡ writes (output_of output raw.now buffer.new.items)) }
     ensures error { IfErr result
-        (λ fault. (fault ≡ EngineFault.NoMemory) ⊎ ((fault ≡ EngineFault.BodyTooLong head.place)
+        (λ fault. (fault ≡ StreamFault.NoMemory) ⊎ ((fault ≡ StreamFault.BodyTooLong head.place)
         × ((max_body : ℕ) (canonical_log : Option (List ℕ)) (body room : List ℕ) →
         length room ≡ FRONT_ROOM →
         IsAppended max_body canonical_log appended room buffer.old.items →
         written max_body (record { head = head; raw = raw.now; body = body })
-        (front_of head) canonical_log ≡ ends [] (Err (EngineFault.BodyTooLong head.place))))) }
+        (front_of head) canonical_log ≡ ends [] (Err (StreamFault.BodyTooLong head.place))))) }
 {
     let Some(appended) = appended else {
         return Ok(push_as_it_is(buffer, head, raw)?);
@@ -135,14 +135,14 @@ fn push_record(
 }
 
 /// Refuses a canonical body over the limit, of the record at this offset.
-fn within_limit(appended: Appended, place: u64) -> Result<(), EngineFault>
+fn within_limit(appended: Appended, place: u64) -> Result<(), StreamFault>
     ensures ok { OnOk result (appended ≡ Appended.Body) }
     ensures error { IfErr result
-        (λ fault. (fault ≡ EngineFault.BodyTooLong place) × (appended ≡ Appended.TooLong)) }
+        (λ fault. (fault ≡ StreamFault.BodyTooLong place) × (appended ≡ Appended.TooLong)) }
 {
     match appended {
         Appended::Body => Ok(()),
-        Appended::TooLong => Err(EngineFault::BodyTooLong { place }),
+        Appended::TooLong => Err(StreamFault::BodyTooLong { place }),
     }
 }
 

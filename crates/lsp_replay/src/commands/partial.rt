@@ -18,7 +18,7 @@ use crate::session::Session;
 use lsp_log::Head;
 use lsp_server::Config;
 use lsp_store::Store;
-use lsp_stream::EngineFault;
+use lsp_stream::StreamFault;
 use std::alloc::{AllocError, Global};
 
 /// Writes the documents after the part's last record, or the last text of one.
@@ -111,7 +111,7 @@ impl Handler for ReplayPart {
         _raw: &[u8],
         body: &[u8],
         buffer: &mut Vec<u8>,
-    ) -> Result<Given, EngineFault> {
+    ) -> Result<Given, StreamFault> {
         self.session
             .accept_and_keep(head, body, &self.part.uri, &mut self.kept)?;
         if !self.is_last() {
@@ -128,7 +128,7 @@ impl Handler for ReplayPart {
         &mut self,
         _line_due: bool,
         buffer: &mut Vec<u8>,
-    ) -> Result<Option<Outcome>, EngineFault> {
+    ) -> Result<Option<Outcome>, StreamFault> {
         if self.part.at.is_some() {
             return Ok(Some(Outcome {
                 status: NO_RECORD,

@@ -11,7 +11,7 @@ use lsp_log::Head;
 use lsp_message::push_document;
 use lsp_server::Config;
 use lsp_store::Document;
-use lsp_stream::EngineFault;
+use lsp_stream::StreamFault;
 use std::alloc::{AllocError, Global};
 
 /// Writes a line for each document that is open at the end, in order of opening.
@@ -53,7 +53,7 @@ impl Handler for Replay {
         _raw: &[u8],
         body: &[u8],
         _made: &mut Vec<u8>,
-    ) -> Result<Given, EngineFault> {
+    ) -> Result<Given, StreamFault> {
         self.session.accept(head, body)?;
         Ok(Given::more(Output::Bytes))
     }
@@ -62,7 +62,7 @@ impl Handler for Replay {
         &mut self,
         _line_due: bool,
         buffer: &mut Vec<u8>,
-    ) -> Result<Option<Outcome>, EngineFault> {
+    ) -> Result<Option<Outcome>, StreamFault> {
         let documents = self.session.server().store();
         if self.next >= documents.len() {
             return Ok(Some(self.session.outcome()));

@@ -11,7 +11,7 @@ use crate::outcome::Outcome;
 use crate::session::{Session, Verdict};
 use lsp_log::Head;
 use lsp_server::{Answer, Config};
-use lsp_stream::EngineFault;
+use lsp_stream::StreamFault;
 use std::alloc::Global;
 
 /// Writes each reply as it comes, up to `exit`.
@@ -92,7 +92,7 @@ impl Handler for Serve {
         _raw: &[u8],
         body: &[u8],
         buffer: &mut Vec<u8>,
-    ) -> Result<Given, EngineFault> {
+    ) -> Result<Given, StreamFault> {
         let verdict = self.session.judge(head, body)?;
         let end = self.end(&verdict);
         put_reply(buffer, verdict);
@@ -106,7 +106,7 @@ impl Handler for Serve {
         &mut self,
         _line_due: bool,
         _made: &mut Vec<u8>,
-    ) -> Result<Option<Outcome>, EngineFault> {
+    ) -> Result<Option<Outcome>, StreamFault> {
         Ok(Some(self.without_exit()))
     }
 }

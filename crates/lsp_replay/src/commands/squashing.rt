@@ -19,7 +19,7 @@ use crate::session::{RecordBody, Session, in_log};
 use lsp_log::Head;
 use lsp_server::Config;
 use lsp_store::Batches;
-use lsp_stream::EngineFault;
+use lsp_stream::StreamFault;
 use std::alloc::{AllocError, Global};
 use std::marker::Model;
 
@@ -157,13 +157,13 @@ impl Squashing {
         raw: &[u8],
         read: RecordBody<'_>,
         buffer: &mut Vec<u8>,
-    ) -> Result<(), EngineFault>
+    ) -> Result<(), StreamFault>
         requires { buffer.old.items ≡ [] }
         ensures ok { (body : List ℕ) → IsReadOf head body read.entry → OnOk result
             (IsSquashStep self.old (record { head = head; raw = raw.now; body = body })
             buffer.new.items self.new) }
         ensures error { (body : List ℕ) → IsReadOf head body read.entry → IfErr result
-            (λ fault. (fault ≡ EngineFault.NoMemory) ⊎ (IsRecordFault fault
+            (λ fault. (fault ≡ StreamFault.NoMemory) ⊎ (IsRecordFault fault
             × (step_at self.old (record { head = head; raw = raw.now; body = body })
             ≡ faulty fault))) }
     {
@@ -177,7 +177,7 @@ impl Squashing {
                 buffer.extend_from_slice(raw)?;
                 Ok(())
             }
-            Writing::TooLong => Err(EngineFault::BodyTooLong { place: head.place }),
+            Writing::TooLong => Err(StreamFault::BodyTooLong { place: head.place }),
             Writing::Continues(frame, batches) => {
                 self.texts.continue_with(head, &frame)?;
                 self.batches = Some(batches);
@@ -220,7 +220,7 @@ impl Handler for Squashing {
         raw: &[u8],
         body: &[u8],
         buffer: &mut Vec<u8>,
-    ) -> Result<Given, EngineFault> {
+    ) -> Result<Given, StreamFault> {
         let read = self.session.read(head, body)?;
         self.write_read(head, raw, read, buffer)?;
         Ok(WRITTEN)
@@ -230,7 +230,7 @@ impl Handler for Squashing {
         &mut self,
         line_due: bool,
         buffer: &mut Vec<u8>,
-    ) -> Result<Option<Outcome>, EngineFault> {
+    ) -> Result<Option<Outcome>, StreamFault> {
         self.push_open(buffer)?;
         push_line(buffer, line_due)?;
         Ok(Some(self.session.outcome()))

@@ -28,7 +28,7 @@ use lsp_log::Head;
 use lsp_message::ChangeParams;
 use lsp_server::{Answer, Config, Incoming};
 use lsp_store::Document;
-use lsp_stream::EngineFault;
+use lsp_stream::StreamFault;
 use std::alloc::{AllocError, Global};
 
 /// Writes a line for each record.
@@ -179,7 +179,7 @@ impl Handler for Trace {
         _raw: &[u8],
         body: &[u8],
         buffer: &mut Vec<u8>,
-    ) -> Result<Given, EngineFault> {
+    ) -> Result<Given, StreamFault> {
         self.canonical.clear();
         let traced = self
             .session
@@ -194,7 +194,7 @@ impl Handler for Trace {
         &mut self,
         _line_due: bool,
         _buffer: &mut Vec<u8>,
-    ) -> Result<Option<Outcome>, EngineFault> {
+    ) -> Result<Option<Outcome>, StreamFault> {
         Ok(Some(self.session.outcome()))
     }
 }

@@ -10,7 +10,7 @@ use crate::commands::documents::{Documents, SquashedDocuments};
 use crate::engine::run_engine;
 use crate::engines::Settings;
 use crate::outcome::Outcome;
-use lsp_stream::{EngineFault, Sink, Source};
+use lsp_stream::{Sink, Source, StreamFault};
 use std::alloc::Global;
 
 /// Writes a log as [`normalise`](crate::normalise) does, and leaves out each record that is neither
@@ -30,7 +30,7 @@ pub fn normalise_documents<R: Source, W: Sink>(
     writer: &mut W,
     settings: Settings,
     max_turns: u64,
-) -> Result<Outcome, EngineFault>
+) -> Result<Outcome, StreamFault>
     ensures run { IsEngineRun (documents_engine settings) max_turns
         (ports (R.seen reader.old) (W.seen writer.old))
         (ports (R.seen reader.new) (W.seen writer.new)) result }
@@ -53,7 +53,7 @@ fn documents_each<R: Source, W: Sink>(
     writer: &mut W,
     settings: Settings,
     max_turns: u64,
-) -> Result<Outcome, EngineFault>
+) -> Result<Outcome, StreamFault>
     ensures run { IsEngineRun (each_documents_engine settings) max_turns
         (ports (R.seen reader.old) (W.seen writer.old))
         (ports (R.seen reader.new) (W.seen writer.new)) result }
@@ -73,7 +73,7 @@ fn documents_squashed<R: Source, W: Sink>(
     writer: &mut W,
     settings: Settings,
     max_turns: u64,
-) -> Result<Outcome, EngineFault>
+) -> Result<Outcome, StreamFault>
     ensures run { IsEngineRun (squashed_documents_engine settings) max_turns
         (ports (R.seen reader.old) (W.seen writer.old))
         (ports (R.seen reader.new) (W.seen writer.new)) result }

@@ -9,7 +9,7 @@ use crate::commands::explaining::Explain;
 use crate::engine::run_engine;
 use crate::engines::Settings;
 use crate::outcome::Outcome;
-use lsp_stream::{EngineFault, Sink, Source};
+use lsp_stream::{Sink, Source, StreamFault};
 use std::alloc::Global;
 
 /// Writes a line for each record of a log, as [`check`](crate::check) does, and where it was refused
@@ -24,7 +24,7 @@ pub fn explain<R: Source, W: Sink>(
     writer: &mut W,
     settings: Settings,
     max_turns: u64,
-) -> Result<Outcome, EngineFault>
+) -> Result<Outcome, StreamFault>
     ensures run { IsEngineRun (explain_engine settings) max_turns
         (ports (R.seen reader.old) (W.seen writer.old))
         (ports (R.seen reader.new) (W.seen writer.new)) result }

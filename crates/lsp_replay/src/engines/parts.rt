@@ -8,7 +8,7 @@ use crate::commands::partial::ReplayPart;
 use crate::engine::run_engine;
 use crate::engines::Settings;
 use crate::outcome::Outcome;
-use lsp_stream::{EngineFault, Sink, Source};
+use lsp_stream::{Sink, Source, StreamFault};
 use std::alloc::Global;
 
 /// The part of a log that [`replay_part`] reads, and what it prints.
@@ -36,7 +36,7 @@ pub fn replay_part<R: Source, W: Sink>(
     settings: Settings,
     part: Part,
     max_turns: u64,
-) -> Result<Outcome, EngineFault>
+) -> Result<Outcome, StreamFault>
     ensures run { IsEngineRun (part_engine settings part) max_turns
         (ports (R.seen reader.old) (W.seen writer.old))
         (ports (R.seen reader.new) (W.seen writer.new)) result }

@@ -9,7 +9,7 @@ use crate::commands::tracing::Trace;
 use crate::engine::run_engine;
 use crate::engines::Settings;
 use crate::outcome::Outcome;
-use lsp_stream::{EngineFault, Sink, Source};
+use lsp_stream::{Sink, Source, StreamFault};
 use std::alloc::Global;
 
 /// What [`trace`] writes of each record beside the members that it always has.
@@ -34,7 +34,7 @@ pub fn trace<R: Source, W: Sink>(
     settings: Settings,
     details: Details,
     max_turns: u64,
-) -> Result<Outcome, EngineFault>
+) -> Result<Outcome, StreamFault>
     ensures run { IsEngineRun (trace_engine settings details) max_turns
         (ports (R.seen reader.old) (W.seen writer.old))
         (ports (R.seen reader.new) (W.seen writer.new)) result }

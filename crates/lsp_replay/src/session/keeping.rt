@@ -10,7 +10,7 @@ ghost use Rattle.lsp_replay.specs.inside.Verdicts.{verdict_view};
 use crate::session::{RecordBody, Session, Verdict, in_log};
 use lsp_log::Head;
 use lsp_server::Incoming;
-use lsp_stream::EngineFault;
+use lsp_stream::StreamFault;
 use std::alloc::AllocError;
 
 impl Session {
@@ -22,7 +22,7 @@ impl Session {
         body: &[u8],
         uri: &Option<String>,
         kept: &mut Option<String>,
-    ) -> Result<Verdict, EngineFault>
+    ) -> Result<Verdict, StreamFault>
         ensures verdict { IfOk result
             (λ v. verdict_view v ≡ (judge_at self.old head body.now).verdict) }
         ensures in_log { IfOk result (λ v. verdict_view v ≢ bad) }
@@ -33,8 +33,8 @@ impl Session {
             ≡ last_text_in (option_map string_bytes uri.now)
             (last_text_in (option_map string_bytes uri.now) (option_map string_bytes kept.old)
             self.old.server.table) self.new.server.table) }
-        ensures error { IfErr result (λ fault. (fault ≡ EngineFault.NoMemory)
-            ⊎ ((fault ≡ EngineFault.BadLog head.place)
+        ensures error { IfErr result (λ fault. (fault ≡ StreamFault.NoMemory)
+            ⊎ ((fault ≡ StreamFault.BadLog head.place)
             × ((judge_at self.old head body.now).verdict ≡ bad))) }
     {
         let verdict = self.judge_and_keep(head, body, uri, kept)?;

@@ -21,7 +21,7 @@ use crate::session::{RecordBody, Session, Verdict, in_log};
 use lsp_log::{Head, Side};
 use lsp_message::Id;
 use lsp_server::Incoming;
-use lsp_stream::EngineFault;
+use lsp_stream::StreamFault;
 use std::alloc::{AllocError, Global};
 
 /// What of a record isn't in its line yet.
@@ -47,7 +47,7 @@ impl Session {
         body: &[u8],
         buffer: &mut Vec<u8>,
         canonical: &mut Vec<u8>,
-    ) -> Result<Traced, EngineFault>
+    ) -> Result<Traced, StreamFault>
         ensures traced { IfOk result (IsTraced self.old head body.now canonical.old.items
             canonical.new.items) }
         ensures in_log { IfOk result (λ traced. verdict_view traced.verdict ≢ bad) }
@@ -55,8 +55,8 @@ impl Session {
         ensures members { OnOk result (buffer.new.items ≡ buffer.old.items
             ++ first_members (ports.one_more self.old.records) head
             (incoming_of (reading body.now))) }
-        ensures error { IfErr result (λ fault. (fault ≡ EngineFault.NoMemory)
-            ⊎ ((fault ≡ EngineFault.BadLog head.place)
+        ensures error { IfErr result (λ fault. (fault ≡ StreamFault.NoMemory)
+            ⊎ ((fault ≡ StreamFault.BadLog head.place)
             × ((judge_at self.old head body.now).verdict ≡ bad))) }
     {
         let traced = self.judge_and_trace(head, body, buffer, canonical)?;

@@ -137,8 +137,8 @@ static LIMITS: [Limit; 3] = [
     Limit {
         letters: 3_883,
         version: 2,
-        of_1: (Fault(EngineFault::BodyTooLong { place: 340 }), 340, 0),
-        of_2: (Fault(EngineFault::BodyTooLong { place: 513 }), 513, 0),
+        of_1: (Fault(StreamFault::BodyTooLong { place: 340 }), 340, 0),
+        of_2: (Fault(StreamFault::BodyTooLong { place: 513 }), 513, 0),
     },
     Limit {
         letters: 3_883,

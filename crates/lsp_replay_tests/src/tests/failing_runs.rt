@@ -156,7 +156,7 @@ impl<'a> Runs<'a> {
         };
         let failed = Wanted {
             reads: Some((number as u64).saturating_add(1)),
-            ..expected(Err(EngineFault::Read), self.case.written_at(number))
+            ..expected(Err(StreamFault::Read), self.case.written_at(number))
         };
         self.meets(calls, failed)
     }
@@ -207,7 +207,7 @@ impl<'a> Runs<'a> {
         let written = number.saturating_sub(self.flushed_before(number));
         let failed = Wanted {
             writes: Some((number as u64).saturating_add(1)),
-            ..expected(Err(EngineFault::Write), written)
+            ..expected(Err(StreamFault::Write), written)
         };
         self.meets(calls, failed)
     }
@@ -250,7 +250,7 @@ impl<'a> Runs<'a> {
     pub fn calls_in_order(&self) -> Result<bool, Fail> {
         let mut made = [0usize; 3];
         for (turns, call) in self.case.order.iter().enumerate() {
-            if !self.stops_after(turns, made, Err(EngineFault::TooManyTurns))? {
+            if !self.stops_after(turns, made, Err(StreamFault::TooManyTurns))? {
                 return Ok(false);
             }
             made = one_more(made, *call);

@@ -251,13 +251,13 @@ fn a_reader_and_a_writer_that_stop(rt: HostRuntime) -> Result<(), Fail> {
         other_reads: Call::Fail,
         ..SMOOTH
     };
-    assert!(rt; serves(rt.alloc(), first, Err(EngineFault::Read), 152)?);
+    assert!(rt; serves(rt.alloc(), first, Err(StreamFault::Read), 152)?);
     let short = Calls {
         writes: &[Call::Take(100)],
         other_writes: Call::Fail,
         ..SMOOTH
     };
-    assert!(rt; serves(rt.alloc(), short, Err(EngineFault::Write), 100)?);
+    assert!(rt; serves(rt.alloc(), short, Err(StreamFault::Write), 100)?);
     Ok(())
 }
 
@@ -273,7 +273,7 @@ fn is_answered_at_once(alloc: Global) -> Result<bool, Fail> {
     };
     let run = run_with(alloc, Command::Serve, &endless, settings()?, calls)?;
     Ok(
-        run.answer == Err(EngineFault::TooManyTurns)
+        run.answer == Err(StreamFault::TooManyTurns)
             && run.output == log(alloc, &[INVALID, INVALID, INVALID])?
             && (run.output.len(), run.flushes) == (303, 3)
             && (run.reads, run.writes) == (4, 6),

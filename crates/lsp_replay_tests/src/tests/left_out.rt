@@ -173,14 +173,14 @@ static ROWS: [Row; 13] = [
         Command::Documents,
         Bytes::Frames(&[INITIALIZE, SHUTDOWN, EXIT, CANCEL]),
         Bytes::Frames(&[INITIALIZE, SHUTDOWN, EXIT]),
-        Fault(EngineFault::BadLog { place: 293 }),
+        Fault(StreamFault::BadLog { place: 293 }),
     ),
     // A run that hasn't ended isn't written after a fault.
     Row(
         Command::SquashDocuments,
         Bytes::Then(&[INITIALIZE, OPEN, WHOLE, TYPED], b"Content-Length: 9"),
         Bytes::Frames(&[INITIALIZE, OPEN]),
-        Fault(EngineFault::Truncated { place: 761 }),
+        Fault(StreamFault::Truncated { place: 761 }),
     ),
 ];
 

@@ -45,21 +45,21 @@ static VERSION_1: [Row; 7] = [
     Row(
         Command::Normalise,
         Bytes::Plain(b"Content-Length: 2\r\n\r\n["),
-        Fault(EngineFault::Truncated { place: 22 }),
+        Fault(StreamFault::Truncated { place: 22 }),
         Bytes::Plain(b""),
         0,
     ),
     Row(
         Command::Normalise,
         Bytes::Plain(b"Content-Length: 2\r\n\r\n[]C"),
-        Fault(EngineFault::Truncated { place: 24 }),
+        Fault(StreamFault::Truncated { place: 24 }),
         Bytes::Plain(FRAME),
         0,
     ),
     Row(
         Command::Normalise,
         Bytes::Plain(b"Content-Length: 2\r\n\r\n[]a b"),
-        Fault(EngineFault::Frame(FrameFault::BadHeader { place: 24 })),
+        Fault(StreamFault::Frame(FrameFault::BadHeader { place: 24 })),
         Bytes::Plain(FRAME),
         0,
     ),
@@ -83,28 +83,28 @@ static VERSION_2: [Row; 6] = [
     Row(
         Command::Normalise,
         Bytes::Plain(b"lsp-session-log 2\n>"),
-        Fault(EngineFault::Truncated { place: 19 }),
+        Fault(StreamFault::Truncated { place: 19 }),
         Bytes::Plain(b""),
         0,
     ),
     Row(
         Command::Normalise,
         Bytes::Plain(b"lsp-session-log 2\n>Content"),
-        Fault(EngineFault::Truncated { place: 26 }),
+        Fault(StreamFault::Truncated { place: 26 }),
         Bytes::Plain(b""),
         0,
     ),
     Row(
         Command::Normalise,
         Bytes::Plain(b"lsp-session-log 2\nContent"),
-        Fault(EngineFault::BadLog { place: 18 }),
+        Fault(StreamFault::BadLog { place: 18 }),
         Bytes::Plain(b""),
         0,
     ),
     Row(
         Command::Normalise,
         Bytes::Plain(b"lsp-session-log 2\n>\n"),
-        Fault(EngineFault::Frame(FrameFault::BadHeader { place: 19 })),
+        Fault(StreamFault::Frame(FrameFault::BadHeader { place: 19 })),
         Bytes::Plain(b""),
         0,
     ),
@@ -114,49 +114,49 @@ static VERSIONS: [Row; 7] = [
     Row(
         Command::Normalise,
         Bytes::Plain(b"lsp-session-log 2"),
-        Fault(EngineFault::Frame(FrameFault::BadHeader { place: 15 })),
+        Fault(StreamFault::Frame(FrameFault::BadHeader { place: 15 })),
         Bytes::Plain(b""),
         0,
     ),
     Row(
         Command::Normalise,
         Bytes::Plain(b"lsp-session-log 3\n"),
-        Fault(EngineFault::Frame(FrameFault::BadHeader { place: 15 })),
+        Fault(StreamFault::Frame(FrameFault::BadHeader { place: 15 })),
         Bytes::Plain(b""),
         0,
     ),
     Row(
         Command::Normalise,
         Bytes::Plain(b"lsp"),
-        Fault(EngineFault::Truncated { place: 3 }),
+        Fault(StreamFault::Truncated { place: 3 }),
         Bytes::Plain(b""),
         0,
     ),
     Row(
         Command::Serve,
         Bytes::Plain(MARKED),
-        Fault(EngineFault::Frame(FrameFault::BadHeader { place: 15 })),
+        Fault(StreamFault::Frame(FrameFault::BadHeader { place: 15 })),
         Bytes::Plain(b""),
         0,
     ),
     Row(
         Command::Convert,
         Bytes::Plain(MARKED),
-        Fault(EngineFault::BadLog { place: 0 }),
+        Fault(StreamFault::BadLog { place: 0 }),
         Bytes::Plain(b""),
         0,
     ),
     Row(
         Command::Convert,
         Bytes::Plain(b"lsp-session-log 2\n>"),
-        Fault(EngineFault::BadLog { place: 0 }),
+        Fault(StreamFault::BadLog { place: 0 }),
         Bytes::Plain(b""),
         0,
     ),
     Row(
         Command::Convert,
         Bytes::Plain(b"lsp-session-log 2"),
-        Fault(EngineFault::Frame(FrameFault::BadHeader { place: 15 })),
+        Fault(StreamFault::Frame(FrameFault::BadHeader { place: 15 })),
         Bytes::Plain(b""),
         0,
     ),
@@ -174,14 +174,14 @@ static ENDS: [Row; 3] = [
     Row(
         Command::Normalise,
         Bytes::Frames(&[EXIT, "[]"]),
-        Fault(EngineFault::BadLog { place: 55 }),
+        Fault(StreamFault::BadLog { place: 55 }),
         Bytes::Frames(&[EXIT]),
         0,
     ),
     Row(
         Command::Normalise,
         Bytes::Marked(&[(">", EXIT), (">", "[]")]),
-        Fault(EngineFault::BadLog { place: 74 }),
+        Fault(StreamFault::BadLog { place: 74 }),
         Bytes::Marked(&[(">", EXIT)]),
         0,
     ),
@@ -272,7 +272,7 @@ fn fails_at(alloc: Global, input: &[u8], first: usize, number: usize) -> Result<
         ..SMOOTH
     };
     let part = input.get(..if number < first { 0 } else { first });
-    let answer = Err(EngineFault::Read);
+    let answer = Err(StreamFault::Read);
     writes_part(alloc, Command::Normalise, input, calls, answer, part)
 }
 
@@ -299,13 +299,13 @@ const NONE: Call = Call::Take(0);
 /// The writer's calls, the result, and how much is written. Each reply is one write and one flush;
 /// a flush has nothing to take.
 static WRITES: [(&[Call], End, usize); 8] = [
-    (&[Call::Fail], Fault(EngineFault::Write), 0),
-    (&[NONE], Fault(EngineFault::Write), 0),
-    (&[ALL, Call::Fail], Fault(EngineFault::Write), 101),
+    (&[Call::Fail], Fault(StreamFault::Write), 0),
+    (&[NONE], Fault(StreamFault::Write), 0),
+    (&[ALL, Call::Fail], Fault(StreamFault::Write), 101),
     (&[ALL, NONE], Ended(1, 2, 2), 202),
-    (&[ALL, ALL, Call::Fail], Fault(EngineFault::Write), 101),
-    (&[ALL, ALL, NONE], Fault(EngineFault::Write), 101),
-    (&[ALL, ALL, ALL, Call::Fail], Fault(EngineFault::Write), 202),
+    (&[ALL, ALL, Call::Fail], Fault(StreamFault::Write), 101),
+    (&[ALL, ALL, NONE], Fault(StreamFault::Write), 101),
+    (&[ALL, ALL, ALL, Call::Fail], Fault(StreamFault::Write), 202),
     (&[ALL, ALL, ALL, NONE], Ended(1, 2, 2), 202),
 ];
 
@@ -331,7 +331,7 @@ fn a_short_write_goes_on_with_the_rest(rt: HostRuntime) -> Result<(), Fail> {
         writes: &[Call::Take(10), Call::Interrupt, Call::Take(3), Call::Fail],
         ..SMOOTH
     };
-    let answer = Err(EngineFault::Write);
+    let answer = Err(StreamFault::Write);
     let part = TWO_FRAMES.get(..13);
     assert!(rt;
         writes_part(
@@ -357,7 +357,7 @@ fn makes_calls(alloc: Global, turns: u64, answer: Answer) -> Result<bool, Fail> 
 fn no_call_is_made_beyond_those_allowed(rt: HostRuntime) -> Result<(), Fail> {
     // One read, a write and a flush for each record, and one read that comes to the end.
     for turns in 0..6 {
-        let answer = Err(EngineFault::TooManyTurns);
+        let answer = Err(StreamFault::TooManyTurns);
         assert!(rt; makes_calls(rt.alloc(), turns, answer)?, "{turns}");
     }
     assert!(rt; makes_calls(rt.alloc(), 6, Ended(1, 2, 2).answer())?);

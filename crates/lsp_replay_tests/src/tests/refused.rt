@@ -50,7 +50,7 @@ impl Wanted {
     /// fails if there is none.
     fn ran_out(&self, run: &Report) -> bool {
         let fault = run.answer.err();
-        (fault == Some(EngineFault::NoMemory) || fault == Some(EngineFault::Write))
+        (fault == Some(StreamFault::NoMemory) || fault == Some(StreamFault::Write))
             && self.begins_with(&run.output)
     }
 

@@ -90,14 +90,14 @@ static SESSION_ROWS: [Row; 6] = [
     Row(
         Command::Check,
         Bytes::Then(SESSION, b"no header"),
-        Fault(EngineFault::Frame(FrameFault::BadHeader { place: 893 })),
+        Fault(StreamFault::Frame(FrameFault::BadHeader { place: 893 })),
         Bytes::Plain(b"1 reply\n2 ignored\n3 changed\n4 changed\n5 changed\n6 reply\n7 exit 0\n"),
         0,
     ),
     Row(
         Command::Normalise,
         Bytes::Frames(TWICE),
-        Fault(EngineFault::BadLog { place: 891 }),
+        Fault(StreamFault::BadLog { place: 891 }),
         Bytes::Frames(SESSION),
         0,
     ),
@@ -172,46 +172,46 @@ fn a_session_ends_with_its_exit_or_its_input(rt: HostRuntime) -> Result<(), Fail
 }
 
 /// Inputs that are no log: their faults, and what `check` writes first.
-static FAULTS: [(Bytes, EngineFault, &[u8]); 7] = [
+static FAULTS: [(Bytes, StreamFault, &[u8]); 7] = [
     (
         Bytes::Plain(b"Content-Length: 5\r\n\r\nab"),
-        EngineFault::Truncated { place: 23 },
+        StreamFault::Truncated { place: 23 },
         b"",
     ),
     (
         Bytes::Plain(b"lsp-session-log 3\n"),
-        EngineFault::Frame(FrameFault::BadHeader { place: 15 }),
+        StreamFault::Frame(FrameFault::BadHeader { place: 15 }),
         b"",
     ),
     (
         Bytes::Plain(b"lsp-session-log 2"),
-        EngineFault::Frame(FrameFault::BadHeader { place: 15 }),
+        StreamFault::Frame(FrameFault::BadHeader { place: 15 }),
         b"",
     ),
     (
         Bytes::Plain(b"lsp-session-log 2\nx"),
-        EngineFault::BadLog { place: 18 },
+        StreamFault::BadLog { place: 18 },
         b"",
     ),
     (
         Bytes::Plain(b"lsp-session-log 2\n>"),
-        EngineFault::Truncated { place: 19 },
+        StreamFault::Truncated { place: 19 },
         b"",
     ),
     (
         Bytes::Cut(WORKED, 505),
-        EngineFault::Truncated { place: 505 },
+        StreamFault::Truncated { place: 505 },
         b"1 reply\n2 changed\n",
     ),
     (
         Bytes::Frames(&[INITIALIZE, EXIT, EXIT]),
-        EngineFault::BadLog { place: 227 },
+        StreamFault::BadLog { place: 227 },
         b"1 reply\n2 exit 1\n",
     ),
 ];
 
 /// Do `check` and `replay` report the fault, after these lines and after nothing?
-fn has_fault(alloc: Global, row: &(Bytes, EngineFault, &'static [u8])) -> Result<bool, Fail> {
+fn has_fault(alloc: Global, row: &(Bytes, StreamFault, &'static [u8])) -> Result<bool, Fail> {
     let (input, fault, lines) = row;
     let checked = Row(
         Command::Check,

@@ -216,15 +216,15 @@ fn squashed_logs_have_these_lengths(rt: HostRuntime) -> Result<(), Fail> {
 }
 
 /// Inputs with a fault after a run that hasn't ended: the fault, and what was written before it.
-static FAULTY: [(Bytes, EngineFault, Bytes); 4] = [
+static FAULTY: [(Bytes, StreamFault, Bytes); 4] = [
     (
         Bytes::Then(&[INITIALIZE, OPEN, WHOLE, TYPED], b"Content-Length: 9"),
-        EngineFault::Truncated { place: 761 },
+        StreamFault::Truncated { place: 761 },
         Bytes::Frames(&[INITIALIZE, OPEN]),
     ),
     (
         Bytes::Frames(&[INITIALIZE, SHUTDOWN, EXIT, EXIT]),
-        EngineFault::BadLog { place: 293 },
+        StreamFault::BadLog { place: 293 },
         Bytes::Frames(&[INITIALIZE, SHUTDOWN, EXIT]),
     ),
     (
@@ -232,7 +232,7 @@ static FAULTY: [(Bytes, EngineFault, Bytes); 4] = [
             &[INITIALIZE, OPEN, WHOLE, SAVE, TYPED],
             b"Content-Length: 9",
         ),
-        EngineFault::Truncated { place: 878 },
+        StreamFault::Truncated { place: 878 },
         Bytes::Frames(&[INITIALIZE, OPEN, CANONICAL, SAVE]),
     ),
     // A mark that is none.
@@ -244,12 +244,12 @@ static FAULTY: [(Bytes, EngineFault, Bytes); 4] = [
             (">", WHOLE),
             ("?", TYPED),
         ]),
-        EngineFault::BadLog { place: 680 },
+        StreamFault::BadLog { place: 680 },
         Bytes::Marked(&[(">", INITIALIZE), ("<", REPLY), (">", OPEN)]),
     ),
 ];
 
-fn is_left_out(alloc: Global, row: &(Bytes, EngineFault, Bytes)) -> Result<bool, Fail> {
+fn is_left_out(alloc: Global, row: &(Bytes, StreamFault, Bytes)) -> Result<bool, Fail> {
     let (input, fault, output) = row;
     let input = input.get(alloc)?;
     let run = run_with(
@@ -333,7 +333,7 @@ fn is_lost(alloc: Global, row: &Open) -> Result<bool, Fail> {
     let mut input = log(alloc, before)?;
     input.extend_from_slice(&log(alloc, &[letters(alloc, 3_883, 3)?.as_str()])?)?;
     let run = run_with(alloc, Command::Squash, &input, narrow()?, SMOOTH)?;
-    let fault = EngineFault::BodyTooLong { place: *place };
+    let fault = StreamFault::BodyTooLong { place: *place };
     Ok(run.answer == Err(fault) && run.output == log(alloc, written)?)
 }
 

@@ -41,7 +41,7 @@ static CONVERTED_ROWS: [Row; 6] = [
     Row(
         Command::Convert,
         Bytes::Marked(CONVERTED),
-        Fault(EngineFault::BadLog { place: 0 }),
+        Fault(StreamFault::BadLog { place: 0 }),
         Bytes::Plain(b""),
         0,
     ),
@@ -114,7 +114,7 @@ static SHORT_LOGS: [Row; 10] = [
     Row(
         Command::Convert,
         Bytes::Plain(LINE),
-        Fault(EngineFault::BadLog { place: 0 }),
+        Fault(StreamFault::BadLog { place: 0 }),
         Bytes::Plain(b""),
         0,
     ),
@@ -283,7 +283,7 @@ static LOGS: [Marks; 11] = [
 fn is_checked(answer: Answer, bad: Option<u64>) -> bool {
     match bad {
         None => answer.is_ok(),
-        Some(place) => answer == Err(EngineFault::BadLog { place }),
+        Some(place) => answer == Err(StreamFault::BadLog { place }),
     }
 }
 

@@ -3,42 +3,42 @@
 use super::*;
 use crate::run::{refuse, report};
 use lsp_frame::FrameFault;
-use lsp_replay::EngineFault;
+use lsp_replay::StreamFault;
 use lsp_samples::bodies::{INITIALIZE, OPEN, WHOLE};
 use lsp_samples::logs::log;
 use std::io::ErrorKind;
 use std::test::Fail;
 
 /// A fault, the status, and the line.
-static REPORTS: [(EngineFault, u8, &str); 8] = [
-    (EngineFault::Read, 3, "lspsync: read fault\n"),
-    (EngineFault::Write, 3, "lspsync: write fault\n"),
-    (EngineFault::TooManyTurns, 3, "lspsync: too many turns\n"),
-    (EngineFault::NoMemory, 4, "lspsync: out of memory\n"),
+static REPORTS: [(StreamFault, u8, &str); 8] = [
+    (StreamFault::Read, 3, "lspsync: read fault\n"),
+    (StreamFault::Write, 3, "lspsync: write fault\n"),
+    (StreamFault::TooManyTurns, 3, "lspsync: too many turns\n"),
+    (StreamFault::NoMemory, 4, "lspsync: out of memory\n"),
     (
-        EngineFault::Frame(FrameFault::RepeatedHeader { place: 39 }),
+        StreamFault::Frame(FrameFault::RepeatedHeader { place: 39 }),
         5,
         "lspsync: frame fault F4 at 39\n",
     ),
     (
-        EngineFault::Truncated { place: 23 },
+        StreamFault::Truncated { place: 23 },
         5,
         "lspsync: truncated at 23\n",
     ),
     (
-        EngineFault::BodyTooLong { place: 340 },
+        StreamFault::BodyTooLong { place: 340 },
         5,
         "lspsync: body too long at 340\n",
     ),
     (
-        EngineFault::BadLog { place: 18 },
+        StreamFault::BadLog { place: 18 },
         5,
         "lspsync: bad log at 18\n",
     ),
 ];
 
 /// Is a fault reported with this status, in this line?
-fn is_reported(alloc: Global, fault: EngineFault, status: u8, line: &str) -> bool {
+fn is_reported(alloc: Global, fault: StreamFault, status: u8, line: &str) -> bool {
     let mut errors = Vec::new(alloc);
     report(fault, &mut errors).status == status && errors.as_slice() == line.as_bytes()
 }

@@ -1,7 +1,7 @@
 use Rattle.std.specs.Prelude.{◌≡◌, ◌&&◌, not}
 use Rattle.std.proofs.Common.{rules, Bool, subst}
 use Rattle.std.proofs.lemmas.Result.{err_from_is_err_and}
-use Rattle.lsp_stream.specs.declared.fault.EngineFault.TheVariants.{TooManyTurns}
+use Rattle.lsp_stream.specs.declared.fault.StreamFault.TheVariants.{TooManyTurns}
 use Rattle.lsp_stream.specs.Turns.{AppendsShort}
 use Rattle.lsp_replay.specs.inside.RunOutput.{output_of}
 use Rattle.lsp_replay.proofs.EngineLemmas.{write_fault}
