@@ -122,18 +122,19 @@ impl Server {
     /// | all but Ended | a response | ignored |
     /// | Down | notification `exit` | exit with status 0; now Ended |
     /// | New, Running | notification `exit` | exit with status 1; now Ended |
+    /// | New | request `initialize` with faulty params | a reply -32602 |
     /// | New | request `initialize` | the encoding that is chosen; now Running |
-    /// | New | the same with faulty params | a reply -32602 |
     /// | New | another request | a reply -32002 |
-    /// | Running | request `shutdown` | a result; now Down |
+    /// | New | another notification | dropped |
     /// | Running | request `initialize` | a reply -32600 |
+    /// | Running | request `shutdown` | a result; now Down |
     /// | Running | another request | a reply -32601 |
     /// | Running | `textDocument/didOpen`, `didChange`, `didClose` | changed, or refused |
     /// | Running | another notification | ignored |
     /// | Down | a request | a reply -32600 |
-    /// | New, Down | another notification | dropped |
+    /// | Down | another notification | dropped |
     ///
-    /// Nothing changes but what the table names. After [`ServerFault::NoMemory`] the server is
+    /// The first row that fits counts. Nothing changes but what the table names. After [`ServerFault::NoMemory`] the server is
     /// unchanged, and a caller can pass the same body again. [`ServerFault::AlreadyEnded`] comes in
     /// phase Ended, and only there.
     ///
