@@ -190,7 +190,7 @@ typedef struct laspidru_client_settings {
 /* The state of a client's session. */
 typedef struct laspidru_state {
     laspidru_u32 phase;      /* LASPIDRU_PHASE_NEW .. LASPIDRU_PHASE_FAILED */
-    laspidru_u32 reason;     /* FAILED: the code that says why; else 0 */
+    laspidru_u32 reason;     /* PHASE_FAILED: the code that says why; else 0 */
     laspidru_u32 encoding;   /* the encoding that was agreed on; 0 before */
     laspidru_size documents; /* how many are open */
 } laspidru_state;
