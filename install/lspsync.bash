@@ -16,7 +16,7 @@ _lspsync() {
         --max-changes) words=65536 ;;
         --at | --uri) words= ;;
         *)
-            words="--encoding --max-body --max-text --max-docs --max-changes --help"
+            words="--encoding --max-body --max-text --max-docs --max-changes --lenient --help"
             case $command in
                 serve) words="$words --sync" ;;
                 check) words="$words --explain" ;;

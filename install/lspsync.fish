@@ -24,3 +24,4 @@ complete -c lspsync -n $some -l max-body -x -a 16777216 -d 'Bytes of a body: 409
 complete -c lspsync -n $some -l max-text -x -a 16777216 -d 'Bytes of a document: 0 to 1073741824'
 complete -c lspsync -n $some -l max-docs -x -a 1024 -d 'Open documents: 1 to 65536'
 complete -c lspsync -n $some -l max-changes -x -a 65536 -d 'Changes in one message: 1 to 1048576'
+complete -c lspsync -n $some -l lenient -d 'Take any version, and a second opening'

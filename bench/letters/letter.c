@@ -26,7 +26,7 @@ int main(int argc, char **argv) {
             return 1;
         double start = now();
         for (i = 0; i < count; i++) {
-            laspidru_place place = {(laspidru_u32)(i * 7919 % lines), 8};
+            laspidru_position place = {(laspidru_u32)(i * 7919 % lines), 8};
             laspidru_edit edit = {place, place, 1, 0};
             if (laspidru_document_change(&document, LASPIDRU_UTF16, &edit, 1, (const unsigned char *)"x", 1, &fault) != LASPIDRU_OK)
                 return 1;

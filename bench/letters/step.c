@@ -50,7 +50,7 @@ static void write_messages(size_t lines) {
 }
 
 static void begin(laspidru_handle *server) {
-    laspidru_settings settings = {16777216, 16777216, 1024, 65536, LASPIDRU_UTF16, 0, 0};
+    laspidru_settings settings = LASPIDRU_SETTINGS_DEFAULT;
     laspidru_answer answer;
     demand(laspidru_server_new(server, &settings) == LASPIDRU_OK);
     demand(laspidru_server_handle(server, (bytes)initialize, strlen(initialize), &answer) == LASPIDRU_OK);

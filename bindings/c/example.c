@@ -24,7 +24,7 @@ int main(void) {
         printf("%.*s", (int)copied, (const char *)out);
 
     laspidru_size offset = 0;
-    laspidru_place place = {1, 1};
+    laspidru_position place = {1, 1};
     if (laspidru_document_offset(&document, LASPIDRU_UTF16, place, &offset) == LASPIDRU_OK)
         printf("line 1, character 1 is byte %zu\n", (size_t)offset);
 

@@ -26,14 +26,14 @@ static unsigned char *read_all(size_t *len) {
 static void print_output(laspidru_handle *output) {
     unsigned char part[4096];
     laspidru_size start = 0, copied = 0;
-    while (laspidru_log_output(output, start, part, sizeof part, &copied) == LASPIDRU_OK && copied > 0) {
+    while (laspidru_output_copy(output, start, part, sizeof part, &copied) == LASPIDRU_OK && copied > 0) {
         fwrite(part, 1, copied, stdout);
         start += copied;
     }
 }
 
 int main(void) {
-    laspidru_log_settings settings = {16777216, 16777216, 1024, 65536, LASPIDRU_UTF16, 0};
+    laspidru_log_settings settings = LASPIDRU_LOG_SETTINGS_DEFAULT;
     laspidru_handle output = {0};
     laspidru_ending ending = {0};
     size_t len;

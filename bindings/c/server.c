@@ -54,7 +54,7 @@ static int take(laspidru_handle *server, const unsigned char *piece, laspidru_si
 }
 
 int main(void) {
-    laspidru_settings settings = {16777216, 16777216, 1024, 65536, LASPIDRU_UTF16, 0, 0}; /* lspsync's defaults */
+    laspidru_settings settings = LASPIDRU_SETTINGS_DEFAULT;
     laspidru_handle server = {0};
     unsigned char piece[4096];
     int status = laspidru_server_new(&server, &settings) == LASPIDRU_OK ? GOES_ON : FAILED;

@@ -138,8 +138,8 @@ static void begin(const char *line) {
     int utf8, utf32, preferred, full;
     laspidru_size text, docs, changes;
     if (sscanf(line, "session %d %d %d %d %zu %zu %zu", &utf8, &utf32, &preferred, &full, &text, &docs, &changes) != 7) demand(99);
-    laspidru_settings settings = {16777216, text, docs, changes, preferred, 0, full};
-    laspidru_client_settings offers = {16777216, text, docs, changes, utf8, utf32};
+    laspidru_settings settings = {16777216, text, docs, changes, preferred, 0, full, 0};
+    laspidru_client_settings offers = {16777216, text, docs, changes, utf8, utf32, 0};
     demand(laspidru_server_new(&server, &settings));
     demand(laspidru_client_new(&client, &offers));
 }

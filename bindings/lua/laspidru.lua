@@ -5,14 +5,14 @@ if not has_ffi then error("laspidru needs LuaJIT, as Neovim has it, and this is 
 
 ffi.cdef([[
 typedef struct { void *pointer; bool is_full; } laspidru_handle;
-typedef struct { uint32_t line, character; } laspidru_place;
-typedef struct { laspidru_place start, end_; size_t len; bool is_whole; } laspidru_edit;
+typedef struct { uint32_t line, character; } laspidru_position;
+typedef struct { laspidru_position start, end_; size_t len; bool is_whole; } laspidru_edit;
 typedef struct { size_t change; bool at_end; } laspidru_fault;
 typedef struct { size_t edit, other; bool at_end; } laspidru_edits_fault;
 typedef struct { size_t start, end_; } laspidru_line;
 typedef struct { size_t bytes, lines; } laspidru_length;
 typedef struct { size_t bytes, body_len; uint64_t place; uint32_t frame; bool is_whole; } laspidru_taken;
-typedef struct { size_t max_body, max_text, max_docs, max_changes; bool utf8, utf32; } laspidru_client_settings;
+typedef struct { size_t max_body, max_text, max_docs, max_changes; bool utf8, utf32, lenient; } laspidru_client_settings;
 typedef struct { uint32_t phase, reason, encoding; size_t documents; } laspidru_state;
 typedef struct { uint32_t kind, reason, status; int32_t error; size_t reply_len; } laspidru_answer;
 typedef struct { int32_t version; size_t bytes; } laspidru_opened;
@@ -26,8 +26,8 @@ uint32_t laspidru_document_canonical(laspidru_handle *, uint32_t, const laspidru
 uint32_t laspidru_document_size(laspidru_handle *, laspidru_length *);
 uint32_t laspidru_document_line(laspidru_handle *, uint32_t, laspidru_line *);
 uint32_t laspidru_document_copy(laspidru_handle *, size_t, char *, size_t, size_t *);
-uint32_t laspidru_document_offset(laspidru_handle *, uint32_t, laspidru_place, size_t *);
-uint32_t laspidru_document_position(laspidru_handle *, uint32_t, size_t, laspidru_place *);
+uint32_t laspidru_document_offset(laspidru_handle *, uint32_t, laspidru_position, size_t *);
+uint32_t laspidru_document_position(laspidru_handle *, uint32_t, size_t, laspidru_position *);
 uint32_t laspidru_batch_len(laspidru_handle *, size_t *);
 uint32_t laspidru_batch_edit(laspidru_handle *, size_t, laspidru_edit *, char *, size_t, size_t *);
 uint32_t laspidru_client_new(laspidru_handle *, const laspidru_client_settings *);
@@ -236,14 +236,14 @@ end
 
 -- The byte offset, counted from 0, of a position. One after the line's end is the line's end.
 function Document:offset(position)
-    local place, offset = ffi.new("laspidru_place", uint(position.line), uint(position.character)), ffi.new("size_t[1]")
+    local place, offset = ffi.new("laspidru_position", uint(position.line), uint(position.character)), ffi.new("size_t[1]")
     demand(C.laspidru_document_offset(self.handle, self.encoding, place, offset))
     return tonumber(offset[0])
 end
 
 -- The exact position of a byte offset.
 function Document:position(offset)
-    local place = ffi.new("laspidru_place")
+    local place = ffi.new("laspidru_position")
     demand(C.laspidru_document_position(self.handle, self.encoding, number(offset, 0, 2 ^ 53), place))
     return { line = place.line, character = place.character }
 end
@@ -257,7 +257,8 @@ end
 local Client = {}
 Client.__index = Client
 
--- Options are `utf8`, `utf32` (what it offers beside UTF-16), `max_body`, `max_text`, `max_docs`, `max_changes`.
+-- Options are `utf8`, `utf32` (what it offers beside UTF-16), `max_body`, `max_text`, `max_docs`, `max_changes`, and
+-- `lenient`: an edit of any version is taken, and an open document may be opened again.
 function Client.new(options)
     options = options or {}
     local self = setmetatable({ handle = new_handle(), rest = "" }, Client)
@@ -268,6 +269,7 @@ function Client.new(options)
         max_changes = number(options.max_changes or 65536, 0, 2 ^ 53),
         utf8 = options.utf8 and true or false,
         utf32 = options.utf32 and true or false,
+        lenient = options.lenient and true or false,
     })
     demand(C.laspidru_client_new(self.handle, settings))
     return self

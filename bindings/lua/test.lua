@@ -98,6 +98,15 @@ equal(bad:deliver("{").reason, "NOT_AN_ANSWER")
 equal(bad:phase(), "failed")
 refuses("BAD_LIMIT", Client.new, { max_docs = 0 })
 
+local free = Client.new({ lenient = true })
+free:start()
+free:receive(framed(ANSWERED:gsub("utf%-8", "utf-16")))
+free:open("a", "c", 1, "x")
+free:edit("a", 1, { change(at(0, 0), at(0, 0), "y") })
+equal(free:text("a"), "yx")
+free:open("a", "c", 0, "z")
+equal(free:text("a") .. free:version("a") .. free:document_count(), "z01")
+
 -- Random edits: the canonical messages, applied to a document of its own, leave the client's text.
 local chance = 1
 local function below(bound)

@@ -11,8 +11,8 @@ enum {
     MOST_ARGUMENTS = 6,
     FEW_EDITS = 4,
     NUMBERS_OF_EDIT = 6,
-    NUMBERS_OF_SETTINGS = 6,
-    NUMBERS_OF_SERVER = 7,
+    NUMBERS_OF_SETTINGS = 7,
+    NUMBERS_OF_SERVER = 8,
     MESSAGE_LEN = 96,
     REPORTED_STEP = 65536 /* the collector hears of a document's size after changes of so many bytes */
 };

@@ -113,6 +113,8 @@ export interface Limits {
   maxDocs?: number;
   /** 1 to 1,048,576 changes in a message; 65,536 where it isn't given. */
   maxChanges?: number;
+  /** Whether a change of any version is taken, and an open document may be opened again. */
+  lenient?: boolean;
 }
 
 /** A faulty frame. No more of its stream is taken; `events` came before it. */
@@ -214,6 +216,8 @@ export interface LogOptions {
   maxChanges?: number;
   /** What positions of a log of version 1 count; `utf-16` where it isn't given. */
   encoding?: 'utf-8' | 'utf-16' | 'utf-32';
+  /** Whether a change of any version is taken, and an open document may be opened again. */
+  lenient?: boolean;
 }
 
 export interface LogOutput {

@@ -335,9 +335,9 @@ class Server {
   #server;
   #framer;
 
-  constructor({ encoding = 'utf-16', isFixed = false, isFull = false, ...limits } = {}) {
+  constructor({ encoding = 'utf-16', isFixed = false, isFull = false, lenient = false, ...limits } = {}) {
     if (!Object.hasOwn(ENCODINGS, encoding)) throw refusal('BAD_ENCODING');
-    const numbers = [...limitsOf(limits), ENCODINGS[encoding], isFixed ? 1 : 0, isFull ? 1 : 0];
+    const numbers = [...limitsOf(limits), ENCODINGS[encoding], isFixed ? 1 : 0, isFull ? 1 : 0, lenient ? 1 : 0];
     this.#server = addon.newServer(Uint32Array.from(numbers));
     this.#framer = new Framer({ maxBody: numbers[0] });
   }
@@ -398,8 +398,8 @@ class Client {
   #client;
   #framer;
 
-  constructor({ utf8 = false, utf32 = false, ...limits } = {}) {
-    const numbers = [...limitsOf(limits), utf8 ? 1 : 0, utf32 ? 1 : 0];
+  constructor({ utf8 = false, utf32 = false, lenient = false, ...limits } = {}) {
+    const numbers = [...limitsOf(limits), utf8 ? 1 : 0, utf32 ? 1 : 0, lenient ? 1 : 0];
     this.#client = addon.newClient(Uint32Array.from(numbers));
     this.#framer = new Framer({ maxBody: numbers[0] });
   }
@@ -473,7 +473,7 @@ class Client {
 }
 
 const ENCODINGS = { 'utf-8': 8, 'utf-16': 16, 'utf-32': 32 };
-const LOG_DEFAULTS = { maxBody: 16777216, maxText: 16777216, maxDocs: 1024, maxChanges: 65536, encoding: 'utf-16', squash: false };
+const LOG_DEFAULTS = { ...LIMITS, encoding: 'utf-16', squash: false, lenient: false };
 
 /** A fault of a log: its `code`, its byte offset `place`, which of F1 to F7 a faulty `frame` has, else 0, and the `output` up to it. */
 class LogFault extends Error {
@@ -484,11 +484,11 @@ class LogFault extends Error {
 }
 
 function run(command, log, options) {
-  const { maxBody, maxText, maxDocs, maxChanges, encoding, squash } = { ...LOG_DEFAULTS, ...options };
+  const { maxBody, maxText, maxDocs, maxChanges, encoding, squash, lenient } = { ...LOG_DEFAULTS, ...options };
   const limits = [maxBody, maxText, maxDocs, maxChanges];
   if (!Object.hasOwn(ENCODINGS, encoding)) throw refusal('BAD_ENCODING');
   if (!limits.every((limit) => limit >>> 0 === limit)) throw refusal('BAD_LIMIT');
-  const ended = addon.log(command, log, Uint32Array.of(...limits, ENCODINGS[encoding], squash ? 1 : 0));
+  const ended = addon.log(command, log, Uint32Array.of(...limits, ENCODINGS[encoding], squash ? 1 : 0, lenient ? 1 : 0));
   if (ended.code !== 'OK') throw new LogFault(ended);
   const { output, status, messages, refused } = ended;
   return { output, status, messages, refused };

@@ -138,6 +138,8 @@ const example = (name) => fs.readFileSync(path.join(__dirname, '..', '..', 'exam
 const stale = check(example('stale-version'));
 assert.strictEqual(stale.output.toString(), '1 reply\n2 changed\n3 refused S5\n4 refused S4\n5 changed\n');
 assert.deepStrictEqual([stale.status, stale.messages, stale.refused], [1, 5, 2]);
+assert.strictEqual(check(example('stale-version'), { lenient: true }).output.toString(),
+  '1 reply\n2 changed\n3 changed\n4 refused S4\n5 changed\n');
 assert.strictEqual(replay(example('stale-version')).output.toString(),
   '{"languageId":"plaintext","text":"aXc","uri":"file:///a","version":2}\n');
 assert.deepStrictEqual(convert(example('typing')).output, example('typing-with-replies'));

@@ -162,6 +162,16 @@ class Tests(unittest.TestCase):
         self.assertRaises(TypeError, server.receive, "text")
         self.refuses(laspidru.BAD_ENCODING, Server, "utf-7")
 
+    def test_lenient(self):
+        server, client = Server(lenient=True), Client(lenient=True)
+        for event in server.receive(client.start()):
+            client.receive(event.frame)
+        server.receive(client.open("a", "c", 1, "x") + client.edit("a", 1, [change(at(0, 0), at(0, 0), "y")]))
+        self.assertEqual((server.text("a"), server.version("a")), ("yx", 1))
+        server.receive(client.open("a", "c", 0, "z"))
+        for end in (server, client):
+            self.assertEqual((end.text("a"), end.version("a"), end.document_count), ("z", 0, 1))
+
     def test_text_edits(self):
         server = opened_server("abc")
         self.assertEqual(server.batch_of_edits("a", [text_edit(0, 0, "1"), text_edit(1, 2, "2")]),

@@ -336,6 +336,8 @@ class Tests(unittest.TestCase):
         stale = check(example("stale-version"))
         self.assertEqual(stale.output, b"1 reply\n2 changed\n3 refused S5\n4 refused S4\n5 changed\n")
         self.assertEqual((stale.status, stale.messages, stale.refused), (1, 5, 2))
+        lenient = check(example("stale-version"), lenient=True)
+        self.assertEqual(lenient.output, b"1 reply\n2 changed\n3 changed\n4 refused S4\n5 changed\n")
         report = replay(example("stale-version"))
         self.assertEqual(report.output, b'{"languageId":"plaintext","text":"aXc","uri":"file:///a","version":2}\n')
         self.assertEqual(convert(example("typing")).output, example("typing-with-replies"))

@@ -42,18 +42,18 @@ static void test_positions(void) {
         {LASPIDRU_UTF32, 4294967295u, 4294967295u, LASPIDRU_OK, 8},
     };
     laspidru_handle document = {0};
-    laspidru_place place = {5, 5};
+    laspidru_position place = {5, 5};
     laspidru_size offset = 77, i;
     CHECK(laspidru_document_offset(&document, LASPIDRU_UTF8, place, &offset) == LASPIDRU_EMPTY && offset == 77);
     CHECK(laspidru_document_position(&document, LASPIDRU_UTF8, 0, &place) == LASPIDRU_EMPTY && place.line == 5);
     CHECK(open_text(&document, sample) == LASPIDRU_OK);
     for (i = 0; i < sizeof rows / sizeof rows[0]; i++) {
         offset = 77;
-        place = (laspidru_place){rows[i].line, rows[i].character};
+        place = (laspidru_position){rows[i].line, rows[i].character};
         CHECK(laspidru_document_offset(&document, rows[i].encoding, place, &offset) == rows[i].code);
         CHECK(offset == rows[i].offset);
     }
-    place = (laspidru_place){9, 9};
+    place = (laspidru_position){9, 9};
     CHECK(laspidru_document_position(&document, LASPIDRU_UTF16, 2, &place) == LASPIDRU_INSIDE_CHARACTER && place.line == 9);
     CHECK(laspidru_document_position(&document, LASPIDRU_UTF16, 5, &place) == LASPIDRU_INSIDE_CHARACTER);
     CHECK(laspidru_document_position(&document, LASPIDRU_UTF16, 9, &place) == LASPIDRU_INSIDE_CHARACTER);

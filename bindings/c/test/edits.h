@@ -74,7 +74,7 @@ static void test_server_message(void) {
     /* Two changes in order, of which the second goes on where the first ended: one change. */
     CHECK(served_message(&server, 7, two, 2, "XY", &output, &fault, &len) == LASPIDRU_OK && holds(&server, 1, "ab\ncd"));
     add_frame(&wanted, "", canonical_a);
-    CHECK(len == wanted.len && laspidru_log_output(&output, 0, out, sizeof out, &copied) == LASPIDRU_OK);
+    CHECK(len == wanted.len && laspidru_output_copy(&output, 0, out, sizeof out, &copied) == LASPIDRU_OK);
     CHECK(copied == wanted.len && memcmp(out, wanted.bytes, copied) == 0);
     CHECK(served_message(&server, 7, two, 2, "XY", &output, &fault, &len) == LASPIDRU_IN_USE && len == wanted.len);
     CHECK(served_message(&output, 7, two, 2, "XY", &server, &fault, &len) == LASPIDRU_IN_USE && holds(&server, 1, "ab\ncd"));

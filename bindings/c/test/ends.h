@@ -61,7 +61,7 @@ static void test_framer(void) {
     laspidru_close(&framer);
 }
 
-static const laspidru_client_settings client_settings = {4096, 64, 2, 4, 1, 0};
+static const laspidru_client_settings client_settings = {4096, 64, 2, 4, 1, 0, 0};
 
 static laspidru_u32 client_open(laspidru_handle *client, const char *uri, laspidru_i32 version, const char *text, laspidru_size *len) {
     return laspidru_client_open(client, bytes(uri), strlen(uri), bytes("c"), 1, version, bytes(text), strlen(text), len);
@@ -119,7 +119,7 @@ static void test_client_new(void) {
     CHECK(laspidru_client_new(&client, &bad) == LASPIDRU_BAD_LIMIT && !client.is_full);
     CHECK(laspidru_client_start(&client, &len) == LASPIDRU_EMPTY && len == 9);
     CHECK(laspidru_client_new(&client, &client_settings) == LASPIDRU_OK && client.is_full);
-    CHECK(laspidru_client_new(&client, &bad) == LASPIDRU_IN_USE && is_state(&client, LASPIDRU_NEW, 0, 0, 0));
+    CHECK(laspidru_client_new(&client, &bad) == LASPIDRU_IN_USE && is_state(&client, LASPIDRU_PHASE_NEW, 0, 0, 0));
     laspidru_close(&client);
 }
 
@@ -139,18 +139,18 @@ static void test_client_lifecycle(void) {
     CHECK(laspidru_client_frame(&client, 1, out, 6, &copied) == LASPIDRU_OK && copied == 6 && memcmp(out, "ontent-", 7) == 0);
     CHECK(laspidru_client_frame(&client, len + 1, out, 6, &copied) == LASPIDRU_OUT_OF_RANGE && copied == 6);
     CHECK(laspidru_client_start(&client, &len) == LASPIDRU_WRONG_PHASE && sends(&client, len, asked));
-    CHECK(is_state(&client, LASPIDRU_ASKED, 0, 0, 0));
+    CHECK(is_state(&client, LASPIDRU_PHASE_ASKED, 0, 0, 0));
     CHECK(deliver(&client, "{\"jsonrpc\":\"2.0\",\"method\":\"$/logTrace\"}", &answer) == LASPIDRU_OK && is_kind(answer, LASPIDRU_IGNORED, 0, 0));
     CHECK(laspidru_client_frame(&client, 0, out, 7, &copied) == LASPIDRU_OK && copied == 0);
     CHECK(deliver(&client, "{\"jsonrpc\":\"2.0\",\"id\":7,\"method\":\"a/b\"}", &answer) == LASPIDRU_OK && is_kind(answer, LASPIDRU_REPLIED, 0, 0));
     CHECK(deliver(&client, capabilities, &answer) == LASPIDRU_OK && is_kind(answer, LASPIDRU_REPLIED, 0, 0));
-    CHECK(is_state(&client, LASPIDRU_READY, 0, LASPIDRU_UTF8, 0));
+    CHECK(is_state(&client, LASPIDRU_PHASE_READY, 0, LASPIDRU_UTF8, 0));
     CHECK(laspidru_client_shutdown(&client, &len) == LASPIDRU_OK && sends(&client, len, "{\"id\":2,\"jsonrpc\":\"2.0\",\"method\":\"shutdown\"}"));
     CHECK(client_open(&client, uri_a, 1, "a", &len) == LASPIDRU_WRONG_PHASE);
     CHECK(deliver(&client, "{\"jsonrpc\":\"2.0\",\"id\":2,\"result\":null}", &answer) == LASPIDRU_OK && is_kind(answer, LASPIDRU_NOTED, 0, 0));
-    CHECK(is_state(&client, LASPIDRU_CLOSED, 0, LASPIDRU_UTF8, 0));
+    CHECK(is_state(&client, LASPIDRU_PHASE_CLOSED, 0, LASPIDRU_UTF8, 0));
     CHECK(laspidru_client_exit(&client, &len) == LASPIDRU_OK && sends(&client, len, "{\"jsonrpc\":\"2.0\",\"method\":\"exit\"}"));
-    CHECK(deliver(&client, capabilities, &answer) == LASPIDRU_WRONG_PHASE && is_state(&client, LASPIDRU_DONE, 0, LASPIDRU_UTF8, 0));
+    CHECK(deliver(&client, capabilities, &answer) == LASPIDRU_WRONG_PHASE && is_state(&client, LASPIDRU_PHASE_DONE, 0, LASPIDRU_UTF8, 0));
     laspidru_close(&client);
 }
 
@@ -179,7 +179,7 @@ static void test_client_documents(void) {
     CHECK(client_edit(&client, 2, both, 2, "XY", &fault, &len) == LASPIDRU_BAD_LENGTH);
     CHECK(client_edit(&client, 2, both, 2, "X\xffQ", &fault, &len) == LASPIDRU_NOT_UTF8);
     CHECK(client_edit(&client, 2, &reversed, 1, "", &fault, &len) == LASPIDRU_REVERSED_RANGE && fault.change == 0 && !fault.at_end);
-    CHECK(keeps(&client, 1, "ab\ncd") && is_state(&client, LASPIDRU_READY, 0, LASPIDRU_UTF8, 1));
+    CHECK(keeps(&client, 1, "ab\ncd") && is_state(&client, LASPIDRU_PHASE_READY, 0, LASPIDRU_UTF8, 1));
     CHECK(client_edit(&client, 7, both, 2, "XYQ", &fault, &len) == LASPIDRU_OK && keeps(&client, 7, "Qab\nXYd"));
     CHECK(sends(&client, len, "{\"jsonrpc\":\"2.0\",\"method\":\"textDocument/didChange\",\"params\":{\"contentChanges\":["
                               "{\"range\":{\"end\":{\"character\":1,\"line\":1},\"start\":{\"character\":0,\"line\":1}},\"text\":\"XY\"},"
@@ -196,7 +196,7 @@ static void test_client_documents(void) {
     CHECK(laspidru_client_close(&client, bytes(uri_a), 9, &len) == LASPIDRU_OK);
     CHECK(sends(&client, len, "{\"jsonrpc\":\"2.0\",\"method\":\"textDocument/didClose\",\"params\":{\"textDocument\":{\"uri\":\"file:///a\"}}}"));
     CHECK(laspidru_client_document(&client, bytes(uri_a), 9, &opened) == LASPIDRU_NOT_OPEN && opened.version == 9);
-    CHECK(is_state(&client, LASPIDRU_READY, 0, LASPIDRU_UTF8, 1));
+    CHECK(is_state(&client, LASPIDRU_PHASE_READY, 0, LASPIDRU_UTF8, 1));
     laspidru_close(&client);
 }
 
@@ -222,14 +222,14 @@ static void test_bad_servers(void) {
     for (i = 0; i < sizeof rows / sizeof rows[0]; i++) {
         CHECK(laspidru_client_new(&client, &client_settings) == LASPIDRU_OK && laspidru_client_start(&client, &len) == LASPIDRU_OK);
         CHECK(deliver(&client, rows[i].body, &answer) == LASPIDRU_OK && is_kind(answer, LASPIDRU_BAD_SERVER, rows[i].reason, 0));
-        CHECK(is_state(&client, LASPIDRU_BROKEN, rows[i].reason, 0, 0));
+        CHECK(is_state(&client, LASPIDRU_PHASE_FAILED, rows[i].reason, 0, 0));
         CHECK(deliver(&client, capabilities, &answer) == LASPIDRU_WRONG_PHASE);
         laspidru_close(&client);
     }
     start_client(&client);
     CHECK(client_open(&client, uri_a, 1, "ab\ncd", &len) == LASPIDRU_OK);
     CHECK(deliver(&client, capabilities, &answer) == LASPIDRU_OK && is_kind(answer, LASPIDRU_BAD_SERVER, LASPIDRU_NOT_AN_ANSWER, 0));
-    CHECK(keeps(&client, 1, "ab\ncd") && is_state(&client, LASPIDRU_BROKEN, LASPIDRU_NOT_AN_ANSWER, LASPIDRU_UTF8, 1));
+    CHECK(keeps(&client, 1, "ab\ncd") && is_state(&client, LASPIDRU_PHASE_FAILED, LASPIDRU_NOT_AN_ANSWER, LASPIDRU_UTF8, 1));
     laspidru_close(&client);
 }
 
@@ -303,7 +303,7 @@ static void test_both_ends(void) {
     CHECK(laspidru_client_new(&client, &client_settings) == LASPIDRU_OK && laspidru_framer_new(&framer, 4096) == LASPIDRU_OK);
     CHECK(laspidru_server_new(&server, &settings) == LASPIDRU_OK && laspidru_client_start(&client, &len) == LASPIDRU_OK);
     carry(&client, &framer, &server, len, LASPIDRU_REPLIED);
-    CHECK(laspidru_client_state(&client, &state) == LASPIDRU_OK && state.encoding == LASPIDRU_UTF8 && state.phase == LASPIDRU_READY);
+    CHECK(laspidru_client_state(&client, &state) == LASPIDRU_OK && state.encoding == LASPIDRU_UTF8 && state.phase == LASPIDRU_PHASE_READY);
     CHECK(client_open(&client, uri_a, 1, "ab\ncd", &len) == LASPIDRU_OK);
     carry(&client, &framer, &server, len, LASPIDRU_CHANGED);
     CHECK(client_edit(&client, 2, both, 2, "XYQ", &fault, &len) == LASPIDRU_OK);

@@ -3,8 +3,9 @@
 typedef laspidru_u32 command(laspidru_handle *output, const laspidru_log_settings *settings, const unsigned char *log,
                              laspidru_size log_len, laspidru_ending *ending);
 
-static const laspidru_log_settings log_settings = {4096, 64, 2, 4, LASPIDRU_UTF8, 0};
-static const laspidru_log_settings squashing = {4096, 64, 2, 4, LASPIDRU_UTF8, 1};
+static const laspidru_log_settings log_settings = {4096, 64, 2, 4, LASPIDRU_UTF8, 0, 0};
+static const laspidru_log_settings squashing = {4096, 64, 2, 4, LASPIDRU_UTF8, 1, 0};
+static const laspidru_log_settings lenient = {4096, 64, 2, 4, LASPIDRU_UTF8, 0, 1};
 static const char change_b[] = "{\"jsonrpc\":\"2.0\",\"method\":\"textDocument/didChange\",\"params\":{\"textDocument\":"
                                "{\"uri\":\"file:///a\",\"version\":8},\"contentChanges\":[{\"range\":{\"start\":"
                                "{\"line\":0,\"character\":0},\"end\":{\"line\":0,\"character\":0}},\"text\":\"!\"}]}}";
@@ -66,7 +67,7 @@ static int writes(command *run, const laspidru_log_settings *how, part log, lasp
     laspidru_handle output = {0};
     laspidru_size copied = 99;
     int is_right = run(&output, how, log.bytes, log.len, ending) == code && output.is_full && ending->output_len == wanted.len &&
-                   laspidru_log_output(&output, 0, out, sizeof out, &copied) == LASPIDRU_OK && copied == wanted.len &&
+                   laspidru_output_copy(&output, 0, out, sizeof out, &copied) == LASPIDRU_OK && copied == wanted.len &&
                    memcmp(out, wanted.bytes, copied) == 0;
     laspidru_close(&output);
     return is_right;
@@ -92,6 +93,8 @@ static void test_logs(void) {
     CHECK(writes(laspidru_log_check, &log_settings, log_of(stale), LASPIDRU_OK,
                  text_part("1 reply\n2 changed\n3 changed\n4 refused S5\n"), &ending));
     CHECK(is_outcome(ending, 1, 4, 1));
+    CHECK(writes(laspidru_log_check, &lenient, log_of(stale), LASPIDRU_OK,
+                 text_part("1 reply\n2 changed\n3 changed\n4 changed\n"), &ending));
     CHECK(writes(laspidru_log_replay, &log_settings, log, LASPIDRU_OK,
                  text_part("{\"languageId\":\"c\",\"text\":\"!ab\\nXYd\",\"uri\":\"file:///a\",\"version\":8}\n"), &ending));
     CHECK(is_outcome(ending, 0, 4, 0));
@@ -109,7 +112,7 @@ static void test_logs(void) {
 static void test_log_faults(void) {
     static const char *const session[] = {initialize, open_a, 0};
     static const char lines[] = "1 reply\n2 changed\n";
-    static const laspidru_log_settings long_texts = {4096, 8192, 2, 4, LASPIDRU_UTF8, 0};
+    static const laspidru_log_settings long_texts = {4096, 8192, 2, 4, LASPIDRU_UTF8, 0, 0};
     static char long_change[4097];
     part log = log_of(session), cut = log;
     laspidru_ending ending = {9, 9, 9, 9, 9, 9};
@@ -151,8 +154,8 @@ static void test_log_refusals(void) {
     laspidru_size copied = 9, i;
     laspidru_ending ending = {9, 9, 9, 9, 9, 9};
     CHECK(open_text(&document, "a") == LASPIDRU_OK);
-    CHECK(laspidru_log_output(&output, 0, out, 7, &copied) == LASPIDRU_EMPTY && copied == 9);
-    CHECK(laspidru_log_output(&document, 0, out, 7, &copied) == LASPIDRU_OTHER_KIND && copied == 9);
+    CHECK(laspidru_output_copy(&output, 0, out, 7, &copied) == LASPIDRU_EMPTY && copied == 9);
+    CHECK(laspidru_output_copy(&document, 0, out, 7, &copied) == LASPIDRU_OTHER_KIND && copied == 9);
     for (i = 0; i < sizeof commands / sizeof commands[0]; i++) {
         laspidru_log_settings bad = log_settings;
         bad.max_changes = 0;
@@ -163,9 +166,9 @@ static void test_log_refusals(void) {
         CHECK(ending.status == 9 && ending.output_len == 9);
     }
     CHECK(laspidru_log_check(&output, &log_settings, log.bytes, log.len, &ending) == LASPIDRU_OK && ending.output_len == 8);
-    CHECK(laspidru_log_output(&output, 9, out, 7, &copied) == LASPIDRU_OUT_OF_RANGE && copied == 9 && out[0] == '-');
-    CHECK(laspidru_log_output(&output, 8, out, 7, &copied) == LASPIDRU_OK && copied == 0);
-    CHECK(laspidru_log_output(&output, 2, out, 3, &copied) == LASPIDRU_OK && copied == 3 && memcmp(out, "rep----", 7) == 0);
+    CHECK(laspidru_output_copy(&output, 9, out, 7, &copied) == LASPIDRU_OUT_OF_RANGE && copied == 9 && out[0] == '-');
+    CHECK(laspidru_output_copy(&output, 8, out, 7, &copied) == LASPIDRU_OK && copied == 0);
+    CHECK(laspidru_output_copy(&output, 2, out, 3, &copied) == LASPIDRU_OK && copied == 3 && memcmp(out, "rep----", 7) == 0);
     CHECK(laspidru_document_copy(&output, 0, out, 7, &copied) == LASPIDRU_OTHER_KIND && copied == 3);
     CHECK(laspidru_log_check(&output, &log_settings, log.bytes, log.len, &ending) == LASPIDRU_IN_USE);
     laspidru_close(&output);

@@ -128,7 +128,7 @@ static int run_refused_client(void) {
     int refusals = 0;
 #define AGAIN(call, phase, documents)                                                                                   \
     while ((call) == LASPIDRU_OUT_OF_MEMORY) {                                                                          \
-        CHECK(is_state(&client, (phase), 0, (phase) < LASPIDRU_READY ? 0 : LASPIDRU_UTF8, (documents)) && len == 9);     \
+        CHECK(is_state(&client, (phase), 0, (phase) < LASPIDRU_PHASE_READY ? 0 : LASPIDRU_UTF8, (documents)) && len == 9);     \
         refusals++;                                                                                                     \
     }                                                                                                                   \
     len = 9
@@ -136,18 +136,18 @@ static int run_refused_client(void) {
         CHECK(!client.is_full);
         refusals++;
     }
-    AGAIN(laspidru_client_start(&client, &len), LASPIDRU_NEW, 0);
-    AGAIN(deliver(&client, capabilities, &answer), LASPIDRU_ASKED, 0);
-    AGAIN(client_open(&client, uri_a, 1, "ab\ncd", &len), LASPIDRU_READY, 0);
+    AGAIN(laspidru_client_start(&client, &len), LASPIDRU_PHASE_NEW, 0);
+    AGAIN(deliver(&client, capabilities, &answer), LASPIDRU_PHASE_ASKED, 0);
+    AGAIN(client_open(&client, uri_a, 1, "ab\ncd", &len), LASPIDRU_PHASE_READY, 0);
     CHECK(keeps(&client, 1, "ab\ncd"));
-    AGAIN(client_edit(&client, 2, edits, 2, "\r\nlonger", &fault, &len), LASPIDRU_READY, 1);
+    AGAIN(client_edit(&client, 2, edits, 2, "\r\nlonger", &fault, &len), LASPIDRU_PHASE_READY, 1);
     CHECK(keeps(&client, 2, "a\r\nlonger\ncd") && fault.change == 9);
-    AGAIN(laspidru_client_close(&client, bytes(uri_a), 9, &len), LASPIDRU_READY, 1);
-    AGAIN(laspidru_client_shutdown(&client, &len), LASPIDRU_READY, 0);
-    AGAIN(deliver(&client, answered, &answer), LASPIDRU_CLOSING, 0);
-    AGAIN(laspidru_client_exit(&client, &len), LASPIDRU_CLOSED, 0);
+    AGAIN(laspidru_client_close(&client, bytes(uri_a), 9, &len), LASPIDRU_PHASE_READY, 1);
+    AGAIN(laspidru_client_shutdown(&client, &len), LASPIDRU_PHASE_READY, 0);
+    AGAIN(deliver(&client, answered, &answer), LASPIDRU_PHASE_CLOSING, 0);
+    AGAIN(laspidru_client_exit(&client, &len), LASPIDRU_PHASE_CLOSED, 0);
 #undef AGAIN
-    CHECK(is_state(&client, LASPIDRU_DONE, 0, LASPIDRU_UTF8, 0));
+    CHECK(is_state(&client, LASPIDRU_PHASE_DONE, 0, LASPIDRU_UTF8, 0));
     laspidru_close(&client);
     CHECK(heap_blocks() == 0);
     return refusals;
@@ -195,7 +195,7 @@ static int run_refused_take(void) {
     while (laspidru_client_start(&client, &len) == LASPIDRU_OUT_OF_MEMORY)
         refusals++;
     refusals += take_again(laspidru_client_take, &client, from_server, &answer);
-    CHECK(is_state(&client, LASPIDRU_READY, 0, LASPIDRU_UTF8, 0));
+    CHECK(is_state(&client, LASPIDRU_PHASE_READY, 0, LASPIDRU_UTF8, 0));
     laspidru_close(&client);
     CHECK(heap_blocks() == 0);
     return refusals;

@@ -1,6 +1,6 @@
 /* The test of servers, and the messages of a session. test.c includes it. */
 
-static const laspidru_settings settings = {4096, 64, 2, 4, LASPIDRU_UTF8, 0, 0};
+static const laspidru_settings settings = {4096, 64, 2, 4, LASPIDRU_UTF8, 0, 0, 0};
 static const char initialize[] = "{\"jsonrpc\":\"2.0\",\"id\":1,\"method\":\"initialize\",\"params\":{\"capabilities\":"
                                  "{\"general\":{\"positionEncodings\":[\"utf-8\",\"utf-16\"]}}}}";
 static const char open_a[] = "{\"jsonrpc\":\"2.0\",\"method\":\"textDocument/didOpen\",\"params\":{\"textDocument\":"

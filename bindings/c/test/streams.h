@@ -116,10 +116,10 @@ static void test_client_take(void) {
         CHECK(laspidru_client_body(&client, 0, out, 3, &copied) == LASPIDRU_NO_MESSAGE && copied == 9);
         CHECK(laspidru_client_start(&client, &len) == LASPIDRU_OK);
         take_all(laspidru_client_take, laspidru_client_body, &client, session, kinds, most[i]);
-        CHECK(is_state(&client, LASPIDRU_READY, 0, LASPIDRU_UTF8, 0));
+        CHECK(is_state(&client, LASPIDRU_PHASE_READY, 0, LASPIDRU_UTF8, 0));
         CHECK(laspidru_client_body(&client, 1000, out, 3, &copied) == LASPIDRU_OUT_OF_RANGE && copied == 9);
         take_all(laspidru_client_take, laspidru_client_body, &client, bad, end, most[i]);
-        CHECK(is_state(&client, LASPIDRU_BROKEN, LASPIDRU_NOT_AN_ANSWER, LASPIDRU_UTF8, 0));
+        CHECK(is_state(&client, LASPIDRU_PHASE_FAILED, LASPIDRU_NOT_AN_ANSWER, LASPIDRU_UTF8, 0));
         CHECK(laspidru_client_take(&client, bytes("C"), 1, &taken, &answer) == LASPIDRU_WRONG_PHASE && answer.kind == 9);
         laspidru_close(&client);
     }

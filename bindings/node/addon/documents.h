@@ -291,7 +291,7 @@ static napi_value offset(napi_env env, napi_callback_info info) {
     napi_value found[MOST_ARGUMENTS], out = NULL;
     document *it;
     laspidru_u32 encoding;
-    laspidru_place place;
+    laspidru_position place;
     laspidru_size at = 0;
     if (!arguments(env, info, 4, found) || !document_of(env, found[0], &it) ||
         napi_get_value_uint32(env, found[1], &encoding) != napi_ok ||
@@ -309,7 +309,7 @@ static napi_value position(napi_env env, napi_callback_info info) {
     napi_value found[MOST_ARGUMENTS], out = NULL, line, character;
     document *it;
     laspidru_u32 encoding;
-    laspidru_place place;
+    laspidru_position place;
     int64_t at;
     if (!arguments(env, info, 3, found) || !document_of(env, found[0], &it) ||
         napi_get_value_uint32(env, found[1], &encoding) != napi_ok || napi_get_value_int64(env, found[2], &at) != napi_ok ||

@@ -106,7 +106,7 @@ static napi_value new_server(napi_env env, napi_callback_info info) {
         count != NUMBERS_OF_SERVER)
         return refuse_arguments(env);
     const laspidru_u32 *n = numbers;
-    laspidru_settings settings = {n[0], n[1], n[2], n[3], n[4], n[5] != 0, n[6] != 0};
+    laspidru_settings settings = {n[0], n[1], n[2], n[3], n[4], n[5] != 0, n[6] != 0, n[7] != 0};
     laspidru_handle *handle = calloc(1, sizeof *handle);
     return handle != NULL ? made_end(env, handle, laspidru_server_new(handle, &settings)) : refuse(env, LASPIDRU_OUT_OF_MEMORY);
 }
@@ -120,7 +120,7 @@ static napi_value new_client(napi_env env, napi_callback_info info) {
         count != NUMBERS_OF_SETTINGS)
         return refuse_arguments(env);
     const laspidru_u32 *n = numbers;
-    laspidru_client_settings settings = {n[0], n[1], n[2], n[3], n[4] != 0, n[5] != 0};
+    laspidru_client_settings settings = {n[0], n[1], n[2], n[3], n[4] != 0, n[5] != 0, n[6] != 0};
     laspidru_handle *handle = calloc(1, sizeof *handle);
     return handle != NULL ? made_end(env, handle, laspidru_client_new(handle, &settings)) : refuse(env, LASPIDRU_OUT_OF_MEMORY);
 }
@@ -346,7 +346,7 @@ static napi_value canonical_message(napi_env env, napi_callback_info info) {
     free_batch(&it);
     if (code != LASPIDRU_OK)
         return refuse_change(env, code, fault);
-    napi_value out = buffer_of(env, laspidru_log_output, &output, len);
+    napi_value out = buffer_of(env, laspidru_output_copy, &output, len);
     laspidru_close(&output);
     return out != NULL ? out : refuse(env, LASPIDRU_OUT_OF_MEMORY);
 }

@@ -3,9 +3,9 @@
 typedef laspidru_u32 log_command(laspidru_handle *output, const laspidru_log_settings *settings, const unsigned char *log,
                                  laspidru_size log_len, laspidru_ending *ending);
 
-/* The settings of a command: six numbers, in the order of laspidru_log_settings. */
+/* The settings of a command: seven numbers, in the order of laspidru_log_settings. */
 static laspidru_log_settings settings_of(const laspidru_u32 *n) {
-    return (laspidru_log_settings){n[0], n[1], n[2], n[3], n[4], n[5] != 0};
+    return (laspidru_log_settings){n[0], n[1], n[2], n[3], n[4], n[5] != 0, n[6] != 0};
 }
 
 /* How a command ended, for index.js: {code, output, status, messages, refused, frame, place}. */
@@ -37,7 +37,7 @@ static napi_value run_log(napi_env env, napi_callback_info info) {
     laspidru_u32 code = commands[command](&handle, &settings, log, log_len, &ending);
     if (!handle.is_full)
         return refuse(env, code);
-    output = buffer_of(env, laspidru_log_output, &handle, ending.output_len);
+    output = buffer_of(env, laspidru_output_copy, &handle, ending.output_len);
     laspidru_close(&handle);
     return output != NULL ? ended(env, code, output, ending) : refuse(env, LASPIDRU_OUT_OF_MEMORY);
 }

@@ -39,7 +39,7 @@ static int read_number(PyObject *of, PyObject *name, laspidru_u32 *out) {
     return is_read;
 }
 
-static int read_place(PyObject *range, PyObject *name, laspidru_place *out) {
+static int read_place(PyObject *range, PyObject *name, laspidru_position *out) {
     PyObject *place = member(range, name);
     int is_read = place != NULL && read_number(place, line_name, &out->line) && read_number(place, character_name, &out->character);
     Py_XDECREF(place);

@@ -59,12 +59,12 @@ class Length(ctypes.Structure):
 
 class Settings(ctypes.Structure):
     _fields_ = [("max_body", c_size_t), ("max_text", c_size_t), ("max_docs", c_size_t), ("max_changes", c_size_t),
-                ("encoding", c_uint32), ("is_fixed", c_bool), ("is_full", c_bool)]
+                ("encoding", c_uint32), ("is_fixed", c_bool), ("is_full", c_bool), ("lenient", c_bool)]
 
 
 class ClientSettings(ctypes.Structure):
     _fields_ = [("max_body", c_size_t), ("max_text", c_size_t), ("max_docs", c_size_t), ("max_changes", c_size_t),
-                ("utf8", c_bool), ("utf32", c_bool)]
+                ("utf8", c_bool), ("utf32", c_bool), ("lenient", c_bool)]
 
 
 class Answer(ctypes.Structure):
@@ -85,7 +85,7 @@ class Taken(ctypes.Structure):
 
 class LogSettings(ctypes.Structure):
     _fields_ = [("max_body", c_size_t), ("max_text", c_size_t), ("max_docs", c_size_t), ("max_changes", c_size_t),
-                ("encoding", c_uint32), ("squash", c_bool)]
+                ("encoding", c_uint32), ("squash", c_bool), ("lenient", c_bool)]
 
 
 class Ending(ctypes.Structure):
@@ -173,7 +173,7 @@ def _library() -> ctypes.CDLL:
         "log_replay": log,
         "log_normalise": log,
         "log_convert": log,
-        "log_output": [handle] + copied,
+        "output_copy": [handle] + copied,
     }
     for name, types in arguments.items():
         function = getattr(library, "laspidru_" + name)

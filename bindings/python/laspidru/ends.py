@@ -194,14 +194,14 @@ class ServerEvent(NamedTuple):
 
 class Server(_End):
     """A server's end of a session: bytes or bodies go in, and it keeps the open documents. The defaults are those of
-    `lspsync serve`."""
+    `lspsync serve`. With `lenient` a change of any version is taken, and an open document may be opened again."""
 
     _names = "server"
 
     def __init__(self, encoding: str = "utf-16", *, is_fixed: bool = False, is_full: bool = False, max_body: int = 16777216,
-                 max_text: int = 16777216, max_docs: int = 1024, max_changes: int = 65536) -> None:
+                 max_text: int = 16777216, max_docs: int = 1024, max_changes: int = 65536, lenient: bool = False) -> None:
         numbers = limits(max_body, max_text, max_docs, max_changes)
-        settings = Settings(*numbers, encoding_number(encoding), is_fixed, is_full)
+        settings = Settings(*numbers, encoding_number(encoding), is_fixed, is_full, lenient)
         super().__init__()
         demand(LIBRARY.laspidru_server_new(byref(self._handle), byref(settings)))
 
@@ -257,7 +257,7 @@ class Server(_End):
                 len(texts), byref(output), byref(fault), byref(length))
         demand_change(code, fault)
         try:
-            return copy_out(LIBRARY.laspidru_log_output, length.value, byref(output))
+            return copy_out(LIBRARY.laspidru_output_copy, length.value, byref(output))
         finally:
             LIBRARY.laspidru_close(byref(output))
 
@@ -282,13 +282,13 @@ class ClientEvent(NamedTuple):
 
 class Client(_End):
     """A client's end of a session: it keeps an editor's documents, and each call returns the bytes to send. UTF-16 is always
-    offered."""
+    offered. `lenient` is as for a Server."""
 
     _names = "client"
 
     def __init__(self, *, utf8: bool = False, utf32: bool = False, max_body: int = 16777216, max_text: int = 16777216,
-                 max_docs: int = 1024, max_changes: int = 65536) -> None:
-        settings = ClientSettings(*limits(max_body, max_text, max_docs, max_changes), utf8, utf32)
+                 max_docs: int = 1024, max_changes: int = 65536, lenient: bool = False) -> None:
+        settings = ClientSettings(*limits(max_body, max_text, max_docs, max_changes), utf8, utf32, lenient)
         super().__init__()
         demand(LIBRARY.laspidru_client_new(byref(self._handle), byref(settings)))
 

@@ -18,17 +18,17 @@ class LogOutput(NamedTuple):
 
 
 def _run(name: str, log: bytes, encoding: str = "utf-16", max_body: int = 16777216, max_text: int = 16777216, max_docs: int = 1024,
-         max_changes: int = 65536, squash: bool = False) -> LogOutput:
+         max_changes: int = 65536, squash: bool = False, lenient: bool = False) -> LogOutput:
     if not isinstance(log, bytes):
         raise TypeError("a log is bytes")
     numbers = limits(max_body, max_text, max_docs, max_changes)
-    settings = LogSettings(*numbers, encoding_number(encoding), squash)
+    settings = LogSettings(*numbers, encoding_number(encoding), squash, lenient)
     handle, ending = Handle(), Ending()
     code = getattr(LIBRARY, "laspidru_log_" + name)(byref(handle), byref(settings), log, len(log), byref(ending))
     try:
         if code not in (0, CUT, BAD_FRAME, BODY_TOO_LONG, BAD_LOG):
             demand(code)
-        output = copy_out(LIBRARY.laspidru_log_output, ending.output_len, byref(handle))
+        output = copy_out(LIBRARY.laspidru_output_copy, ending.output_len, byref(handle))
     finally:
         LIBRARY.laspidru_close(byref(handle))
     if code:
@@ -37,7 +37,7 @@ def _run(name: str, log: bytes, encoding: str = "utf-16", max_body: int = 167772
 
 
 def check(log: bytes, **limits: Any) -> LogOutput:
-    """What a server answers to each record of a log, a line for each. `limits` are lspsync's options: encoding, max_body, .."""
+    """What a server answers to each record of a log, a line for each. `limits` are lspsync's options: encoding, max_body, lenient, .."""
     return _run("check", log, **limits)
 
 

@@ -21,12 +21,14 @@ pub struct Settings {
     pub utf8: bool,
     /// Does the client offer UTF-32?
     pub utf32: bool,
+    /// Is a change of any version taken, and may an open document be opened again?
+    pub lenient: bool,
 }
 
 impl Default for Settings {
     fn default() -> Self {
         let [max_body, max_text, max_docs, max_changes] = DEFAULT_LIMITS;
-        Settings { max_body, max_text, max_docs, max_changes, utf8: false, utf32: false }
+        Settings { max_body, max_text, max_docs, max_changes, utf8: false, utf32: false, lenient: false }
     }
 }
 
@@ -140,6 +142,7 @@ impl Client {
             max_changes: settings.max_changes,
             utf8: settings.utf8,
             utf32: settings.utf32,
+            lenient: settings.lenient,
         };
         let handle = ffi::Handle::empty();
         demand(handle.client_new(&settings), &ffi::Fault::default())?;

@@ -61,6 +61,7 @@ pub struct Settings {
     pub encoding: u32,
     pub is_fixed: bool,
     pub is_full: bool,
+    pub lenient: bool,
 }
 
 #[repr(C)]
@@ -88,6 +89,7 @@ pub struct ClientSettings {
     pub max_changes: usize,
     pub utf8: bool,
     pub utf32: bool,
+    pub lenient: bool,
 }
 
 #[repr(C)]
@@ -117,6 +119,7 @@ pub struct LogSettings {
     pub max_changes: usize,
     pub encoding: u32,
     pub squash: bool,
+    pub lenient: bool,
 }
 
 #[repr(C)]
@@ -488,8 +491,8 @@ impl Handle {
         unsafe { run(&mut *self.0.borrow_mut(), settings, log.as_ptr(), log.len(), ending) }
     }
 
-    pub fn log_output(&self, len: usize) -> Vec<u8> {
-        copied(len, |out, copied| unsafe { laspidru_log_output(&mut *self.0.borrow_mut(), 0, out, len, copied) })
+    pub fn output_copy(&self, len: usize) -> Vec<u8> {
+        copied(len, |out, copied| unsafe { laspidru_output_copy(&mut *self.0.borrow_mut(), 0, out, len, copied) })
     }
 }
 

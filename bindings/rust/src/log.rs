@@ -13,12 +13,22 @@ pub struct LogSettings {
     pub encoding: Encoding,
     /// Does [`normalise`] write changes of one document that follow each other as one message?
     pub squash: bool,
+    /// Is a change of any version taken, and may an open document be opened again?
+    pub lenient: bool,
 }
 
 impl Default for LogSettings {
     fn default() -> Self {
         let [max_body, max_text, max_docs, max_changes] = DEFAULT_LIMITS;
-        LogSettings { max_body, max_text, max_docs, max_changes, encoding: Encoding::Utf16, squash: false }
+        LogSettings {
+            max_body,
+            max_text,
+            max_docs,
+            max_changes,
+            encoding: Encoding::Utf16,
+            squash: false,
+            lenient: false,
+        }
     }
 }
 
@@ -103,11 +113,12 @@ fn run(command: ffi::Command, log: &[u8], settings: &LogSettings) -> Result<Outp
         max_changes: settings.max_changes,
         encoding: settings.encoding as u32,
         squash: settings.squash,
+        lenient: settings.lenient,
     };
     let (output, mut ending) = (ffi::Handle::empty(), ffi::Ending::default());
     let fault = match output.log_run(command, &settings, log, &mut ending) {
         ffi::OK => {
-            let bytes = output.log_output(ending.output_len);
+            let bytes = output.output_copy(ending.output_len);
             return Ok(Output { bytes, messages: ending.messages, refused: ending.refused });
         }
         ffi::OUT_OF_MEMORY => return Err(LogError::OutOfMemory),
@@ -119,5 +130,5 @@ fn run(command: ffi::Command, log: &[u8], settings: &LogSettings) -> Result<Outp
         ffi::BAD_LOG => LogFault::BadLog,
         code => unreachable!("code {code} of an empty handle and valid arguments"),
     };
-    Err(LogError::Fault { fault, place: ending.place, output: output.log_output(ending.output_len) })
+    Err(LogError::Fault { fault, place: ending.place, output: output.output_copy(ending.output_len) })
 }

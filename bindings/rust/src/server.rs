@@ -22,6 +22,8 @@ pub struct Settings {
     pub is_fixed: bool,
     /// Does the server ask for whole texts, not for ranges?
     pub is_full: bool,
+    /// Is a change of any version taken, and may an open document be opened again?
+    pub lenient: bool,
 }
 
 impl Default for Settings {
@@ -35,6 +37,7 @@ impl Default for Settings {
             encoding: Encoding::Utf16,
             is_fixed: false,
             is_full: false,
+            lenient: false,
         }
     }
 }
@@ -160,6 +163,7 @@ impl Server {
             encoding: settings.encoding as u32,
             is_fixed: settings.is_fixed,
             is_full: settings.is_full,
+            lenient: settings.lenient,
         };
         let handle = ffi::Handle::empty();
         demand(handle.server_new(&settings))?;
@@ -237,7 +241,7 @@ impl Server {
         let (mut fault, output) = (ffi::Fault::default(), ffi::Handle::empty());
         let units = self.encoding().unwrap_or(Encoding::Utf16) as u32;
         match self.handle.server_canonical_message(uri, version, units, &edits, &texts, &output, &mut fault) {
-            (ffi::OK, len) => Ok(output.log_output(len)),
+            (ffi::OK, len) => Ok(output.output_copy(len)),
             (ffi::OUT_OF_MEMORY, _) => Err(MessageError::OutOfMemory),
             (ffi::INSIDE_CHARACTER, _) => {
                 Err(MessageError::InsideCharacter { change: fault.change, at_end: fault.at_end })

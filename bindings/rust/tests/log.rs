@@ -12,6 +12,8 @@ fn commands_write_what_lspsync_does() -> Result<(), LogError> {
     let checked = check(STALE, &settings)?;
     assert_eq!(checked.bytes, b"1 reply\n2 changed\n3 refused S5\n4 refused S4\n5 changed\n");
     assert_eq!((checked.messages, checked.refused), (5, 2));
+    let lenient = LogSettings { lenient: true, ..settings };
+    assert_eq!(check(STALE, &lenient)?.bytes, b"1 reply\n2 changed\n3 changed\n4 refused S4\n5 changed\n");
     assert_eq!(convert(TYPING, &settings)?.bytes, WITH_REPLIES);
     let squash = LogSettings { squash: true, ..settings };
     let squashed = normalise(SAVES, &squash)?.bytes;

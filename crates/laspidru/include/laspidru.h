@@ -33,7 +33,7 @@ enum {
     LASPIDRU_OUT_OF_MEMORY = 2,
     LASPIDRU_IN_USE = 3,           /* the handle is not empty */
     LASPIDRU_EMPTY = 4,            /* the handle is empty */
-    LASPIDRU_TOO_LONG = 5,         /* a text has more than 1,073,741,824 bytes */
+    LASPIDRU_TOO_LONG = 5,         /* a text has more than 1,073,741,824 bytes or max_text, or a client's message more than max_body */
     LASPIDRU_INSIDE_CHARACTER = 6, /* a position or offset inside a character, or an offset between CR and LF or past the end */
     LASPIDRU_REVERSED_RANGE = 7,   /* a range starts after its end */
     LASPIDRU_BAD_ENCODING = 8,     /* not one of the encodings */
@@ -83,13 +83,13 @@ enum {
 
 /* Phases of a client's session. */
 enum {
-    LASPIDRU_NEW = 0,     /* nothing was sent */
-    LASPIDRU_ASKED = 1,   /* initialize was sent */
-    LASPIDRU_READY = 2,   /* documents are opened, edited and closed */
-    LASPIDRU_CLOSING = 3, /* shutdown was sent */
-    LASPIDRU_CLOSED = 4,  /* shutdown was answered; only exit is left */
-    LASPIDRU_DONE = 5,    /* exit was sent */
-    LASPIDRU_BROKEN = 6   /* the server sent what no session can continue with */
+    LASPIDRU_PHASE_NEW = 0,     /* nothing was sent */
+    LASPIDRU_PHASE_ASKED = 1,   /* initialize was sent */
+    LASPIDRU_PHASE_READY = 2,   /* documents are opened, edited and closed */
+    LASPIDRU_PHASE_CLOSING = 3, /* shutdown was sent */
+    LASPIDRU_PHASE_CLOSED = 4,  /* shutdown was answered; only exit is left */
+    LASPIDRU_PHASE_DONE = 5,    /* exit was sent */
+    LASPIDRU_PHASE_FAILED = 6   /* the server sent what no session can continue with */
 };
 
 /* Encodings: what a position's character counts. */
@@ -103,15 +103,15 @@ typedef struct laspidru_handle {
 } laspidru_handle;
 
 /* A position: a line, counted from 0, and the units before it in that line. */
-typedef struct laspidru_place {
+typedef struct laspidru_position {
     laspidru_u32 line;
     laspidru_u32 character;
-} laspidru_place;
+} laspidru_position;
 
 /* A change or a text edit: the next `len` bytes of the texts in place of a range, or of the whole text. */
 typedef struct laspidru_edit {
-    laspidru_place start;
-    laspidru_place end;
+    laspidru_position start;
+    laspidru_position end;
     laspidru_size len;
     laspidru_bool is_whole;
 } laspidru_edit;
@@ -152,7 +152,11 @@ typedef struct laspidru_settings {
     laspidru_u32 encoding;
     laspidru_bool is_fixed;
     laspidru_bool is_full;
+    laspidru_bool lenient; /* whether a change of any version is taken, and an open document may be opened again */
 } laspidru_settings;
+
+/* The defaults, also those of lspsync: set the members that are to differ. */
+#define LASPIDRU_SETTINGS_DEFAULT {16777216, 16777216, 1024, 65536, LASPIDRU_UTF16, 0, 0, 0}
 
 /* What a server answers to a message. A member that isn't of its kind is 0. */
 typedef struct laspidru_answer {
@@ -180,12 +184,15 @@ typedef struct laspidru_client_settings {
     laspidru_size max_changes; /* 1 to 1,048,576 in a message */
     laspidru_bool utf8;
     laspidru_bool utf32;
+    laspidru_bool lenient; /* as in laspidru_settings */
 } laspidru_client_settings;
+
+#define LASPIDRU_CLIENT_SETTINGS_DEFAULT {16777216, 16777216, 1024, 65536, 0, 0, 0}
 
 /* The state of a client's session. */
 typedef struct laspidru_state {
-    laspidru_u32 phase;      /* LASPIDRU_NEW .. LASPIDRU_BROKEN */
-    laspidru_u32 reason;     /* BROKEN: the code that says why; else 0 */
+    laspidru_u32 phase;      /* LASPIDRU_PHASE_NEW .. LASPIDRU_PHASE_FAILED */
+    laspidru_u32 reason;     /* PHASE_FAILED: the code that says why; else 0 */
     laspidru_u32 encoding;   /* the encoding that was agreed on; 0 before */
     laspidru_size documents; /* how many are open */
 } laspidru_state;
@@ -204,7 +211,10 @@ typedef struct laspidru_log_settings {
     laspidru_size max_changes; /* 1 to 1,048,576 in a message */
     laspidru_u32 encoding;     /* what positions count */
     laspidru_bool squash;      /* laspidru_log_normalise: changes of one document that follow each other as one message */
+    laspidru_bool lenient;     /* as in laspidru_settings */
 } laspidru_log_settings;
+
+#define LASPIDRU_LOG_SETTINGS_DEFAULT {16777216, 16777216, 1024, 65536, LASPIDRU_UTF16, 0, 0}
 
 /* How a command on a log ended. A member that isn't of the code is 0. */
 typedef struct laspidru_ending {
@@ -213,7 +223,7 @@ typedef struct laspidru_ending {
     laspidru_u64 messages;   /* OK: how many messages were handled */
     laspidru_u64 refused;    /* OK: how many of them were refused */
     laspidru_u64 place;      /* CUT, BAD_FRAME, BODY_TOO_LONG, BAD_LOG: a byte offset in the log */
-    laspidru_size output_len; /* how many bytes laspidru_log_output copies */
+    laspidru_size output_len; /* how many bytes laspidru_output_copy copies */
 } laspidru_ending;
 
 /* Opens a document in an empty handle, by a copy of the text. */
@@ -240,12 +250,12 @@ laspidru_u32 laspidru_document_copy(laspidru_handle *document, laspidru_size sta
 
 /* The byte offset of a position. A line after the last is the end of the text; a character after the line's last is
    the end of the line. */
-laspidru_u32 laspidru_document_offset(laspidru_handle *document, laspidru_u32 encoding, laspidru_place position,
+laspidru_u32 laspidru_document_offset(laspidru_handle *document, laspidru_u32 encoding, laspidru_position position,
     laspidru_size *offset);
 
 /* The exact position of a byte offset. */
 laspidru_u32 laspidru_document_position(laspidru_handle *document, laspidru_u32 encoding, laspidru_size offset,
-    laspidru_place *position);
+    laspidru_position *position);
 
 /* Puts the canonical batch of what a batch means on the text into the empty handle `batch`: one change for each
    changed gap, from the last to the first. The document stays as it is. */
@@ -321,7 +331,7 @@ laspidru_u32 laspidru_server_batch_of_edits(laspidru_handle *server, const unsig
     laspidru_size texts_len, laspidru_handle *batch, laspidru_edits_fault *fault);
 
 /* Puts the one canonical didChange that means the same as these changes of an open document, under a version greater than
-   its own, into the empty handle `output`. laspidru_log_output copies it: `frame_len` bytes, with its header. The document
+   its own, into the empty handle `output`. laspidru_output_copy copies it: `frame_len` bytes, with its header. The document
    stays as it is. With INSIDE_CHARACTER and REVERSED_RANGE `fault` says which change is faulty. */
 laspidru_u32 laspidru_server_canonical_message(laspidru_handle *server, const unsigned char *uri, laspidru_size uri_len,
     laspidru_i32 version, laspidru_u32 encoding, const laspidru_edit *edits, laspidru_size edits_len,
@@ -427,7 +437,7 @@ laspidru_u32 laspidru_log_convert(laspidru_handle *output, const laspidru_log_se
     const unsigned char *log, laspidru_size log_len, laspidru_ending *ending);
 
 /* Copies the bytes of the output from `start` on, as many as `out` holds, and says how many. */
-laspidru_u32 laspidru_log_output(laspidru_handle *output, laspidru_size start,
+laspidru_u32 laspidru_output_copy(laspidru_handle *output, laspidru_size start,
     unsigned char *out, laspidru_size out_len, laspidru_size *copied);
 
 #ifdef __cplusplus

@@ -19,7 +19,7 @@ use Rattle.lsp_edit.specs.Edited.{edit_of}
 use Rattle.lsp_edit.specs.Indexed.{IsCanonicalBatch, text_within}
 use Rattle.laspidru.specs.declared.codes.TheConstants.{BAD_LENGTH, INSIDE_CHARACTER, NOT_UTF8, OK, OUT_OF_MEMORY, OUT_OF_RANGE, REVERSED_RANGE, TOO_LONG}
 use Rattle.laspidru.specs.declared.object.Object.{Object}
-use Rattle.laspidru.specs.declared.object.Object.TheVariants.{Document, Batch, Server, Output, Framer, Client}
+use Rattle.laspidru.specs.declared.object.Object.TheVariants.{Document, Batch}
 use Rattle.laspidru.specs.declared.place.Place.{Place}
 use Rattle.laspidru.specs.declared.place.Edit.{Edit}
 use Rattle.laspidru.specs.declared.place.Fault.{Fault}
@@ -103,11 +103,7 @@ abbrev pub IsBatchOf : Asked → Object → Type 0
 IsBatchOf asked (Batch changes) =
     let canonical = map edit_of changes.items in
     IsCanonicalBatch (units_in asked.encoding) MAX_OLD_TEXT asked.text asked.edits canonical
-IsBatchOf asked (Document other) = ⊥
-IsBatchOf asked (Server session) = ⊥
-IsBatchOf asked (Output bytes) = ⊥
-IsBatchOf asked (Framer framing) = ⊥
-IsBatchOf asked (Client editor) = ⊥
+IsBatchOf asked other = ⊥
 
 -- The handle has the canonical batch of this batch.
 abbrev pub HoldsBatchOf : Asked → Option Object → Type 0

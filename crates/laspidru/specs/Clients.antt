@@ -10,7 +10,6 @@ use Rattle.lsp_message.specs.Outgoing.{body_of}
 use Rattle.lsp_message.specs.Params.{DocumentItem}
 use Rattle.lsp_store.specs.declared.fault.StoreFault.{StoreFault}
 use Rattle.lsp_store.specs.declared.fault.StoreFault.TheVariants as faults
-use Rattle.lsp_store.specs.Faults as documents
 use Rattle.lsp_store.specs.Table.{entry_at}
 use Rattle.lsp_client.specs.declared.fault.ClientFault.{ClientFault}
 use Rattle.lsp_client.specs.declared.fault.ClientFault.TheVariants as client
@@ -19,7 +18,7 @@ use Rattle.lsp_client.specs.declared.phase.Phase.TheVariants.{New, Asked, Ready,
 use Rattle.lsp_client.specs.declared.phase.Reason.{Reason}
 use Rattle.lsp_client.specs.declared.phase.Reason.TheVariants.{NotAnAnswer, ErrorAnswer, NoSync, BadEncoding}
 use Rattle.lsp_client.specs.Seen.{as_sent}
-use Rattle.lsp_client.specs.Step.{Call, starts, shuts_down, exits, opens, edits, Order, Sending, Refusal, wrong_phase, store, Delivery, DeliveredData, sends, noted, ignored, bad_server, start}
+use Rattle.lsp_client.specs.Step.{Call, starts, shuts_down, exits, opens, edits, Order, Sending, Delivery, DeliveredData, sends, noted, ignored, bad_server, new_client}
 use Rattle.laspidru.specs.declared.answers.Answer.{Answer}
 use Rattle.laspidru.specs.declared.reports.Call.{Call as Lifecycle}
 use Rattle.laspidru.specs.declared.reports.Call.TheVariants.{Start, Shutdown, Exit}
@@ -27,7 +26,7 @@ use Rattle.laspidru.specs.declared.reports.ClientSettings.{ClientSettings}
 use Rattle.laspidru.specs.declared.reports.ClientState.{ClientState}
 use Rattle.laspidru.specs.declared.codes.TheConstants.{BAD_ENCODING, BAD_SERVER, EMPTY, ERROR_ANSWER, IGNORED, NO_SYNC, NOT_AN_ANSWER, NOT_OPEN, NOTED, OK, OTHER_KIND, OUT_OF_MEMORY, REPLIED, WRONG_PHASE}
 use Rattle.laspidru.specs.declared.object.Object.{Object}
-use Rattle.laspidru.specs.declared.object.Object.TheVariants.{Document, Batch, Server, Output, Framer, Client}
+use Rattle.laspidru.specs.declared.object.Object.TheVariants.{Client}
 use Rattle.laspidru.specs.declared.place.Edit.{Edit}
 use Rattle.laspidru.specs.declared.place.Fault.{Fault}
 use Rattle.laspidru.specs.Codes.{and_then}
@@ -45,24 +44,21 @@ client_bounds settings = record {
   max_text = settings.max_text;
   max_docs = settings.max_docs;
   max_changes = settings.max_changes;
+  lenient = settings.lenient;
 }
 
 -- A client at the start of a session, if each limit is in its range. It has sent nothing.
 abbrev pub client_asked : ClientSettings → Result EditorData ℕ
 client_asked settings = and_then (limits_asked (client_bounds settings)) (λ limits. Ok (record {
-  client = start limits (record { utf8 = settings.utf8; utf32 = settings.utf32 });
+  client = new_client limits (record { utf8 = settings.utf8; utf32 = settings.utf32 });
   frame = [];
   stream = stream_of limits;
 }))
 
 -- The client of an object, with its last frame.
 abbrev pub client_of : Object → Result EditorData ℕ
-client_of (Document text) = Err OTHER_KIND
-client_of (Batch changes) = Err OTHER_KIND
-client_of (Server session) = Err OTHER_KIND
-client_of (Output bytes) = Err OTHER_KIND
-client_of (Framer framing) = Err OTHER_KIND
 client_of (Client editor) = Ok editor
+client_of other = Err OTHER_KIND
 
 -- The client in a handle.
 abbrev pub client_in : Option Object → Result EditorData ℕ
@@ -98,27 +94,18 @@ IsStoreReport (faults.Edit (edit.InsideCharacter change side)) out =
     (out.change ≡ change) × (side_at out.at_end ≡ side)
 IsStoreReport (faults.Edit (edit.ReversedRange change)) out =
     (out.change ≡ change) × (out.at_end ≡ false)
-IsStoreReport (faults.Edit edit.NoMemory) out = Unit {0}
-IsStoreReport faults.AlreadyOpen out = Unit {0}
-IsStoreReport faults.TooManyDocuments out = Unit {0}
-IsStoreReport faults.TextTooLong out = Unit {0}
-IsStoreReport faults.NotOpen out = Unit {0}
-IsStoreReport (faults.StaleVersion current) out = Unit {0}
-IsStoreReport faults.TooManyChanges out = Unit {0}
-IsStoreReport (faults.BodyTooLong len) out = Unit {0}
-IsStoreReport faults.NoMemory out = Unit {0}
+IsStoreReport other out = Unit {0}
 
 -- The same of a refused call.
 abbrev pub IsCallReport : ClientFault → Fault → Type 0
-IsCallReport (client.WrongPhase phase) out = Unit {0}
 IsCallReport (client.Store fault) out = IsStoreReport fault out
-IsCallReport client.NoMemory out = Unit {0}
+IsCallReport other out = Unit {0}
 
 -- A call is refused with this code. One in a wrong phase takes no memory.
-abbrev pub IsRefusedCall : Refusal → ℕ → Type 0
-IsRefusedCall (wrong_phase phase) code = code ≡ WRONG_PHASE
-IsRefusedCall (store refusal) code =
-    (code ≡ OUT_OF_MEMORY) ⊎ (code ≡ store_code (documents.fault_of refusal))
+abbrev pub IsRefusedCall : ClientFault → ℕ → Type 0
+IsRefusedCall (client.WrongPhase phase) code = code ≡ WRONG_PHASE
+IsRefusedCall (client.Store fault) code = (code ≡ OUT_OF_MEMORY) ⊎ (code ≡ store_code fault)
+IsRefusedCall client.NoMemory code = code ≡ OUT_OF_MEMORY
 
 -- A call is accepted: the client is in its new state, and has the frame to send.
 pub record IsAccepted (stream : StreamData) (sending : Sending) (code : ℕ) (stored : Option Object)
@@ -132,17 +119,16 @@ pub record IsAccepted (stream : StreamData) (sending : Sending) (code : ℕ) (st
   pub frame_len : len ≡ length (frame (body_of sending.message))
 
 -- A call is accepted or out of memory, or refused.
-abbrev pub IsCalled : StreamData → Result Sending Refusal → ℕ → Option Object → ℕ → Type 0
+abbrev pub IsCalled : StreamData → Result Sending ClientFault → ℕ → Option Object → ℕ → Type 0
 IsCalled stream (Ok sending) code stored len =
     (code ≡ OUT_OF_MEMORY) ⊎ IsAccepted stream sending code stored len
 IsCalled stream (Err refusal) code stored len = IsRefusedCall refusal code
 
 -- What a refusal writes of a faulty change.
-abbrev pub IsWritten : Result Sending Refusal → ℕ → Fault → Type 0
-IsWritten (Ok sending) code out = Unit {0}
-IsWritten (Err (wrong_phase phase)) code out = Unit {0}
-IsWritten (Err (store refusal)) code out =
-    (code ≡ OUT_OF_MEMORY) ⊎ IsStoreReport (documents.fault_of refusal) out
+abbrev pub IsWritten : Result Sending ClientFault → ℕ → Fault → Type 0
+IsWritten (Err (client.Store fault)) code out =
+    (code ≡ OUT_OF_MEMORY) ⊎ IsStoreReport fault out
+IsWritten result code out = Unit {0}
 
 -- Three texts that are UTF-8.
 pub record Opening : Type 0 where
@@ -177,9 +163,7 @@ delivered_out (bad_server reason)
 -- The frame that a delivery sends; no bytes if it sends none.
 abbrev pub frame_out : DeliveredData (List ℕ) → List ℕ
 frame_out (sends frame) = frame
-frame_out noted = []
-frame_out ignored = []
-frame_out (bad_server reason) = []
+frame_out other = []
 
 -- The handle has the client after a delivery, and C gets its result.
 pub record IsTakenIn (stream : StreamData) (delivery : Delivery) (code : ℕ)
@@ -193,7 +177,7 @@ pub record IsTakenIn (stream : StreamData) (delivery : Delivery) (code : ℕ)
   pub answer : out ≡ delivered_out (as_sent delivery.delivered)
 
 -- A body is handled or out of memory, or refused.
-abbrev pub IsDeliveredTo : StreamData → Result Delivery Refusal → ℕ → Option Object → Answer →
+abbrev pub IsDeliveredTo : StreamData → Result Delivery ClientFault → ℕ → Option Object → Answer →
     Type 0
 IsDeliveredTo stream (Ok delivery) code stored out =
     (code ≡ OUT_OF_MEMORY) ⊎ IsTakenIn stream delivery code stored out
@@ -213,13 +197,8 @@ phase_number (Failed reason) = 6
 
 -- Why a session failed; 0 if it didn't.
 abbrev pub phase_reason : Phase → ℕ
-phase_reason New = 0
-phase_reason Asked = 0
-phase_reason Ready = 0
-phase_reason Closing = 0
-phase_reason Closed = 0
-phase_reason Done = 0
 phase_reason (Failed reason) = reason_number reason
+phase_reason other = 0
 
 -- The number of an encoding; 0 of none.
 abbrev pub encoding_number : Option Encoding → ℕ

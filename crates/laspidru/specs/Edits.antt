@@ -18,7 +18,7 @@ use Rattle.lsp_edit.specs.Indexed.{text_within}
 use Rattle.lsp_edit.specs.TextEdits.{IsBatchOfEdits, IsEditsFault}
 use Rattle.laspidru.specs.declared.codes.TheConstants.{INSIDE_CHARACTER, OK, OUT_OF_MEMORY, OVERLAP, REVERSED_RANGE, TOO_LONG}
 use Rattle.laspidru.specs.declared.object.Object.{Object}
-use Rattle.laspidru.specs.declared.object.Object.TheVariants.{Document, Batch, Server, Output, Framer, Client}
+use Rattle.laspidru.specs.declared.object.Object.TheVariants.{Document, Batch}
 use Rattle.laspidru.specs.declared.place.Place.{Place}
 use Rattle.laspidru.specs.declared.place.Edit.{Edit}
 use Rattle.laspidru.specs.declared.place.EditsFault.{EditsFault}
@@ -103,11 +103,7 @@ pub record IsBatchOfAsked (asked : EditsAsked) (changes : List Change) : Type 0 
 -- The object is that batch.
 abbrev pub IsEditsBatch : EditsAsked → Object → Type 0
 IsEditsBatch asked (Batch changes) = IsBatchOfAsked asked changes.items
-IsEditsBatch asked (Document other) = ⊥
-IsEditsBatch asked (Server session) = ⊥
-IsEditsBatch asked (Output bytes) = ⊥
-IsEditsBatch asked (Framer framing) = ⊥
-IsEditsBatch asked (Client editor) = ⊥
+IsEditsBatch asked other = ⊥
 
 -- the same of what a handle holds
 abbrev pub HoldsEditsBatch : EditsAsked → Option Object → Type 0

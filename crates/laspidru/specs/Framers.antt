@@ -7,7 +7,7 @@ use Rattle.lsp_frame.specs.declared.fault.FrameFault.{FrameFault}
 use Rattle.lsp_frame.specs.declared.fault.FrameFault.TheVariants as frame
 use Rattle.laspidru.specs.declared.codes.TheConstants.{BAD_FRAME, EMPTY, FAILED, NO_MESSAGE, OK, OTHER_KIND, OUT_OF_MEMORY}
 use Rattle.laspidru.specs.declared.object.Object.{Object}
-use Rattle.laspidru.specs.declared.object.Object.TheVariants.{Document, Batch, Server, Output, Framer, Client}
+use Rattle.laspidru.specs.declared.object.Object.TheVariants.{Framer}
 use Rattle.laspidru.specs.declared.taken.Taken.{Taken}
 use Rattle.laspidru.specs.Codes.{IsAnswer}
 use Rattle.laspidru.specs.Objects.{IsCopy, rest_asked}
@@ -22,12 +22,8 @@ framer_limits max_body = limits_asked (record default_limits { max_body = max_bo
 
 -- The framer of an object.
 abbrev pub framer_of : Object → Result Framing ℕ
-framer_of (Document text) = Err OTHER_KIND
-framer_of (Batch changes) = Err OTHER_KIND
-framer_of (Server session) = Err OTHER_KIND
-framer_of (Output bytes) = Err OTHER_KIND
 framer_of (Framer framing) = Ok framing
-framer_of (Client editor) = Err OTHER_KIND
+framer_of other = Err OTHER_KIND
 
 -- The framer in a handle.
 abbrev pub framer_in : Option Object → Result Framing ℕ
@@ -55,15 +51,9 @@ pub record HasTaken (old new : Framing) (piece : List ℕ) (out : Taken) : Type 
 
 -- The code of a fault of a stream.
 abbrev pub frame_code : FrameFault → ℕ
-frame_code (frame.BadHeader place) = BAD_FRAME
-frame_code (frame.HeaderTooLong place) = BAD_FRAME
-frame_code (frame.MissingLength place) = BAD_FRAME
-frame_code (frame.RepeatedHeader place) = BAD_FRAME
-frame_code (frame.BadLength place) = BAD_FRAME
-frame_code (frame.BodyTooLong place) = BAD_FRAME
-frame_code (frame.BadCharset place) = BAD_FRAME
 frame_code frame.Failed = FAILED
 frame_code frame.NoMemory = OUT_OF_MEMORY
+frame_code fault = BAD_FRAME
 
 -- What is written where no byte was taken.
 abbrev pub nothing_taken : Taken
@@ -82,8 +72,7 @@ IsFrameReport (frame.RepeatedHeader place) out = out ≡ taken_fault 4 place
 IsFrameReport (frame.BadLength place) out = out ≡ taken_fault 5 place
 IsFrameReport (frame.BodyTooLong place) out = out ≡ taken_fault 6 place
 IsFrameReport (frame.BadCharset place) out = out ≡ taken_fault 7 place
-IsFrameReport frame.Failed out = Unit {0}
-IsFrameReport frame.NoMemory out = Unit {0}
+IsFrameReport other out = Unit {0}
 
 -- A piece was not taken, by this fault of the framer.
 pub record IsNotTaken (old new : Framing) (piece : List ℕ) (code : ℕ) (out : Taken) : Type 0 where
@@ -100,11 +89,7 @@ IsFed old piece code new out =
 -- The same of the framer that an object has.
 abbrev pub IsFedObject : Framing → List ℕ → ℕ → Object → Taken → Type 0
 IsFedObject old piece code (Framer new) out = IsFed old piece code new out
-IsFedObject old piece code (Document text) out = ⊥
-IsFedObject old piece code (Batch changes) out = ⊥
-IsFedObject old piece code (Server session) out = ⊥
-IsFedObject old piece code (Output bytes) out = ⊥
-IsFedObject old piece code (Client editor) out = ⊥
+IsFedObject old piece code other out = ⊥
 
 -- The same of what a handle has.
 abbrev pub IsFedStored : Framing → List ℕ → ℕ → Option Object → Taken → Type 0
@@ -139,11 +124,7 @@ pub record IsReleased (old new : Framing) : Type 0 where
 -- The same of what a handle has.
 abbrev pub IsReleasedIn : Framing → Object → Type 0
 IsReleasedIn old (Framer new) = IsReleased old new
-IsReleasedIn old (Document text) = ⊥
-IsReleasedIn old (Batch changes) = ⊥
-IsReleasedIn old (Server session) = ⊥
-IsReleasedIn old (Output bytes) = ⊥
-IsReleasedIn old (Client editor) = ⊥
+IsReleasedIn old other = ⊥
 
 abbrev pub IsReleasedStored : Framing → Option Object → Type 0
 IsReleasedStored old (Some object) = IsReleasedIn old object

@@ -4,7 +4,7 @@ use Rattle.lsp_frame.specs.Limits.{Bounds}
 use Rattle.lsp_frame.specs.declared.fault.FrameFault.{FrameFault}
 use Rattle.lsp_frame.specs.declared.fault.FrameFault.TheVariants as frame
 use Rattle.lsp_stream.specs.declared.fault.EngineFault.{EngineFault}
-use Rattle.lsp_stream.specs.declared.fault.EngineFault.TheVariants.{Read, Write, Frame, Truncated, BodyTooLong, NoMemory, TooManyTurns, BadLog}
+use Rattle.lsp_stream.specs.declared.fault.EngineFault.TheVariants.{Read, Frame, Truncated, BodyTooLong, TooManyTurns, BadLog}
 use Rattle.lsp_log.specs.Log.{LogRules, Record}
 use Rattle.lsp_replay.specs.declared.engines.Settings.{Settings}
 use Rattle.lsp_replay.specs.declared.outcome.Outcome.{Outcome}
@@ -20,7 +20,7 @@ use Rattle.laspidru.specs.declared.command.Command.TheVariants.{Check, Replay, N
 use Rattle.laspidru.specs.declared.endings.Ending.{Ending}
 use Rattle.laspidru.specs.declared.endings.LogSettings.{LogSettings}
 use Rattle.laspidru.specs.declared.object.Object.{Object}
-use Rattle.laspidru.specs.declared.object.Object.TheVariants.{Document, Batch, Server, Output, Framer, Client}
+use Rattle.laspidru.specs.declared.object.Object.TheVariants.{Output}
 use Rattle.laspidru.specs.Codes.{and_then}
 use Rattle.laspidru.specs.Objects.{encoding_at}
 use Rattle.laspidru.specs.Servers.{limits_asked}
@@ -34,6 +34,7 @@ log_bounds settings = record {
   max_text = settings.max_text;
   max_docs = settings.max_docs;
   max_changes = settings.max_changes;
+  lenient = settings.lenient;
 }
 
 -- The settings of a log, if the encoding is known and each limit is in its range.
@@ -53,10 +54,8 @@ allowed_turns = 18446744073709551615
 
 -- How a command reads a log: `convert` refuses version 2.
 abbrev pub reading_of : Command → Settings → LogRules
-reading_of Check settings = as_log settings
-reading_of Replay settings = as_log settings
-reading_of Normalise settings = as_log settings
 reading_of Convert settings = as_converted settings
+reading_of command settings = as_log settings
 
 -- The output of a command for the records of a log.
 abbrev pub command_output : Command → Settings → List Record → RunOutput
@@ -69,8 +68,6 @@ command_output Convert settings = converted settings
 abbrev pub IsLawful : Command → Settings →
     (left_old left_new received_old received_new : Option (List ℕ)) → Result Outcome EngineFault →
     Type 0
-IsLawful Check settings left_old left_new received_old received_new answer = Unit {0}
-IsLawful Replay settings left_old left_new received_old received_new answer = Unit {0}
 IsLawful Normalise settings left_old left_new received_old received_new answer =
     (settings.squash ≡ false →
     IfOk answer (Wrote settings (IsCanonicalLog settings) left_old left_new received_old
@@ -80,6 +77,7 @@ IsLawful Normalise settings left_old left_new received_old received_new answer =
     received_new))
 IsLawful Convert settings left_old left_new received_old received_new answer =
     IfOk answer (Wrote settings (IsConverted settings) left_old left_new received_old received_new)
+IsLawful command settings left_old left_new received_old received_new answer = Unit {0}
 
 -- A command ran over the bytes of a log, with this output and this result. It read the bytes in
 -- order, up to those that are left.
@@ -135,9 +133,7 @@ ending_out len (Err (Truncated place)) = Ok (CUT, fault_out len place)
 ending_out len (Err (BodyTooLong place)) = Ok (BODY_TOO_LONG, fault_out len place)
 ending_out len (Err (BadLog place)) = Ok (BAD_LOG, fault_out len place)
 ending_out len (Err TooManyTurns) = Err TOO_MANY_TURNS
-ending_out len (Err NoMemory) = Err OUT_OF_MEMORY
-ending_out len (Err Read) = Err OUT_OF_MEMORY
-ending_out len (Err Write) = Err OUT_OF_MEMORY
+ending_out len (Err fault) = Err OUT_OF_MEMORY
 
 -- This holds, unless the code is of an outcome or of a fault of the log.
 abbrev pub IsUnlessEnded : ℕ → Type 0 → Type 0
@@ -146,12 +142,8 @@ IsUnlessEnded code Fact = code ≢ OK → code ≢ CUT → code ≢ BAD_FRAME �
 
 -- The output of a command.
 abbrev pub output_of : Object → Result (List ℕ) ℕ
-output_of (Document text) = Err OTHER_KIND
-output_of (Batch changes) = Err OTHER_KIND
-output_of (Server session) = Err OTHER_KIND
 output_of (Output bytes) = Ok bytes.items
-output_of (Framer framing) = Err OTHER_KIND
-output_of (Client editor) = Err OTHER_KIND
+output_of other = Err OTHER_KIND
 
 -- The output in a handle.
 abbrev pub output_in : Option Object → Result (List ℕ) ℕ

@@ -63,6 +63,5 @@ kinds =
 
 -- Each number is greater than the one before it, so no two are equal.
 abbrev pub Rise : List ℕ → Type 0
-Rise [] = Unit {0}
-Rise (number ∷ []) = Unit {0}
 Rise (number ∷ next ∷ more) = (number < next) × Rise (next ∷ more)
+Rise numbers = Unit {0}

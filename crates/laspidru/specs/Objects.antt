@@ -17,7 +17,7 @@ use Rattle.laspidru.specs.declared.place.Line.{Line}
 use Rattle.laspidru.specs.declared.place.Place.{Place}
 use Rattle.laspidru.specs.declared.place.Size.{Size}
 use Rattle.laspidru.specs.declared.object.Object.{Object}
-use Rattle.laspidru.specs.declared.object.Object.TheVariants.{Document, Batch, Server, Output, Framer, Client}
+use Rattle.laspidru.specs.declared.object.Object.TheVariants.{Document, Batch}
 use Rattle.laspidru.specs.Codes.{and_then}
 
 -- A handle that is to be filled is refused if it has an object.
@@ -35,11 +35,7 @@ text_asked text =
 -- The text of a document.
 abbrev pub document_of : Object → Result (List ℕ) ℕ
 document_of (Document text) = Ok text
-document_of (Batch changes) = Err OTHER_KIND
-document_of (Server session) = Err OTHER_KIND
-document_of (Output bytes) = Err OTHER_KIND
-document_of (Framer framing) = Err OTHER_KIND
-document_of (Client editor) = Err OTHER_KIND
+document_of other = Err OTHER_KIND
 
 -- The text of the document in a handle.
 abbrev pub document_in : Option Object → Result (List ℕ) ℕ
@@ -48,12 +44,8 @@ document_in None = Err EMPTY
 
 -- The changes of a batch.
 abbrev pub batch_of : Object → Result (List Change) ℕ
-batch_of (Document text) = Err OTHER_KIND
 batch_of (Batch changes) = Ok changes.items
-batch_of (Server session) = Err OTHER_KIND
-batch_of (Output bytes) = Err OTHER_KIND
-batch_of (Framer framing) = Err OTHER_KIND
-batch_of (Client editor) = Err OTHER_KIND
+batch_of other = Err OTHER_KIND
 
 -- The changes of the batch in a handle.
 abbrev pub batch_in : Option Object → Result (List Change) ℕ

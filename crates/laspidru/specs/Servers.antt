@@ -17,18 +17,18 @@ use Rattle.lsp_server.specs.declared.answer.Refusal.TheVariants as refusal
 use Rattle.lsp_server.specs.declared.config.Config.{Config}
 use Rattle.lsp_server.specs.declared.config.EncodingChoice.{EncodingChoice}
 use Rattle.lsp_server.specs.declared.config.EncodingChoice.TheVariants.{Fixed, Negotiated}
-use Rattle.lsp_server.specs.declared.config.Sync.{Sync}
-use Rattle.lsp_server.specs.declared.config.Sync.TheVariants.{Incremental, Full}
+use Rattle.lsp_server.specs.declared.config.ChangeForm.{ChangeForm}
+use Rattle.lsp_server.specs.declared.config.ChangeForm.TheVariants.{Incremental, Full}
 use Rattle.lsp_server.specs.declared.phase.Phase.{Phase}
-use Rattle.lsp_server.specs.declared.phase.Phase.TheVariants.{New, Running, Down, Ended}
+use Rattle.lsp_server.specs.declared.phase.Phase.TheVariants.{Ended}
 use Rattle.lsp_server.specs.Answer.{AnswerData, Sent, as_sent, reply, changed, dropped, ignored, already_ended, refused, exits}
-use Rattle.lsp_server.specs.Step.{Step, start, step}
+use Rattle.lsp_server.specs.Step.{Step, new_server, step}
 use Rattle.laspidru.specs.declared.answers.Answer.{Answer}
 use Rattle.laspidru.specs.declared.answers.Opened.{Opened}
 use Rattle.laspidru.specs.declared.answers.Settings.{Settings}
 use Rattle.laspidru.specs.declared.codes.TheConstants.{ALREADY_OPEN, BAD_LIMIT, CHANGED, DROPPED, EMPTY, ENDED, EXITED, IGNORED, INSIDE_CHARACTER, INVALID_PARAMS, NOT_OPEN, NOT_UTF8, OK, OTHER_KIND, OUT_OF_MEMORY, REFUSED, REPLIED, REVERSED_RANGE, STALE_VERSION, TOO_LONG, TOO_MANY_CHANGES, TOO_MANY_DOCUMENTS}
 use Rattle.laspidru.specs.declared.object.Object.{Object}
-use Rattle.laspidru.specs.declared.object.Object.TheVariants.{Document, Batch, Server, Output, Framer, Client}
+use Rattle.laspidru.specs.declared.object.Object.TheVariants.{Server}
 use Rattle.laspidru.specs.Codes.{and_then, unless}
 use Rattle.laspidru.specs.Objects.{encoding_at}
 use Rattle.laspidru.specs.Sessions.{SessionData}
@@ -43,6 +43,7 @@ bounds_of settings = record {
   max_text = settings.max_text;
   max_docs = settings.max_docs;
   max_changes = settings.max_changes;
+  lenient = settings.lenient;
 }
 
 -- The choice of encoding: fixed, or negotiated with a preference (LSP 3.17, PositionEncodingKind).
@@ -51,7 +52,7 @@ choice_of true encoding = Fixed encoding
 choice_of false encoding = Negotiated encoding
 
 -- The kind of synchronisation (LSP 3.17, TextDocumentSyncKind).
-abbrev pub sync_of : Bool → Sync
+abbrev pub sync_of : Bool → ChangeForm
 sync_of true = Full
 sync_of false = Incremental
 
@@ -119,12 +120,8 @@ reply_out other = []
 
 -- The server of an object, with its last reply.
 abbrev pub server_of : Object → Result SessionData ℕ
-server_of (Document text) = Err OTHER_KIND
-server_of (Batch changes) = Err OTHER_KIND
 server_of (Server session) = Ok session
-server_of (Output bytes) = Err OTHER_KIND
-server_of (Framer framing) = Err OTHER_KIND
-server_of (Client editor) = Err OTHER_KIND
+server_of other = Err OTHER_KIND
 
 -- The server in a handle.
 abbrev pub server_in : Option Object → Result SessionData ℕ
@@ -133,10 +130,8 @@ server_in None = Err EMPTY
 
 -- A session that has ended handles no message.
 abbrev pub ended : Phase → Option ℕ
-ended New = None
-ended Running = None
-ended Down = None
 ended Ended = Some ENDED
+ended other = None
 
 -- The server of a session that hasn't ended.
 abbrev pub live_asked : Result SessionData ℕ → Result SessionData ℕ
@@ -188,4 +183,4 @@ pub record IsOpened (out : Opened) (entry : DocumentItem) : Type 0 where
 -- A new server, which has replied nothing.
 abbrev pub session_of : Config → SessionData
 session_of config =
-    record { server = start config; reply = []; stream = stream_of config.limits }
+    record { server = new_server config; reply = []; stream = stream_of config.limits }

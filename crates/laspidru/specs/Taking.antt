@@ -5,7 +5,7 @@ use Rattle.lsp_client.specs.Step.{delivery_of, is_listening}
 use Rattle.laspidru.specs.declared.answers.Answer.{Answer}
 use Rattle.laspidru.specs.declared.codes.TheConstants.{OK, OUT_OF_MEMORY, WRONG_PHASE}
 use Rattle.laspidru.specs.declared.object.Object.{Object}
-use Rattle.laspidru.specs.declared.object.Object.TheVariants.{Document, Batch, Server, Output, Framer, Client}
+use Rattle.laspidru.specs.declared.object.Object.TheVariants.{Server, Client}
 use Rattle.laspidru.specs.declared.taken.Taken.{Taken}
 use Rattle.laspidru.specs.Clients.{IsTakenIn}
 use Rattle.laspidru.specs.Codes.{and_then}
@@ -69,11 +69,7 @@ IsServed old piece code new taken before after =
 abbrev pub IsServedIn : SessionData → List ℕ → ℕ → Object → Taken → Answer → Answer → Type 0
 IsServedIn old piece code (Server new) taken before after =
     IsServed old piece code new taken before after
-IsServedIn old piece code (Document text) taken before after = ⊥
-IsServedIn old piece code (Batch changes) taken before after = ⊥
-IsServedIn old piece code (Output bytes) taken before after = ⊥
-IsServedIn old piece code (Framer framing) taken before after = ⊥
-IsServedIn old piece code (Client editor) taken before after = ⊥
+IsServedIn old piece code other taken before after = ⊥
 
 -- The same of what a handle has.
 abbrev pub IsServedStored : SessionData → List ℕ → ℕ → Option Object → Taken → Answer → Answer →
@@ -125,11 +121,7 @@ IsHeard old piece code new taken before after =
 abbrev pub IsHeardIn : EditorData → List ℕ → ℕ → Object → Taken → Answer → Answer → Type 0
 IsHeardIn old piece code (Client new) taken before after =
     IsHeard old piece code new taken before after
-IsHeardIn old piece code (Document text) taken before after = ⊥
-IsHeardIn old piece code (Batch changes) taken before after = ⊥
-IsHeardIn old piece code (Server session) taken before after = ⊥
-IsHeardIn old piece code (Output bytes) taken before after = ⊥
-IsHeardIn old piece code (Framer framing) taken before after = ⊥
+IsHeardIn old piece code other taken before after = ⊥
 
 -- The same of what a handle has.
 abbrev pub IsHeardStored : EditorData → List ℕ → ℕ → Option Object → Taken → Answer → Answer →

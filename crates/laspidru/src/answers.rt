@@ -15,12 +15,12 @@ use crate::codes::{
 use lsp_edit::EditFault;
 use lsp_frame::Limits;
 use lsp_message::ErrorCode;
-use lsp_server::{Config, EncodingChoice, Refusal, Sync};
+use lsp_server::{ChangeForm, Config, EncodingChoice, Refusal};
 use lsp_store::StoreFault;
 
 /// The set-up of a server: its limits, the number of its encoding, and its kind of synchronisation.
 /// With `is_fixed` the server insists on the encoding, else it prefers it. With `is_full` it asks
-/// for whole texts.
+/// for whole texts. With `lenient` its limits are.
 #[repr(C)]
 #[derive(Clone, Copy, Debug, PartialEq, Eq)]
 pub struct Settings {
@@ -31,6 +31,7 @@ pub struct Settings {
     pub encoding: u32,
     pub is_fixed: bool,
     pub is_full: bool,
+    pub lenient: bool,
 }
 
 /// A server's answer to a message. A member that isn't of the kind is 0.
@@ -63,15 +64,18 @@ pub(crate) fn limits_of(
     max_text: usize,
     max_docs: usize,
     max_changes: usize,
+    lenient: bool,
 ) -> Result<Limits, u32>
     ensures { let given : Bounds = record {
       max_body = max_body;
       max_text = max_text;
       max_docs = max_docs;
       max_changes = max_changes;
+      lenient = lenient;
     } in result ≡ limits_asked given }
 {
     match Limits::new(max_body, max_text, max_docs, max_changes) {
+        Ok(limits) if lenient => Ok(limits.lenient()),
         Ok(limits) => Ok(limits),
         Err(_) => Err(BAD_LIMIT),
     }
@@ -90,6 +94,7 @@ pub(crate) fn config_of(settings: &Settings) -> Result<Config, u32>
         settings.max_text,
         settings.max_docs,
         settings.max_changes,
+        settings.lenient,
     )?;
     let choice = if settings.is_fixed {
         EncodingChoice::Fixed(encoding)
@@ -97,9 +102,9 @@ pub(crate) fn config_of(settings: &Settings) -> Result<Config, u32>
         EncodingChoice::Negotiated { prefer: encoding }
     };
     let sync = if settings.is_full {
-        Sync::Full
+        ChangeForm::Full
     } else {
-        Sync::Incremental
+        ChangeForm::Incremental
     };
     Ok(Config {
         limits,

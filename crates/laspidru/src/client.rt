@@ -34,6 +34,7 @@ fn editor_of(alloc: Global, settings: &ClientSettings) -> Result<Editor, u32>
         settings.max_text,
         settings.max_docs,
         settings.max_changes,
+        settings.lenient,
     )?;
     let offers = Offers::new(settings.utf8, settings.utf32);
     Ok(Editor {

@@ -252,10 +252,8 @@ fn object_apply_edits(
 }
 
 /// Makes text edits, or none of them (LSP 3.17, TextEdit[]). All their ranges count in the text as
-/// it
-/// is. Codes are those of [`laspidru_document_batch_of_edits`] without IN_USE, and TOO_LONG where
-/// the
-/// text that would be left is too long. Costs that call and [`IndexedText::change`].
+/// it is. Codes are those of [`laspidru_document_batch_of_edits`] without IN_USE, and TOO_LONG where
+/// the text that would be left is too long. Costs that call and [`IndexedText::change`].
 #[unsafe(no_mangle)]
 pub extern "C" fn laspidru_document_apply_edits(
     alloc: Global,

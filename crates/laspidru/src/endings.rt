@@ -13,7 +13,8 @@ use lsp_frame::FrameFault;
 use lsp_replay::{EngineFault, Outcome, Settings};
 
 /// How a log is read: the limits, and the number of the encoding of its positions. With `squash`
-/// changes of one document that follow each other are normalised to one message.
+/// changes of one document that follow each other are normalised to one message. With `lenient` the
+/// limits are.
 #[repr(C)]
 #[derive(Clone, Copy, Debug, PartialEq, Eq)]
 pub struct LogSettings {
@@ -23,6 +24,7 @@ pub struct LogSettings {
     pub max_changes: usize,
     pub encoding: u32,
     pub squash: bool,
+    pub lenient: bool,
 }
 
 /// The ending of a command on a log. A member that isn't of the code is 0.
@@ -56,6 +58,7 @@ pub(crate) fn log_settings_of(settings: &LogSettings) -> Result<Settings, u32>
         settings.max_text,
         settings.max_docs,
         settings.max_changes,
+        settings.lenient,
     )?;
     Ok(Settings {
         limits,

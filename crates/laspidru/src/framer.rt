@@ -35,6 +35,7 @@ pub extern "C" fn laspidru_framer_new(alloc: Global, handle: &mut Handle, max_bo
         Limits::DEFAULT_TEXT,
         Limits::DEFAULT_DOCS,
         Limits::DEFAULT_CHANGES,
+        false,
     ) {
         Ok(limits) => limits,
         Err(code) => return code,

@@ -165,7 +165,7 @@ fn object_output(object: &Object, start: usize, out: &mut [u8], copied: &mut usi
 /// Copies the bytes of a command's output from `start` on, as many as `out` has room for, and
 /// returns how many. Codes, in this order: EMPTY, OTHER_KIND, OUT_OF_RANGE. Costs the copy.
 #[unsafe(no_mangle)]
-pub extern "C" fn laspidru_log_output(
+pub extern "C" fn laspidru_output_copy(
     alloc: Global,
     handle: &mut Handle,
     start: usize,

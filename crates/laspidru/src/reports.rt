@@ -19,7 +19,8 @@ use lsp_store::StoreFault;
 use lsp_text::Encoding;
 use std::alloc::Global;
 
-/// The set-up of a client: its limits, and the encodings that it offers beside UTF-16.
+/// The set-up of a client: its limits, which may be lenient, and the encodings that it offers beside
+/// UTF-16.
 #[repr(C)]
 #[derive(Clone, Copy, Debug, PartialEq, Eq)]
 pub struct ClientSettings {
@@ -29,6 +30,7 @@ pub struct ClientSettings {
     pub max_changes: usize,
     pub utf8: bool,
     pub utf32: bool,
+    pub lenient: bool,
 }
 
 /// The state of a client's session.

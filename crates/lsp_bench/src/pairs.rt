@@ -7,7 +7,7 @@ use lsp_edit::Change;
 use lsp_frame::Limits;
 use lsp_message::{ChangeParams, Offers, OpenParams, Outgoing};
 use lsp_pair::{Did, Event, Happened, Pair};
-use lsp_server::{Answer, Config, EncodingChoice, Server, Sync};
+use lsp_server::{Answer, ChangeForm, Config, EncodingChoice, Server};
 use lsp_text::Encoding;
 use std::alloc::{AllocError, Global};
 use std::io;
@@ -59,7 +59,7 @@ fn config() -> Config {
     Config {
         limits: Limits::default(),
         choice: EncodingChoice::Fixed(Encoding::Utf16),
-        sync: Sync::Incremental,
+        sync: ChangeForm::Incremental,
     }
 }
 

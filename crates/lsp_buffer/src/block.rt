@@ -54,10 +54,10 @@ impl Block {
     }
 
     /// Returns a copy. Fails only if it is out of memory.
-    pub fn copied(&self, alloc: Global) -> Result<Self, AllocError>
+    pub fn clone_in(&self, alloc: Global) -> Result<Self, AllocError>
         ensures { IfOk result (λ copy. copy ≡ self.now) }
     {
-        let lines = self.lines.copied(alloc)?;
+        let lines = self.lines.clone_in(alloc)?;
         let text = String::from_str(alloc, &self.text)?;
         Ok(Block { text, lines })
     }
@@ -168,7 +168,7 @@ pub fn copied_blocks(alloc: Global, blocks: &[Block]) -> Result<Vec<Block>, Allo
 {
     let mut copies = Vec::with_capacity(alloc, blocks.len())?;
     for block in blocks {
-        copies.push(block.copied(alloc)?)?;
+        copies.push(block.clone_in(alloc)?)?;
     }
     Ok(copies)
 }

@@ -45,7 +45,7 @@ impl Heads {
     }
 
     /// Returns a copy. Fails only if it is out of memory.
-    pub fn copied(&self, alloc: Global) -> Result<Self, AllocError>
+    pub fn clone_in(&self, alloc: Global) -> Result<Self, AllocError>
         ensures { IfOk result (λ copy. copy ≡ self.now) }
     {
         let utf8 = Vec::from_slice(alloc, &self.utf8)?;

@@ -97,13 +97,13 @@ impl TextBuffer {
 
     /// Returns a copy. Fails only if it is out of memory. Linear in the text, but no line is
     /// searched for again.
-    pub fn copied(&self, alloc: Global) -> Result<Self, AllocError>
+    pub fn clone_in(&self, alloc: Global) -> Result<Self, AllocError>
         ensures { IfOk result (λ copy. copy ≡ self.now) }
     {
         let blocks = copied_blocks(alloc, &self.blocks)?;
         let starts = Vec::from_slice(alloc, &self.starts)?;
         let lines = Vec::from_slice(alloc, &self.lines)?;
-        let heads = self.heads.copied(alloc)?;
+        let heads = self.heads.clone_in(alloc)?;
         Ok(TextBuffer {
             blocks,
             starts,

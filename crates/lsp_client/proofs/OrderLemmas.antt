@@ -14,14 +14,14 @@ use Rattle.lsp_store.specs.Message.{else_refused, body_refusal, change_body, can
 use Rattle.lsp_store.specs.Table as documents_table
 use Rattle.lsp_message.specs.Params.{DocumentItem}
 use Rattle.lsp_store.specs.Table.{already_open, too_many_documents, text_too_long, not_open, too_many_changes, stale_version, edit, body_too_long, changes, command_refusal, table_after}
-use Rattle.lsp_client.specs.declared.fault.ClientFault.TheVariants.{NoMemory}
-use Rattle.lsp_client.specs.Step.{State, Sending, store, sent_body, unless_refused, command_result}
-use Rattle.lsp_client.specs.Seen.{IsFaultOf, IsSent, client_fault, fault_of}
+use Rattle.lsp_client.specs.declared.fault.ClientFault.TheVariants.{Store, NoMemory}
+use Rattle.lsp_client.specs.Step.{State, Sending, sent_body, sending_unless, command_result}
+use Rattle.lsp_client.specs.Seen.{IsFaultOf, IsSent, client_fault}
 
 -- ---- refusals
 
 -- A refusal of the store is a refusal of the client, with the store's fault.
-fault_kept : (refusal : documents_table.Refusal) → client_fault (documents.fault_of refusal) ≡ fault_of (store refusal)
+fault_kept : (refusal : documents_table.Refusal) → client_fault (documents.fault_of refusal) ≡ Store (documents.fault_of refusal)
 fault_kept already_open = refl
 fault_kept too_many_documents = refl
 fault_kept text_too_long = refl
@@ -47,7 +47,7 @@ pub some_same : {A : Type 0} (a b : A) → Some a ≡ Some b → a ≡ b
 some_same a b e = cc
 
 -- The client's fault for what the store refuses.
-pub refused : (refusal : Option documents_table.Refusal) (sending : Sending) (fault : StoreFault) → IsRefusal refusal fault → IsFaultOf (unless_refused refusal sending) (client_fault fault)
+pub refused : (refusal : Option documents_table.Refusal) (sending : Sending) (fault : StoreFault) → IsRefusal refusal fault → IsFaultOf (sending_unless refusal sending) (client_fault fault)
 refused None sending fault why = ⊎_elim (λ (e : fault ≡ faults.NoMemory). rw e refl) (λ (e : None ≡ Some fault). absurd (cc)) why
 refused (Some refusal) sending fault why =
     ⊎_elim (λ (e : fault ≡ faults.NoMemory). inl (rw e refl))

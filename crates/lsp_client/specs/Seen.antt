@@ -5,17 +5,16 @@ use Rattle.lsp_frame.specs.Frame.{frame}
 use Rattle.lsp_edit.specs.declared.change.Change.{Change}
 use Rattle.lsp_edit.specs.Edited.{edit_of}
 use Rattle.lsp_message.specs.Outgoing.{OutgoingData, body_of}
-use Rattle.lsp_store.specs.Faults as documents
 use Rattle.lsp_store.specs.declared.fault.StoreFault as documents_fault
 use Rattle.lsp_store.specs.declared.fault.StoreFault.TheVariants as faults
 use Rattle.lsp_client.specs.declared.fault.ClientFault.{ClientFault}
-use Rattle.lsp_client.specs.declared.fault.ClientFault.TheVariants.{WrongPhase, Store, NoMemory}
+use Rattle.lsp_client.specs.declared.fault.ClientFault.TheVariants.{Store, NoMemory}
 use Rattle.lsp_client.specs.declared.delivered.Delivered.{Delivered}
 use Rattle.lsp_client.specs.declared.delivered.Delivered.TheVariants.{Send, Noted, Ignored, BadServer}
 use Rattle.lsp_store.specs.Opened.{MayTakeMemory}
 use Rattle.lsp_store.specs.Table.{open_refusal, close_refusal}
 use Rattle.lsp_client.specs.declared.phase.Phase.TheVariants.{Ready}
-use Rattle.lsp_client.specs.Step.{State, Sending, Refusal, wrong_phase, store, Order, opens, edits, closes, Delivery, DeliveredData, sends, noted, ignored, bad_server}
+use Rattle.lsp_client.specs.Step.{State, Sending, Order, opens, edits, closes, Delivery, DeliveredData, sends, noted, ignored, bad_server}
 
 -- ---- what a call asks
 
@@ -35,11 +34,6 @@ edit_order uri version changes = edits uri version (map edit_of changes)
 
 -- ---- what is refused
 
--- The fault of a refusal.
-abbrev pub fault_of : Refusal → ClientFault
-fault_of (wrong_phase phase) = WrongPhase phase
-fault_of (store refusal) = Store (documents.fault_of refusal)
-
 -- The client's fault of a fault of the store.
 abbrev pub client_fault : documents_fault.StoreFault → ClientFault
 client_fault faults.NoMemory = NoMemory
@@ -47,15 +41,15 @@ client_fault fault = Store fault
 
 -- This is the fault of a refused step, or the client is out of memory. A call in a wrong phase
 -- takes no memory.
-abbrev pub IsFaultOf : {A : Type 0} → Result A Refusal → ClientFault → Type 0
+abbrev pub IsFaultOf : {A : Type 0} → Result A ClientFault → ClientFault → Type 0
 IsFaultOf (Ok a) fault = fault ≡ NoMemory
-IsFaultOf (Err (wrong_phase phase)) fault = fault ≡ WrongPhase phase
-IsFaultOf (Err (store refusal)) fault = (fault ≡ NoMemory) ⊎ (fault ≡ fault_of (store refusal))
+IsFaultOf (Err (Store why)) fault = (fault ≡ NoMemory) ⊎ (fault ≡ Store why)
+IsFaultOf (Err why) fault = fault ≡ why
 
 -- ---- what is accepted
 
 -- A call is accepted: this frame is to be sent, and this is the client's new state.
-abbrev pub IsSent : Result Sending Refusal → List ℕ → State → Type 0
+abbrev pub IsSent : Result Sending ClientFault → List ℕ → State → Type 0
 IsSent (Ok sending) bytes new =
     (bytes ≡ frame (body_of sending.message)) × (new ≡ sending.state)
 IsSent (Err refusal) bytes new = ⊥
@@ -75,7 +69,7 @@ as_sent ignored = ignored
 as_sent (bad_server reason) = bad_server reason
 
 -- A body is accepted: this is the result, and this is the client's new state.
-abbrev pub IsDelivered : Result Delivery Refusal → DeliveredData (List ℕ) → State → Type 0
+abbrev pub IsDelivered : Result Delivery ClientFault → DeliveredData (List ℕ) → State → Type 0
 IsDelivered (Ok delivery) delivered new =
     (delivered ≡ as_sent delivery.delivered) × (new ≡ delivery.state)
 IsDelivered (Err refusal) delivered new = ⊥

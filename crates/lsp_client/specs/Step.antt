@@ -1,7 +1,7 @@
 -- One step of the client's end of a session (LSP 3.17, Lifecycle Messages, Text Document
 -- Synchronization). The tables say which calls it accepts, which message each sends, and what it
 -- does with what the server sends.
-use Rattle.std.specs.Prelude.{ℕ, ℤ, Bool, true, false, ◌==◌, if◌then◌else◌, List, [], Option, Some, None, unwrap_or, Result, Ok, Err, pos, negsuc}
+use Rattle.std.specs.Prelude.{ℕ, ℤ, Bool, true, false, ◌==◌, if◌then◌else◌, List, [], Option, Some, None, unwrap_or, Result, Ok, Err, pos}
 use Rattle.lsp_frame.specs.Limits.{Bounds}
 use Rattle.lsp_text.specs.declared.encoding.Encoding.{Encoding}
 use Rattle.lsp_text.specs.declared.encoding.Encoding.TheVariants.{Utf16}
@@ -13,13 +13,16 @@ use Rattle.lsp_message.specs.declared.agreement.SyncKind.{SyncKind}
 use Rattle.lsp_message.specs.declared.agreement.SyncKind.TheVariants.{Off, Full, Incremental}
 use Rattle.lsp_message.specs.declared.outgoing.ErrorCode.TheVariants.{MethodNotFound}
 use Rattle.lsp_message.specs.Agreement.{is_offered, announced_of}
-use Rattle.lsp_message.specs.Message.{IdData, whole, text, OutcomeData, given, failed, Reading, not_json, not_a_message, message, request, notification, response}
+use Rattle.lsp_message.specs.Message.{IdData, whole, OutcomeData, given, failed, Reading, message, request, notification, response}
 use Rattle.lsp_message.specs.Outgoing.{OutgoingData, initialize, initialized, did_open, did_close, shutdown, exit, error_reply, body_of}
 use Rattle.lsp_store.specs.Table as documents
 use Rattle.lsp_message.specs.Params.{DocumentItem}
+use Rattle.lsp_store.specs.Faults.{fault_of}
 use Rattle.lsp_store.specs.Table.{Command, command_refusal, table_after}
 use Rattle.lsp_store.specs.Message.{canonical_batch, whole_batch, change_message, body_refusal, else_refused}
 use Rattle.lsp_client.specs.declared.agreed.Agreed.{Agreed}
+use Rattle.lsp_client.specs.declared.fault.ClientFault.{ClientFault}
+use Rattle.lsp_client.specs.declared.fault.ClientFault.TheVariants.{WrongPhase, Store}
 use Rattle.lsp_client.specs.declared.phase.Phase.{Phase}
 use Rattle.lsp_client.specs.declared.phase.Phase.TheVariants.{New, Asked, Ready, Closing, Closed, Done, Failed}
 use Rattle.lsp_client.specs.declared.phase.Reason.{Reason}
@@ -35,8 +38,8 @@ pub record State : Type 0 where
   pub table : List DocumentItem
 
 -- A new client.
-abbrev pub start : Bounds → Offers → State
-start limits offers =
+abbrev pub new_client : Bounds → Offers → State
+new_client limits offers =
     record { limits = limits; offers = offers; phase = New; agreed = None; table = [] }
 
 -- ---- calls
@@ -53,11 +56,6 @@ pub data Call : Type 0 where
   starts shuts_down exits : Call
   orders : Order → Call
 
--- Why a call is refused.
-pub data Refusal : Type 0 where
-  wrong_phase : Phase → Refusal
-  store : documents.Refusal → Refusal
-
 -- What an accepted call sends, and the client's new state.
 pub record Sending : Type 0 where
   pub message : OutgoingData
@@ -73,11 +71,10 @@ command_of encoding (opens entry) = documents.opens entry
 command_of encoding (edits uri version batch) = documents.changes uri version encoding batch
 command_of encoding (closes uri) = documents.closes uri
 
--- The batch that is sent for a batch: the canonical one, or under Full the document's new text.
+-- The batch that is sent for a batch: under Full the document's new text, else the canonical one.
 abbrev pub sent_batch : SyncKind → (ℕ → ℕ) → List DocumentItem → List ℕ → ℤ → List Edit → List Edit
 sent_batch Full units table uri version batch = whole_batch units table uri version batch
-sent_batch Incremental units table uri version batch = canonical_batch units table uri batch
-sent_batch Off units table uri version batch = canonical_batch units table uri batch
+sent_batch kind units table uri version batch = canonical_batch units table uri batch
 
 -- The message of a command on a table (DidOpen-, DidChange-, DidCloseTextDocument).
 abbrev pub message_of : SyncKind → List DocumentItem → Command → OutgoingData
@@ -99,14 +96,14 @@ order_refusal limits kind table command =
     (body_refusal limits (sent_body kind table command))
 
 -- What a call sends, unless there is a refusal.
-abbrev pub unless_refused : Option documents.Refusal → Sending → Result Sending Refusal
-unless_refused (Some refusal) sending = Err (store refusal)
-unless_refused None sending = Ok sending
+abbrev pub sending_unless : Option documents.Refusal → Sending → Result Sending ClientFault
+sending_unless (Some refusal) sending = Err (Store (fault_of refusal))
+sending_unless None sending = Ok sending
 
 -- What a command sends and the client's new state, or why it is refused.
-abbrev pub command_result : State → SyncKind → Command → Result Sending Refusal
+abbrev pub command_result : State → SyncKind → Command → Result Sending ClientFault
 command_result s kind command =
-    unless_refused
+    sending_unless
     (order_refusal s.limits kind s.table command)
     (record {
       message = message_of kind s.table command;
@@ -114,27 +111,27 @@ command_result s kind command =
     })
 
 -- What an order sends and the client's new state, or why it is refused.
-abbrev pub order_result : State → Order → Result Sending Refusal
+abbrev pub order_result : State → Order → Result Sending ClientFault
 order_result s order =
     command_result s (agreement s).kind (command_of (agreement s).encoding order)
 
 -- A message of the session's lifecycle is sent, and the client enters this phase.
-abbrev pub lifecycle_result : State → Phase → OutgoingData → Result Sending Refusal
+abbrev pub lifecycle_result : State → Phase → OutgoingData → Result Sending ClientFault
 lifecycle_result s phase m = Ok (record { message = m; state = record s { phase = phase } })
 
 -- ---- the table of calls: the first row that fits decides
 
 -- The result of a call, by phase.
-abbrev pub call_result_in : Phase → State → Call → Result Sending Refusal
+abbrev pub call_result_in : Phase → State → Call → Result Sending ClientFault
 call_result_in New s starts = lifecycle_result s Asked (initialize s.offers)
 call_result_in Ready s (orders order) = order_result s order
 call_result_in Ready s shuts_down = lifecycle_result s Closing shutdown
 call_result_in Closed s exits = lifecycle_result s Done exit
-call_result_in phase s call = Err (wrong_phase phase)
+call_result_in phase s call = Err (WrongPhase phase)
 
 -- What a call sends and the client's new state, or why it is refused. A refused call changes
 -- nothing.
-abbrev pub call_result : State → Call → Result Sending Refusal
+abbrev pub call_result : State → Call → Result Sending ClientFault
 call_result s call = call_result_in s.phase s call
 
 -- ---- what the server sends
@@ -203,10 +200,8 @@ shutdown_delivery s (given result) =
 
 -- Whether an id is this number.
 abbrev pub is_id : ℕ → Option IdData → Bool
-is_id n None = false
 is_id n (Some (whole (pos k))) = k == n
-is_id n (Some (whole (negsuc k))) = false
-is_id n (Some (text t)) = false
+is_id n id = false
 
 -- A response, by phase. `initialize` has the id 1 and `shutdown` the id 2; the client sends no
 -- other request.
@@ -221,28 +216,24 @@ response_delivery phase s id outcome = failure s NotAnAnswer
 
 -- What a client that listens does with a body.
 abbrev pub delivery_of : State → Reading → Delivery
-delivery_of s not_json = failure s NotAnAnswer
-delivery_of s (not_a_message id) = failure s NotAnAnswer
 delivery_of s (message (notification method params)) = same_state s ignored
 delivery_of s (message (request id method params)) =
     same_state s (sends (error_reply (Some id) MethodNotFound))
 delivery_of s (message (response id outcome)) = response_delivery s.phase s id outcome
+delivery_of s body = failure s NotAnAnswer
 
 -- A client listens from `initialize` to `exit`.
 abbrev pub is_listening : Phase → Bool
 is_listening New = false
-is_listening Asked = true
-is_listening Ready = true
-is_listening Closing = true
-is_listening Closed = true
 is_listening Done = false
 is_listening (Failed reason) = false
+is_listening phase = true
 
 -- What a client does with a body, if it listens.
-abbrev pub if_listening : Bool → State → Reading → Result Delivery Refusal
+abbrev pub if_listening : Bool → State → Reading → Result Delivery ClientFault
 if_listening true s body = Ok (delivery_of s body)
-if_listening false s body = Err (wrong_phase s.phase)
+if_listening false s body = Err (WrongPhase s.phase)
 
 -- The result of a body that the server sent and the client's new state, or why the body is refused.
-abbrev pub delivery_result : State → Reading → Result Delivery Refusal
+abbrev pub delivery_result : State → Reading → Result Delivery ClientFault
 delivery_result s body = if_listening (is_listening s.phase) s body

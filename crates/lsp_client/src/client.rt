@@ -1,14 +1,14 @@
 //! The client, and the calls of its lifecycle.
 
 ghost use Rattle.std.specs.Prelude.{◌≡◌, IfErr, IfOk, OnErr, option_map};
-ghost use Rattle.lsp_client.specs.Step.{start, call_result, starts, shuts_down, exits};
+ghost use Rattle.lsp_client.specs.Step.{new_client, call_result, starts, shuts_down, exits};
 ghost use Rattle.lsp_client.specs.Seen.{IsSent, IsFaultOf};
 
 use crate::agreed::Agreed;
 use crate::fault::ClientFault;
 use crate::phase::Phase;
 use lsp_frame::Limits;
-use lsp_message::{Offers, Outgoing, write_frame};
+use lsp_message::{Offers, Outgoing, message_frame};
 use lsp_store::Store;
 use lsp_text::Encoding;
 use std::alloc::Global;
@@ -43,7 +43,7 @@ impl Model for Client {
 impl Client {
     /// Returns a client in phase New, with no open document. Takes no memory.
     pub fn new(alloc: Global, limits: Limits, offers: Offers) -> Client
-        ensures { result ≡ start limits offers }
+        ensures { result ≡ new_client limits offers }
     {
         Client {
             alloc,
@@ -89,7 +89,7 @@ impl Client {
     {
         match self.phase {
             Phase::New => {
-                let frame = write_frame(self.alloc, &Outgoing::Initialize(self.offers))?;
+                let frame = message_frame(self.alloc, &Outgoing::Initialize(self.offers))?;
                 self.phase = Phase::Asked;
                 Ok(frame)
             }
@@ -110,7 +110,7 @@ impl Client {
     {
         match self.phase {
             Phase::Ready => {
-                let frame = write_frame(self.alloc, &Outgoing::Shutdown)?;
+                let frame = message_frame(self.alloc, &Outgoing::Shutdown)?;
                 self.phase = Phase::Closing;
                 Ok(frame)
             }
@@ -130,7 +130,7 @@ impl Client {
     {
         match self.phase {
             Phase::Closed => {
-                let frame = write_frame(self.alloc, &Outgoing::Exit)?;
+                let frame = message_frame(self.alloc, &Outgoing::Exit)?;
                 self.phase = Phase::Done;
                 Ok(frame)
             }

@@ -13,8 +13,8 @@ use crate::delivered::Delivered;
 use crate::fault::ClientFault;
 use crate::phase::{Phase, Reason};
 use lsp_message::{
-    Announced, ErrorCode, Id, Message, Outcome, Outgoing, ReadFault, SyncKind, read,
-    result_initialize, write_frame,
+    Announced, ErrorCode, Id, Message, Outcome, Outgoing, ReadFault, SyncKind, message_frame, read,
+    result_initialize,
 };
 use std::alloc::AllocError;
 
@@ -80,7 +80,7 @@ impl Client {
                     id: Some(id),
                     error: ErrorCode::MethodNotFound,
                 };
-                Ok(Delivered::Send(write_frame(self.alloc, &reply)?))
+                Ok(Delivered::Send(message_frame(self.alloc, &reply)?))
             }
             Message::Response { id, outcome } => self.deliver_response(id, outcome),
         }
@@ -146,7 +146,7 @@ impl Client {
             SyncKind::Off => Ok(self.fail(Reason::NoSync)),
             SyncKind::Full | SyncKind::Incremental => match announced.encoding {
                 Some(encoding) if self.offers.includes(encoding) => {
-                    let frame = write_frame(self.alloc, &Outgoing::Initialized)?;
+                    let frame = message_frame(self.alloc, &Outgoing::Initialized)?;
                     self.phase = Phase::Ready;
                     self.agreed = Some(Agreed { encoding, kind });
                     Ok(Delivered::Send(frame))

@@ -13,9 +13,9 @@ ghost use Rattle.lsp_client.specs.inside.Orders.{IsOrderFault};
 use crate::agreed::Agreed;
 use crate::client::Client;
 use crate::fault::ClientFault;
-use crate::framed::framed_within;
+use crate::framed::message_frame_within;
 use crate::phase::Phase;
-use crate::whole::whole_frame;
+use crate::whole::whole_text_frame;
 use lsp_edit::Change;
 use lsp_message::{CloseParams, OpenParams, Outgoing, SyncKind};
 use lsp_store::StoreFault;
@@ -74,7 +74,7 @@ impl Client {
             version,
             text,
         });
-        let frame = framed_within(self.alloc, &self.store.limits(), &message)?;
+        let frame = message_frame_within(self.alloc, &self.store.limits(), &message)?;
         let Some(params) = open_params(message) else {
             unreachable!()
         };
@@ -181,7 +181,7 @@ impl Client {
         let encoding = self.agreement().encoding;
         let plan = self.store.plan(uri, version, encoding, changes)?;
         let text = self.store.planned_text(&plan)?;
-        let frame = whole_frame(self.alloc, &self.store.limits(), uri, version, text)?;
+        let frame = whole_text_frame(self.alloc, &self.store.limits(), uri, version, text)?;
         self.store.apply(plan)?;
         Ok(frame)
     }
@@ -220,7 +220,7 @@ impl Client {
         let message = Outgoing::DidClose(CloseParams {
             uri: String::from_str(self.alloc, uri)?,
         });
-        let frame = framed_within(self.alloc, &self.store.limits(), &message)?;
+        let frame = message_frame_within(self.alloc, &self.store.limits(), &message)?;
         self.store.close(uri)?;
         Ok(frame)
     }

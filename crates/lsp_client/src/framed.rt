@@ -13,7 +13,7 @@ use lsp_store::StoreFault;
 use std::alloc::Global;
 
 /// Returns the frame of a message, unless its body is too long.
-pub(crate) fn framed_within(
+pub(crate) fn message_frame_within(
     alloc: Global,
     limits: &Limits,
     message: &Outgoing,

@@ -6,7 +6,7 @@ ghost use Rattle.lsp_store.specs.Faults.{IsRefusal};
 ghost use Rattle.lsp_store.specs.Message.{body_refusal, change_body};
 ghost use Rattle.lsp_client.specs.inside.Orders.{whole_change};
 
-use crate::framed::framed_within;
+use crate::framed::message_frame_within;
 use lsp_edit::Change;
 use lsp_frame::Limits;
 use lsp_message::{ChangeParams, Outgoing};
@@ -14,7 +14,7 @@ use lsp_store::StoreFault;
 use std::alloc::Global;
 
 /// Returns the frame of the `textDocument/didChange` of one change without a range.
-pub(crate) fn whole_frame(
+pub(crate) fn whole_text_frame(
     alloc: Global,
     limits: &Limits,
     uri: &str,
@@ -34,5 +34,5 @@ pub(crate) fn whole_frame(
         version,
         changes: vec![in alloc; change]?,
     });
-    framed_within(alloc, limits, &message)
+    message_frame_within(alloc, limits, &message)
 }

@@ -130,12 +130,12 @@ impl IndexedText {
 
     /// Copies the text and its lines. Fails only if it is out of memory. Costs the copies, and no
     /// search through the text.
-    pub fn copied(&self, alloc: Global) -> Result<Self, AllocError>
+    pub fn clone_in(&self, alloc: Global) -> Result<Self, AllocError>
         ensures copy { IfOk result (λ copy. copy ≡ self.now) }
         ensures utf8 { OnOk result (IsUtf8 self.now) }
     {
         let text = String::from_str(alloc, &self.text)?;
-        let lines = self.lines.copied(alloc)?;
+        let lines = self.lines.clone_in(alloc)?;
         Ok(IndexedText { text, lines })
     }
 

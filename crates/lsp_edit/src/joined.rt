@@ -85,7 +85,7 @@ impl Joined {
             joined ≡ record { before = text.now; items = plain (chars text.now) }) }
         ensures reached { IfOk result (λ joined. IsReached joined text.now) }
     {
-        let before = text.copied(alloc)?;
+        let before = text.clone_in(alloc)?;
         Ok(Self::begin(alloc, before))
     }
 
@@ -116,7 +116,7 @@ impl Joined {
         ensures { IfOk result (IsWhole (units_in encoding) max_len before.now
             (map edit_of changes.now)) }
     {
-        let mut reached = before.copied(alloc)?;
+        let mut reached = before.clone_in(alloc)?;
         let mut joined = Self::over(alloc, before)?;
         for run in changes.chunks(RUN) {
             joined.change(encoding, &mut reached, run, MAX_OLD_TEXT)?;

@@ -7,7 +7,7 @@ use Rattle.lsp_frame.specs.Header.{Line, IsLine, AreLines, IsNameByte, IsValueBy
 use Rattle.lsp_frame.specs.Verdict.{judge}
 use Rattle.lsp_frame.specs.Frame.{IsFrameOf, HasNoFrame}
 use Rattle.lsp_frame.specs.Laws.{BeginsFrame, DecisionLaw, AllFrames, AllFramesLaw}
-use Rattle.lsp_frame.specs.Progress.{IsPartOfLine, is_over}
+use Rattle.lsp_frame.specs.inside.Stage.{IsPartOfLine, is_over}
 use Rattle.lsp_frame.specs.inside.Progress.{StopsHeader}
 use Rattle.lsp_frame.specs.declared.fault.HeaderFault.{HeaderFault}
 use Rattle.lsp_frame.specs.declared.framer.shape.Shape.{Shape}

@@ -11,7 +11,8 @@ use Rattle.lsp_frame.specs.Stream.{Framing, IsFrame, IsPart, HoldsOne, IsStreamF
 use Rattle.lsp_frame.specs.declared.fault.FrameFault.{FrameFault}
 use Rattle.lsp_frame.specs.declared.fault.FrameFault.TheVariants.{Failed}
 use Rattle.lsp_frame.specs.Faults.{IsBadHeaderAt, IsHeaderTooLongAt, IsJudgedAt, IsDecidedAt, header_fault_at, place_after}
-use Rattle.lsp_frame.specs.Progress.{IsInBody, IsAtStage, has_failed}
+use Rattle.lsp_frame.specs.inside.Stage.{IsInBody, IsAtStage}
+use Rattle.lsp_frame.specs.Stream.{has_failed}
 use Rattle.lsp_frame.specs.inside.Progress.{IsHeaderStop, stage_after, stopped_at}
 use Rattle.lsp_frame.specs.declared.framer.header.Stop.{Stop}
 use Rattle.lsp_frame.specs.declared.framer.header.Stop.TheVariants as stop

@@ -9,7 +9,7 @@ use Rattle.lsp_frame.specs.Charset.{trimmed, has_good_charset}
 use Rattle.lsp_frame.specs.Verdict.{values_of, is_number, number, judge, judge_values, judge_single}
 use Rattle.lsp_frame.specs.Stream.{IsFrame}
 use Rattle.lsp_frame.specs.Faults.{IsJudgedAt, IsDecidedAt}
-use Rattle.lsp_frame.specs.Progress.{IsWhole, IsInBody, length_said, length_of, charset_of, notes_of}
+use Rattle.lsp_frame.specs.inside.Stage.{IsWhole, IsInBody, length_said, length_of, charset_of, notes_of}
 use Rattle.lsp_frame.specs.inside.Progress.{both_judged, length_judged, judge_notes}
 use Rattle.lsp_frame.specs.declared.fault.HeaderFault.{HeaderFault}
 use Rattle.lsp_frame.specs.declared.fault.HeaderFault.TheVariants as header

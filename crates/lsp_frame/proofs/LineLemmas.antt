@@ -8,7 +8,7 @@ use Rattle.memchr.specs.Find.{IsFirstByte, is_byte}
 use Rattle.lsp_frame.specs.Header.{Line, IsLine, IsNameByte, line_bytes}
 use Rattle.lsp_frame.specs.Charset.{trimmed, is_text, has_good_charset}
 use Rattle.lsp_frame.specs.Verdict.{values_of, is_number, number}
-use Rattle.lsp_frame.specs.Progress.{length_said, length_noted, length_of, charset_noted, charset_of, noted, notes_of}
+use Rattle.lsp_frame.specs.inside.Stage.{length_said, length_noted, length_of, charset_noted, charset_of, noted, notes_of}
 use Rattle.lsp_frame.specs.declared.framer.notes.Length.{Length}
 use Rattle.lsp_frame.specs.declared.framer.notes.Length.TheVariants as said
 use Rattle.lsp_frame.specs.declared.framer.notes.Charset.{Charset}

@@ -6,7 +6,7 @@ use Rattle.lsp_frame.specs.Header.{Line, IsLine, line_bytes, lines_bytes, Begins
 use Rattle.lsp_frame.specs.declared.fault.HeaderFault.{HeaderFault}
 use Rattle.lsp_frame.specs.declared.framer.header.Stop.{Stop}
 use Rattle.lsp_frame.specs.declared.framer.header.Stop.TheVariants as stop
-use Rattle.lsp_frame.specs.Progress.{IsPartOfLine, IsSoFar, CanContinue, is_over, noted}
+use Rattle.lsp_frame.specs.inside.Stage.{IsPartOfLine, IsSoFar, CanContinue, is_over, noted}
 use Rattle.lsp_frame.specs.inside.Progress.{IsBadByte, IsLineStop, IsHeaderStop, StopsHeader}
 use Rattle.lsp_frame.specs.Faults.{IsBadHeaderAt, IsHeaderTooLongAt, IsDecidedAt}
 use Rattle.lsp_frame.specs.declared.framer.notes.Notes.{Notes}

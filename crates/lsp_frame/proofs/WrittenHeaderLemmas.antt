@@ -10,7 +10,7 @@ use Rattle.std.proofs.lemmas.Bool.{cases_order, leb-true, lt-ltb, le-ltb, ltb-fa
 use Rattle.lsp_frame.specs.Header.{Line, header_of}
 use Rattle.lsp_frame.specs.Charset.{trimmed}
 use Rattle.lsp_frame.specs.Verdict.{is_digit, number, judge}
-use Rattle.lsp_frame.specs.Progress.{BeginsWritten, IsInBody}
+use Rattle.lsp_frame.specs.inside.Stage.{BeginsWritten, IsInBody}
 use Rattle.lsp_frame.specs.declared.written.WrittenHeader.{WrittenHeader}
 use Rattle.lsp_frame.proofs.StreamLemmas.{same_length_front}
 use Rattle.lsp_frame.proofs.WrittenLemmas.{AreDigits, all_digits, digits_are_values, trimmed_digits, name_from_test}

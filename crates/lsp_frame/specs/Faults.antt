@@ -34,12 +34,7 @@ pub record IsJudgedAt (max_body : ℕ) (bytes : List ℕ) (k : ℕ) (fault : Hea
 abbrev pub IsDecidedAt : ℕ → List ℕ → ℕ → HeaderFault → Type 0
 IsDecidedAt max_body bytes k header.BadHeader = IsBadHeaderAt bytes k
 IsDecidedAt max_body bytes k header.HeaderTooLong = IsHeaderTooLongAt bytes k
-IsDecidedAt max_body bytes k header.MissingLength = IsJudgedAt max_body bytes k header.MissingLength
-IsDecidedAt max_body bytes k header.RepeatedHeader
-    = IsJudgedAt max_body bytes k header.RepeatedHeader
-IsDecidedAt max_body bytes k header.BadLength = IsJudgedAt max_body bytes k header.BadLength
-IsDecidedAt max_body bytes k header.BodyTooLong = IsJudgedAt max_body bytes k header.BodyTooLong
-IsDecidedAt max_body bytes k header.BadCharset = IsJudgedAt max_body bytes k header.BadCharset
+IsDecidedAt max_body bytes k fault = IsJudgedAt max_body bytes k fault
 
 -- The fault with the offset of its byte in the stream.
 abbrev pub header_fault_at : HeaderFault → ℕ → FrameFault

@@ -1,18 +1,25 @@
--- The four limits and their ranges.
-use Rattle.std.specs.Prelude.{ℕ, ◌≤◌, Bool, ◌||◌, nat_lt, if◌then◌else◌, Option, Some, None}
+-- The four limits and their ranges, and whether they are lenient.
+use Rattle.std.specs.Prelude.{ℕ, ◌≤◌, Bool, false, ◌||◌, nat_lt, if◌then◌else◌, Option, Some, None}
 
--- The four limits: bytes of a body, bytes of a text, open documents, changes of one message.
+-- The four limits: bytes of a body, bytes of a text, open documents, changes of one message. Lenient
+-- ones also take a change whatever its version, and a second opening of an open document.
 pub record Bounds : Type 0 where
   pub max_body : ℕ
   pub max_text : ℕ
   pub max_docs : ℕ
   pub max_changes : ℕ
+  pub lenient : Bool
 
 -- The limits where a user sets none: 16 MiB of a body and of a text, 1,024 documents, 65,536
--- changes.
+-- changes, strict.
 abbrev pub default_limits : Bounds
-default_limits
-    = record { max_body = 16777216; max_text = 16777216; max_docs = 1024; max_changes = 65536 }
+default_limits = record {
+  max_body = 16777216;
+  max_text = 16777216;
+  max_docs = 1024;
+  max_changes = 65536;
+  lenient = false;
+}
 
 -- The number is out of the range from `least` to `greatest`, both included.
 abbrev pub is_outside : ℕ → ℕ → ℕ → Bool

@@ -7,9 +7,11 @@ use Rattle.lsp_frame.specs.Frame.{IsFrameOf, HasNoFrame}
 use Rattle.std.specs.Prelude.{Ok, true, false}
 use Rattle.lsp_frame.specs.Frame.{IsHopeless}
 use Rattle.lsp_frame.specs.Faults.{IsDecidedAt, IsDecided, place_after}
+use Rattle.lsp_frame.specs.declared.framer.stage.Stage.{Stage}
+use Rattle.lsp_frame.specs.declared.framer.stage.Stage.TheVariants as stage
 use Rattle.lsp_frame.specs.declared.fault.HeaderFault.{HeaderFault}
 use Rattle.lsp_frame.specs.declared.fault.FrameFault.{FrameFault}
-use Rattle.lsp_frame.specs.declared.fault.FrameFault.TheVariants.{BadHeader, HeaderTooLong, MissingLength, RepeatedHeader, BadLength, BodyTooLong, BadCharset, Failed, NoMemory}
+use Rattle.lsp_frame.specs.declared.fault.FrameFault.TheVariants.{Failed, NoMemory}
 
 -- What contracts see of a framer: how many bytes were released or skipped, the buffered bytes,
 -- whether a fault was found, and the limits.
@@ -18,6 +20,11 @@ pub record Framing : Type 0 where
   pub buffered : List ℕ
   pub failed : Bool
   pub limits : Bounds
+
+-- A fault was found.
+abbrev pub has_failed : Stage → Bool
+has_failed stage.Failed = true
+has_failed other = false
 
 -- The bytes are a whole frame.
 pub record IsFrame (max_body : ℕ) (bytes : List ℕ) : Type 0 where
@@ -59,16 +66,9 @@ pub record IsStreamFault (old new : Framing) (piece : List ℕ) (fault : FrameFa
 
 -- Why a piece was not taken. Only the faults F1 to F7 change the framer.
 abbrev pub IsFeedFault : Framing → Framing → List ℕ → FrameFault → Type 0
-IsFeedFault old new piece (BadHeader place) = IsStreamFault old new piece (BadHeader place)
-IsFeedFault old new piece (HeaderTooLong place) = IsStreamFault old new piece (HeaderTooLong place)
-IsFeedFault old new piece (MissingLength place) = IsStreamFault old new piece (MissingLength place)
-IsFeedFault old new piece (RepeatedHeader place)
-    = IsStreamFault old new piece (RepeatedHeader place)
-IsFeedFault old new piece (BadLength place) = IsStreamFault old new piece (BadLength place)
-IsFeedFault old new piece (BodyTooLong place) = IsStreamFault old new piece (BodyTooLong place)
-IsFeedFault old new piece (BadCharset place) = IsStreamFault old new piece (BadCharset place)
 IsFeedFault old new piece Failed = (old.failed ≡ true) × (new ≡ old)
 IsFeedFault old new piece NoMemory = (old.failed ≡ false) × (new ≡ old)
+IsFeedFault old new piece fault = IsStreamFault old new piece fault
 
 -- The framer after its buffered frame was released.
 abbrev pub released : Framing → Framing

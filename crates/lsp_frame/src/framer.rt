@@ -33,12 +33,12 @@ pub struct Framer {
 }
 
 impl Model for Framer {
-    ghost use Rattle.lsp_frame.specs.Stream.{Framing};
+    ghost use Rattle.lsp_frame.specs.Stream.{Framing, has_failed};
 
     ghost Value = { Framing };
 
     ghost use Rattle.std.specs.Prelude.{◌≤◌};
-    ghost use Rattle.lsp_frame.specs.Progress.{IsAtStage, has_failed};
+    ghost use Rattle.lsp_frame.specs.inside.Stage.{IsAtStage};
 
     ghost view = { λ f.
         record {

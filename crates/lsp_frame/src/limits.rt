@@ -1,19 +1,21 @@
 //! The limits that a user sets once, and that every layer keeps.
 
-ghost use Rattle.std.specs.Prelude.{◌≡◌, ◌≤◌, None, Some, MatchResult};
+ghost use Rattle.std.specs.Prelude.{◌≡◌, ◌≤◌, false, true, None, Some, MatchResult};
 ghost use Rattle.lsp_frame.specs.Limits.{Bounds, AreInRange, first_out_of_range};
 
 use std::marker::Model;
 use thiserror::Error;
 
 /// The limits on one session: bytes of a body, bytes of a text, open documents, and changes in one
-/// message. Clauses see the four numbers.
+/// message; and whether they are lenient ([`Limits::lenient`]). Clauses see the four numbers and
+/// that flag.
 #[derive(Clone, Copy, Debug, PartialEq, Eq)]
 pub struct Limits {
     max_body: usize,
     max_text: usize,
     max_docs: usize,
     max_changes: usize,
+    lenient: bool,
 }
 
 impl Model for Limits {
@@ -27,6 +29,7 @@ impl Model for Limits {
           max_text = l.max_text;
           max_docs = l.max_docs;
           max_changes = l.max_changes;
+          lenient = l.lenient;
         } };
 
     ghost invariant = { λ l. AreInRange
@@ -35,6 +38,7 @@ impl Model for Limits {
           max_text = l.max_text;
           max_docs = l.max_docs;
           max_changes = l.max_changes;
+          lenient = l.lenient;
         }) };
 
     ghost inverse = { λ b. record {
@@ -42,6 +46,7 @@ impl Model for Limits {
       max_text = b.max_text;
       max_docs = b.max_docs;
       max_changes = b.max_changes;
+      lenient = b.lenient;
     } };
 }
 
@@ -60,13 +65,15 @@ impl Default for Limits {
 
     ghost is_default = { λ limits. limits ≡ default_limits };
 
-    /// 16,777,216 bytes (16 MiB) of a body, as many of a text, 1,024 documents, 65,536 changes.
+    /// 16,777,216 bytes (16 MiB) of a body, as many of a text, 1,024 documents, 65,536 changes. They
+    /// are strict.
     fn default() -> Limits {
         Limits {
             max_body: Self::DEFAULT_BODY,
             max_text: Self::DEFAULT_TEXT,
             max_docs: Self::DEFAULT_DOCS,
             max_changes: Self::DEFAULT_CHANGES,
+            lenient: false,
         }
     }
 }
@@ -91,7 +98,7 @@ impl Limits {
     /// The default `max_changes`.
     pub const DEFAULT_CHANGES: usize = 65_536;
 
-    /// Makes limits of these numbers, or returns the first of them that is out of its range.
+    /// Makes strict limits of these numbers, or returns the first of them that is out of its range.
     ///
     /// A body may have 4,096 to 1,073,741,824 bytes, a text 0 to 1,073,741,824. There may be 1 to
     /// 65,536 documents, and 1 to 1,048,576 changes.
@@ -107,6 +114,7 @@ impl Limits {
               max_text = max_text;
               max_docs = max_docs;
               max_changes = max_changes;
+              lenient = false;
             } in
             MatchResult result (λ limits. (limits ≡ given) × (first_out_of_range given ≡ None))
             (λ bad. first_out_of_range given ≡ Some bad.which) }
@@ -128,7 +136,20 @@ impl Limits {
             max_text,
             max_docs,
             max_changes,
+            lenient: false,
         })
+    }
+
+    /// Returns these limits for editors that break two rules of LSP 3.17. A change is accepted
+    /// whatever its version (DidChangeTextDocument), and opening an open document replaces it
+    /// (DidOpenTextDocument).
+    pub fn lenient(self) -> Limits
+        ensures { result ≡ record self { lenient = true } }
+    {
+        Limits {
+            lenient: true,
+            ..self
+        }
     }
 
     /// Returns the greatest length of a body, in bytes.
@@ -163,5 +184,12 @@ impl Limits {
         ensures range { (1 ≤ result) × (result ≤ 1048576) }
     {
         self.max_changes
+    }
+
+    /// Returns whether these limits are lenient, as [`Limits::lenient`] makes them.
+    pub fn is_lenient(&self) -> bool
+        ensures { result ≡ self.now.lenient }
+    {
+        self.lenient
     }
 }

@@ -4,7 +4,7 @@ ghost use Rattle.std.specs.Prelude.{◌≡◌, ◌<◌, ◌≤◌, ◌^◌, ◌+
 ghost use Rattle.std.specs.List.{list_all};
 ghost use Rattle.lsp_frame.specs.Frame.{frame, IsFrameOf};
 ghost use Rattle.lsp_frame.specs.Verdict.{is_digit};
-ghost use Rattle.lsp_frame.specs.Progress.{BeginsWritten};
+ghost use Rattle.lsp_frame.specs.inside.Stage.{BeginsWritten};
 ghost use Rattle.lsp_frame.specs.Encode.{IsEncodeFault};
 ghost use Rattle.lsp_frame.specs.declared.written.WrittenHeader.{WrittenHeader};
 ghost use Rattle.lsp_frame.specs.declared.written.EncodeFault.TheVariants.{BodyTooLong, NoMemory};

@@ -62,9 +62,8 @@ together version (r ∷ rs) rest = record_bytes version r ++ together version rs
 -- Does the line of version 2 belong to the output that comes next? It belongs to the first record's
 -- output, and without records to that of the end.
 abbrev pub is_line_due : Version → List Record → Bool
-is_line_due One rs = false
 is_line_due Two [] = true
-is_line_due Two (r ∷ rs) = false
+is_line_due version rs = false
 
 -- A record of a log of this version, whose first byte is at an offset.
 pub record IsRecord (max_body : ℕ) (version : Version) (place : ℕ) (line_due : Bool)

@@ -8,7 +8,7 @@ use Rattle.lsp_log.specs.declared.record.Side.{Side}
 use Rattle.lsp_log.specs.declared.record.Side.TheVariants.{Client}
 use Rattle.lsp_log.specs.declared.record.Head.{Head}
 use Rattle.lsp_stream.specs.declared.fault.EngineFault.{EngineFault}
-use Rattle.lsp_stream.specs.declared.fault.EngineFault.TheVariants.{Read, Write, Frame, Truncated, BodyTooLong, NoMemory, TooManyTurns, BadLog}
+use Rattle.lsp_stream.specs.declared.fault.EngineFault.TheVariants.{Frame, NoMemory, BadLog}
 use Rattle.lsp_log.specs.declared.splitter.Splitter.{Splitter}
 use Rattle.lsp_log.specs.Log.{LogRules, Record, Log, IsVersion, IsReadAs, IsMalformed, IsBadMark, line_of, mark_of, is_line_due}
 
@@ -80,22 +80,14 @@ record_at s body = record { head = head_of s; raw = s.framer.buffered; body = bo
 
 -- Why the rest of the input isn't taken.
 abbrev pub IsSplitFault : ℕ → List ℕ → Log → EngineFault → Type 0
-IsSplitFault max_body input log Read = ⊥
-IsSplitFault max_body input log Write = ⊥
 IsSplitFault max_body input log (Frame fault) = IsMalformed max_body input fault log
-IsSplitFault max_body input log (Truncated place) = ⊥
-IsSplitFault max_body input log (BodyTooLong place) = ⊥
 IsSplitFault max_body input log NoMemory = Unit {0}
-IsSplitFault max_body input log TooManyTurns = ⊥
 IsSplitFault max_body input log (BadLog place) = IsBadMark input place log
+IsSplitFault max_body input log other = ⊥
 
 -- The faults of splitting: a faulty frame, out of memory, a byte that is no mark.
 abbrev pub IsSplitterFault : EngineFault → Type 0
-IsSplitterFault Read = ⊥
-IsSplitterFault Write = ⊥
 IsSplitterFault (Frame fault) = Unit {0}
-IsSplitterFault (Truncated place) = ⊥
-IsSplitterFault (BodyTooLong place) = ⊥
 IsSplitterFault NoMemory = Unit {0}
-IsSplitterFault TooManyTurns = ⊥
 IsSplitterFault (BadLog place) = Unit {0}
+IsSplitterFault other = ⊥

@@ -33,6 +33,7 @@ fn main(rt: HostRuntime) -> Result<ExitCode> {
     let mut framer = Framer::new(rt.alloc(), config.limits);
     let mut server = Server::new(rt.alloc(), config);
     let mut input = BufReader::new(rt.alloc(), rt.stdin())?;
+    // Each loop must be shown to end, hence the bound; the input ends first.
     for _ in 0..u64::MAX {
         let taken = framer.feed(input.fill_buf()?)?;
         // Nothing is taken only if nothing is left.

@@ -3,7 +3,7 @@
 use Rattle.std.specs.Prelude.{ℕ, Bool, true, false, List, [], ◌∷◌, Option, Some, None, option_map, option_and_then, codes, ◌==◌, if◌then◌else◌}
 use Rattle.std.specs.List.{list_any}
 use Rattle.std.specs.Str.{bytes_eq}
-use Rattle.serde_json.specs.Data.{Data, null, boolean, number, string, array, object, Items, no_items, item, Members}
+use Rattle.serde_json.specs.Data.{Data, null, number, object, Items, no_items, item, Members}
 use Rattle.serde_json.specs.Find.{get_member, as_object, as_str, as_bool}
 use Rattle.lsp_text.specs.declared.encoding.Encoding.{Encoding}
 use Rattle.lsp_text.specs.declared.encoding.Encoding.TheVariants.{Utf8, Utf16, Utf32}
@@ -99,11 +99,9 @@ sync_by ms = do
 -- What a `textDocumentSync` that is there announces: null, a number, or an object.
 abbrev pub sync_in : Data → Option (Bool × SyncKind)
 sync_in null = Some (false, Off)
-sync_in (boolean b) = None
 sync_in (number n) = option_map (λ kind. (true, kind)) (kind_in (Some (number n)))
-sync_in (string s) = None
-sync_in (array ds) = None
 sync_in (object ms) = sync_by ms
+sync_in other = None
 
 -- What a `textDocumentSync` announces. A missing one is null.
 abbrev pub sync_of : Option Data → Option (Bool × SyncKind)

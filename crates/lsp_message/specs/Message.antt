@@ -3,7 +3,7 @@
 use Rattle.std.specs.Prelude.{ℕ, ℤ, Bool, false, List, Option, Some, None, option_map, option_and_then, codes, not, if◌then◌else◌}
 use Rattle.std.specs.Option.{option_map_or}
 use Rattle.std.specs.Str.{is_utf8, bytes_eq}
-use Rattle.serde_json.specs.Data.{Data, null, boolean, number, string, array, object, Members}
+use Rattle.serde_json.specs.Data.{Data, number, string, Members}
 use Rattle.serde_json.specs.Find.{get_member, as_object, as_i64}
 use Rattle.serde_json.specs.Read.{read}
 use Rattle.lsp_message.specs.Values.{text_in, is_null}
@@ -33,12 +33,9 @@ pub data Reading : Type 0 where
 
 -- The id that a value is: a whole number or a string.
 abbrev pub id_in : Data → Option IdData
-id_in null = None
-id_in (boolean b) = None
 id_in (number n) = option_map whole (as_i64 n)
 id_in (string s) = Some (text s)
-id_in (array ds) = None
-id_in (object ms) = None
+id_in other = None
 
 -- The id that a member `id` is, if it is there.
 abbrev pub id_found : Option Data → Option IdData

@@ -20,7 +20,7 @@ use Rattle.lsp_message.specs.Agreement.{is_offered}
 use Rattle.lsp_message.specs.Message.{IdData, whole, text}
 use Rattle.lsp_message.specs.Params.{DocumentItem, EditData, ChangeData, CloseData}
 
--- A client's message (the first seven), or a server's reply.
+-- A client's message (the first seven), or a reply: `error_reply` is also a client's, to a request.
 pub data OutgoingData : Type 0 where
   initialize : Offers → OutgoingData
   initialized : OutgoingData

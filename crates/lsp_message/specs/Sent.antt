@@ -46,16 +46,13 @@ pub record IsProperChange (p : ChangeData) : Type 0 where
 
 -- A message as the type `Outgoing` contains it: numbers in their ranges, and texts in UTF-8.
 abbrev pub IsProper : OutgoingData → Type 0
-IsProper (initialize offers) = ⊤
-IsProper initialized = ⊤
 IsProper (did_open p) = IsProperDocument p
 IsProper (did_change p) = IsProperChange p
 IsProper (did_close p) = IsUtf8 p.uri
-IsProper shutdown = ⊤
-IsProper exit = ⊤
 IsProper (initialize_result id encoding kind) = IsProperId id
 IsProper (shutdown_result id) = IsProperId id
 IsProper (error_reply id error) = IfSome id IsProperId
+IsProper other = ⊤
 
 -- ---- what is read
 
@@ -81,13 +78,9 @@ IsReadAsSent m = reading (body_of m) ≡ message (sent m)
 -- The receiver reads the typed parameters, or the result, that were written.
 abbrev pub IsReadBack : OutgoingData → Type 0
 IsReadBack (initialize offers) = offers_of (Some (initialize_params offers)) ≡ Some offers
-IsReadBack initialized = ⊤
 IsReadBack (did_open p) = open_of (Some (open_params p)) ≡ Some p
 IsReadBack (did_change p) = change_of (Some (change_params p)) ≡ Some p
 IsReadBack (did_close p) = close_of (Some (close_params p)) ≡ Some p
-IsReadBack shutdown = ⊤
-IsReadBack exit = ⊤
 IsReadBack (initialize_result id encoding kind) = announced_of (initialize_value encoding kind)
     ≡ Some (record { open_close = true; kind = kind; encoding = Some encoding })
-IsReadBack (shutdown_result id) = ⊤
-IsReadBack (error_reply id error) = ⊤
+IsReadBack other = ⊤

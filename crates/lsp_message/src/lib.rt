@@ -25,4 +25,4 @@ pub use outgoing::{ErrorCode, Outgoing};
 pub use params::{
     ChangeParams, CloseParams, OpenParams, ParamsFault, params_change, params_close, params_open,
 };
-pub use writer::{push_change, push_document, write, write_frame};
+pub use writer::{message_frame, push_change, push_document, write};

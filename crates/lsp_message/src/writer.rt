@@ -107,7 +107,7 @@ pub fn push_document(
 /// header.
 ///
 /// Fails only where memory runs out. The body may have any length, and is copied once.
-pub fn write_frame(alloc: Global, message: &Outgoing) -> Result<Vec<u8>, AllocError>
+pub fn message_frame(alloc: Global, message: &Outgoing) -> Result<Vec<u8>, AllocError>
     ensures { IfOk result
         (λ bytes. bytes.items ≡ frame (spec.body_of (outgoing_view message.now))) }
 {

@@ -20,11 +20,12 @@ use Rattle.lsp_server.specs.Incoming as incoming
 use Rattle.lsp_server.specs.Step as server
 use Rattle.lsp_server.specs.Step.{State, Step, step_on, step_in, step, begins}
 use Rattle.lsp_client.specs.Step.{sent_body}
-use Rattle.lsp_pair.specs.World.{Setting, ClientMessage, commands, lifecycle, World, incoming_of, server_of, without_reply, replies_in, turn_of_step, server_did}
-use Rattle.lsp_pair.specs.Pair.{IsSound, waiting_out, table_with}
+use Rattle.lsp_pair.specs.declared.event.Happened.TheVariants.{Server}
+use Rattle.lsp_pair.specs.World.{Setting, ClientMessage, commands, lifecycle, World, incoming_of_message, server_of, did_of, replies_in, turn_of_step}
+use Rattle.lsp_pair.specs.Pair.{IsFitting, waiting_out, table_with}
 use Rattle.lsp_pair.specs.Usual.{IsUsual}
 use Rattle.lsp_pair.proofs.SaidLemmas as lemmas
-use Rattle.lsp_pair.proofs.SaidLemmas.{IsSaid, sent_short, done_by, IsServedAs}
+use Rattle.lsp_pair.proofs.SaidLemmas.{sent_short, done_by, IsServedAs}
 use Rattle.lsp_pair.proofs.LifeLemmas.{last_result, short_initialize, short_initialized, short_shutdown, short_exit}
 use Rattle.lsp_pair.proofs.ListLemmas.{next_is, length_more}
 use Rattle.lsp_pair.proofs.Shapes.{the_encoding, the_kind, AreSaid, said_there, said_front, said_within, Shape, fresh, asking, answered, down, closed, leaving, left, working, closing, client_at, server_at, agreed_at, encoding_at, there_at, here_at, IsBusy, IsBusyShape, AtShape, WorldSound}
@@ -37,11 +38,11 @@ body_on kind table (lifecycle m) = body_of m
 -- What the server does at a message that waits for it: as it is written and as it was said, it does the same.
 pub record Arrives (setting : Setting) (w : World) (said : ClientMessage) (rest : List ClientMessage) : Type 0 where
   pub step_is : Step
-  pub given : step_on (server_of setting w) (incoming_of said) ≡ step_is
+  pub given : step_on (server_of setting w) (incoming_of_message said) ≡ step_is
   pub written : step (server_of setting w) (reading (body_on (the_kind setting) (server_of setting w).table said)) ≡ step_is
   pub short : length (body_on (the_kind setting) (server_of setting w).table said) ≤ setting.limits.max_body
   pub state : step_is.state ≡ record (server_of setting w) { phase = step_is.state.phase; encoding = step_is.state.encoding; table = table_with (server_of setting w).table said }
-  pub usual : IsUsual said (server_did (without_reply step_is.answer))
+  pub usual : IsUsual said (Server (did_of step_is.answer))
   pub next : WorldSound setting (turn_of_step w step_is).world
 
 abbrev pub Arrivals : Setting → World → List ClientMessage → Type 0
@@ -81,18 +82,18 @@ server_with setting w phase encoding = record (server_of setting w) { phase = ph
 known : (setting : Setting) (w : World) (shape : Shape) → AtShape setting w shape → server_of setting w ≡ server_with setting w (server_at shape) (encoding_at setting shape)
 known setting w shape at = λ i. record (server_of setting w) { phase = at.server_is i; encoding = at.encoding_is i }
 
-life_written : (s : State) (m : OutgoingData) → IsProper m → step s (reading (body_of m)) ≡ step_on s (incoming_of (lifecycle m))
+life_written : (s : State) (m : OutgoingData) → IsProper m → step s (reading (body_of m)) ≡ step_on s (incoming_of_message (lifecycle m))
 life_written s m proper = ap (step s) (reading-body_of m proper)
 
-begins_given : (s : State) (offers : Offers) → step_in New s (incoming_of (lifecycle (outgoing.initialize offers))) ≡ begins s (whole (pos 1)) offers
+begins_given : (s : State) (offers : Offers) → step_in New s (incoming_of_message (lifecycle (outgoing.initialize offers))) ≡ begins s (whole (pos 1)) offers
 begins_given s offers = ap (λ o. step_in New s (incoming.initialize (whole (pos 1)) o)) (is_read_back (outgoing.initialize offers) tt)
 
-least : (setting : Setting) (n : ℕ) → IsSound setting → n ≤ 4096 → n ≤ setting.limits.max_body
+least : (setting : Setting) (n : ℕ) → IsFitting setting → n ≤ 4096 → n ≤ setting.limits.max_body
 least setting n sound h = let r = sound.ranges in omega (arith, r.least_body, h)
 
 -- ---- commands
 
-module _ (setting : Setting) (sound : IsSound setting) (w : World) where
+module _ (setting : Setting) (sound : IsFitting setting) (w : World) where
   -- a command that is first of those that wait
   command_done : (shape : Shape) (command : Command) (rest : List ClientMessage) → AtShape setting w shape → waiting_out w ≡ commands command ∷ rest
       → server_at shape ≡ Running → encoding_at setting shape ≡ Some (the_encoding setting)
@@ -133,7 +134,7 @@ module _ (setting : Setting) (sound : IsSound setting) (w : World) where
   busy_arrives shape next (lifecycle outgoing.initialized) rest at is first running counts busy client agreed phase encoding there here =
       let e : waiting_out w ≡ lifecycle outgoing.initialized ∷ rest = at.there ∙ first in
       let step_is : Step = server.stays (server_of setting w) answer.ignored in
-      let given : step_on (server_of setting w) (incoming_of (lifecycle outgoing.initialized)) ≡ step_is = ap (λ (p : Phase). step_in p (server_of setting w) (incoming_of (lifecycle outgoing.initialized))) (at.server_is ∙ running) in
+      let given : step_on (server_of setting w) (incoming_of_message (lifecycle outgoing.initialized)) ≡ step_is = ap (λ (p : Phase). step_in p (server_of setting w) (incoming_of_message (lifecycle outgoing.initialized))) (at.server_is ∙ running) in
       record {
         step_is = step_is;
         given = given;
@@ -151,8 +152,8 @@ module _ (setting : Setting) (sound : IsSound setting) (w : World) where
   asking_arrives at =
       let e : waiting_out w ≡ lifecycle (outgoing.initialize setting.offers) ∷ [] = at.there in
       let step_is : Step = begins (server_of setting w) (whole (pos 1)) setting.offers in
-      let given : step_on (server_of setting w) (incoming_of (lifecycle (outgoing.initialize setting.offers))) ≡ step_is =
-      ap (λ (p : Phase). step_in p (server_of setting w) (incoming_of (lifecycle (outgoing.initialize setting.offers)))) at.server_is ∙ begins_given (server_of setting w) setting.offers in
+      let given : step_on (server_of setting w) (incoming_of_message (lifecycle (outgoing.initialize setting.offers))) ≡ step_is =
+      ap (λ (p : Phase). step_in p (server_of setting w) (incoming_of_message (lifecycle (outgoing.initialize setting.offers)))) at.server_is ∙ begins_given (server_of setting w) setting.offers in
       record {
         step_is = step_is;
         given = given;
@@ -167,7 +168,7 @@ module _ (setting : Setting) (sound : IsSound setting) (w : World) where
   shutdown_arrives at =
       let e : waiting_out w ≡ lifecycle outgoing.shutdown ∷ [] = at.there in
       let step_is : Step = server.step_to (server_of setting w) Down (answer.reply last_result) in
-      let given : step_on (server_of setting w) (incoming_of (lifecycle outgoing.shutdown)) ≡ step_is = ap (λ (p : Phase). step_in p (server_of setting w) (incoming_of (lifecycle outgoing.shutdown))) at.server_is in
+      let given : step_on (server_of setting w) (incoming_of_message (lifecycle outgoing.shutdown)) ≡ step_is = ap (λ (p : Phase). step_in p (server_of setting w) (incoming_of_message (lifecycle outgoing.shutdown))) at.server_is in
       record {
         step_is = step_is;
         given = given;
@@ -182,7 +183,7 @@ module _ (setting : Setting) (sound : IsSound setting) (w : World) where
   exit_arrives at =
       let e : waiting_out w ≡ lifecycle outgoing.exit ∷ [] = at.there in
       let step_is : Step = server.step_to (server_of setting w) Ended (answer.exits 0) in
-      let given : step_on (server_of setting w) (incoming_of (lifecycle outgoing.exit)) ≡ step_is = ap (λ (p : Phase). step_in p (server_of setting w) (incoming_of (lifecycle outgoing.exit))) at.server_is in
+      let given : step_on (server_of setting w) (incoming_of_message (lifecycle outgoing.exit)) ≡ step_is = ap (λ (p : Phase). step_in p (server_of setting w) (incoming_of_message (lifecycle outgoing.exit))) at.server_is in
       record {
         step_is = step_is;
         given = given;

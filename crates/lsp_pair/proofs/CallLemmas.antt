@@ -6,15 +6,16 @@ use Rattle.lsp_text.specs.declared.encoding.Encoding.{Encoding}
 use Rattle.lsp_text.specs.declared.encoding.Encoding.TheVariants.{Utf16}
 use Rattle.lsp_message.specs.declared.agreement.SyncKind.TheVariants.{Incremental}
 use Rattle.lsp_message.specs.Outgoing as outgoing
-use Rattle.lsp_message.specs.Outgoing.{OutgoingData, body_of}
+use Rattle.lsp_message.specs.Outgoing.{OutgoingData}
 use Rattle.lsp_store.specs.Table as documents
 use Rattle.lsp_store.specs.Table.{Command, table_after, table_of}
+use Rattle.lsp_client.specs.declared.fault.ClientFault.{ClientFault}
 use Rattle.lsp_client.specs.declared.agreed.Agreed.{Agreed}
 use Rattle.lsp_client.specs.declared.phase.Phase.{Phase}
 use Rattle.lsp_client.specs.declared.phase.Phase.TheVariants.{Asked, Closing, Done}
 use Rattle.lsp_client.specs.Step as client
-use Rattle.lsp_client.specs.Step.{State, Sending, Order, Call, opens, edits, closes, starts, shuts_down, exits, orders, call_result, call_result_in, command_result, command_of, message_of, order_refusal, unless_refused, agreement}
-use Rattle.lsp_pair.specs.World.{Setting, ClientMessage, commands, lifecycle, World, commands_in, client_of, turn_of_call, message_by, calls, IsProperOrder, IsProperEvent}
+use Rattle.lsp_client.specs.Step.{Sending, Order, Call, opens, edits, closes, starts, shuts_down, exits, orders, call_result, call_result_in, command_result, command_of, message_of, order_refusal, sending_unless, agreement}
+use Rattle.lsp_pair.specs.World.{Setting, ClientMessage, commands, lifecycle, World, commands_in, client_of, turn_of_call, message_of_call, calls, IsProperOrder, IsProperEvent}
 use Rattle.lsp_pair.specs.Pair.{message_frame, frame_of, table_with}
 use Rattle.lsp_pair.specs.Usual.{agreed_of}
 use Rattle.lsp_pair.proofs.SaidLemmas.{IsProperCommand}
@@ -27,7 +28,7 @@ pub record IsSending (setting : Setting) (w : World) (said : ClientMessage) (sen
   pub frame : message_frame sending.message ≡ frame_of (the_kind setting) (client_of setting w).table said
   pub next : WorldSound setting (turn_of_call w said (Ok sending)).world
 
-abbrev pub CallResult : Setting → World → (OutgoingData → ClientMessage) → Result Sending client.Refusal → Type 0
+abbrev pub CallResult : Setting → World → (OutgoingData → ClientMessage) → Result Sending ClientFault → Type 0
 CallResult setting w said (Ok sending) = IsSending setting w (said sending.message) sending
 CallResult setting w said (Err refusal) = ⊤
 
@@ -67,7 +68,7 @@ module _ (setting : Setting) (w : World) where
     where
       by : (refusal : Option documents.Refusal) → order_refusal setting.limits (the_kind setting) (client_of setting w).table command ≡ refusal
           → CallResult setting w (λ m. commands command)
-          (unless_refused refusal (record { message = message_of (the_kind setting) (client_of setting w).table command; state = record (client_of setting w) { table = table_after (client_of setting w).table command } }))
+          (sending_unless refusal (record { message = message_of (the_kind setting) (client_of setting w).table command; state = record (client_of setting w) { table = table_after (client_of setting w).table command } }))
       by (Some refusal) is = tt
       by None is =
           record {
@@ -80,7 +81,7 @@ module _ (setting : Setting) (w : World) where
           }
 
   orders_sound : (busy : List ClientMessage) → AtShape setting w (working busy) → (order : Order) → IsProperOrder order
-      → CallResult setting w (message_by (client_of setting w) (orders order)) (client.order_result (client_of setting w) order)
+      → CallResult setting w (message_of_call (client_of setting w) (orders order)) (client.order_result (client_of setting w) order)
   orders_sound busy at order proper =
       let agreed : agreed_of setting ≡ agreement (client_of setting w) = sym (ap (λ (a : Option Agreed). unwrap_or a (record { encoding = Utf16; kind = Incremental })) at.agreed_is) in
       subst (λ (a : Agreed). CallResult setting w (λ m. commands (command_of a.encoding order)) (command_result (client_of setting w) a.kind (command_of a.encoding order))) agreed
@@ -101,7 +102,7 @@ module _ (setting : Setting) (w : World) where
       }
 
   called_at : (shape : Shape) → AtShape setting w shape → (call : Call) → IsProperEvent (calls call)
-      → CallResult setting w (message_by (client_of setting w) call) (call_result_in (client_at shape) (client_of setting w) call)
+      → CallResult setting w (message_of_call (client_of setting w) call) (call_result_in (client_at shape) (client_of setting w) call)
   called_at fresh at starts proper = life_sound fresh asking Asked (outgoing.initialize setting.offers) at tt refl refl refl refl refl refl
   called_at fresh at shuts_down proper = tt
   called_at fresh at exits proper = tt
@@ -140,6 +141,6 @@ module _ (setting : Setting) (w : World) where
   called_at left at (orders order) proper = tt
 
   pub called_sound : (shape : Shape) → AtShape setting w shape → (call : Call) → IsProperEvent (calls call)
-      → CallResult setting w (message_by (client_of setting w) call) (call_result (client_of setting w) call)
+      → CallResult setting w (message_of_call (client_of setting w) call) (call_result (client_of setting w) call)
   called_sound shape at call proper =
-      subst (λ (p : Phase). CallResult setting w (message_by (client_of setting w) call) (call_result_in p (client_of setting w) call)) (sym at.client_is) (called_at shape at call proper)
+      subst (λ (p : Phase). CallResult setting w (message_of_call (client_of setting w) call) (call_result_in p (client_of setting w) call)) (sym at.client_is) (called_at shape at call proper)

@@ -8,9 +8,11 @@ use Rattle.lsp_message.specs.Message.{message}
 use Rattle.lsp_message.specs.Sent.{sent}
 use Rattle.lsp_message.specs.Params.{DocumentItem}
 use Rattle.lsp_store.specs.Table.{table_of}
+use Rattle.lsp_client.specs.declared.fault.ClientFault.{ClientFault}
 use Rattle.lsp_client.specs.Step as client
-use Rattle.lsp_pair.specs.World.{Setting, ClientMessage, lifecycle, World, commands_in, EventData, HappenedData, calls, to_server, to_client, turn_of_call, to_server_event, to_client_event, turn_of_result, messages_in, turn, world_from, world_of, beginning, client_of}
-use Rattle.lsp_pair.specs.Pair.{PairData, IsSound, IsAt, frames_from, waiting_out}
+use Rattle.lsp_pair.specs.declared.event.Happened.{Happened}
+use Rattle.lsp_pair.specs.World.{Setting, ClientMessage, lifecycle, World, commands_in, EventData, calls, to_server, to_client, turn_of_call, to_server_event, to_client_event, turn_of_result, messages_in, turn, world_from, world_of, beginning, client_of}
+use Rattle.lsp_pair.specs.Pair.{PairData, IsFitting, IsAt, frames_from, waiting_out}
 use Rattle.lsp_pair.specs.At.{IsStepAt}
 use Rattle.lsp_pair.specs.Commanded.{sent_messages, delivered_messages, HaveCommanded}
 use Rattle.lsp_pair.proofs.WorldLemmas.{world_sound}
@@ -31,7 +33,7 @@ record Grows (old new : List ClientMessage) : Type 0 where
 same_out : (out : List ClientMessage) → Grows out out
 same_out out = record { more = []; is = sym (append-nil out); few = omega arith }
 
-call_grows : (w : World) (m : ClientMessage) (result : Result client.Sending client.Refusal) → Grows w.out (turn_of_call w m result).world.out
+call_grows : (w : World) (m : ClientMessage) (result : Result client.Sending ClientFault) → Grows w.out (turn_of_call w m result).world.out
 call_grows w m (Ok sending) = record { more = m ∷ []; is = refl; few = omega arith }
 call_grows w m (Err refusal) = same_out w.out
 
@@ -41,7 +43,7 @@ few_messages client.noted = omega arith
 few_messages client.ignored = omega arith
 few_messages (client.bad_server reason) = omega arith
 
-result_grows : (w : World) (result : Result client.Delivery client.Refusal) → Grows w.out (turn_of_result w result).world.out
+result_grows : (w : World) (result : Result client.Delivery ClientFault) → Grows w.out (turn_of_result w result).world.out
 result_grows w (Ok delivery) = record { more = map lifecycle (messages_in delivery.delivered); is = refl; few = few_messages delivery.delivered }
 result_grows w (Err refusal) = same_out w.out
 
@@ -113,7 +115,7 @@ earlier setting w (event ∷ events) n low high =
 
 -- ---- the documents
 
-pub documents_at : (setting : Setting) (pair : PairData) (events : List EventData) → IsSound setting → IsAt setting pair events → HaveCommanded setting events pair
+pub documents_at : (setting : Setting) (pair : PairData) (events : List EventData) → IsFitting setting → IsAt setting pair events → HaveCommanded setting events pair
 documents_at setting pair events sound at =
     let w : World = world_of setting events in
     let ok = world_sound setting sound events at.proper in
@@ -138,14 +140,14 @@ documents_at setting pair events sound at =
     }
 
 -- after a step that leads to the world of the list with its event added
-pub documents_if : {A : Type 0} {E : Type 0} (view : A → HappenedData) (old new : PairData) (event : EventData) (result : Result A E)
-    → IfOk result (λ happened. (setting : Setting) (events : List EventData) → IsSound setting → IsAt setting old events → IsStepAt setting events event (view happened) new)
-    → OnOk result ((setting : Setting) (events : List EventData) → IsSound setting → IsAt setting old events → HaveCommanded setting (events ++ event ∷ []) new)
-documents_if view old new event (Ok a) steps = λ setting events sound at. documents_at setting new (events ++ event ∷ []) sound (steps setting events sound at).at
-documents_if view old new event (Err e) steps = tt
+pub documents_if : {E : Type 0} (old new : PairData) (event : EventData) (result : Result Happened E)
+    → IfOk result (λ happened. (setting : Setting) (events : List EventData) → IsFitting setting → IsAt setting old events → IsStepAt setting events event happened new)
+    → OnOk result ((setting : Setting) (events : List EventData) → IsFitting setting → IsAt setting old events → HaveCommanded setting (events ++ event ∷ []) new)
+documents_if old new event (Ok a) steps = λ setting events sound at. documents_at setting new (events ++ event ∷ []) sound (steps setting events sound at).at
+documents_if old new event (Err e) steps = tt
 
 -- after a run, whose number of steps is known by another name
-pub documents_after : (setting : Setting) (pair now : PairData) (before all : List EventData) (i n : ℕ) → IsSound setting → n ≡ i → now ≡ pair → IsAt setting pair (before ++ take i all) → HaveCommanded setting (before ++ take n all) now
+pub documents_after : (setting : Setting) (pair now : PairData) (before all : List EventData) (i n : ℕ) → IsFitting setting → n ≡ i → now ≡ pair → IsAt setting pair (before ++ take i all) → HaveCommanded setting (before ++ take n all) now
 documents_after setting pair now before all i n sound counted same at =
     subst (λ (p : PairData). HaveCommanded setting (before ++ take n all) p) (sym same)
     (subst (λ (k : ℕ). HaveCommanded setting (before ++ take k all) pair) (sym counted) (documents_at setting pair (before ++ take i all) sound at))

@@ -6,14 +6,12 @@ use Rattle.lsp_message.specs.Outgoing.{OutgoingData}
 use Rattle.lsp_message.specs.Message.{message}
 use Rattle.lsp_message.specs.Sent.{sent}
 use Rattle.lsp_message.specs.Params.{DocumentItem}
+use Rattle.lsp_client.specs.declared.fault.ClientFault.{ClientFault}
 use Rattle.lsp_client.specs.Step as client
 use Rattle.lsp_pair.specs.declared.event.Happened.{Happened}
-use Rattle.lsp_pair.specs.declared.event.Happened.TheVariants.{Sent, Refused, Server, Client, Nothing}
-use Rattle.lsp_pair.specs.declared.event.Heard.TheVariants as heard
-use Rattle.lsp_pair.specs.World.{Setting, ClientMessage, commands, lifecycle, World, EventData, HappenedData, calls, to_server, to_client, call_sent, server_did, client_heard, Turn, turn_of_call, turn_of_delivery, to_server_event, to_client_event, turn_of_result, turn, world_of, beginning, client_of, server_of}
-use Rattle.lsp_pair.specs.Pair.{PairData, table_with, frames_from, IsSound, waiting_out, IsAt, IsStep, new_pair}
+use Rattle.lsp_pair.specs.World.{Setting, ClientMessage, commands, lifecycle, World, EventData, calls, to_server, to_client, Turn, turn_of_call, turn_of_delivery, to_server_event, to_client_event, turn_of_result, turn, world_of, beginning, client_of, server_of}
+use Rattle.lsp_pair.specs.Pair.{PairData, table_with, frames_from, IsFitting, waiting_out, IsAt, IsStep, new_pair}
 use Rattle.lsp_pair.specs.At.{IsStepAt}
-use Rattle.lsp_pair.specs.Seen.{happened_view}
 use Rattle.lsp_pair.specs.Documents.{History, no_history, after, HaveDocuments, IsLater}
 use Rattle.lsp_pair.specs.inside.History.{tables_from, history_of, IsHistory}
 use Rattle.lsp_pair.proofs.ListLemmas.{table_after_all}
@@ -46,7 +44,7 @@ length_frames kind table (said ∷ xs) = ap suc (length_frames kind (table_with 
 
 -- ---- both ends have the documents of their history
 
-world_documents : (setting : Setting) (pair : PairData) (events : List EventData) → IsSound setting → IsAt setting pair events → HaveDocuments (history_of (world_of setting events)) pair
+world_documents : (setting : Setting) (pair : PairData) (events : List EventData) → IsFitting setting → IsAt setting pair events → HaveDocuments (history_of (world_of setting events)) pair
 world_documents setting pair events sound at =
     let w : World = world_of setting events in
     let ok = world_sound setting sound events at.proper in
@@ -67,31 +65,14 @@ history_documents h pair is = subst (λ k. HaveDocuments k pair) (sym is.told) (
 
 -- ---- a new pair
 
-pub new_history : (setting : Setting) → IsSound setting → IsHistory no_history (new_pair setting)
+pub new_history : (setting : Setting) → IsFitting setting → IsHistory no_history (new_pair setting)
 new_history setting sound = record { setting = setting; sound = sound; events = []; at = new_at setting; told = refl }
 
 -- ---- a step
 
--- the history after a step, by what clauses see of it
-abbrev after_seen : History → HappenedData → List DocumentItem → History
-after_seen h call_sent documents = record h { sent = h.sent ++ documents ∷ [] }
-after_seen h (client_heard (client.sends reply)) documents = record h { sent = h.sent ++ documents ∷ [] }
-after_seen h (server_did did) documents = record h { handled = h.handled + 1 }
-after_seen h happened documents = h
-
-after_is : (h : History) (happened : Happened) (documents : List DocumentItem) → after h happened documents ≡ after_seen h (happened_view happened) documents
-after_is h Sent documents = refl
-after_is h (Refused fault) documents = refl
-after_is h (Server did) documents = refl
-after_is h (Client heard.Send) documents = refl
-after_is h (Client heard.Noted) documents = refl
-after_is h (Client heard.Ignored) documents = refl
-after_is h (Client (heard.BadServer reason)) documents = refl
-after_is h Nothing documents = refl
-
 -- what a turn adds to the history
 abbrev IsNextHistory : Setting → World → Turn → Type 0
-IsNextHistory setting w t = after_seen (history_of w) t.happened (client_of setting t.world).table ≡ history_of t.world
+IsNextHistory setting w t = after (history_of w) t.happened (client_of setting t.world).table ≡ history_of t.world
 
 one_more : (w : World) (said : ClientMessage) → record (history_of w) { sent = tables_from [] w.out ++ table_after_all [] (w.out ++ said ∷ []) ∷ [] } ≡ record (history_of w) { sent = tables_from [] (w.out ++ said ∷ []) }
 one_more w said = λ i. record (history_of w) { sent = sym (tables-last [] w.out said) i }
@@ -99,7 +80,7 @@ one_more w said = λ i. record (history_of w) { sent = sym (tables-last [] w.out
 none_more : (w : World) → history_of w ≡ record (history_of w) { sent = tables_from [] (w.out ++ []) }
 none_more w = λ i. record (history_of w) { sent = tables_from [] (sym (append-nil w.out) i) }
 
-call_next : (setting : Setting) (w : World) (said : ClientMessage) (result : Result client.Sending client.Refusal) → IsNextHistory setting w (turn_of_call w said result)
+call_next : (setting : Setting) (w : World) (said : ClientMessage) (result : Result client.Sending ClientFault) → IsNextHistory setting w (turn_of_call w said result)
 call_next setting w said (Ok sending) = one_more w said
 call_next setting w said (Err refusal) = refl
 
@@ -109,7 +90,7 @@ delivery_next setting w client.noted s = none_more w
 delivery_next setting w client.ignored s = none_more w
 delivery_next setting w (client.bad_server reason) s = none_more w
 
-result_next : (setting : Setting) (w : World) (result : Result client.Delivery client.Refusal) → IsNextHistory setting w (turn_of_result w result)
+result_next : (setting : Setting) (w : World) (result : Result client.Delivery ClientFault) → IsNextHistory setting w (turn_of_result w result)
 result_next setting w (Ok delivery) = delivery_next setting w delivery.delivered delivery.state
 result_next setting w (Err refusal) = refl
 
@@ -128,7 +109,7 @@ turn_next setting w to_client = client_next setting w (slice_get w.back w.back_d
 
 -- a pair at a world has its history, and after a step that of the next world
 pub next_history : (setting : Setting) (events : List EventData) (event : EventData) (h : History) (happened : Happened) (new : PairData)
-    → IsSound setting → h ≡ history_of (world_of setting events) → IsStepAt setting events event (happened_view happened) new → IsHistory (after h happened new.client.table) new
+    → IsFitting setting → h ≡ history_of (world_of setting events) → IsStepAt setting events event happened new → IsHistory (after h happened new.client.table) new
 next_history setting events event h happened new sound told steps =
     let t : Turn = turn setting (world_of setting events) event in
     let last : world_of setting (events ++ event ∷ []) ≡ t.world = world-last setting beginning events event in
@@ -139,14 +120,13 @@ next_history setting events event h happened new sound told steps =
       events = events ++ event ∷ [];
       at = steps.at;
       told =
-          after_is h happened new.client.table
-          ∙ ((λ i. after_seen (told i) (steps.happens i) (documents i))
-          ∙ (turn_next setting (world_of setting events) event ∙ ap history_of (sym last)));
+          (λ i. after (told i) (steps.happens i) (documents i))
+          ∙ (turn_next setting (world_of setting events) event ∙ ap history_of (sym last));
     }
 
 -- after a step that leads to the world of the list with its event added
 pub history_if : {E : Type 0} (old new : PairData) (event : EventData) (result : Result Happened E)
-    → IfOk result (λ happened. (setting : Setting) (events : List EventData) → IsSound setting → IsAt setting old events → IsStepAt setting events event (happened_view happened) new)
+    → IfOk result (λ happened. (setting : Setting) (events : List EventData) → IsFitting setting → IsAt setting old events → IsStepAt setting events event happened new)
     → IfOk result (λ happened. (h : History) → IsHistory h old
     → IsHistory (after h happened new.client.table) new × HaveDocuments (after h happened new.client.table) new)
 history_if old new event (Ok happened) steps = λ h is.
@@ -159,9 +139,9 @@ history_if old new event (Err e) steps = tt
 -- ---- a run
 
 pub later-last : (h mid_history : History) (old mid new : PairData) (events : List EventData) (event : EventData) (happened : Happened) → IsLater h old events mid_history mid
-    → IsStep mid event (happened_view happened) new → IsLater h old (events ++ event ∷ []) (after mid_history happened new.client.table) new
+    → IsStep mid event happened new → IsLater h old (events ++ event ∷ []) (after mid_history happened new.client.table) new
 later-last h mid_history old mid new [] event happened run steps =
-    (happened, new, subst (λ p. IsStep p event (happened_view happened) new) run.1 steps, (ap (λ k. after k happened new.client.table) run.0, refl))
+    (happened, new, subst (λ p. IsStep p event happened new) run.1 steps, (ap (λ k. after k happened new.client.table) run.0, refl))
 later-last h mid_history old mid new (first ∷ events) event happened run steps =
     (run.0, run.1, run.2, later-last (after h run.0 run.1.client.table) mid_history run.1 mid new events event happened run.3 steps)
 

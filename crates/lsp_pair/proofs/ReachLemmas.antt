@@ -7,14 +7,16 @@ use Rattle.lsp_message.specs.Outgoing as outgoing
 use Rattle.lsp_message.specs.Outgoing.{OutgoingData, body_of}
 use Rattle.lsp_server.specs.declared.phase.Phase.{Phase}
 use Rattle.lsp_server.specs.declared.phase.Phase.TheVariants.{Ended}
-use Rattle.lsp_server.specs.Answer as answer
 use Rattle.lsp_server.specs.Step as server
 use Rattle.lsp_client.specs.Step as client
-use Rattle.lsp_server.specs.Step.{Step, step_in, step_on}
+use Rattle.lsp_server.specs.Step.{Step, step_in}
 use Rattle.lsp_client.specs.Step.{is_listening}
-use Rattle.lsp_pair.specs.World.{Setting, ClientMessage, commands, lifecycle, World, EventData, HappenedData, server_did, without_reply, incoming_of, server_of, world_of, IsProperEvent}
+use Rattle.lsp_pair.specs.declared.event.Happened.{Happened}
+use Rattle.lsp_pair.specs.declared.event.Happened.TheVariants.{Server}
+use Rattle.lsp_pair.specs.declared.event.Did.TheVariants as done
+use Rattle.lsp_pair.specs.World.{Setting, ClientMessage, commands, lifecycle, World, EventData, did_of, incoming_of_message, server_of, world_of, IsProperEvent}
 use Rattle.lsp_pair.specs.inside.Ends.{both_ends}
-use Rattle.lsp_pair.specs.Pair.{PairData, message_frame, frames_from, IsSound, waiting_out, waiting_back, IsAt, IsReached, IsStep}
+use Rattle.lsp_pair.specs.Pair.{PairData, message_frame, frames_from, IsFitting, waiting_out, waiting_back, IsAt, IsReached, IsStep}
 use Rattle.lsp_pair.specs.Usual.{IsUsual}
 use Rattle.lsp_pair.specs.At.{IsStepAt}
 use Rattle.lsp_pair.specs.inside.Ends.{HoldsOfFirst}
@@ -25,7 +27,7 @@ use Rattle.lsp_pair.proofs.WorldLemmas.{there_arrives, here_returns, world_sound
 use Rattle.lsp_pair.proofs.StepLemmas.{frame_on, steps_at, steps_reach}
 
 -- an ended server does nothing usual
-never_ended : (said : ClientMessage) → IsUsual said (server_did answer.already_ended) → ⊥
+never_ended : (said : ClientMessage) → IsUsual said (Server done.Dropped) → ⊥
 never_ended (commands command) h = cc
 never_ended (lifecycle (outgoing.initialize offers)) h = cc
 never_ended (lifecycle outgoing.initialized) h = cc
@@ -38,11 +40,11 @@ never_ended (lifecycle (outgoing.initialize_result id encoding kind)) h = h
 never_ended (lifecycle (outgoing.shutdown_result id)) h = h
 never_ended (lifecycle (outgoing.error_reply id error)) h = h
 
-module _ (setting : Setting) (sound : IsSound setting) (w : World) (ok : WorldSound setting w) where
+module _ (setting : Setting) (sound : IsFitting setting) (w : World) (ok : WorldSound setting w) where
   not_ended : (said : ClientMessage) (rest : List ClientMessage) → Arrives setting w said rest → w.server_phase ≢ Ended
   not_ended said rest a ended =
-      let same : a.step_is ≡ step_in Ended (server_of setting w) (incoming_of said) = sym a.given ∙ ap (λ (p : Phase). step_in p (server_of setting w) (incoming_of said)) ended in
-      never_ended said (subst (λ (s : Step). IsUsual said (server_did (without_reply s.answer))) same a.usual)
+      let same : a.step_is ≡ step_in Ended (server_of setting w) (incoming_of_message said) = sym a.given ∙ ap (λ (p : Phase). step_in p (server_of setting w) (incoming_of_message said)) ended in
+      never_ended said (subst (λ (s : Step). IsUsual said (Server (did_of s.answer))) same a.usual)
 
   first_served : (q : List ClientMessage) → Arrivals setting w q
       → HoldsOfFirst (frames_from (the_kind setting) (server_of setting w).table q) (λ first. IsFrame setting.config.limits.max_body first × (w.server_phase ≢ Ended))
@@ -82,21 +84,21 @@ reached_hears pair r =
 
 -- ---- a step that may run out of memory
 
-pub reach_or_same : {A E : Type 0} (view : A → HappenedData) (old new : PairData) (event : EventData) (result : Result A E) → IsProperEvent event → IsReached old
-    → IfOk result (λ a. IsStep old event (view a) new) → OnErr result (new ≡ old) → IsReached new
-reach_or_same view old new event (Ok a) proper reached steps same = steps_reach old new event (view a) proper reached steps
-reach_or_same view old new event (Err e) proper reached steps same = subst IsReached (sym same) reached
+pub reach_or_same : {E : Type 0} (old new : PairData) (event : EventData) (result : Result Happened E) → IsProperEvent event → IsReached old
+    → IfOk result (λ a. IsStep old event a new) → OnErr result (new ≡ old) → IsReached new
+reach_or_same old new event (Ok a) proper reached steps same = steps_reach old new event a proper reached steps
+reach_or_same old new event (Err e) proper reached steps same = subst IsReached (sym same) reached
 
-pub step_from : {A E : Type 0} (view : A → HappenedData) (old now new : PairData) (event given : EventData) (result : Result A E) → old ≡ now → given ≡ event
-    → IfOk result (λ a. IsStep old event (view a) new) → IfOk result (λ a. IsStep now given (view a) new)
-step_from view old now new event given result same is steps =
-    subst (λ (e : EventData). IfOk result (λ a. IsStep now e (view a) new)) (sym is) (subst (λ (p : PairData). IfOk result (λ a. IsStep p event (view a) new)) same steps)
+pub step_from : {E : Type 0} (old now new : PairData) (event given : EventData) (result : Result Happened E) → old ≡ now → given ≡ event
+    → IfOk result (λ a. IsStep old event a new) → IfOk result (λ a. IsStep now given a new)
+step_from old now new event given result same is steps =
+    subst (λ (e : EventData). IfOk result (λ a. IsStep now e a new)) (sym is) (subst (λ (p : PairData). IfOk result (λ a. IsStep p event a new)) same steps)
 
-pub at_if : {A E : Type 0} (view : A → HappenedData) (old new : PairData) (event : EventData) (result : Result A E) → IsProperEvent event
-    → IfOk result (λ a. IsStep old event (view a) new)
-    → IfOk result (λ a. (setting : Setting) (events : List EventData) → IsSound setting → IsAt setting old events → IsStepAt setting events event (view a) new)
-at_if view old new event (Ok a) proper steps = λ setting events sound at. steps_at setting sound old new events event (view a) proper at steps
-at_if view old new event (Err e) proper steps = tt
+pub at_if : {E : Type 0} (old new : PairData) (event : EventData) (result : Result Happened E) → IsProperEvent event
+    → IfOk result (λ a. IsStep old event a new)
+    → IfOk result (λ a. (setting : Setting) (events : List EventData) → IsFitting setting → IsAt setting old events → IsStepAt setting events event a new)
+at_if old new event (Ok a) proper steps = λ setting events sound at. steps_at setting sound old new events event a proper at steps
+at_if old new event (Err e) proper steps = tt
 
 -- what is left of a delivery that ran out of memory
 pub same_at_server : {A E : Type 0} (c : client.State) (s t : server.State) (q p b d : List (List ℕ)) (result : Result A E) → OnErr result ((t ≡ s) × (p ≡ q) × (d ≡ b))

@@ -14,16 +14,17 @@ use Rattle.lsp_message.specs.Sent.{sent}
 use Rattle.lsp_message.proofs.ReadBack.{reading-body_of, is_read_back}
 use Rattle.lsp_server.specs.declared.config.EncodingChoice.{EncodingChoice}
 use Rattle.lsp_server.specs.declared.config.EncodingChoice.TheVariants.{Fixed, Negotiated}
-use Rattle.lsp_server.specs.declared.config.Sync.{Sync}
-use Rattle.lsp_server.specs.declared.config.Sync.TheVariants.{Incremental, Full}
-use Rattle.lsp_server.specs.Choice.{chosen, kind_of}
+use Rattle.lsp_server.specs.declared.config.ChangeForm.{ChangeForm}
+use Rattle.lsp_server.specs.declared.config.ChangeForm.TheVariants.{Incremental, Full}
+use Rattle.lsp_server.specs.Choice.{chosen, announced_kind}
 use Rattle.lsp_server.proofs.LawLemmas.{offered_if}
 use Rattle.lsp_client.specs.declared.phase.Phase.{Phase}
 use Rattle.lsp_client.specs.declared.phase.Phase.TheVariants.{Closed}
 use Rattle.lsp_client.specs.Step as client
 use Rattle.lsp_client.specs.Step.{State, Delivery, delivery_of, begin_if_synced, begin_as_announced, begin_in, response_delivery, is_listening}
-use Rattle.lsp_pair.specs.World.{Setting, ClientMessage, lifecycle, World, client_of, without_message, messages_in, turn_of_delivery, client_heard}
-use Rattle.lsp_pair.specs.Pair.{IsSound, is_utf16, waiting_back}
+use Rattle.lsp_pair.specs.declared.event.Happened.TheVariants.{Client}
+use Rattle.lsp_pair.specs.World.{Setting, ClientMessage, lifecycle, World, client_of, heard_of, messages_in, turn_of_delivery}
+use Rattle.lsp_pair.specs.Pair.{IsFitting, is_utf16, waiting_back}
 use Rattle.lsp_pair.specs.Usual.{IsUsualBack}
 use Rattle.lsp_pair.proofs.LifeLemmas.{first_result, last_result, short_first, short_last}
 use Rattle.lsp_pair.proofs.ListLemmas.{table_after_all, next_is, length_more}
@@ -37,7 +38,7 @@ pub record Returns (setting : Setting) (w : World) (m : OutgoingData) (rest : Li
   pub written : delivery_of (client_of setting w) (reading (body_of m)) ≡ delivery_is
   pub short : length (body_of m) ≤ setting.limits.max_body
   pub state : delivery_is.state ≡ record (client_of setting w) { phase = delivery_is.state.phase; agreed = delivery_is.state.agreed }
-  pub usual : IsUsualBack m (client_heard (without_message delivery_is.delivered))
+  pub usual : IsUsualBack m (Client (heard_of delivery_is.delivered))
   pub next : WorldSound setting (turn_of_delivery w delivery_is).world
 
 abbrev pub Returning : Setting → World → List OutgoingData → Type 0
@@ -82,18 +83,18 @@ offered_is (Fixed Utf16) offers e = refl
 offered_is (Fixed Utf32) offers e = absurd (let bad : false ≡ true = e in cc)
 offered_is (Negotiated prefer) offers e = offered_if prefer offers (is_offered offers prefer) refl
 
-agrees_on : (s : State) (encoding : Encoding) (sync : Sync) → is_offered s.offers encoding ≡ true → begin_if_synced s true (kind_of sync) (Some encoding) ≡ begin_in s encoding (kind_of sync)
+agrees_on : (s : State) (encoding : Encoding) (sync : ChangeForm) → is_offered s.offers encoding ≡ true → begin_if_synced s true (announced_kind sync) (Some encoding) ≡ begin_in s encoding (announced_kind sync)
 agrees_on s encoding Incremental e = rw e refl
 agrees_on s encoding Full e = rw e refl
 
-begins_given : (s : State) (encoding : Encoding) (sync : Sync) → is_offered s.offers encoding ≡ true
-    → begin_as_announced s (announced_of (initialize_value encoding (kind_of sync))) ≡ begin_in s encoding (kind_of sync)
-begins_given s encoding sync e = ap (begin_as_announced s) (is_read_back (first_result encoding (kind_of sync)) (record { sfits = omega arith })) ∙ agrees_on s encoding sync e
+begins_given : (s : State) (encoding : Encoding) (sync : ChangeForm) → is_offered s.offers encoding ≡ true
+    → begin_as_announced s (announced_of (initialize_value encoding (announced_kind sync))) ≡ begin_in s encoding (announced_kind sync)
+begins_given s encoding sync e = ap (begin_as_announced s) (is_read_back (first_result encoding (announced_kind sync)) (record { sfits = omega arith })) ∙ agrees_on s encoding sync e
 
-least : (setting : Setting) (n : ℕ) → IsSound setting → n ≤ 4096 → n ≤ setting.limits.max_body
+least : (setting : Setting) (n : ℕ) → IsFitting setting → n ≤ 4096 → n ≤ setting.limits.max_body
 least setting n sound h = let r = sound.ranges in omega (arith, r.least_body, h)
 
-module _ (setting : Setting) (sound : IsSound setting) (w : World) where
+module _ (setting : Setting) (sound : IsFitting setting) (w : World) where
   answered_returns : AtShape setting w answered → Returns setting w (first_result (the_encoding setting) (the_kind setting)) []
   answered_returns at =
       let e : waiting_back w ≡ first_result (the_encoding setting) (the_kind setting) ∷ [] = at.here in

@@ -1,10 +1,11 @@
 -- Runs of a pair.
 use Rattle.std.proofs.Common.{ℕ, zero, suc, ◌≡◌, ◌<◌, ◌+◌, length, map, take, get_or, add-one, arith, List, [], ◌∷◌, ◌++◌, refl, sym, ap, ◌∙◌, subst}
-use Rattle.lsp_pair.specs.World.{EventData, HappenedData}
+use Rattle.lsp_pair.specs.declared.event.Happened.{Happened}
+use Rattle.lsp_pair.specs.World.{EventData}
 use Rattle.lsp_pair.specs.Pair.{PairData, IsStep, IsRun}
 
 -- A run goes on by one step.
-pub run-last : (old mid new : PairData) (events : List EventData) (event : EventData) (happened : HappenedData) → IsRun old events mid → IsStep mid event happened new → IsRun old (events ++ event ∷ []) new
+pub run-last : (old mid new : PairData) (events : List EventData) (event : EventData) (happened : Happened) → IsRun old events mid → IsStep mid event happened new → IsRun old (events ++ event ∷ []) new
 run-last old mid new [] event happened run steps = (happened, new, subst (λ (p : PairData). IsStep p event happened new) run steps, refl)
 run-last old mid new (first ∷ events) event happened run steps = (run.0, run.1, run.2, run-last run.1 mid new events event happened run.3 steps)
 

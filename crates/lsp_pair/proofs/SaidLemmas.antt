@@ -30,10 +30,10 @@ use Rattle.lsp_server.specs.declared.phase.Phase.{Phase}
 use Rattle.lsp_server.specs.declared.phase.Phase.TheVariants.{Running}
 use Rattle.lsp_server.specs.Answer as answer
 use Rattle.lsp_server.specs.Incoming as incoming
-use Rattle.lsp_server.specs.Step.{State, Step, edit_from_data, obeyed, obeys, step_on, step, step_in, encoding_of}
+use Rattle.lsp_server.specs.Step.{State, Step, edit_from_data, obeyed, obeys, step_on, step, step_in, session_encoding}
 use Rattle.lsp_server.proofs.EditLemmas.{edits_back}
 use Rattle.lsp_client.specs.Step.{sent_batch, sent_body, order_refusal}
-use Rattle.lsp_pair.specs.World.{commands, incoming_of, IsProperEdits}
+use Rattle.lsp_pair.specs.World.{commands, incoming_of_message, IsProperEdits}
 
 -- ---- commands as the types hold them
 
@@ -143,7 +143,7 @@ obeys_done s command may = ap (λ (r : Option Refusal). obeyed s (unless_refused
 run_open : (s : State) (p : DocumentItem) → s.phase ≡ Running → step_on s (incoming.did_open (Some p)) ≡ obeys s (opens p)
 run_open s p running = ap (λ (phase : Phase). step_in phase s (incoming.did_open (Some p))) running
 
-run_change : (s : State) (p : ChangeData) → s.phase ≡ Running → step_on s (incoming.did_change (Some p)) ≡ obeys s (changes p.uri p.version (encoding_of s) (map edit_from_data p.changes))
+run_change : (s : State) (p : ChangeData) → s.phase ≡ Running → step_on s (incoming.did_change (Some p)) ≡ obeys s (changes p.uri p.version (session_encoding s) (map edit_from_data p.changes))
 run_change s p running = ap (λ (phase : Phase). step_in phase s (incoming.did_change (Some p))) running
 
 run_close : (s : State) (p : CloseData) → s.phase ≡ Running → step_on s (incoming.did_close (Some p)) ≡ obeys s (closes p.uri)
@@ -165,14 +165,14 @@ read_close p is = ap incoming.incoming_of (reading-body_of (did_close p) is) ∙
 -- the message as it is written, and as the caller gave it, leave the same
 pub record IsServedAs (s : State) (kind : SyncKind) (command : Command) : Type 0 where
   pub written : step s (reading (sent_body kind s.table command)) ≡ done_by s (table_after s.table command)
-  pub given : step_on s (incoming_of (commands command)) ≡ done_by s (table_after s.table command)
+  pub given : step_on s (incoming_of_message (commands command)) ≡ done_by s (table_after s.table command)
 
 module _ (small great : Bounds) (encoding : Encoding) (kind : SyncKind) (s : State) (ranges : AreInRange small) (within : AreWithin small great)
     (limits_are : s.config.limits ≡ great) (running : s.phase ≡ Running) (counts : s.encoding ≡ Some encoding) (kept : AllWithin small s.table) where
   accepted_here : (command : Command) → command_refusal great s.table command ≡ None → command_refusal s.config.limits s.table command ≡ None
   accepted_here command e = ap (λ (limits : Bounds). command_refusal limits s.table command) limits_are ∙ e
 
-  encoding_is : encoding_of s ≡ encoding
+  encoding_is : session_encoding s ≡ encoding
   encoding_is = rw counts refl
 
   open_served : (entry : DocumentItem) → IsProperDocument entry → order_refusal small kind s.table (opens entry) ≡ None → IsServedAs s kind (opens entry)
@@ -195,7 +195,7 @@ module _ (small great : Bounds) (encoding : Encoding) (kind : SyncKind) (s : Sta
       → step_on s (incoming.did_change (Some (record { uri = uri; version = version; changes = map written_edit other }))) ≡ done_by s (after_change (units_in encoding) s.table uri version batch)
   change_done uri version batch other texts is =
       run_change s (record { uri = uri; version = version; changes = map written_edit other }) running
-      ∙ (ap (λ (b : List Edit). obeys s (changes uri version (encoding_of s) b)) (edits_back other texts)
+      ∙ (ap (λ (b : List Edit). obeys s (changes uri version (session_encoding s) b)) (edits_back other texts)
       ∙ (ap (λ (e : Encoding). obeys s (changes uri version e other)) encoding_is
       ∙ (obeys_done s (changes uri version encoding other) (accepted_here (changes uri version encoding other) is.accepted)
       ∙ ap (done_by s) is.leaves)))

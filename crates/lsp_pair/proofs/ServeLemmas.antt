@@ -1,22 +1,25 @@
 -- A delivery to the server, over plain values.
-use Rattle.std.proofs.Common.{ℕ, ◌≡◌, ◌≢◌, ◌<◌, Bool, true, false, List, [], ◌∷◌, ◌++◌, length, map, get_or, Option, Vec, refl, sym, ap, ◌∙◌, subst, arith}
+use Rattle.std.proofs.Common.{ℕ, ◌≡◌, ◌≢◌, ◌<◌, Bool, true, false, List, [], ◌∷◌, ◌++◌, length, map, get_or, Vec, refl, sym, ap, ◌∙◌, subst, arith}
 use Rattle.std.specs.declared.alloc.Global.{Global}
 use Rattle.lsp_frame.specs.Limits.{Bounds}
 use Rattle.lsp_frame.specs.Frame.{IsFrameOf}
 use Rattle.lsp_message.specs.Message.{reading}
 use Rattle.lsp_message.specs.Outgoing.{OutgoingData}
-use Rattle.lsp_message.specs.declared.outgoing.ErrorCode.{ErrorCode}
+use Rattle.lsp_server.specs.declared.phase.Phase.TheVariants.{Ended}
 use Rattle.lsp_server.specs.Answer as answer
 use Rattle.lsp_server.specs.Answer.{AnswerData, Sent, as_sent}
 use Rattle.lsp_server.specs.Step as server
 use Rattle.lsp_client.specs.Step as client
 use Rattle.lsp_client.specs.Seen as seen
-use Rattle.lsp_pair.specs.World.{to_server, to_client, server_did, client_heard, without_reply, replies_in, without_message, messages_in}
+use Rattle.lsp_pair.specs.declared.event.Did.{Did}
+use Rattle.lsp_pair.specs.declared.event.Heard.{Heard}
+use Rattle.lsp_pair.specs.declared.event.Happened.TheVariants.{Server, Client}
+use Rattle.lsp_pair.specs.World.{to_server, to_client, did_of, replies_in, heard_of, messages_in}
 use Rattle.lsp_pair.specs.Pair.{message_frame, IsStep}
 use Rattle.lsp_pair.specs.Seen.{frames}
-use Rattle.lsp_pair.specs.inside.Ends.{HoldsOfFirst, without_frame, frames_in_answer, without_bytes, frames_in_delivery}
+use Rattle.lsp_pair.specs.inside.Ends.{HoldsOfFirst, did_of_sent, frames_in_answer, frames_in_delivery}
 
-did_same : (a : AnswerData OutgoingData) → without_frame (as_sent a) ≡ without_reply a
+did_same : (a : AnswerData OutgoingData) → did_of_sent (as_sent a) ≡ did_of a
 did_same (answer.reply m) = refl
 did_same answer.changed = refl
 did_same answer.dropped = refl
@@ -43,16 +46,17 @@ some_wait [] some = absurd (omega arith)
 some_wait (x ∷ xs) some = λ none. absurd (omega (arith, ap length none))
 
 pub serve_is : (c : client.State) (s new : server.State) (limits : Bounds) (items rest : List (Vec ℕ Global)) (back next : List (List ℕ)) (first : Vec ℕ Global) (body buffered : List ℕ)
-    (given : AnswerData Sent) (result : AnswerData (Option ErrorCode))
-    → items ≡ first ∷ rest → IsFrameOf limits.max_body buffered body → buffered ≡ first.items → limits ≡ s.config.limits
+    (given : AnswerData Sent) (result : Did)
+    → items ≡ first ∷ rest → IsFrameOf limits.max_body buffered body → buffered ≡ first.items → limits ≡ s.config.limits → s.phase ≢ Ended
     → given ≡ as_sent (server.step s (reading body)).answer → new ≡ (server.step s (reading body)).state
-    → result ≡ without_frame given → next ≡ back ++ frames_in_answer given
-    → IsStep (record { client = c; server = s; to_server = frames items; to_client = back }) to_server (server_did result) (record { client = c; server = new; to_server = frames rest; to_client = next })
-serve_is c s new limits items rest back next first body buffered given result out is_frame_of is same answers state did pushed =
+    → result ≡ did_of_sent given → next ≡ back ++ frames_in_answer given
+    → IsStep (record { client = c; server = s; to_server = frames items; to_client = back }) to_server (Server result) (record { client = c; server = new; to_server = frames rest; to_client = next })
+serve_is c s new limits items rest back next first body buffered given result out is_frame_of is same lives answers state did pushed =
     rw out (record {
       body = body;
       framed = subst (λ (l : Bounds). IsFrameOf l.max_body first.items body) same (subst (λ (b : List ℕ). IsFrameOf limits.max_body b body) is is_frame_of);
-      happens = ap server_did (did ∙ (ap without_frame answers ∙ did_same (server.step s (reading body)).answer));
+      has_not_ended = lives;
+      happens = ap Server (did ∙ (ap did_of_sent answers ∙ did_same (server.step s (reading body)).answer));
       leaves = λ i. record {
         client = c;
         server = state i;
@@ -63,7 +67,7 @@ serve_is c s new limits items rest back next first body buffered given result ou
 
 -- ---- a delivery to the client
 
-heard_same : (d : client.DeliveredData OutgoingData) → without_bytes (seen.as_sent d) ≡ without_message d
+heard_same : (d : client.DeliveredData OutgoingData) → heard_of (seen.as_sent d) ≡ heard_of d
 heard_same (client.sends m) = refl
 heard_same client.noted = refl
 heard_same client.ignored = refl
@@ -81,18 +85,18 @@ listening true e s body given new h = h
 listening false e s body given new h = absurd h
 
 pub hear_is : (s : server.State) (c new : client.State) (limits : Bounds) (items rest : List (Vec ℕ Global)) (there next : List (List ℕ)) (first : Vec ℕ Global) (body buffered : List ℕ)
-    (given : client.DeliveredData (List ℕ)) (result : client.DeliveredData (Unit {0}))
+    (given : client.DeliveredData (List ℕ)) (result : Heard)
     → items ≡ first ∷ rest → IsFrameOf limits.max_body buffered body → buffered ≡ first.items → limits ≡ c.limits → client.is_listening c.phase ≡ true
     → seen.IsDelivered (client.delivery_result c (reading body)) given new
-    → result ≡ without_bytes given → next ≡ there ++ frames_in_delivery given
-    → IsStep (record { client = c; server = s; to_server = there; to_client = frames items }) to_client (client_heard result) (record { client = new; server = s; to_server = next; to_client = frames rest })
+    → result ≡ heard_of given → next ≡ there ++ frames_in_delivery given
+    → IsStep (record { client = c; server = s; to_server = there; to_client = frames items }) to_client (Client result) (record { client = new; server = s; to_server = next; to_client = frames rest })
 hear_is s c new limits items rest there next first body buffered given result out is_frame_of is same is_listening hears did pushed =
     let h = listening (client.is_listening c.phase) is_listening c body given new hears in
     rw out (record {
       body = body;
       framed = subst (λ (l : Bounds). IsFrameOf l.max_body first.items body) same (subst (λ (b : List ℕ). IsFrameOf limits.max_body b body) is is_frame_of);
       is_listening = is_listening;
-      happens = ap client_heard (did ∙ (ap without_bytes h.0 ∙ heard_same (client.delivery_of c (reading body)).delivered));
+      happens = ap Client (did ∙ (ap heard_of h.0 ∙ heard_same (client.delivery_of c (reading body)).delivered));
       leaves = λ i. record {
         client = h.1 i;
         server = s;

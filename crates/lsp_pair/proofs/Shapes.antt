@@ -12,7 +12,7 @@ use Rattle.lsp_store.specs.Laws.{AllWithin, HasTexts}
 use Rattle.lsp_store.proofs.LawLemmas.{within_law}
 use Rattle.lsp_server.specs.declared.phase.Phase as server_phase
 use Rattle.lsp_server.specs.declared.phase.Phase.TheVariants as server_phases
-use Rattle.lsp_server.specs.Choice.{chosen, kind_of}
+use Rattle.lsp_server.specs.Choice.{chosen, announced_kind}
 use Rattle.lsp_client.specs.declared.agreed.Agreed.{Agreed}
 use Rattle.lsp_client.specs.declared.phase.Phase as client_phase
 use Rattle.lsp_client.specs.declared.phase.Phase.TheVariants as client_phases
@@ -29,7 +29,7 @@ abbrev pub the_encoding : Setting → Encoding
 the_encoding setting = chosen setting.config.choice setting.offers
 
 abbrev pub the_kind : Setting → SyncKind
-the_kind setting = kind_of setting.config.sync
+the_kind setting = announced_kind setting.config.sync
 
 abbrev pub IsSaidOn : Setting → List DocumentItem → ClientMessage → Type 0
 IsSaidOn setting table (commands command) = IsSaid setting.limits (the_encoding setting) (the_kind setting) table command

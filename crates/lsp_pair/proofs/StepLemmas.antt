@@ -8,10 +8,12 @@ use Rattle.lsp_message.specs.Outgoing.{OutgoingData, body_of}
 use Rattle.lsp_message.specs.Params.{DocumentItem}
 use Rattle.lsp_store.specs.Table.{table_of}
 use Rattle.lsp_server.specs.Step as server
-use Rattle.lsp_client.specs.Step as client
+use Rattle.lsp_client.specs.declared.fault.ClientFault.{ClientFault}
 use Rattle.lsp_client.specs.Step.{Call, Sending, Delivery, call_result, delivery_of, sent_body}
-use Rattle.lsp_pair.specs.World.{Setting, ClientMessage, commands, lifecycle, World, commands_in, EventData, calls, to_server, to_client, HappenedData, server_did, client_heard, Turn, turn_of_call, message_by, message_in, turn_of_step, turn_of_delivery, turn, world_of, beginning, client_of, server_of, without_reply, replies_in, without_message, messages_in, IsProperEvent}
-use Rattle.lsp_pair.specs.Pair.{PairData, new_pair, message_frame, frame_of, table_with, frames_from, IsSound, waiting_out, waiting_back, pair_of, IsAt, IsReached, IsCallStep, IsServerStep, IsClientStep, IsDeliveryStep, IsStep}
+use Rattle.lsp_pair.specs.declared.event.Happened.{Happened}
+use Rattle.lsp_pair.specs.declared.event.Happened.TheVariants.{Server, Client}
+use Rattle.lsp_pair.specs.World.{Setting, ClientMessage, commands, lifecycle, World, commands_in, EventData, calls, to_server, to_client, Turn, turn_of_call, message_of_call, message_in, turn_of_step, turn_of_delivery, turn, world_of, beginning, client_of, server_of, did_of, replies_in, heard_of, messages_in, IsProperEvent}
+use Rattle.lsp_pair.specs.Pair.{PairData, new_pair, message_frame, frame_of, table_with, frames_from, IsFitting, waiting_out, waiting_back, pair_of, IsAt, IsReached, IsCallStep, IsServerStep, IsClientStep, IsDeliveryStep, IsStep}
 use Rattle.lsp_pair.specs.Usual.{IsUsualTurn, HaveOneEncoding}
 use Rattle.lsp_pair.specs.At.{IsStepAt}
 use Rattle.lsp_pair.proofs.LifeLemmas.{one_body}
@@ -28,11 +30,11 @@ frame_on kind table (commands command) = refl
 frame_on kind table (lifecycle m) = refl
 
 -- what happens is what a turn has, and the pair is that of its world
-pub record AsTurn (setting : Setting) (t : Turn) (happened : HappenedData) (new : PairData) : Type 0 where
+pub record AsTurn (setting : Setting) (t : Turn) (happened : Happened) (new : PairData) : Type 0 where
   pub happens : happened ≡ t.happened
   pub leaves : new ≡ pair_of setting t.world
 
-module _ (setting : Setting) (sound : IsSound setting) (w : World) (ok : WorldSound setting w) where
+module _ (setting : Setting) (sound : IsFitting setting) (w : World) (ok : WorldSound setting w) where
   abbrev old : PairData
   old = pair_of setting w
 
@@ -64,9 +66,9 @@ module _ (setting : Setting) (sound : IsSound setting) (w : World) (ok : WorldSo
       ap (λ (f : List ℕ). old.to_server ++ f ∷ []) is.frame ∙ queue_more said in
       λ i. record { client = client_is i; server = server_is i; to_server = queue i; to_client = old.to_client }
 
-  call_step : (call : Call) (result : Result Sending client.Refusal) (happened : HappenedData) (new : PairData) → CallResult setting w (message_by (client_of setting w) call) result
-      → IsCallStep old result happened new → AsTurn setting (turn_of_call w (message_by (client_of setting w) call (message_in result)) result) happened new
-  call_step call (Ok sending) happened new is steps = record { happens = steps.0; leaves = steps.1 ∙ called_pair (message_by (client_of setting w) call sending.message) sending is }
+  call_step : (call : Call) (result : Result Sending ClientFault) (happened : Happened) (new : PairData) → CallResult setting w (message_of_call (client_of setting w) call) result
+      → IsCallStep old result happened new → AsTurn setting (turn_of_call w (message_of_call (client_of setting w) call (message_in result)) result) happened new
+  call_step call (Ok sending) happened new is steps = record { happens = steps.0; leaves = steps.1 ∙ called_pair (message_of_call (client_of setting w) call sending.message) sending is }
   call_step call (Err refusal) happened new is steps = record { happens = steps.0; leaves = steps.1 }
 
   -- ---- a delivery to the server
@@ -87,7 +89,7 @@ module _ (setting : Setting) (sound : IsSound setting) (w : World) (ok : WorldSo
       sym (map-append message_frame (waiting_back w) (replies_in a.step_is.answer)) ∙ ap (map message_frame) (sym (drop-append-le w.back_delivered w.back (replies_in a.step_is.answer) ok.at.returned)) in
       λ j. record { client = client_of setting w; server = server_is j; to_server = queue j; to_client = back j }
 
-  server_step : (q : List ClientMessage) → waiting_out w ≡ q → Arrivals setting w q → (happened : HappenedData) (new : PairData)
+  server_step : (q : List ClientMessage) → waiting_out w ≡ q → Arrivals setting w q → (happened : Happened) (new : PairData)
       → IsDeliveryStep (λ first rest. IsServerStep old first rest happened new) old (frames_from kind (server_of setting w).table q) happened new
       → AsTurn setting (turn setting w to_server) happened new
   server_step [] e a happened new steps = subst (λ (t : Turn). AsTurn setting t happened new) (sym (quiet_there setting sound w ok e)) (record { happens = steps.0; leaves = steps.1 })
@@ -98,7 +100,7 @@ module _ (setting : Setting) (sound : IsSound setting) (w : World) (ok : WorldSo
       (frame_on kind (server_of setting w).table said) (omega (arith, a.short, within)) sound.great.greatest_body steps.framed in
       let does : server.step (server_of setting w) (reading steps.body) ≡ a.step_is = ap (λ (b : List ℕ). server.step (server_of setting w) (reading b)) body ∙ a.written in
       subst (λ (t : Turn). AsTurn setting t happened new) (sym (served_turn setting sound w ok said rest e a)) (record {
-        happens = steps.happens ∙ ap (λ (s : server.Step). server_did (without_reply s.answer)) does;
+        happens = steps.happens ∙ ap (λ (s : server.Step). Server (did_of s.answer)) does;
         leaves =
             steps.leaves
             ∙ (ap (λ (s : server.Step). record old { server = s.state; to_server = frames_from kind (table_with old.server.table said) rest; to_client = old.to_client ++ map message_frame (replies_in s.answer) }) does
@@ -124,7 +126,7 @@ module _ (setting : Setting) (sound : IsSound setting) (w : World) (ok : WorldSo
       ∙ (λ j. frames_from kind (server_is j).table (sym (drop-append-le w.out_delivered w.out (map lifecycle ms) ok.at.arrived) j))) in
       λ j. record { client = client_is j; server = server_is j; to_server = queue j; to_client = map message_frame (sym i.after j) }
 
-  client_step : (q : List OutgoingData) → waiting_back w ≡ q → Returning setting w q → (happened : HappenedData) (new : PairData)
+  client_step : (q : List OutgoingData) → waiting_back w ≡ q → Returning setting w q → (happened : Happened) (new : PairData)
       → IsDeliveryStep (λ first rest. IsClientStep old first rest happened new) old (map message_frame q) happened new
       → AsTurn setting (turn setting w to_client) happened new
   client_step [] e r happened new steps = subst (λ (t : Turn). AsTurn setting t happened new) (sym (quiet_here setting sound w ok e)) (record { happens = steps.0; leaves = steps.1 })
@@ -132,7 +134,7 @@ module _ (setting : Setting) (sound : IsSound setting) (w : World) (ok : WorldSo
       let body : steps.body ≡ body_of m = one_body setting.limits.max_body (message_frame m) (body_of m) steps.body refl r.short sound.ranges.greatest_body steps.framed in
       let does : delivery_of (client_of setting w) (reading steps.body) ≡ r.delivery_is = ap (λ (b : List ℕ). delivery_of (client_of setting w) (reading b)) body ∙ r.written in
       subst (λ (t : Turn). AsTurn setting t happened new) (sym (heard_turn setting sound w ok m rest e r)) (record {
-        happens = steps.happens ∙ ap (λ (h : Delivery). client_heard (without_message h.delivered)) does;
+        happens = steps.happens ∙ ap (λ (h : Delivery). Client (heard_of h.delivered)) does;
         leaves =
             steps.leaves
             ∙ (ap (λ (h : Delivery). record old { client = h.state; to_client = map message_frame rest; to_server = old.to_server ++ map message_frame (messages_in h.delivered) }) does
@@ -141,7 +143,7 @@ module _ (setting : Setting) (sound : IsSound setting) (w : World) (ok : WorldSo
 
   -- ---- any step
 
-  pub steps_as : (event : EventData) → IsProperEvent event → (happened : HappenedData) (new : PairData) → IsStep old event happened new → AsTurn setting (turn setting w event) happened new
+  pub steps_as : (event : EventData) → IsProperEvent event → (happened : Happened) (new : PairData) → IsStep old event happened new → AsTurn setting (turn setting w event) happened new
   steps_as (calls call) proper happened new steps =
       call_step call (call_result (client_of setting w) call) happened new (called_sound setting w ok.shape ok.at call proper) steps
   steps_as to_server proper happened new steps = server_step (waiting_out w) refl (there_arrives setting sound w ok) happened new steps
@@ -153,7 +155,7 @@ module _ (setting : Setting) (sound : IsSound setting) (w : World) (ok : WorldSo
 pub new_at : (setting : Setting) → IsAt setting (new_pair setting) []
 new_at setting = record { proper = tt; is = refl }
 
-pub steps_at : (setting : Setting) → IsSound setting → (old new : PairData) (events : List EventData) (event : EventData) (happened : HappenedData) → IsProperEvent event
+pub steps_at : (setting : Setting) → IsFitting setting → (old new : PairData) (events : List EventData) (event : EventData) (happened : Happened) → IsProperEvent event
     → IsAt setting old events → IsStep old event happened new → IsStepAt setting events event happened new
 steps_at setting sound old new events event happened proper at steps =
     let w : World = world_of setting events in
@@ -172,14 +174,14 @@ steps_at setting sound old new events event happened proper at steps =
     }
 
 -- A pair at a world has one encoding.
-pub agrees : (setting : Setting) (pair : PairData) (events : List EventData) → IsSound setting → IsAt setting pair events → HaveOneEncoding setting pair
+pub agrees : (setting : Setting) (pair : PairData) (events : List EventData) → IsFitting setting → IsAt setting pair events → HaveOneEncoding setting pair
 agrees setting pair events sound at =
     let w : World = world_of setting events in
     let ok : WorldSound setting w = world_sound setting sound events at.proper in
     subst (HaveOneEncoding setting) (sym at.is) (agree_at setting w ok.shape ok.at)
 
 -- A step from a reached pair reaches the next.
-pub steps_reach : (old new : PairData) (event : EventData) (happened : HappenedData) → IsProperEvent event → IsReached old → IsStep old event happened new → IsReached new
+pub steps_reach : (old new : PairData) (event : EventData) (happened : Happened) → IsProperEvent event → IsReached old → IsStep old event happened new → IsReached new
 steps_reach old new event happened proper reached steps =
     record {
       setting = reached.setting;

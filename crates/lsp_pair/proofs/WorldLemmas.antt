@@ -4,10 +4,12 @@ use Rattle.std.specs.Prelude.{MatchOption}
 use Rattle.lsp_message.specs.Message.{message}
 use Rattle.lsp_message.specs.Outgoing.{OutgoingData}
 use Rattle.lsp_message.specs.Sent.{sent}
+use Rattle.lsp_client.specs.declared.fault.ClientFault.{ClientFault}
 use Rattle.lsp_client.specs.Step as client
-use Rattle.lsp_client.specs.Step.{Call, call_result, delivery_result, delivery_of}
-use Rattle.lsp_pair.specs.World.{Setting, ClientMessage, World, beginning, EventData, calls, to_server, to_client, nothing, server_did, client_heard, Turn, turn_of_call, message_by, message_in, turn_of_step, to_server_event, turn_of_delivery, turn_of_result, to_client_event, turn, world_from, world_of, client_of, without_reply, without_message, IsProperEvent, AreProperEvents}
-use Rattle.lsp_pair.specs.Pair.{IsSound, waiting_out, waiting_back, pair_of}
+use Rattle.lsp_client.specs.Step.{Call, call_result}
+use Rattle.lsp_pair.specs.declared.event.Happened.TheVariants.{Server, Client, Nothing}
+use Rattle.lsp_pair.specs.World.{Setting, ClientMessage, World, beginning, EventData, calls, to_server, to_client, Turn, turn_of_call, message_of_call, message_in, turn_of_step, to_server_event, turn_of_delivery, turn_of_result, to_client_event, turn, world_from, world_of, client_of, did_of, heard_of, IsProperEvent, AreProperEvents}
+use Rattle.lsp_pair.specs.Pair.{IsFitting, waiting_out, waiting_back, pair_of}
 use Rattle.lsp_pair.specs.Usual.{IsUsual, IsUsualBack, IsUsualTurn, agreed_of, has_agreed, HaveOneEncoding}
 use Rattle.lsp_pair.proofs.ListLemmas.{next_is, none_next}
 use Rattle.lsp_pair.proofs.Shapes.{Shape, fresh, asking, answered, client_at, agreed_at, encoding_at, AtShape, WorldSound}
@@ -40,7 +42,7 @@ pub record IsGoodTurn (setting : Setting) (w : World) (event : EventData) (t : T
   pub usual : IsUsualTurn w event t.happened
   pub next : WorldSound setting t.world
 
-module _ (setting : Setting) (sound : IsSound setting) (w : World) (ok : WorldSound setting w) where
+module _ (setting : Setting) (sound : IsFitting setting) (w : World) (ok : WorldSound setting w) where
   -- the messages that wait, and what becomes of them
   pub there_arrives : Arrivals setting w (waiting_out w)
   there_arrives = subst (Arrivals setting w) (sym ok.at.there) (arrivals setting sound w ok.shape ok.at)
@@ -58,22 +60,22 @@ module _ (setting : Setting) (sound : IsSound setting) (w : World) (ok : WorldSo
       ∙ (ap (λ (b : Bool). turn_of_result w (client.if_listening b (client_of setting w) (message (sent m)))) r.listening
       ∙ ap (turn_of_delivery w) r.given)
 
-  pub quiet_there : waiting_out w ≡ [] → turn setting w to_server ≡ record { happened = nothing; world = w }
+  pub quiet_there : waiting_out w ≡ [] → turn setting w to_server ≡ record { happened = Nothing; world = w }
   quiet_there e = ap (to_server_event setting w) (none_next w.out w.out_delivered e)
 
-  pub quiet_here : waiting_back w ≡ [] → turn setting w to_client ≡ record { happened = nothing; world = w }
+  pub quiet_here : waiting_back w ≡ [] → turn setting w to_client ≡ record { happened = Nothing; world = w }
   quiet_here e = ap (to_client_event setting w) (none_next w.back w.back_delivered e)
 
   server_turn : (q : List ClientMessage) → waiting_out w ≡ q → Arrivals setting w q → IsGoodTurn setting w to_server (turn setting w to_server)
   server_turn [] e a =
       subst (IsGoodTurn setting w to_server) (sym (quiet_there e)) (record {
-        usual = subst (λ (o : Option ClientMessage). MatchOption o (nothing ≡ nothing) (λ said. IsUsual said nothing)) (sym (none_next w.out w.out_delivered e)) refl;
+        usual = subst (λ (o : Option ClientMessage). MatchOption o (Nothing ≡ Nothing) (λ said. IsUsual said Nothing)) (sym (none_next w.out w.out_delivered e)) refl;
         next = ok;
       })
   server_turn (said ∷ rest) e a =
       subst (IsGoodTurn setting w to_server) (sym (served_turn said rest e a)) (record {
         usual =
-            subst (λ (o : Option ClientMessage). MatchOption o (server_did (without_reply a.step_is.answer) ≡ nothing) (λ said. IsUsual said (server_did (without_reply a.step_is.answer))))
+            subst (λ (o : Option ClientMessage). MatchOption o (Server (did_of a.step_is.answer) ≡ Nothing) (λ said. IsUsual said (Server (did_of a.step_is.answer))))
             (sym (next_is w.out w.out_delivered said rest e).there) a.usual;
         next = a.next;
       })
@@ -81,19 +83,19 @@ module _ (setting : Setting) (sound : IsSound setting) (w : World) (ok : WorldSo
   client_turn : (q : List OutgoingData) → waiting_back w ≡ q → Returning setting w q → IsGoodTurn setting w to_client (turn setting w to_client)
   client_turn [] e r =
       subst (IsGoodTurn setting w to_client) (sym (quiet_here e)) (record {
-        usual = subst (λ (o : Option OutgoingData). MatchOption o (nothing ≡ nothing) (λ m. IsUsualBack m nothing)) (sym (none_next w.back w.back_delivered e)) refl;
+        usual = subst (λ (o : Option OutgoingData). MatchOption o (Nothing ≡ Nothing) (λ m. IsUsualBack m Nothing)) (sym (none_next w.back w.back_delivered e)) refl;
         next = ok;
       })
   client_turn (m ∷ rest) e r =
       subst (IsGoodTurn setting w to_client) (sym (heard_turn m rest e r)) (record {
         usual =
-            subst (λ (o : Option OutgoingData). MatchOption o (client_heard (without_message r.delivery_is.delivered) ≡ nothing) (λ m. IsUsualBack m (client_heard (without_message r.delivery_is.delivered))))
+            subst (λ (o : Option OutgoingData). MatchOption o (Client (heard_of r.delivery_is.delivered) ≡ Nothing) (λ m. IsUsualBack m (Client (heard_of r.delivery_is.delivered))))
             (sym (next_is w.back w.back_delivered m rest e).there) r.usual;
         next = r.next;
       })
 
-  call_turn : (call : Call) (result : Result client.Sending client.Refusal) → CallResult setting w (message_by (client_of setting w) call) result
-      → WorldSound setting (turn_of_call w (message_by (client_of setting w) call (message_in result)) result).world
+  call_turn : (call : Call) (result : Result client.Sending ClientFault) → CallResult setting w (message_of_call (client_of setting w) call) result
+      → WorldSound setting (turn_of_call w (message_of_call (client_of setting w) call (message_in result)) result).world
   call_turn call (Ok sending) is = is.next
   call_turn call (Err refusal) is = ok
 
@@ -105,12 +107,12 @@ module _ (setting : Setting) (sound : IsSound setting) (w : World) (ok : WorldSo
 
 -- ---- whole lists
 
-pub from_sound : (setting : Setting) → IsSound setting → (w : World) → WorldSound setting w → (events : List EventData) → AreProperEvents events → WorldSound setting (world_from setting w events)
+pub from_sound : (setting : Setting) → IsFitting setting → (w : World) → WorldSound setting w → (events : List EventData) → AreProperEvents events → WorldSound setting (world_from setting w events)
 from_sound setting sound w ok [] proper = ok
 from_sound setting sound w ok (event ∷ events) proper =
     from_sound setting sound (turn setting w event).world (good_turn setting sound w ok event proper.0).next events proper.1
 
-pub world_sound : (setting : Setting) → IsSound setting → (events : List EventData) → AreProperEvents events → WorldSound setting (world_of setting events)
+pub world_sound : (setting : Setting) → IsFitting setting → (events : List EventData) → AreProperEvents events → WorldSound setting (world_of setting events)
 world_sound setting sound events proper = from_sound setting sound beginning (beginning_sound setting) events proper
 
 pub world-last : (setting : Setting) (w : World) (events : List EventData) (event : EventData) → world_from setting w (events ++ event ∷ []) ≡ (turn setting (world_from setting w events) event).world

@@ -6,7 +6,6 @@ use Rattle.lsp_pair.specs.declared.event.Happened.TheVariants.{Sent, Server, Cli
 use Rattle.lsp_pair.specs.declared.event.Heard.TheVariants.{Send}
 use Rattle.lsp_pair.specs.World.{EventData}
 use Rattle.lsp_pair.specs.Pair.{PairData, IsStep}
-use Rattle.lsp_pair.specs.Seen.{happened_view}
 
 -- What happened so far: the client's documents after each message that it sent, and how many of
 -- these messages the server has handled.
@@ -37,5 +36,5 @@ pub record HaveDocuments (h : History) (pair : PairData) : Type 0 where
 abbrev pub IsLater : History → PairData → List EventData → History → PairData → Type 0
 IsLater h old [] later new = (later ≡ h) × (new ≡ old)
 IsLater h old (event ∷ events) later new =
-    (happened : Happened) × (mid : PairData) × IsStep old event (happened_view happened) mid
+    (happened : Happened) × (mid : PairData) × IsStep old event happened mid
     × IsLater (after h happened mid.client.table) mid events later new

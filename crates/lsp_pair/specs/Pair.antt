@@ -1,9 +1,9 @@
 -- Both ends of a session and the frames between them, and when a pair is at the world of a list of
 -- events.
-use Rattle.std.specs.Prelude.{ℕ, ◌≡◌, Bool, true, false, nat_le, ◌&&◌, List, [], ◌∷◌, ◌++◌, drop, map, Result, Ok, Err}
+use Rattle.std.specs.Prelude.{ℕ, ◌≡◌, ◌≢◌, Bool, true, false, not, nat_le, ◌&&◌, ◌||◌, List, [], ◌∷◌, ◌++◌, drop, map, Result, Ok, Err}
 use Rattle.lsp_frame.specs.Frame.{frame, IsFrameOf}
 use Rattle.lsp_frame.specs.Limits.{Bounds, AreInRange}
-use Rattle.lsp_text.specs.declared.encoding.Encoding.TheVariants.{Utf8, Utf16, Utf32}
+use Rattle.lsp_text.specs.declared.encoding.Encoding.TheVariants.{Utf16}
 use Rattle.lsp_message.specs.declared.agreement.SyncKind.{SyncKind}
 use Rattle.lsp_message.specs.Message.{reading}
 use Rattle.lsp_message.specs.Outgoing.{OutgoingData, body_of}
@@ -12,11 +12,14 @@ use Rattle.lsp_store.specs.Table.{table_after}
 use Rattle.lsp_store.specs.Laws.{AreWithin}
 use Rattle.lsp_server.specs.declared.config.EncodingChoice.{EncodingChoice}
 use Rattle.lsp_server.specs.declared.config.EncodingChoice.TheVariants.{Fixed, Negotiated}
-use Rattle.lsp_server.specs.Choice.{kind_of}
+use Rattle.lsp_server.specs.declared.phase.Phase.TheVariants.{Ended}
+use Rattle.lsp_server.specs.Choice.{announced_kind}
 use Rattle.lsp_server.specs.Step as server
-use Rattle.lsp_client.specs.Seen.{fault_of}
+use Rattle.lsp_client.specs.declared.fault.ClientFault.{ClientFault}
 use Rattle.lsp_client.specs.Step as client
-use Rattle.lsp_pair.specs.World.{Setting, ClientMessage, commands, lifecycle, World, client_of, server_of, EventData, calls, to_server, to_client, HappenedData, call_sent, call_refused, nothing, server_did, client_heard, without_reply, replies_in, without_message, messages_in, AreProperEvents, world_of}
+use Rattle.lsp_pair.specs.declared.event.Happened.{Happened}
+use Rattle.lsp_pair.specs.declared.event.Happened.TheVariants.{Sent, Refused, Server, Client, Nothing}
+use Rattle.lsp_pair.specs.World.{Setting, ClientMessage, commands, lifecycle, World, client_of, server_of, EventData, calls, to_server, to_client, did_of, replies_in, heard_of, messages_in, AreProperEvents, world_of}
 
 -- Both ends, and the frames on the way to each, oldest first.
 pub record PairData : Type 0 where
@@ -29,8 +32,8 @@ pub record PairData : Type 0 where
 abbrev pub new_pair : Setting → PairData
 new_pair setting =
     record {
-      client = client.start setting.limits setting.offers;
-      server = server.start setting.config;
+      client = client.new_client setting.limits setting.offers;
+      server = server.new_server setting.config;
       to_server = [];
       to_client = [];
     }
@@ -43,24 +46,25 @@ message_frame m = frame (body_of m)
 
 -- A call of the client. The frame of an accepted call comes last in the queue to the server, and a
 -- refused one changes nothing.
-abbrev pub IsCallStep : PairData → Result client.Sending client.Refusal → HappenedData → PairData →
+abbrev pub IsCallStep : PairData → Result client.Sending ClientFault → Happened → PairData →
     Type 0
 IsCallStep old (Ok sending) happened new =
-    (happened ≡ call_sent)
+    (happened ≡ Sent)
     × (new ≡ record old {
       client = sending.state;
       to_server = old.to_server ++ message_frame sending.message ∷ [];
     })
-IsCallStep old (Err refusal) happened new =
-    (happened ≡ call_refused (fault_of refusal)) × (new ≡ old)
+IsCallStep old (Err fault) happened new = (happened ≡ Refused fault) × (new ≡ old)
 
--- The server handles the first frame of its queue, and its reply comes last in the other.
+-- The server, which has not ended, handles the first frame of its queue, and its reply comes last in
+-- the other.
 pub record IsServerStep (old : PairData) (first : List ℕ) (rest : List (List ℕ))
-    (happened : HappenedData) (new : PairData) : Type 0 where
+    (happened : Happened) (new : PairData) : Type 0 where
   pub body : List ℕ
   pub framed : IsFrameOf old.server.config.limits.max_body first body
+  pub has_not_ended : old.server.phase ≢ Ended
   pub happens :
-      happened ≡ server_did (without_reply (server.step old.server (reading body)).answer)
+      happened ≡ Server (did_of (server.step old.server (reading body)).answer)
   pub leaves : new ≡ record old {
     server = (server.step old.server (reading body)).state;
     to_server = rest;
@@ -72,13 +76,12 @@ pub record IsServerStep (old : PairData) (first : List ℕ) (rest : List (List �
 -- The client, which listens, handles the first frame of its queue. What it sends comes last in the
 -- other.
 pub record IsClientStep (old : PairData) (first : List ℕ) (rest : List (List ℕ))
-    (happened : HappenedData) (new : PairData) : Type 0 where
+    (happened : Happened) (new : PairData) : Type 0 where
   pub body : List ℕ
   pub framed : IsFrameOf old.client.limits.max_body first body
   pub is_listening : client.is_listening old.client.phase ≡ true
   pub happens :
-      happened
-      ≡ client_heard (without_message (client.delivery_of old.client (reading body)).delivered)
+      happened ≡ Client (heard_of (client.delivery_of old.client (reading body)).delivered)
   pub leaves : new ≡ record old {
     client = (client.delivery_of old.client (reading body)).state;
     to_client = rest;
@@ -89,13 +92,13 @@ pub record IsClientStep (old : PairData) (first : List ℕ) (rest : List (List �
 
 -- A delivery from a queue; where it is empty nothing changes.
 abbrev pub IsDeliveryStep : (List ℕ → List (List ℕ) → Type 0) → PairData → List (List ℕ) →
-    HappenedData
+    Happened
     → PairData → Type 0
-IsDeliveryStep taken old [] happened new = (happened ≡ nothing) × (new ≡ old)
+IsDeliveryStep taken old [] happened new = (happened ≡ Nothing) × (new ≡ old)
 IsDeliveryStep taken old (first ∷ rest) happened new = taken first rest
 
 -- One step of a pair: what happens, and the pair after it.
-abbrev pub IsStep : PairData → EventData → HappenedData → PairData → Type 0
+abbrev pub IsStep : PairData → EventData → Happened → PairData → Type 0
 IsStep old (calls call) happened new =
     IsCallStep old (client.call_result old.client call) happened new
 IsStep old to_server happened new =
@@ -109,7 +112,7 @@ IsStep old to_client happened new =
 abbrev pub IsRun : PairData → List EventData → PairData → Type 0
 IsRun old [] new = new ≡ old
 IsRun old (event ∷ events) new =
-    (happened : HappenedData) × (mid : PairData) × IsStep old event happened mid
+    (happened : Happened) × (mid : PairData) × IsStep old event happened mid
     × IsRun mid events new
 
 -- ---- a pair at a world
@@ -145,7 +148,7 @@ pair_of setting w =
       client = client_of setting w;
       server = server_of setting w;
       to_server =
-          frames_from (kind_of setting.config.sync) (server_of setting w).table (waiting_out w);
+          frames_from (announced_kind setting.config.sync) (server_of setting w).table (waiting_out w);
       to_client = map message_frame (waiting_back w);
     }
 
@@ -158,19 +161,19 @@ pub record IsAt (setting : Setting) (pair : PairData) (events : List EventData) 
 
 -- A server of this choice can choose UTF-16, which a client uses where nothing else was agreed on.
 abbrev pub is_utf16 : EncodingChoice → Bool
-is_utf16 (Fixed Utf8) = false
 is_utf16 (Fixed Utf16) = true
-is_utf16 (Fixed Utf32) = false
 is_utf16 (Negotiated prefer) = true
+is_utf16 choice = false
 
--- Each of the limits is at most the other's.
+-- Each of the limits is at most the other's, and they are lenient only if the others are.
 abbrev pub are_within : Bounds → Bounds → Bool
 are_within small great =
     nat_le small.max_body great.max_body && nat_le small.max_text great.max_text
     && nat_le small.max_docs great.max_docs && nat_le small.max_changes great.max_changes
+    && (not small.lenient || great.lenient)
 
 -- A setting that a pair accepts.
-pub record IsSound (setting : Setting) : Type 0 where
+pub record IsFitting (setting : Setting) : Type 0 where
   pub ranges : AreInRange setting.limits
   pub great : AreInRange setting.config.limits
   pub within : AreWithin setting.limits setting.config.limits
@@ -179,6 +182,6 @@ pub record IsSound (setting : Setting) : Type 0 where
 -- A pair that comes from a new one by steps. It is at the world of some list of events.
 pub record IsReached (pair : PairData) : Type 0 where
   pub setting : Setting
-  pub sound : IsSound setting
+  pub sound : IsFitting setting
   pub events : List EventData
   pub at : IsAt setting pair events

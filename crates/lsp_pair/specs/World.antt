@@ -6,7 +6,6 @@ use Rattle.lsp_frame.specs.Limits.{Bounds}
 use Rattle.lsp_text.specs.declared.encoding.Encoding.{Encoding}
 use Rattle.lsp_edit.specs.Batch.{Edit}
 use Rattle.lsp_message.specs.declared.agreement.Offers.{Offers}
-use Rattle.lsp_message.specs.declared.outgoing.ErrorCode.{ErrorCode}
 use Rattle.lsp_message.specs.Message.{message}
 use Rattle.lsp_message.specs.Outgoing as outgoing
 use Rattle.lsp_message.specs.Outgoing.{OutgoingData}
@@ -17,17 +16,22 @@ use Rattle.lsp_server.specs.declared.config.Config.{Config}
 use Rattle.lsp_server.specs.declared.phase.Phase as server_phase
 use Rattle.lsp_server.specs.declared.phase.Phase.TheVariants as server_phases
 use Rattle.lsp_server.specs.Answer as answer
-use Rattle.lsp_server.specs.Answer.{AnswerData, code_of}
+use Rattle.lsp_server.specs.Answer.{AnswerData, reply_code}
 use Rattle.lsp_server.specs.Incoming as incoming
 use Rattle.lsp_server.specs.Incoming.{IncomingData}
 use Rattle.lsp_server.specs.Step as server
+use Rattle.lsp_client.specs.declared.fault.ClientFault.{ClientFault}
 use Rattle.lsp_client.specs.declared.agreed.Agreed.{Agreed}
 use Rattle.lsp_client.specs.declared.phase.Phase as client_phase
 use Rattle.lsp_client.specs.declared.phase.Phase.TheVariants as client_phases
-use Rattle.lsp_client.specs.declared.fault.ClientFault.{ClientFault}
-use Rattle.lsp_client.specs.Seen.{fault_of}
 use Rattle.lsp_client.specs.Step as client
-use Rattle.lsp_client.specs.Step.{Call, starts, shuts_down, exits, orders, Order, DeliveredData}
+use Rattle.lsp_client.specs.Step.{Call, orders, Order, DeliveredData}
+use Rattle.lsp_pair.specs.declared.event.Happened.{Happened}
+use Rattle.lsp_pair.specs.declared.event.Happened.TheVariants.{Sent, Refused, Server, Client, Nothing}
+use Rattle.lsp_pair.specs.declared.event.Did.{Did}
+use Rattle.lsp_pair.specs.declared.event.Did.TheVariants as done
+use Rattle.lsp_pair.specs.declared.event.Heard.{Heard}
+use Rattle.lsp_pair.specs.declared.event.Heard.TheVariants as heard
 
 -- The configuration of both ends.
 pub record Setting : Type 0 where
@@ -101,22 +105,15 @@ pub data EventData : Type 0 where
   calls : Call → EventData
   to_server to_client : EventData
 
--- What happens: the client accepts or refuses a call, an end handles a message, or none waits.
-pub data HappenedData : Type 0 where
-  call_sent nothing : HappenedData
-  call_refused : ClientFault → HappenedData
-  server_did : AnswerData (Option ErrorCode) → HappenedData
-  client_heard : DeliveredData (Unit {0}) → HappenedData
-
--- An answer of the server without its message.
-abbrev pub without_reply : AnswerData OutgoingData → AnswerData (Option ErrorCode)
-without_reply (answer.reply m) = answer.reply (code_of m)
-without_reply answer.changed = answer.changed
-without_reply answer.dropped = answer.dropped
-without_reply answer.ignored = answer.ignored
-without_reply answer.already_ended = answer.already_ended
-without_reply (answer.refused refusal) = answer.refused refusal
-without_reply (answer.exits status) = answer.exits status
+-- An answer of the server without its message. (An ended server has no answer: it drops what
+-- comes.)
+abbrev pub did_of : AnswerData OutgoingData → Did
+did_of (answer.reply m) = done.Reply (reply_code m)
+did_of answer.changed = done.Changed
+did_of answer.ignored = done.Ignored
+did_of (answer.refused refusal) = done.Refused refusal
+did_of (answer.exits status) = done.Exit status
+did_of a = done.Dropped
 
 -- The message of a reply.
 abbrev pub replies_in : AnswerData OutgoingData → List OutgoingData
@@ -124,11 +121,11 @@ replies_in (answer.reply m) = m ∷ []
 replies_in a = []
 
 -- The result of a delivery without its message.
-abbrev pub without_message : DeliveredData OutgoingData → DeliveredData (Unit {0})
-without_message (client.sends m) = client.sends tt
-without_message client.noted = client.noted
-without_message client.ignored = client.ignored
-without_message (client.bad_server reason) = client.bad_server reason
+abbrev pub heard_of : {Message : Type 0} → DeliveredData Message → Heard
+heard_of (client.sends m) = heard.Send
+heard_of client.noted = heard.Noted
+heard_of client.ignored = heard.Ignored
+heard_of (client.bad_server reason) = heard.BadServer reason
 
 -- The message that a client sends.
 abbrev pub messages_in : DeliveredData OutgoingData → List OutgoingData
@@ -137,31 +134,30 @@ messages_in d = []
 
 -- What happens, and the world after it.
 pub record Turn : Type 0 where
-  pub happened : HappenedData
+  pub happened : Happened
   pub world : World
 
 -- The message of an accepted call comes last in `out`; a refused call changes nothing.
-abbrev pub turn_of_call : World → ClientMessage → Result client.Sending client.Refusal → Turn
+abbrev pub turn_of_call : World → ClientMessage → Result client.Sending ClientFault → Turn
 turn_of_call w sent (Ok sending) =
     record {
-      happened = call_sent;
+      happened = Sent;
       world = record w {
         out = w.out ++ sent ∷ [];
         client_phase = sending.state.phase;
         agreed = sending.state.agreed;
       };
     }
-turn_of_call w sent (Err refusal) =
-    record { happened = call_refused (fault_of refusal); world = w }
+turn_of_call w sent (Err fault) = record { happened = Refused fault; world = w }
 
 -- The message of an accepted call, by the call and what was sent.
-abbrev pub message_by : client.State → Call → OutgoingData → ClientMessage
-message_by s (orders order) m =
+abbrev pub message_of_call : client.State → Call → OutgoingData → ClientMessage
+message_of_call s (orders order) m =
     commands (client.command_of (client.agreement s).encoding order)
-message_by s call m = lifecycle m
+message_of_call s call m = lifecycle m
 
 -- What an accepted call sends. (A refused one sends nothing; this is then any message.)
-abbrev pub message_in : Result client.Sending client.Refusal → OutgoingData
+abbrev pub message_in : Result client.Sending ClientFault → OutgoingData
 message_in (Ok sending) = sending.message
 message_in (Err refusal) = outgoing.exit
 
@@ -169,25 +165,25 @@ message_in (Err refusal) = outgoing.exit
 abbrev pub call_event : Setting → World → Call → Turn
 call_event setting w call =
     let result = client.call_result (client_of setting w) call in
-    turn_of_call w (message_by (client_of setting w) call (message_in result)) result
+    turn_of_call w (message_of_call (client_of setting w) call (message_in result)) result
 
 -- What a message of the client asks of a server.
-abbrev pub incoming_of : ClientMessage → IncomingData
-incoming_of (commands (opens entry)) = incoming.did_open (Some entry)
-incoming_of (commands (changes uri version encoding batch)) =
+abbrev pub incoming_of_message : ClientMessage → IncomingData
+incoming_of_message (commands (opens entry)) = incoming.did_open (Some entry)
+incoming_of_message (commands (changes uri version encoding batch)) =
     incoming.did_change (Some (record {
       uri = uri;
       version = version;
       changes = map written_edit batch;
     }))
-incoming_of (commands (closes uri)) = incoming.did_close (Some (record { uri = uri }))
-incoming_of (lifecycle m) = incoming.incoming_of (message (sent m))
+incoming_of_message (commands (closes uri)) = incoming.did_close (Some (record { uri = uri }))
+incoming_of_message (lifecycle m) = incoming.incoming_of (message (sent m))
 
 -- One more message of `out` is delivered, and a reply comes last in `back`.
 abbrev pub turn_of_step : World → server.Step → Turn
 turn_of_step w step =
     record {
-      happened = server_did (without_reply step.answer);
+      happened = Server (did_of step.answer);
       world = record w {
         out_delivered = w.out_delivered + 1;
         back = w.back ++ replies_in step.answer;
@@ -198,15 +194,15 @@ turn_of_step w step =
 
 -- The server of this world handles the first message that waits for it.
 abbrev pub to_server_event : Setting → World → Option ClientMessage → Turn
-to_server_event setting w None = record { happened = nothing; world = w }
+to_server_event setting w None = record { happened = Nothing; world = w }
 to_server_event setting w (Some sent) =
-    turn_of_step w (server.step_on (server_of setting w) (incoming_of sent))
+    turn_of_step w (server.step_on (server_of setting w) (incoming_of_message sent))
 
 -- One more message of `back` is delivered, and what the client sends comes last in `out`.
 abbrev pub turn_of_delivery : World → client.Delivery → Turn
 turn_of_delivery w delivery =
     record {
-      happened = client_heard (without_message delivery.delivered);
+      happened = Client (heard_of delivery.delivered);
       world = record w {
         back_delivered = w.back_delivered + 1;
         out = w.out ++ map lifecycle (messages_in delivery.delivered);
@@ -216,14 +212,13 @@ turn_of_delivery w delivery =
     }
 
 -- The turn of a delivery, or of its refusal, which changes nothing.
-abbrev pub turn_of_result : World → Result client.Delivery client.Refusal → Turn
+abbrev pub turn_of_result : World → Result client.Delivery ClientFault → Turn
 turn_of_result w (Ok delivery) = turn_of_delivery w delivery
-turn_of_result w (Err refusal) =
-    record { happened = call_refused (fault_of refusal); world = w }
+turn_of_result w (Err fault) = record { happened = Refused fault; world = w }
 
 -- The client of this world handles the first message that waits for it.
 abbrev pub to_client_event : Setting → World → Option OutgoingData → Turn
-to_client_event setting w None = record { happened = nothing; world = w }
+to_client_event setting w None = record { happened = Nothing; world = w }
 to_client_event setting w (Some m) =
     turn_of_result w (client.delivery_result (client_of setting w) (message (sent m)))
 

@@ -8,10 +8,10 @@ ghost use Rattle.lsp_client.specs.Step.{State, is_listening};
 ghost use Rattle.lsp_server.specs.declared.phase.Phase.TheVariants.{Ended};
 ghost use Rattle.lsp_server.specs.Seen.{answer_view};
 ghost use Rattle.lsp_server.specs.Step as server;
-ghost use Rattle.lsp_pair.specs.World.{to_server, to_client};
-ghost use Rattle.lsp_pair.specs.inside.Ends.{HoldsOfFirst, both_ends, without_frame, frames_in_answer, without_bytes, frames_in_delivery};
+ghost use Rattle.lsp_pair.specs.World.{to_server, to_client, heard_of};
+ghost use Rattle.lsp_pair.specs.inside.Ends.{HoldsOfFirst, both_ends, did_of_sent, frames_in_answer, frames_in_delivery};
 ghost use Rattle.lsp_pair.specs.Pair.{IsStep};
-ghost use Rattle.lsp_pair.specs.Seen.{happened_view, did_view, heard_view, frames};
+ghost use Rattle.lsp_pair.specs.Seen.{frames};
 
 use crate::event::{Did, Happened, Heard};
 use lsp_client::{Client, Delivered};
@@ -45,7 +45,7 @@ pub(crate) fn serve_first(
     ensures step { (client : State) → IfOk result (λ happened.
         IsStep
         (both_ends client server.old (frames sent.old.items) (frames replies.old.items))
-        to_server (happened_view happened)
+        to_server happened
         (both_ends client server.new (frames sent.new.items) (frames replies.new.items))) }
     // Where nothing waits no memory is taken.
     ensures memory { OnErr result (frames sent.old.items ≢ []) }
@@ -72,7 +72,7 @@ pub(crate) fn serve_first(
 /// Appends the frame of a reply to a queue with room.
 fn push_reply(replies: &mut VecDeque<Vec<u8>>, answer: Answer) -> Did
     requires { deque_len replies.old < deque_capacity replies.old }
-    ensures did { did_view result ≡ without_frame (answer_view answer) }
+    ensures did { result ≡ did_of_sent (answer_view answer) }
     ensures pushed { frames replies.new.items
         ≡ frames replies.old.items ++ frames_in_answer (answer_view answer) }
 {
@@ -101,7 +101,7 @@ pub(crate) fn hear_first(
     ensures step { (other : server.State) → IfOk result (λ happened.
         IsStep
         (both_ends client.old other (frames sent.old.items) (frames replies.old.items))
-        to_client (happened_view happened)
+        to_client happened
         (both_ends client.new other (frames sent.new.items) (frames replies.new.items))) }
     // Where nothing waits no memory is taken.
     ensures memory { OnErr result (frames replies.old.items ≢ []) }
@@ -128,7 +128,7 @@ pub(crate) fn hear_first(
 /// Appends the frame that the client sends to a queue with room.
 fn push_sent(sent: &mut VecDeque<Vec<u8>>, delivered: Delivered) -> Heard
     requires { deque_len sent.old < deque_capacity sent.old }
-    ensures heard { heard_view result ≡ without_bytes (delivered_view delivered) }
+    ensures heard { result ≡ heard_of (delivered_view delivered) }
     ensures pushed { frames sent.new.items
         ≡ frames sent.old.items ++ frames_in_delivery (delivered_view delivered) }
 {

@@ -7,12 +7,12 @@ ghost use Rattle.lsp_client.specs.Seen.{IsSent, IsFaultOf};
 ghost use Rattle.lsp_client.specs.Step.{call_result};
 ghost use Rattle.lsp_pair.specs.World.{Setting, EventData, IsProperEvent, to_server, to_client};
 ghost use Rattle.lsp_pair.specs.inside.Ends.{IsCall, HoldsOnCall};
-ghost use Rattle.lsp_pair.specs.Pair.{new_pair, IsSound, IsAt, IsStep, is_utf16, are_within};
+ghost use Rattle.lsp_pair.specs.Pair.{new_pair, IsFitting, IsAt, IsStep, is_utf16, are_within};
 ghost use Rattle.lsp_pair.specs.At.{IsStepAt};
 ghost use Rattle.lsp_pair.specs.Commanded.{HaveCommanded};
 ghost use Rattle.lsp_pair.specs.inside.History.{IsHistory};
 ghost use Rattle.lsp_pair.specs.Documents.{History, no_history, after, HaveDocuments};
-ghost use Rattle.lsp_pair.specs.Seen.{event_view, happened_view};
+ghost use Rattle.lsp_pair.specs.Seen.{event_view};
 
 use crate::delivery::{hear_first, serve_first};
 use crate::event::{Event, Happened};
@@ -77,7 +77,7 @@ impl Pair {
         // Its history begins: the client has sent nothing.
         ensures history { IfOk result (λ pair. IsHistory no_history pair) }
         ensures sound { OnOk result
-            (IsSound (record { limits = limits; offers = offers; config = config })) }
+            (IsFitting (record { limits = limits; offers = offers; config = config })) }
         ensures encoding { (result ≡ Err PairFault.NotUtf16) ↔ (is_utf16 config.choice ≡ false) }
         ensures limits { (result ≡ Err PairFault.LimitsTooSmall)
             ↔ ((is_utf16 config.choice ≡ true) × (are_within limits config.limits ≡ false)) }
@@ -127,8 +127,11 @@ impl Pair {
     /// time.
     pub fn step(&mut self, event: &Event) -> Result<Happened, AllocError>
         ensures step { IfOk result (λ happened.
-            IsStep self.old (event_view event.now) (happened_view happened) self.new) }
+            IsStep self.old (event_view event.now) happened self.new) }
         ensures unchanged { OnErr result (self.new ≡ self.old) }
+        // A refused call changes nothing.
+        ensures refused { IfOk result (λ happened. (fault : ClientFault)
+            → happened ≡ Happened.Refused fault → self.new ≡ self.old) }
         // A delivery where nothing waits takes no memory.
         ensures memory { OnErr result ((event_view event.now ≡ to_server
             → self.old.to_server ≢ []) × (event_view event.now ≡ to_client
@@ -136,11 +139,11 @@ impl Pair {
         // A pair at the world of a list of events is afterwards at the world of the list with this
         // one added.
         ensures at { IfOk result (λ happened. (setting : Setting) (events : List EventData)
-            → IsSound setting → IsAt setting self.old events
-            → IsStepAt setting events (event_view event.now) (happened_view happened) self.new) }
+            → IsFitting setting → IsAt setting self.old events
+            → IsStepAt setting events (event_view event.now) happened self.new) }
         // Each end has the table of the document commands that it sent, or that were delivered.
         ensures commanded { OnOk result ((setting : Setting) (events : List EventData)
-            → IsSound setting → IsAt setting self.old events
+            → IsFitting setting → IsAt setting self.old events
             → HaveCommanded setting (events ++ event_view event.now ∷ []) self.new) }
         // The server has the documents that the client had when it sent the last message that the
         // server has handled. `IsHistory` need not be opened: each pair has a history.

@@ -15,7 +15,8 @@ pub enum PairFault {
     /// Q1: the server's encoding is fixed, and is not UTF-16.
     #[error("the server's encoding is fixed, and is not utf-16")]
     NotUtf16,
-    /// Q2: one of the server's limits is below the client's.
+    /// Q2: one of the server's limits is below the client's, or they are strict and the client's
+    /// lenient.
     #[error("one of the server's limits is below the client's")]
     LimitsTooSmall,
 }
@@ -30,7 +31,8 @@ pub(crate) fn is_utf16(choice: EncodingChoice) -> bool
     }
 }
 
-/// Returns whether each of the limits is at most the other's.
+/// Returns whether each of the limits is at most the other's, and they are lenient only if the
+/// others are.
 pub(crate) fn are_within(small: &Limits, great: &Limits) -> bool
     ensures value { result ≡ are_within small.now great.now }
     ensures in_range { AreInRange small.now × AreInRange great.now }
@@ -39,4 +41,5 @@ pub(crate) fn are_within(small: &Limits, great: &Limits) -> bool
         && small.max_text() <= great.max_text()
         && small.max_docs() <= great.max_docs()
         && small.max_changes() <= great.max_changes()
+        && (!small.is_lenient() || great.is_lenient())
 }

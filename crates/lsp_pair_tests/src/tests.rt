@@ -10,7 +10,7 @@ use lsp_edit::Change;
 use lsp_frame::{BadLimits, Limits};
 use lsp_message::Offers;
 use lsp_pair::{Event, Happened, Pair};
-use lsp_server::{Config, EncodingChoice, Sync};
+use lsp_server::{ChangeForm, Config, EncodingChoice};
 use lsp_store::Store;
 use lsp_text::{Encoding, Position, Range};
 use std::alloc::{AllocError, Global};
@@ -126,7 +126,7 @@ pub(super) fn new_pair(
     alloc: Global,
     offers: Offers,
     choice: EncodingChoice,
-    sync: Sync,
+    sync: ChangeForm,
 ) -> Result<Pair, Fail> {
     let limits = wide()?;
     let config = Config {

@@ -12,7 +12,7 @@ use Rattle.lsp_message.specs.Params.{ChangeData}
 use Rattle.lsp_message.specs.Seen.{change_view}
 use Rattle.lsp_message.specs.declared.params.ChangeParams.{ChangeParams}
 use Rattle.lsp_server.specs.Incoming.{incoming_of, did_change}
-use Rattle.lsp_server.specs.Step.{encoding_of}
+use Rattle.lsp_server.specs.Step.{session_encoding}
 use Rattle.lsp_server.specs.declared.phase.Phase.TheVariants.{Running}
 use Rattle.lsp_store.specs.Squash.{SquashData}
 use Rattle.lsp_store.specs.Table.{Refusal, change_refusal}

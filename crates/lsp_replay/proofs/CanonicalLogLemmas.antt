@@ -22,7 +22,7 @@ use Rattle.lsp_server.specs.declared.phase.Phase.{Phase}
 use Rattle.lsp_server.specs.declared.phase.Phase.TheVariants.{New, Running, Down, Ended}
 use Rattle.lsp_server.specs.Answer.{AnswerData, Sent, changed, as_sent}
 use Rattle.lsp_server.specs.Incoming.{did_change}
-use Rattle.lsp_server.specs.Step.{State, edit_from_data, encoding_of, obeyed, change_command, step_in}
+use Rattle.lsp_server.specs.Step.{State, edit_from_data, session_encoding, obeyed, change_command, step_in}
 use Rattle.lsp_replay.specs.Session.{Session, Verdict, answered, recorded, bad, Judged, judged, judge_incoming, hear_for, heard, settle_by, settle_in, result_for}
 use Rattle.lsp_replay.specs.Engines.{canonical_if, written, writes, ends}
 use Rattle.lsp_log.specs.declared.record.Version.{Version}
@@ -67,7 +67,7 @@ obeyed_changed s None next e = refl
 obeyed_changed s (Some refusal) next e = cc
 
 step_changed : (phase : Phase) (s : State) (p : ChangeData) → as_sent (step_in phase s (did_change (Some p))).answer ≡ changed
-    → change_refusal s.config.limits (units_in (encoding_of s)) s.table p.uri p.version (map edit_from_data p.changes) ≡ None
+    → change_refusal s.config.limits (units_in (session_encoding s)) s.table p.uri p.version (map edit_from_data p.changes) ≡ None
 step_changed Running s p e =
     obeyed_changed s (command_refusal s.config.limits s.table (change_command s p)) (table_after s.table (change_command s p)) e
 step_changed New s p e = cc
@@ -84,7 +84,7 @@ same_answer : (a b : AnswerData Sent) → answered a ≡ answered b → a ≡ b
 same_answer a b e = cc
 
 pub accepted : (s : Session) (version : Version) (p : ChangeData) → (judge_incoming s version (did_change (Some p))).verdict ≡ answered changed
-    → change_refusal s.server.config.limits (units_in (encoding_of s.server)) s.server.table p.uri p.version (map edit_from_data p.changes) ≡ None
+    → change_refusal s.server.config.limits (units_in (session_encoding s.server)) s.server.table p.uri p.version (map edit_from_data p.changes) ≡ None
 accepted s version p e = step_changed s.server.phase s.server p (same_answer _ _ (unless_bad_is _ _ s _ changed e))
 
 -- The changes as they were read are those that the store is given.

@@ -1,5 +1,5 @@
 -- A change that is accepted is joined to the batches of the open run, or begins batches of its own.
-use Rattle.std.proofs.Common.{◌≡◌, ◌≢◌, inl, inr, ℕ, ℤ, Bool, true, false, List, [], ◌∷◌, map, length, int_le, ◌||◌, Option, Some, None, bytes_eq, refl, sym, ap, ◌∙◌, subst, ⊎_elim}
+use Rattle.std.proofs.Common.{◌≡◌, ◌≢◌, inl, inr, ℕ, ℤ, Bool, true, false, List, [], ◌∷◌, map, length, ◌||◌, Option, Some, None, bytes_eq, refl, sym, ap, ◌∙◌, subst, ⊎_elim}
 use Rattle.std.specs.Prelude.{⊤, if◌then◌else◌, nat_lt, Result, Ok, Err}
 use Rattle.std.proofs.lemmas.Bool.{cases_Bool}
 use Rattle.std.proofs.lemmas.Slice.Eq.{bytes_eq-Decides}
@@ -15,14 +15,14 @@ use Rattle.lsp_store.specs.declared.fault.StoreFault.TheVariants.{BodyTooLong}
 use Rattle.lsp_store.specs.Faults.{IsRefusal, fault_of}
 use Rattle.lsp_store.specs.Message.{else_refused}
 use Rattle.lsp_store.specs.Squash.{SquashData, HasReached, IsSquashAfter, squash_of}
-use Rattle.lsp_store.specs.Table.{Refusal, already_open, too_many_documents, not_open, stale_version, edit, body_too_long, text_too_long, too_many_changes, batch_bytes, greatest_batch, change_refusal, changed as changed_entry, entry_at, entry_refusal, meaning_refusal, refusal_on}
+use Rattle.lsp_store.specs.Table.{Refusal, already_open, too_many_documents, not_open, stale_version, edit, body_too_long, text_too_long, too_many_changes, batch_bytes, greatest_batch, change_refusal, is_stale, changed as changed_entry, entry_at, entry_refusal, meaning_refusal, refusal_on}
 use Rattle.lsp_store.proofs.LawLemmas.{found_changed}
 use Rattle.lsp_store.proofs.SquashLemmas.{after_is}
 use Rattle.lsp_server.specs.Answer.{changed}
 use Rattle.lsp_server.specs.declared.phase.Phase.{Phase}
 use Rattle.lsp_server.specs.declared.phase.Phase.TheVariants.{New, Running, Down, Ended}
 use Rattle.lsp_server.specs.Incoming.{did_change}
-use Rattle.lsp_server.specs.Step.{State, edit_from_data, encoding_of}
+use Rattle.lsp_server.specs.Step.{State, edit_from_data, session_encoding}
 use Rattle.lsp_log.specs.declared.record.Version.{Version}
 use Rattle.lsp_replay.specs.declared.session.joining.Writing.{Writing}
 use Rattle.lsp_replay.specs.declared.session.joining.Writing.TheVariants.{AsItIs, TooLong, Continues, Begins}
@@ -48,7 +48,7 @@ meaning_not limits text (Ok items) = if_not _ (Some text_too_long) None tt tt
 on_not : (limits : Bounds) (units : ℕ → ℕ) (found : Option DocumentItem) (version : ℤ) (batch : List Edit) → IsNotTooLong (refusal_on limits units found version batch)
 on_not limits units None version batch = tt
 on_not limits units (Some entry) version batch =
-    if_not (int_le version entry.version) (Some (stale_version entry.version))
+    if_not (is_stale limits version entry.version) (Some (stale_version entry.version))
     (if nat_lt limits.max_changes (length batch) || nat_lt greatest_batch (batch_bytes batch) then Some too_many_changes else meaning_refusal limits entry.text (meaning units (chars entry.text) batch)) tt
     (if_not (nat_lt limits.max_changes (length batch) || nat_lt greatest_batch (batch_bytes batch)) (Some too_many_changes) (meaning_refusal limits entry.text (meaning units (chars entry.text) batch)) tt
     (meaning_not limits entry.text (meaning units (chars entry.text) batch)))
@@ -152,13 +152,13 @@ uri_at (first ∷ table) uri entry found =
 
 module _ (server : State) (p : ChangeData) (entry : DocumentItem) (found : entry_at server.table p.uri ≡ Some entry) where
   -- the document that is open then
-  left : (squash next : SquashData) → squash.uri ≡ p.uri → squash.limits ≡ server.config.limits → squash.encoding ≡ encoding_of server
+  left : (squash next : SquashData) → squash.uri ≡ p.uri → squash.limits ≡ server.config.limits → squash.encoding ≡ session_encoding server
       → IsSquashAfter squash p.version (map edit_from_data p.changes) next → HasReached next (changed_entry (units_in squash.encoding) entry p.version (map edit_from_data p.changes)) → IsOpenIn (server_after server p) next
   left squash next uri limits encoding adds reached = record {
-    entry = changed_entry (units_in (encoding_of server)) entry p.version (map edit_from_data p.changes);
+    entry = changed_entry (units_in (session_encoding server)) entry p.version (map edit_from_data p.changes);
     is_open =
         ap (λ (u : List ℕ). entry_at (server_after server p).table u) (ap (λ (k : SquashData). k.uri) adds.is ∙ uri)
-        ∙ found_changed (units_in (encoding_of server)) server.table p.uri p.version (map edit_from_data p.changes) entry found;
+        ∙ found_changed (units_in (session_encoding server)) server.table p.uri p.version (map edit_from_data p.changes) entry found;
     reached = subst (λ (e : Encoding). HasReached next (changed_entry (units_in e) entry p.version (map edit_from_data p.changes))) encoding reached;
     limits = ap (λ (k : SquashData). k.limits) adds.is ∙ limits;
     encoding = ap (λ (k : SquashData). k.encoding) adds.is ∙ encoding;
@@ -171,14 +171,14 @@ module _ (server : State) (p : ChangeData) (entry : DocumentItem) (found : entry
   pub is_longer : (squash next : SquashData) → p.uri ≡ squash.uri → IsSquashAfter squash p.version (map edit_from_data p.changes) next → IsLonger (Some squash) p next
   is_longer squash next same adds = record { before = squash; open_one = refl; same = (bytes_eq-Decides p.uri squash.uri).1 same; joined = after_is squash p.version (map edit_from_data p.changes) next adds }
 
-  pub begun_open : (next : SquashData) → IsSquashAfter (squash_of server.config.limits (encoding_of server) entry) p.version (map edit_from_data p.changes) next
-      → HasReached next (changed_entry (units_in (encoding_of server)) entry p.version (map edit_from_data p.changes)) → IsOpenIn (server_after server p) next
-  begun_open next adds reached = left (squash_of server.config.limits (encoding_of server) entry) next (uri_at server.table p.uri entry found) refl refl adds reached
+  pub begun_open : (next : SquashData) → IsSquashAfter (squash_of server.config.limits (session_encoding server) entry) p.version (map edit_from_data p.changes) next
+      → HasReached next (changed_entry (units_in (session_encoding server)) entry p.version (map edit_from_data p.changes)) → IsOpenIn (server_after server p) next
+  begun_open next adds reached = left (squash_of server.config.limits (session_encoding server) entry) next (uri_at server.table p.uri entry found) refl refl adds reached
 
-  pub is_begun : (next : SquashData) → IsSquashAfter (squash_of server.config.limits (encoding_of server) entry) p.version (map edit_from_data p.changes) next → IsBegun server p next
-  is_begun next adds = record { entry = entry; is_open = found; joined = after_is (squash_of server.config.limits (encoding_of server) entry) p.version (map edit_from_data p.changes) next adds }
+  pub is_begun : (next : SquashData) → IsSquashAfter (squash_of server.config.limits (session_encoding server) entry) p.version (map edit_from_data p.changes) next → IsBegun server p next
+  is_begun next adds = record { entry = entry; is_open = found; joined = after_is (squash_of server.config.limits (session_encoding server) entry) p.version (map edit_from_data p.changes) next adds }
 
-  pub accepts : refusal_of server p ≡ None → entry_refusal server.config.limits (units_in (encoding_of server)) entry p.version (map edit_from_data p.changes) ≡ None
+  pub accepts : refusal_of server p ≡ None → entry_refusal server.config.limits (units_in (session_encoding server)) entry p.version (map edit_from_data p.changes) ≡ None
   accepts may = rw found at may
 
 -- the open document of a run is the one that is found

@@ -15,7 +15,7 @@ use Rattle.lsp_server.specs.Answer.{as_sent}
 use Rattle.lsp_server.specs.declared.phase.Phase.{Phase}
 use Rattle.lsp_server.specs.declared.phase.Phase.TheVariants.{New, Running, Down, Ended}
 use Rattle.lsp_server.specs.Incoming.{IncomingData, not_json, not_a_message, response, initialize, shutdown, other_request, exit, did_open, did_change, did_close, other_notification}
-use Rattle.lsp_server.specs.Step.{State, step_in, step_on, obeyed, edit_from_data, encoding_of}
+use Rattle.lsp_server.specs.Step.{State, step_in, step_on, obeyed, edit_from_data, session_encoding}
 use Rattle.lsp_log.specs.declared.record.Version.{Version}
 use Rattle.lsp_replay.specs.Session.{Session, bad, judged, counted, handled, is_ended, is_early, judge_incoming, settle_in, settle_by, heard, hear_for, result_for}
 use Rattle.lsp_replay.specs.Parts.{last_text, last_text_in}
@@ -31,9 +31,17 @@ none_more : (b : Bool) (entry : DocumentItem) (found other : Option DocumentItem
 none_more true entry found other stays e = absurd (let wrong : Some entry ≡ None = e in cc)
 none_more false entry found other stays e = stays e
 
-stays_open : (table : List DocumentItem) (entry : DocumentItem) (uri : List ℕ) → Stays table (after_open table entry) uri
-stays_open [] entry uri e = refl
-stays_open (x ∷ table) entry uri e = none_more (bytes_eq uri x.uri) x (entry_at table uri) (entry_at (table ++ entry ∷ []) uri) (stays_open table entry uri) e
+stays_last : (table : List DocumentItem) (entry : DocumentItem) (uri : List ℕ) → Stays table (table ++ entry ∷ []) uri
+stays_last [] entry uri e = refl
+stays_last (x ∷ table) entry uri e = none_more (bytes_eq uri x.uri) x (entry_at table uri) (entry_at (table ++ entry ∷ []) uri) (stays_last table entry uri) e
+
+last_found : (table : List DocumentItem) (entry : DocumentItem) (uri : List ℕ) → bytes_eq uri entry.uri ≡ true → entry_at (table ++ entry ∷ []) uri ≡ None → ⊥
+last_found [] entry uri is e = let wrong : Some entry ≡ None = rw is at e in cc
+last_found (x ∷ table) entry uri is e = by (bytes_eq uri x.uri) (last_found table entry uri is) e
+  where
+    by : (b : Bool) → (entry_at (table ++ entry ∷ []) uri ≡ None → ⊥) → (if b then Some x else entry_at (table ++ entry ∷ []) uri) ≡ None → ⊥
+    by true later f = let wrong : Some x ≡ None = f in cc
+    by false later f = later f
 
 stays_changed : (units : ℕ → ℕ) (table : List DocumentItem) (other : List ℕ) (version : ℤ) (batch : List Edit) (uri : List ℕ) → Stays table (after_change units table other version batch) uri
 stays_changed units [] other version batch uri e = refl
@@ -60,6 +68,14 @@ stays_closed (x ∷ table) other uri differ e = by (stays_closed table other uri
     by : Stays table (after_close table other) uri → (b : Bool) → bytes_eq other x.uri ≡ b → entry_at (if b then table else x ∷ after_close table other) uri ≡ None → entry_at (x ∷ table) uri ≡ None
     by others true is f = of_other (bytes_eq uri x.uri) refl is f
     by others false is f = none_more (bytes_eq uri x.uri) x (entry_at table uri) (entry_at (after_close table other) uri) others f
+
+stays_open : (table : List DocumentItem) (entry : DocumentItem) (uri : List ℕ) → Stays table (after_open table entry) uri
+stays_open table entry uri = by (bytes_eq entry.uri uri) refl
+  where
+    by : (b : Bool) → bytes_eq entry.uri uri ≡ b → Stays table (after_open table entry) uri
+    by true is e =
+        absurd (last_found (after_close table entry.uri) entry uri ((bytes_eq-Decides uri entry.uri).1 (sym ((bytes_eq-Decides entry.uri uri).0 is))) e)
+    by false differ e = stays_closed table entry.uri uri differ (stays_last (after_close table entry.uri) entry uri e)
 
 obeyed_stays : (s : State) (refusal : Option Refusal) (next : List DocumentItem) (uri : List ℕ) → Stays s.table next uri → Stays s.table (obeyed s (unless_refused refusal next)).state.table uri
 obeyed_stays s None next uri stays e = stays e
@@ -119,8 +135,8 @@ step_kept Running s uri (did_change None) = same_table s.table uri (did_change N
 step_kept Running s uri (did_change (Some p)) =
     inr (
       refl,
-      obeyed_stays s (change_refusal s.config.limits (units_in (encoding_of s)) s.table p.uri p.version (map edit_from_data p.changes)) _ uri
-          (stays_changed (units_in (encoding_of s)) s.table p.uri p.version (map edit_from_data p.changes) uri),
+      obeyed_stays s (change_refusal s.config.limits (units_in (session_encoding s)) s.table p.uri p.version (map edit_from_data p.changes)) _ uri
+          (stays_changed (units_in (session_encoding s)) s.table p.uri p.version (map edit_from_data p.changes) uri),
     )
 step_kept Running s uri (did_close None) = same_table s.table uri (did_close None)
 step_kept Running s uri (did_close (Some p)) = close_kept s uri p (bytes_eq p.uri uri) refl

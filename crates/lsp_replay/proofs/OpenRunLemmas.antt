@@ -1,5 +1,5 @@
 -- A run that is open: what its batches make together of the document before it is the document that is open now.
-use Rattle.std.proofs.Common.{◌≡◌, ℕ, ℤ, ◌≤◌, true, false, nat_lt, int_le, List, [], ◌∷◌, ◌++◌, map, length, bytes_eq, encode_utf8_all, IsUtf8, Some, None, Ok, refl, sym, ap, ◌∙◌, subst, arith, w32, FitsSigned}
+use Rattle.std.proofs.Common.{◌≡◌, ℕ, ℤ, ◌≤◌, Bool, true, false, not, ◌&&◌, nat_lt, int_le, List, [], ◌∷◌, ◌++◌, map, length, bytes_eq, encode_utf8_all, IsUtf8, Some, None, Ok, refl, sym, ap, ◌∙◌, subst, arith, w32, FitsSigned}
 use Rattle.std.specs.Str.{chars}
 use Rattle.std.proofs.lemmas.Bool.{leb-false, lt-leb}
 use Rattle.std.proofs.Math.IntN.{pos, negsuc}
@@ -15,13 +15,13 @@ use Rattle.lsp_edit.proofs.ComposeLemmas.{text_of-then, then_means}
 use Rattle.lsp_edit.proofs.EditedLemmas.{plain_text}
 use Rattle.lsp_edit.specs.Indexed.{bytes_left}
 use Rattle.lsp_message.specs.Params.{DocumentItem, ChangeData}
-use Rattle.lsp_store.specs.Table.{entry_at, meant_text}
+use Rattle.lsp_store.specs.Table.{entry_at, is_stale, meant_text}
 use Rattle.lsp_store.specs.Message.{AreTexts}
 use Rattle.lsp_store.specs.Squash.{SquashData, items_meant, squash_batch, squash_of}
 use Rattle.lsp_store.proofs.MessageLemmas.{Accepts, accepted_parts}
 use Rattle.lsp_store.proofs.ScalarLemmas.{scalar-meaning, scalar-text}
 use Rattle.lsp_store.specs.Laws.{IsWithin}
-use Rattle.lsp_server.specs.Step.{State, edit_from_data, encoding_of}
+use Rattle.lsp_server.specs.Step.{State, edit_from_data, session_encoding}
 use Rattle.lsp_replay.specs.inside.Joining.{refusal_of, server_after}
 use Rattle.lsp_replay.specs.Squashed.{joined_by}
 use Rattle.lsp_replay.proofs.AskedLemmas.{IsProperAsked}
@@ -38,11 +38,11 @@ pub record IsOpenFrom (t : State) (squash : SquashData) (now : State) : Type 0 w
   pub entry : DocumentItem
   pub found : entry_at t.table squash.uri ≡ Some entry
   pub received : IsWithin t.config.limits entry
-  pub is : squash ≡ with_items (squash_of t.config.limits (encoding_of t) entry) squash.items squash.version
+  pub is : squash ≡ with_items (squash_of t.config.limits (session_encoding t) entry) squash.items squash.version
   pub batch : List Edit
-  pub means : meaning (units_in (encoding_of t)) (chars entry.text) batch ≡ Ok squash.items
+  pub means : meaning (units_in (session_encoding t)) (chars entry.text) batch ≡ Ok squash.items
   pub texts : AreTexts batch
-  pub newer : int_le squash.version entry.version ≡ false
+  pub newer : is_stale t.config.limits squash.version entry.version ≡ false
   pub short : length (bytes_left entry.text squash.items) ≤ t.config.limits.max_text
   pub uri : IsUtf8 squash.uri
   pub version : FitsSigned w32 squash.version
@@ -69,17 +69,17 @@ left_chars units text batch items utf8 texts means =
 -- ---- a change begins a run
 
 module _ (t : State) (p : ChangeData) (entry : DocumentItem) (found : entry_at t.table p.uri ≡ Some entry) (received : IsWithin t.config.limits entry) (proper : IsProperAsked p) (may : refusal_of t p ≡ None) where
-  begun_accepts : Accepts t.config.limits (units_in (encoding_of t)) entry p.version (map edit_from_data p.changes)
-  begun_accepts = accepted_parts t.config.limits (units_in (encoding_of t)) entry p.version (map edit_from_data p.changes) (rw found at may)
+  begun_accepts : Accepts t.config.limits (units_in (session_encoding t)) entry p.version (map edit_from_data p.changes)
+  begun_accepts = accepted_parts t.config.limits (units_in (session_encoding t)) entry p.version (map edit_from_data p.changes) (rw found at may)
 
   abbrev begun_squash : SquashData
-  begun_squash = joined_by p (squash_of t.config.limits (encoding_of t) entry)
+  begun_squash = joined_by p (squash_of t.config.limits (session_encoding t) entry)
 
   begun_items : begun_squash.items ≡ begun_accepts.items
   begun_items =
-      ap (λ x. then_items (plain (chars entry.text)) (items_meant (meaning (units_in (encoding_of t)) x (map edit_from_data p.changes)))) (plain_text (chars entry.text))
+      ap (λ x. then_items (plain (chars entry.text)) (items_meant (meaning (units_in (session_encoding t)) x (map edit_from_data p.changes)))) (plain_text (chars entry.text))
       ∙ ap (λ m. then_items (plain (chars entry.text)) (items_meant m)) begun_accepts.means
-      ∙ plain_then (units_in (encoding_of t)) (chars entry.text) (map edit_from_data p.changes) begun_accepts.items begun_accepts.means
+      ∙ plain_then (units_in (session_encoding t)) (chars entry.text) (map edit_from_data p.changes) begun_accepts.items begun_accepts.means
 
   same_uri : entry.uri ≡ p.uri
   same_uri = uri_at t.table p.uri entry found
@@ -99,7 +99,7 @@ module _ (t : State) (p : ChangeData) (entry : DocumentItem) (found : entry_at t
     version = proper.version;
     now_is =
         ap (λ (table : List DocumentItem). record t { table = table })
-        (change_puts (units_in (encoding_of t)) t.table p.uri p.version (map edit_from_data p.changes) entry found
+        (change_puts (units_in (session_encoding t)) t.table p.uri p.version (map edit_from_data p.changes) entry found
         ∙ ap (λ m. put t.table p.uri p.version (meant_text entry.text m)) begun_accepts.means
         ∙ ap (λ items. put t.table p.uri p.version (bytes_left entry.text items)) (sym begun_items)
         ∙ ap (λ u. put t.table u p.version (bytes_left entry.text begun_squash.items)) (sym same_uri));
@@ -108,13 +108,17 @@ module _ (t : State) (p : ChangeData) (entry : DocumentItem) (found : entry_at t
 -- ---- a change goes on with it
 
 -- what is newer than a newer version is newer
-newer_still : (a b c : ℤ) → int_le a b ≡ false → int_le b c ≡ false → int_le a c ≡ false
-newer_still (pos a) (pos b) (pos c) over more = lt-leb a c (omega (arith, leb-false a b over, leb-false b c more))
-newer_still (pos a) b (negsuc c) over more = refl
-newer_still (pos a) (negsuc b) (pos c) over more = absurd (let wrong : true ≡ false = more in cc)
-newer_still (negsuc a) (pos b) c over more = absurd (let wrong : true ≡ false = over in cc)
-newer_still (negsuc a) (negsuc b) (pos c) over more = absurd (let wrong : true ≡ false = more in cc)
-newer_still (negsuc a) (negsuc b) (negsuc c) over more = lt-leb c a (omega (arith, leb-false b a over, leb-false c b more))
+newer_yet : (a b c : ℤ) → int_le a b ≡ false → int_le b c ≡ false → int_le a c ≡ false
+newer_yet (pos a) (pos b) (pos c) over more = lt-leb a c (omega (arith, leb-false a b over, leb-false b c more))
+newer_yet (pos a) b (negsuc c) over more = refl
+newer_yet (pos a) (negsuc b) (pos c) over more = absurd (let wrong : true ≡ false = more in cc)
+newer_yet (negsuc a) (pos b) c over more = absurd (let wrong : true ≡ false = over in cc)
+newer_yet (negsuc a) (negsuc b) (pos c) over more = absurd (let wrong : true ≡ false = more in cc)
+newer_yet (negsuc a) (negsuc b) (negsuc c) over more = lt-leb c a (omega (arith, leb-false b a over, leb-false c b more))
+
+newer_still : (lenient : Bool) (a b c : ℤ) → (not lenient && int_le a b) ≡ false → (not lenient && int_le b c) ≡ false → (not lenient && int_le a c) ≡ false
+newer_still true a b c over more = refl
+newer_still false a b c over more = newer_yet a b c over more
 
 module _ (t : State) (squash : SquashData) (now : State) (from : IsOpenFrom t squash now) (p : ChangeData) (same : bytes_eq p.uri squash.uri ≡ true) (proper : IsProperAsked p) (may : refusal_of now p ≡ None) where
   abbrev reached_text : List ℕ
@@ -135,14 +139,14 @@ module _ (t : State) (squash : SquashData) (now : State) (from : IsOpenFrom t sq
   may_now : refusal_of next p ≡ None
   may_now = subst (λ (s : State). refusal_of s p ≡ None) from.now_is may
 
-  accepts_now : Accepts t.config.limits (units_in (encoding_of t)) reached_now p.version (map edit_from_data p.changes)
-  accepts_now = accepted_parts t.config.limits (units_in (encoding_of t)) reached_now p.version (map edit_from_data p.changes) (rw found_now at may_now)
+  accepts_now : Accepts t.config.limits (units_in (session_encoding t)) reached_now p.version (map edit_from_data p.changes)
+  accepts_now = accepted_parts t.config.limits (units_in (session_encoding t)) reached_now p.version (map edit_from_data p.changes) (rw found_now at may_now)
 
   chars_now : chars reached_text ≡ text_of (chars from.entry.text) squash.items
-  chars_now = left_chars (units_in (encoding_of t)) from.entry.text from.batch squash.items from.received.utf8 from.texts from.means
+  chars_now = left_chars (units_in (session_encoding t)) from.entry.text from.batch squash.items from.received.utf8 from.texts from.means
 
-  means_now : meaning (units_in (encoding_of t)) (text_of (chars from.entry.text) squash.items) (map edit_from_data p.changes) ≡ Ok accepts_now.items
-  means_now = ap (λ x. meaning (units_in (encoding_of t)) x (map edit_from_data p.changes)) (sym chars_now) ∙ accepts_now.means
+  means_now : meaning (units_in (session_encoding t)) (text_of (chars from.entry.text) squash.items) (map edit_from_data p.changes) ≡ Ok accepts_now.items
+  means_now = ap (λ x. meaning (units_in (session_encoding t)) x (map edit_from_data p.changes)) (sym chars_now) ∙ accepts_now.means
 
   abbrev longer_squash : SquashData
   longer_squash = joined_by p squash
@@ -153,7 +157,7 @@ module _ (t : State) (squash : SquashData) (now : State) (from : IsOpenFrom t sq
   longer_items : longer_squash.items ≡ then_items squash.items accepts_now.items
   longer_items =
       ap (then_items squash.items)
-      (sym (items_in (with_items (squash_of t.config.limits (encoding_of t) from.entry) squash.items squash.version) (sym from.is)) ∙ ap items_meant means_now)
+      (sym (items_in (with_items (squash_of t.config.limits (session_encoding t) from.entry) squash.items squash.version) (sym from.is)) ∙ ap items_meant means_now)
 
   left_now : bytes_left reached_text accepts_now.items ≡ bytes_left from.entry.text longer_squash.items
   left_now =
@@ -167,16 +171,16 @@ module _ (t : State) (squash : SquashData) (now : State) (from : IsOpenFrom t sq
     received = from.received;
     is = ap (λ (k : SquashData). with_items k longer_squash.items longer_squash.version) from.is;
     batch = from.batch ++ map edit_from_data p.changes;
-    means = then_means (units_in (encoding_of t)) (chars from.entry.text) from.batch (map edit_from_data p.changes) squash.items accepts_now.items from.means means_now ∙ ap Ok (sym longer_items);
+    means = then_means (units_in (session_encoding t)) (chars from.entry.text) from.batch (map edit_from_data p.changes) squash.items accepts_now.items from.means means_now ∙ ap Ok (sym longer_items);
     texts = texts_more from.batch (map edit_from_data p.changes) from.texts proper.texts;
-    newer = newer_still p.version squash.version from.entry.version accepts_now.newer from.newer;
+    newer = newer_still t.config.limits.lenient p.version squash.version from.entry.version accepts_now.newer from.newer;
     short = subst (λ (text : List ℕ). length text ≤ t.config.limits.max_text) left_now accepts_now.short;
     uri = from.uri;
     version = proper.version;
     now_is =
         ap (λ (s : State). server_after s p) from.now_is
         ∙ ap (λ (table : List DocumentItem). record t { table = table })
-        (change_puts (units_in (encoding_of t)) next.table p.uri p.version (map edit_from_data p.changes) reached_now found_now
+        (change_puts (units_in (session_encoding t)) next.table p.uri p.version (map edit_from_data p.changes) reached_now found_now
         ∙ ap (λ m. put next.table p.uri p.version (meant_text reached_text m)) accepts_now.means
         ∙ ap (λ u. put next.table u p.version (bytes_left reached_text accepts_now.items)) uri_is
         ∙ put_twice t.table squash.uri squash.version p.version reached_text (bytes_left reached_text accepts_now.items)
@@ -186,8 +190,8 @@ module _ (t : State) (squash : SquashData) (now : State) (from : IsOpenFrom t sq
 -- ---- the document that is open now
 
 module _ (t : State) (squash : SquashData) (now : State) (from : IsOpenFrom t squash now) where
-  pub same_encoding : squash.encoding ≡ encoding_of now
-  same_encoding = ap (λ (k : SquashData). k.encoding) from.is ∙ sym (ap encoding_of from.now_is)
+  pub same_encoding : squash.encoding ≡ session_encoding now
+  same_encoding = ap (λ (k : SquashData). k.encoding) from.is ∙ sym (ap session_encoding from.now_is)
 
   pub same_text : (uri : List ℕ) (entry : DocumentItem) → uri ≡ squash.uri → entry_at now.table uri ≡ Some entry → text_of (chars squash.text) squash.items ≡ chars entry.text
   same_text uri entry same found =
@@ -196,13 +200,13 @@ module _ (t : State) (squash : SquashData) (now : State) (from : IsOpenFrom t sq
       sym (put_at t.table squash.uri squash.version reached from.entry from.found) ∙ sym (ap (λ (s : State). entry_at s.table squash.uri) from.now_is) ∙ ap (entry_at now.table) (sym same) ∙ found in
       let one : record from.entry { version = squash.version; text = reached } ≡ entry = cc in
       ap (λ (k : SquashData). text_of (chars k.text) squash.items) from.is
-      ∙ sym (left_chars (units_in (encoding_of t)) from.entry.text from.batch squash.items from.received.utf8 from.texts from.means)
+      ∙ sym (left_chars (units_in (session_encoding t)) from.entry.text from.batch squash.items from.received.utf8 from.texts from.means)
       ∙ ap (λ (e : DocumentItem). chars e.text) one
 
 -- ---- all batches of a run as one message
 
 module _ (t : State) (squash : SquashData) (now : State) (from : IsOpenFrom t squash now) (ranges : AreInRange t.config.limits) (few : nat_lt t.config.limits.max_changes (length (squash_batch squash)) ≡ false) where
-  pub one_batch : squash_batch squash ≡ canonical (units_in (encoding_of t)) (chars from.entry.text) squash.items
+  pub one_batch : squash_batch squash ≡ canonical (units_in (session_encoding t)) (chars from.entry.text) squash.items
   one_batch = ap squash_batch from.is
 
   proper_at : IsProperAt t squash.uri squash.version from.entry from.batch squash.items
@@ -223,9 +227,9 @@ module _ (t : State) (squash : SquashData) (now : State) (from : IsOpenFrom t sq
   one_message = is_canonical_change t squash.uri squash.version from.entry from.batch squash.items ranges proper_at
 
   -- Read again, it begins a run that means the same.
-  pub one_joins : joined_by (canonical_change t squash.uri squash.version from.entry squash.items) (squash_of t.config.limits (encoding_of t) from.entry) ≡ squash
+  pub one_joins : joined_by (canonical_change t squash.uri squash.version from.entry squash.items) (squash_of t.config.limits (session_encoding t) from.entry) ≡ squash
   one_joins =
-      one_message.joins (squash_of t.config.limits (encoding_of t) from.entry) refl (plain_text (chars from.entry.text))
-      ∙ ap (λ items. with_items (squash_of t.config.limits (encoding_of t) from.entry) items squash.version)
-      (plain_then (units_in (encoding_of t)) (chars from.entry.text) from.batch squash.items from.means)
+      one_message.joins (squash_of t.config.limits (session_encoding t) from.entry) refl (plain_text (chars from.entry.text))
+      ∙ ap (λ items. with_items (squash_of t.config.limits (session_encoding t) from.entry) items squash.version)
+      (plain_then (units_in (session_encoding t)) (chars from.entry.text) from.batch squash.items from.means)
       ∙ sym from.is

@@ -17,7 +17,7 @@ use Rattle.lsp_store.specs.Table.{Refusal, entry_at}
 use Rattle.lsp_server.specs.declared.phase.Phase.TheVariants.{Running}
 use Rattle.lsp_server.specs.Incoming.{incoming_of}
 use Rattle.lsp_server.specs.Answer.{changed}
-use Rattle.lsp_server.specs.Step.{State, edit_from_data, encoding_of}
+use Rattle.lsp_server.specs.Step.{State, edit_from_data, session_encoding}
 use Rattle.lsp_log.specs.declared.record.Version.{Version}
 use Rattle.lsp_log.specs.declared.record.Side.TheVariants.{Client}
 use Rattle.lsp_log.specs.Log.{Record, IsRecord, AreRecords, together, record_bytes, mark_of}
@@ -80,11 +80,11 @@ module _ (t : Session) (before : Option Run) (q : Record) (p : ChangeData) (a : 
 
   -- it begins a run
   pub begun_step : (entry : DocumentItem) → entry_at t.server.table p.uri ≡ Some entry → IsApart before p.uri
-      → squash_step t before q (judge t q) ≡ record { out = end_bytes before; end = None; run = Some (record { front = its_front; singles = its_single; squash = joined_by p (squash_of t.server.config.limits (encoding_of t.server) entry) }) }
+      → squash_step t before q (judge t q) ≡ record { out = end_bytes before; end = None; run = Some (record { front = its_front; singles = its_single; squash = joined_by p (squash_of t.server.config.limits (session_encoding t.server) entry) }) }
   begun_step entry found apart = gives_change ∙ by before apart
     where
       by : (b : Option Run) → IsApart b p.uri → change_output t.server p its_front its_single b
-          ≡ record { out = end_bytes b; end = None; run = Some (record { front = its_front; singles = its_single; squash = joined_by p (squash_of t.server.config.limits (encoding_of t.server) entry) }) }
+          ≡ record { out = end_bytes b; end = None; run = Some (record { front = its_front; singles = its_single; squash = joined_by p (squash_of t.server.config.limits (session_encoding t.server) entry) }) }
       by None apart = rw found refl
       by (Some run) apart = rw (apart, found) refl
 
@@ -197,7 +197,7 @@ module _ (limits : Bounds) (ranges : AreInRange limits) (at : ℕ) (version : Ve
     front = front_of one.head
 
     abbrev one_run : Run
-    one_run = record { front = front; singles = front ++ frame (canonical_change_body t.server change); squash = joined_by change (squash_of t.server.config.limits (encoding_of t.server) entry) }
+    one_run = record { front = front; singles = front ++ frame (canonical_change_body t.server change); squash = joined_by change (squash_of t.server.config.limits (session_encoding t.server) entry) }
 
     joins : one_run.squash ≡ run.squash
     joins = one_joins t.server run.squash s.server p.from here few
@@ -253,7 +253,7 @@ abbrev pub run_at : Session → Record → ChangeData → DocumentItem → Run
 run_at s r p entry = record {
   front = front_of r.head;
   singles = front_of r.head ++ frame (canonical_change_body s.server p);
-  squash = joined_by p (squash_of s.server.config.limits (encoding_of s.server) entry);
+  squash = joined_by p (squash_of s.server.config.limits (session_encoding s.server) entry);
 }
 
 as_accepted : (s t : Session) (r : Record) (p : ChangeData) → IsAlike s t → IsAccepted s r p → IsAccepted t r p
@@ -301,8 +301,8 @@ module _ (limits : Bounds) (ranges : AreInRange limits) (at : ℕ) (version : Ve
   done_out : IsDone t q single.again
   done_out = is_done t q single.again single.accepted
 
-  may_in : MayChange s.server.config.limits (units_in (encoding_of s.server)) s.server.table p.uri p.version (map edit_from_data p.changes)
-  may_in = change_parts s.server.config.limits (units_in (encoding_of s.server)) s.server.table p.uri p.version (map edit_from_data p.changes) a.may
+  may_in : MayChange s.server.config.limits (units_in (session_encoding s.server)) s.server.table p.uri p.version (map edit_from_data p.changes)
+  may_in = change_parts s.server.config.limits (units_in (session_encoding s.server)) s.server.table p.uri p.version (map edit_from_data p.changes) a.may
 
   abbrev its_entry : DocumentItem
   its_entry = may_in.entry
@@ -323,14 +323,14 @@ module _ (limits : Bounds) (ranges : AreInRange limits) (at : ℕ) (version : Ve
   front_out =
       front_is t before q single.again single.accepted done_out single.within version of_version ∙ ap (λ b. line_if b ++ mark_of version Client) same_due
 
-  same_squash : joined_by single.again (squash_of t.server.config.limits (encoding_of t.server) its_entry) ≡ joined_by p (squash_of s.server.config.limits (encoding_of s.server) its_entry)
+  same_squash : joined_by single.again (squash_of t.server.config.limits (session_encoding t.server) its_entry) ≡ joined_by p (squash_of s.server.config.limits (session_encoding s.server) its_entry)
   same_squash =
-      single.joins (squash_of t.server.config.limits (encoding_of t.server) its_entry) refl
+      single.joins (squash_of t.server.config.limits (session_encoding t.server) its_entry) refl
       (λ entry found.
       let both : Some its_entry ≡ Some entry = sym may_in.is_open ∙ sym (ap (λ (server : State). entry_at server.table p.uri) there) ∙ found in
       let one : its_entry ≡ entry = cc in
       plain_text (chars its_entry.text) ∙ ap (λ (e : DocumentItem). chars e.text) one)
-      ∙ ap (λ (server : State). joined_by p (squash_of server.config.limits (encoding_of server) its_entry)) there
+      ∙ ap (λ (server : State). joined_by p (squash_of server.config.limits (session_encoding server) its_entry)) there
 
   same_run : run_at t q single.again its_entry ≡ run_at s r p its_entry
   same_run = λ i. record {
@@ -432,7 +432,7 @@ module _ (limits : Bounds) (ranges : AreInRange limits) (at : ℕ) (version : Ve
 
   joins_same : joined_by another.again run.squash ≡ joined_by p run.squash
   joins_same =
-      another.joins run.squash (same_encoding t.server run.squash s.server open_run.from ∙ ap encoding_of (sym equal))
+      another.joins run.squash (same_encoding t.server run.squash s.server open_run.from ∙ ap session_encoding (sym equal))
       (λ entry found. same_text t.server run.squash s.server open_run.from p.uri entry uri_is (ap (λ (server : State). entry_at server.table p.uri) (sym equal) ∙ found))
 
   gives_last : squash_step last (Some run) more_q (judge last more_q) ≡ record { out = []; end = None; run = Some next_run }

@@ -25,7 +25,7 @@ use Rattle.lsp_store.proofs.LawLemmas.{within_at}
 use Rattle.lsp_server.specs.declared.phase.Phase.{Phase}
 use Rattle.lsp_server.specs.declared.phase.Phase.TheVariants.{New, Running, Down, Ended}
 use Rattle.lsp_server.specs.Incoming.{did_change, incoming_of}
-use Rattle.lsp_server.specs.Step.{State, step_in, step_on, obeyed, edit_from_data, encoding_of}
+use Rattle.lsp_server.specs.Step.{State, step_in, step_on, obeyed, edit_from_data, session_encoding}
 use Rattle.lsp_server.proofs.EditLemmas.{edits_back}
 use Rattle.lsp_replay.specs.Engines.{canonical_change_body}
 use Rattle.lsp_replay.proofs.CanonicalLogLemmas.{within}
@@ -58,24 +58,24 @@ pub record IsSettledChange (server : State) (p : ChangeData) : Type 0 where
   pub same_body : canonical_change_body server again ≡ canonical_change_body server p
 
 same_change : (server : State) (p again : ChangeData) (phase : Phase)
-    → change_refusal server.config.limits (units_in (encoding_of server)) server.table p.uri p.version (map edit_from_data p.changes) ≡ None
-    → change_refusal server.config.limits (units_in (encoding_of server)) server.table again.uri again.version (map edit_from_data again.changes) ≡ None
-    → after_change (units_in (encoding_of server)) server.table again.uri again.version (map edit_from_data again.changes)
-    ≡ after_change (units_in (encoding_of server)) server.table p.uri p.version (map edit_from_data p.changes)
+    → change_refusal server.config.limits (units_in (session_encoding server)) server.table p.uri p.version (map edit_from_data p.changes) ≡ None
+    → change_refusal server.config.limits (units_in (session_encoding server)) server.table again.uri again.version (map edit_from_data again.changes) ≡ None
+    → after_change (units_in (session_encoding server)) server.table again.uri again.version (map edit_from_data again.changes)
+    ≡ after_change (units_in (session_encoding server)) server.table p.uri p.version (map edit_from_data p.changes)
     → step_in phase server (did_change (Some again)) ≡ step_in phase server (did_change (Some p))
 same_change server p again New may also same = refl
 same_change server p again Down may also same = refl
 same_change server p again Ended may also same = refl
 same_change server p again Running may also same =
-    ap (λ r. obeyed server (unless_refused r (after_change (units_in (encoding_of server)) server.table again.uri again.version (map edit_from_data again.changes)))) also
+    ap (λ r. obeyed server (unless_refused r (after_change (units_in (session_encoding server)) server.table again.uri again.version (map edit_from_data again.changes)))) also
     ∙ ap (λ t. obeyed server (unless_refused None t)) same
-    ∙ sym (ap (λ r. obeyed server (unless_refused r (after_change (units_in (encoding_of server)) server.table p.uri p.version (map edit_from_data p.changes)))) may)
+    ∙ sym (ap (λ r. obeyed server (unless_refused r (after_change (units_in (session_encoding server)) server.table p.uri p.version (map edit_from_data p.changes)))) may)
 
 module _ (server : State) (p : ChangeData) (ranges : AreInRange server.config.limits) (received : IsHeldState server.config.limits server) (proper : IsProperAsked p)
-    (may : change_refusal server.config.limits (units_in (encoding_of server)) server.table p.uri p.version (map edit_from_data p.changes) ≡ None)
+    (may : change_refusal server.config.limits (units_in (session_encoding server)) server.table p.uri p.version (map edit_from_data p.changes) ≡ None)
     (fits : length (canonical_change_body server p) ≤ server.config.limits.max_body) where
   abbrev encoding : Encoding
-  encoding = encoding_of server
+  encoding = session_encoding server
 
   abbrev batch : List Edit
   batch = map edit_from_data p.changes

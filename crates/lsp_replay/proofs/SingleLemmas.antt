@@ -23,7 +23,7 @@ use Rattle.lsp_store.proofs.LawLemmas.{MayChange, change_parts, within_at}
 use Rattle.lsp_store.proofs.MessageLemmas.{Accepts, accepted_parts}
 use Rattle.lsp_store.specs.Laws.{IsWithin}
 use Rattle.lsp_server.specs.Incoming.{incoming_of}
-use Rattle.lsp_server.specs.Step.{edit_from_data, encoding_of}
+use Rattle.lsp_server.specs.Step.{edit_from_data, session_encoding}
 use Rattle.lsp_log.specs.declared.record.Version.{Version}
 use Rattle.lsp_log.specs.Log.{Record, IsRecord}
 use Rattle.lsp_replay.specs.Engines.{canonical_change_body}
@@ -44,7 +44,7 @@ pub record IsSingle (max_body at : ℕ) (version : Version) (due : Bool) (s : Se
   pub own : canonical_change_body s.server again ≡ canonical_change_body s.server p
   pub within : length (canonical_change_body s.server again) ≤ s.server.config.limits.max_body
   pub framed : q.raw ≡ frame (canonical_change_body s.server p)
-  pub joins : (squash : SquashData) → squash.encoding ≡ encoding_of s.server → ((entry : DocumentItem) → entry_at s.server.table p.uri ≡ Some entry → text_of (chars squash.text) squash.items ≡ chars entry.text)
+  pub joins : (squash : SquashData) → squash.encoding ≡ session_encoding s.server → ((entry : DocumentItem) → entry_at s.server.table p.uri ≡ Some entry → text_of (chars squash.text) squash.items ≡ chars entry.text)
       → joined_by again squash ≡ joined_by p squash
 
 -- the record of an accepted change, as it is written singly at a place
@@ -53,8 +53,8 @@ single_record at s r p = record { head = record r.head { place = place_after 0 a
 
 module _ (limits : Bounds) (ranges : AreInRange limits) (at : ℕ) (version : Version) (due : Bool) (s : Session) (r : Record) (p : ChangeData) (received : IsHeldState limits s.server)
     (a : IsAccepted s r p) (fits : length (canonical_change_body s.server p) ≤ s.server.config.limits.max_body) (of_version : r.head.version ≡ version) (same_due : r.head.line_due ≡ due) where
-  may : MayChange s.server.config.limits (units_in (encoding_of s.server)) s.server.table p.uri p.version (map edit_from_data p.changes)
-  may = change_parts s.server.config.limits (units_in (encoding_of s.server)) s.server.table p.uri p.version (map edit_from_data p.changes) a.may
+  may : MayChange s.server.config.limits (units_in (session_encoding s.server)) s.server.table p.uri p.version (map edit_from_data p.changes)
+  may = change_parts s.server.config.limits (units_in (session_encoding s.server)) s.server.table p.uri p.version (map edit_from_data p.changes) a.may
 
   abbrev entry : DocumentItem
   entry = may.entry
@@ -62,11 +62,11 @@ module _ (limits : Bounds) (ranges : AreInRange limits) (at : ℕ) (version : Ve
   entry_held : IsWithin limits entry
   entry_held = within_at limits s.server.table p.uri entry received.table may.is_open
 
-  accepts : Accepts s.server.config.limits (units_in (encoding_of s.server)) entry p.version (map edit_from_data p.changes)
-  accepts = accepted_parts s.server.config.limits (units_in (encoding_of s.server)) entry p.version (map edit_from_data p.changes) may.may
+  accepts : Accepts s.server.config.limits (units_in (session_encoding s.server)) entry p.version (map edit_from_data p.changes)
+  accepts = accepted_parts s.server.config.limits (units_in (session_encoding s.server)) entry p.version (map edit_from_data p.changes) may.may
 
-  law : IsCanonical (units_in (encoding_of s.server)) (chars entry.text) (map edit_from_data p.changes) accepts.items
-  law = canonical_law (units_in (encoding_of s.server)) (units_some (encoding_of s.server)) (chars entry.text) (map edit_from_data p.changes) accepts.items accepts.means
+  law : IsCanonical (units_in (session_encoding s.server)) (chars entry.text) (map edit_from_data p.changes) accepts.items
+  law = canonical_law (units_in (session_encoding s.server)) (units_some (session_encoding s.server)) (chars entry.text) (map edit_from_data p.changes) accepts.items accepts.means
 
   proper_at : IsProperAt s.server p.uri p.version entry (map edit_from_data p.changes) accepts.items
   proper_at =
@@ -99,11 +99,11 @@ module _ (limits : Bounds) (ranges : AreInRange limits) (at : ℕ) (version : Ve
   within : length (canonical_change_body s.server p) ≤ limits.max_body
   within = subst (λ (l : Bounds). length (canonical_change_body s.server p) ≤ l.max_body) received.limit fits
 
-  meant : (squash : SquashData) → squash.encoding ≡ encoding_of s.server → text_of (chars squash.text) squash.items ≡ chars entry.text
+  meant : (squash : SquashData) → squash.encoding ≡ session_encoding s.server → text_of (chars squash.text) squash.items ≡ chars entry.text
       → joined_by p squash ≡ record squash { items = then_items squash.items accepts.items; version = p.version }
   meant squash encoding text =
       ap (λ e. record squash { items = then_items squash.items (items_meant (meaning (units_in e) (text_of (chars squash.text) squash.items) (map edit_from_data p.changes))); version = p.version }) encoding
-      ∙ ap (λ x. record squash { items = then_items squash.items (items_meant (meaning (units_in (encoding_of s.server)) x (map edit_from_data p.changes))); version = p.version }) text
+      ∙ ap (λ x. record squash { items = then_items squash.items (items_meant (meaning (units_in (session_encoding s.server)) x (map edit_from_data p.changes))); version = p.version }) text
       ∙ ap (λ m. record squash { items = then_items squash.items (items_meant m); version = p.version }) accepts.means
 
   pub is_single : IsSingle limits.max_body at version due s p (single_record at s r p)
@@ -129,5 +129,5 @@ module _ (limits : Bounds) (ranges : AreInRange limits) (at : ℕ) (version : Ve
       same_leaves : server_after s.server p ≡ record s.server { table = put s.server.table p.uri p.version (bytes_left entry.text accepts.items) }
       same_leaves =
           ap (λ table. record s.server { table = table })
-          (change_puts (units_in (encoding_of s.server)) s.server.table p.uri p.version (map edit_from_data p.changes) entry may.is_open
+          (change_puts (units_in (session_encoding s.server)) s.server.table p.uri p.version (map edit_from_data p.changes) entry may.is_open
           ∙ ap (λ m. put s.server.table p.uri p.version (meant_text entry.text m)) accepts.means)

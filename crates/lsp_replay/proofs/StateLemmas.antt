@@ -1,24 +1,24 @@
 -- What a server holds: texts in UTF-8, and within its limit.
 use Rattle.std.proofs.Common.{◌≡◌, ℕ, ℤ, ◌≤◌, Bool, true, false, List, [], ◌∷◌, map, length, Option, Some, None, refl, ⊎_elim}
-use Rattle.std.specs.Prelude.{⊤, if◌then◌else◌, nat_lt, nat_le, is_some}
+use Rattle.std.specs.Prelude.{⊤, if◌then◌else◌, nat_lt, nat_le}
 use Rattle.std.proofs.lemmas.Bool.{ltb-false}
 use Rattle.lsp_frame.specs.Limits.{Bounds}
 use Rattle.lsp_text.specs.Units.{units_in}
 use Rattle.lsp_message.specs.Params.{DocumentItem, ChangeData}
-use Rattle.lsp_store.specs.Table.{Refusal, already_open, too_many_documents, text_too_long, entry_at, open_refusal, change_refusal, close_refusal, unless_refused}
+use Rattle.lsp_store.specs.Table.{Refusal, already_open, too_many_documents, text_too_long, after_close, is_taken, open_refusal, change_refusal, close_refusal, unless_refused}
 use Rattle.lsp_store.specs.Laws.{AllWithin}
 use Rattle.lsp_store.proofs.LawLemmas.{within_end, within_change, within_close}
 use Rattle.lsp_server.specs.declared.phase.Phase.{Phase}
 use Rattle.lsp_server.specs.declared.phase.Phase.TheVariants.{New, Running, Down, Ended}
 use Rattle.lsp_server.specs.Incoming.{IncomingData, not_json, not_a_message, response, initialize, shutdown, other_request, exit, did_open, did_change, did_close, other_notification}
-use Rattle.lsp_server.specs.Step.{State, step_in, step_on, obeyed, edit_from_data, encoding_of}
+use Rattle.lsp_server.specs.Step.{State, step_in, step_on, obeyed, edit_from_data, session_encoding}
 use Rattle.lsp_replay.proofs.ReadLemmas.{OnSome}
 use Rattle.lsp_replay.proofs.AskedLemmas.{IsProperAsked, IsTextOpened, IsProperIncoming}
 
 -- ---- commands
 
 opened_short : (limits : Bounds) (table : List DocumentItem) (entry : DocumentItem) → open_refusal limits table entry ≡ None → length entry.text ≤ limits.max_text
-opened_short limits table entry e = by (is_some (entry_at table entry.uri)) (nat_le limits.max_docs (length table)) (nat_lt limits.max_text (length entry.text)) e (ltb-false limits.max_text (length entry.text))
+opened_short limits table entry e = by (is_taken limits table entry.uri) (nat_le limits.max_docs (length (after_close table entry.uri))) (nat_lt limits.max_text (length entry.text)) e (ltb-false limits.max_text (length entry.text))
   where
     by : (a b c : Bool) → (if a then Some already_open else if b then Some too_many_documents else if c then Some text_too_long else None) ≡ None
         → (c ≡ false → length entry.text ≤ limits.max_text) → length entry.text ≤ limits.max_text
@@ -49,10 +49,10 @@ open_step limits s (Some p) proper received =
 change_step : (limits : Bounds) (s : State) (params : Option ChangeData) → OnSome IsProperAsked params → IsHeldState limits s → IsHeldState limits (step_in Running s (did_change params)).state
 change_step limits s None proper received = received
 change_step limits s (Some p) proper received =
-    obeyed_held limits s (change_refusal s.config.limits (units_in (encoding_of s)) s.table p.uri p.version (map edit_from_data p.changes)) _ received
+    obeyed_held limits s (change_refusal s.config.limits (units_in (session_encoding s)) s.table p.uri p.version (map edit_from_data p.changes)) _ received
     (λ e.
-    let none : change_refusal limits (units_in (encoding_of s)) s.table p.uri p.version (map edit_from_data p.changes) ≡ None = rw received.limit at e in
-    within_change limits (units_in (encoding_of s)) s.table p.uri p.version (map edit_from_data p.changes) proper.texts received.table none)
+    let none : change_refusal limits (units_in (session_encoding s)) s.table p.uri p.version (map edit_from_data p.changes) ≡ None = rw received.limit at e in
+    within_change limits (units_in (session_encoding s)) s.table p.uri p.version (map edit_from_data p.changes) proper.texts received.table none)
 
 -- A step keeps it.
 step_held : (limits : Bounds) (phase : Phase) (s : State) (m : IncomingData) → IsProperIncoming m → IsHeldState limits s → IsHeldState limits (step_in phase s m).state

@@ -11,7 +11,7 @@ use Rattle.lsp_server.specs.Answer.{as_sent}
 use Rattle.lsp_server.specs.declared.phase.Phase.{Phase}
 use Rattle.lsp_server.specs.declared.phase.Phase.TheVariants.{New, Running, Down, Ended}
 use Rattle.lsp_server.specs.Incoming.{IncomingData, incoming_of, not_json, not_a_message, response, initialize, shutdown, other_request, exit, did_open, did_change, did_close, other_notification}
-use Rattle.lsp_server.specs.Step.{State, Step, step_in, step_on, obeyed, edit_from_data, encoding_of}
+use Rattle.lsp_server.specs.Step.{State, Step, step_in, step_on, obeyed, edit_from_data, session_encoding}
 use Rattle.lsp_log.specs.declared.record.Side.{Side}
 use Rattle.lsp_log.specs.declared.record.Side.TheVariants.{Client, Server}
 use Rattle.lsp_log.specs.declared.record.Version.{Version}
@@ -22,9 +22,9 @@ use Rattle.lsp_replay.proofs.KeptLemmas.{hear_table}
 
 -- ---- another document
 
-same_open : (table : List DocumentItem) (entry : DocumentItem) (uri : List ℕ) → bytes_eq uri entry.uri ≡ false → entry_at (after_open table entry) uri ≡ entry_at table uri
-same_open [] entry uri other = rw other refl
-same_open (x ∷ table) entry uri other = ap (λ (found : Option DocumentItem). if bytes_eq uri x.uri then Some x else found) (same_open table entry uri other)
+same_last : (table : List DocumentItem) (entry : DocumentItem) (uri : List ℕ) → bytes_eq uri entry.uri ≡ false → entry_at (table ++ entry ∷ []) uri ≡ entry_at table uri
+same_last [] entry uri other = rw other refl
+same_last (x ∷ table) entry uri other = ap (λ (found : Option DocumentItem). if bytes_eq uri x.uri then Some x else found) (same_last table entry uri other)
 
 -- an entry of the document that a message is about is no entry of another one
 differs : (uri other entry : List ℕ) → bytes_eq uri other ≡ false → bytes_eq other entry ≡ true → bytes_eq uri entry ≡ false
@@ -47,6 +47,9 @@ same_closed (x ∷ table) other uri differ = by (same_closed table other uri dif
         → (b : Bool) → bytes_eq other x.uri ≡ b → entry_at (if b then table else x ∷ after_close table other) uri ≡ entry_at (x ∷ table) uri
     by later true same = rw (differs uri other x.uri differ same) refl
     by later false same = ap (λ (found : Option DocumentItem). if bytes_eq uri x.uri then Some x else found) later
+
+same_open : (table : List DocumentItem) (entry : DocumentItem) (uri : List ℕ) → bytes_eq uri entry.uri ≡ false → entry_at (after_open table entry) uri ≡ entry_at table uri
+same_open table entry uri other = same_last (after_close table entry.uri) entry uri other ∙ same_closed table entry.uri uri other
 
 -- ---- a step
 
@@ -88,7 +91,7 @@ step_keeps Running uri s (did_open (Some p)) other =
     obeyed_keeps uri s (did_open (Some p)) (open_refusal s.config.limits s.table p) (after_open s.table p) (same_open s.table p uri) other
 step_keeps Running uri s (did_change None) other = refl
 step_keeps Running uri s (did_change (Some p)) other =
-    let units = units_in (encoding_of s) in
+    let units = units_in (session_encoding s) in
     let batch = map edit_from_data p.changes in
     obeyed_keeps uri s (did_change (Some p)) (change_refusal s.config.limits units s.table p.uri p.version batch) (after_change units s.table p.uri p.version batch)
     (same_changed units s.table p.uri p.version batch uri) other

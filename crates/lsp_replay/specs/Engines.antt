@@ -18,7 +18,7 @@ use Rattle.lsp_store.specs.declared.fault.StoreFault.TheVariants.{AlreadyOpen, T
 use Rattle.lsp_server.specs.declared.answer.Refusal.{Refusal}
 use Rattle.lsp_server.specs.declared.answer.Refusal.TheVariants.{InvalidParams as BadParams, Store}
 use Rattle.lsp_server.specs.Incoming.{IncomingData, incoming_of, did_change}
-use Rattle.lsp_server.specs.Step.{State, encoding_of, edit_from_data}
+use Rattle.lsp_server.specs.Step.{State, session_encoding, edit_from_data}
 use Rattle.lsp_server.specs.Answer.{AnswerData, reply, changed, dropped, ignored, refused, exits, already_ended, Sent}
 use Rattle.lsp_replay.specs.declared.outcome.Outcome.{Outcome}
 use Rattle.lsp_stream.specs.declared.fault.EngineFault.{EngineFault}
@@ -28,7 +28,7 @@ use Rattle.lsp_log.specs.Log.{LogRules, Record, version_line, mark_of}
 use Rattle.lsp_replay.specs.RunOutput.{RunOutput, written_first, stopped}
 use Rattle.lsp_server.specs.declared.config.Config.{Config}
 use Rattle.lsp_server.specs.declared.config.EncodingChoice.TheVariants.{Fixed}
-use Rattle.lsp_server.specs.declared.config.Sync.TheVariants.{Incremental}
+use Rattle.lsp_server.specs.declared.config.ChangeForm.TheVariants.{Incremental}
 use Rattle.lsp_replay.specs.declared.engines.Settings.{Settings}
 use Rattle.lsp_replay.specs.Session.{Session, opened, Verdict, answered, recorded, bad, Judged, judge, outcome_of}
 
@@ -187,7 +187,7 @@ change_in m = None
 -- The body of the canonical message of a batch on the documents of a server.
 abbrev pub canonical_change_body : State → ChangeData → List ℕ
 canonical_change_body server p
-    = canonical_body (units_in (encoding_of server)) server.table p.uri p.version
+    = canonical_body (units_in (session_encoding server)) server.table p.uri p.version
     (map edit_from_data p.changes)
 
 -- The line of version 2, if it is due.

@@ -16,7 +16,7 @@ use Rattle.lsp_server.specs.declared.phase.Phase.TheVariants.{New, Running, Ende
 use Rattle.lsp_server.specs.Incoming.{IncomingData, incoming_of, did_change, initialize}
 use Rattle.lsp_server.specs.Answer.{AnswerData, reply, refused, exits, Sent, as_sent}
 use Rattle.lsp_server.specs.declared.config.Config.{Config}
-use Rattle.lsp_server.specs.Step.{State, start, step_on, with_encoding}
+use Rattle.lsp_server.specs.Step.{State, new_server, step_on, with_encoding}
 use Rattle.lsp_replay.specs.declared.outcome.Outcome.{Outcome}
 use Rattle.lsp_stream.specs.Ports.{one_more}
 use Rattle.lsp_log.specs.declared.record.Version.{Version}
@@ -191,7 +191,7 @@ judge s r = judge_at s r.head r.body
 abbrev pub opened : Config → Session
 opened config
     = record {
-      server = start config;
+      server = new_server config;
       expected = None;
       records = 0;
       messages = 0;

@@ -8,7 +8,7 @@ use Rattle.lsp_message.specs.Params.{DocumentItem, ChangeData}
 use Rattle.lsp_store.specs.Squash.{SquashData, squash_of, squash_after, squash_frame, squash_refusal}
 use Rattle.lsp_store.specs.Table.{Refusal, entry_at}
 use Rattle.lsp_server.specs.Incoming.{incoming_of}
-use Rattle.lsp_server.specs.Step.{State, encoding_of, edit_from_data}
+use Rattle.lsp_server.specs.Step.{State, session_encoding, edit_from_data}
 use Rattle.lsp_server.specs.Answer.{changed}
 use Rattle.lsp_replay.specs.declared.engines.Settings.{Settings}
 use Rattle.lsp_replay.specs.declared.outcome.Outcome.{Outcome}
@@ -57,7 +57,7 @@ begun_on server p front single (Some entry) =
     Some (record {
       front = front;
       singles = single;
-      squash = joined_by p (squash_of server.config.limits (encoding_of server) entry);
+      squash = joined_by p (squash_of server.config.limits (session_encoding server) entry);
     })
 
 -- The same on the documents of a server.

@@ -30,7 +30,7 @@ pub use crate::engines::parts::{Part, replay_part};
 pub use crate::engines::traced::{Details, trace};
 use crate::outcome::Outcome;
 use lsp_frame::Limits;
-use lsp_server::{Config, EncodingChoice, Sync};
+use lsp_server::{ChangeForm, Config, EncodingChoice};
 use lsp_stream::{Duplex, EngineFault, Sink, Source};
 use lsp_text::Encoding;
 use std::alloc::Global;
@@ -72,7 +72,7 @@ impl Settings {
         Config {
             limits: self.limits,
             choice: EncodingChoice::Fixed(self.encoding),
-            sync: Sync::Incremental,
+            sync: ChangeForm::Incremental,
         }
     }
 

@@ -19,7 +19,7 @@ use lsp_replay::{
     Told, check, convert, explain, normalise, normalise_documents, replay, replay_part, serve,
     trace,
 };
-use lsp_server::{Config, EncodingChoice, Sync};
+use lsp_server::{ChangeForm, Config, EncodingChoice};
 use lsp_text::Encoding;
 use std::alloc::{AllocError, Global};
 use std::test::Fail;
@@ -214,7 +214,7 @@ fn config(settings: Settings) -> Config {
     Config {
         limits: settings.limits,
         choice: EncodingChoice::Fixed(settings.encoding),
-        sync: Sync::Incremental,
+        sync: ChangeForm::Incremental,
     }
 }
 

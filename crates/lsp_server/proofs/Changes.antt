@@ -23,7 +23,7 @@ use Rattle.lsp_server.specs.declared.planned.PlannedChange.TheVariants.{Accepted
 use Rattle.lsp_server.specs.Answer.{dropped, refused}
 use Rattle.lsp_server.specs.Calls.{IsStepOf}
 use Rattle.lsp_server.specs.Planned.{IsAnswered, IsPlanOfChange, IsPlannedAs, store_of}
-use Rattle.lsp_server.specs.Step.{State, Step, change_command, edit_from_data, encoding_of, obeys, stays, step_in, step_on}
+use Rattle.lsp_server.specs.Step.{State, Step, change_command, edit_from_data, session_encoding, obeys, stays, step_in, step_on}
 use Rattle.lsp_server.proofs.Commands.{edits_of, obeyed_as_refused}
 
 -- The step of a change in phase Running.
@@ -32,23 +32,23 @@ running_step s p running = ap (λ phase. step_in phase s (did_change (Some p))) 
 
 -- The store's plan of a change is the server's.
 pub planned_is : (s : State) (store : StoreData) (p : ChangeParams) (uri : List ℕ) (version : ℤ) (encoding : Encoding) (edits : List Change) (plan : Plan)
-    → store ≡ store_of s → uri ≡ string_bytes p.uri → version ≡ p.version → encoding ≡ encoding_of s → edits ≡ p.changes.items → s.phase ≡ Running
+    → store ≡ store_of s → uri ≡ string_bytes p.uri → version ≡ p.version → encoding ≡ session_encoding s → edits ≡ p.changes.items → s.phase ≡ Running
     → IsPlanOf store uri version encoding (map edit_of edits) plan
     → IsPlannedAs s (change_view p) (Accepted plan)
 planned_is s store p uri version encoding edits plan store_is uri_is version_is encoding_is edits_is running planned =
-    let same : IsPlanOf (store_of s) (string_bytes p.uri) p.version (encoding_of s) (map edit_from_data (map edit_view p.changes.items)) plan =
+    let same : IsPlanOf (store_of s) (string_bytes p.uri) p.version (session_encoding s) (map edit_from_data (map edit_view p.changes.items)) plan =
     rw (edits_of p.changes.items, sym store_is, sym uri_is, sym version_is, sym encoding_is, sym edits_is) planned in
     (record { running = running; on = same.on }, same)
 
 -- The store's refusal of a change is the server's answer.
 pub refused_is : (s : State) (store : StoreData) (p : ChangeParams) (uri : List ℕ) (version : ℤ) (encoding : Encoding) (edits : List Change) (fault : StoreFault) (a : Answer)
-    → store ≡ store_of s → uri ≡ string_bytes p.uri → version ≡ p.version → encoding ≡ encoding_of s → edits ≡ p.changes.items → s.phase ≡ Running
+    → store ≡ store_of s → uri ≡ string_bytes p.uri → version ≡ p.version → encoding ≡ session_encoding s → edits ≡ p.changes.items → s.phase ≡ Running
     → (fault ≢ NoMemory) × (a ≡ Refused (Store fault))
     → IsRefused store (changes uri version encoding (map edit_of edits)) fault
     → IsAnswered s (step_on s (did_change (Some (change_view p)))) a
 refused_is s store p uri version encoding edits fault a store_is uri_is version_is encoding_is edits_is running why error =
     let command : changes uri version encoding (map edit_of edits) ≡ change_command s (change_view p) =
-    rw (uri_is, version_is, encoding_is, edits_is) (ap (λ (batch : List Edit). changes (string_bytes p.uri) p.version (encoding_of s) batch) (sym (edits_of p.changes.items))) in
+    rw (uri_is, version_is, encoding_is, edits_is) (ap (λ (batch : List Edit). changes (string_bytes p.uri) p.version (session_encoding s) batch) (sym (edits_of p.changes.items))) in
     let given : IsRefused store (change_command s (change_view p)) fault = subst (λ (asked : Command). IsRefused store asked fault) command error in
     let same : IsRefused (store_of s) (change_command s (change_view p)) fault = subst (λ (of : StoreData). IsRefused of (change_command s (change_view p)) fault) store_is given in
     let step : step_on s (did_change (Some (change_view p))) ≡ stays s (refused (Store fault)) =

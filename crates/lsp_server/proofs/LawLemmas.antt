@@ -16,7 +16,7 @@ use Rattle.lsp_server.specs.declared.config.EncodingChoice.TheVariants.{Negotiat
 use Rattle.lsp_server.specs.declared.phase.Phase.{Phase}
 use Rattle.lsp_server.specs.declared.phase.Phase.TheVariants.{New, Running, Down, Ended}
 use Rattle.lsp_server.specs.Answer.{AnswerData, reply, changed, exits}
-use Rattle.lsp_server.specs.Choice.{chosen, kind_of}
+use Rattle.lsp_server.specs.Choice.{chosen, announced_kind}
 use Rattle.lsp_reader.specs.Incoming.{IncomingData, response, initialize, shutdown, other_request, exit, did_open, did_change, did_close, other_notification, request_of, notification_of}
 use Rattle.lsp_server.specs.Laws.{RepliesTo, way_of, IsRefusal}
 use Rattle.lsp_server.specs.Step.{State, Step, stays, step_to, begins, obeyed, step_in}
@@ -45,7 +45,7 @@ pub replied : (p : Phase) (s : State) (id : IdData) (m : IncomingData) → IsReq
 replied Ended s id m is live = absurd (live refl)
 replied New s id (initialize other None) is live = (error_reply (Some other) InvalidParams, refl, ap Some is)
 replied New s id (initialize other (Some offers)) is live =
-    (initialize_result other (chosen s.config.choice offers) (kind_of s.config.sync), refl, ap Some is)
+    (initialize_result other (chosen s.config.choice offers) (announced_kind s.config.sync), refl, ap Some is)
 replied New s id (shutdown other) is live = (error_reply (Some other) ServerNotInitialized, refl, ap Some is)
 replied New s id (other_request other method) is live = (error_reply (Some other) ServerNotInitialized, refl, ap Some is)
 replied Running s id (initialize other offers) is live = (error_reply (Some other) InvalidRequest, refl, ap Some is)

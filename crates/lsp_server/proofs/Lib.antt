@@ -1,4 +1,5 @@
 mod Commands
 mod Changes
 pub mod LawLemmas
+mod RefusalLemmas
 pub mod EditLemmas

@@ -4,7 +4,7 @@ use Rattle.lsp_frame.specs.Frame.{frame}
 use Rattle.lsp_message.specs.declared.outgoing.ErrorCode.{ErrorCode}
 use Rattle.lsp_message.specs.Outgoing.{OutgoingData, error_reply, body_of}
 use Rattle.lsp_server.specs.declared.answer.Refusal.{Refusal}
-use Rattle.lsp_server.specs.declared.answer.Refusal.TheVariants.{InvalidParams, Store}
+use Rattle.lsp_server.specs.declared.answer.Refusal.TheVariants.{InvalidParams}
 
 -- What a server answers: a reply, or the outcome of a notification. The documents changed; it came
 -- in the wrong phase; the server doesn't handle it; it is refused; or the session ends with an exit
@@ -21,13 +21,13 @@ pub record Sent : Type 0 where
   pub code : Option ErrorCode
 
 -- The code of a reply, if it is an error response.
-abbrev pub code_of : OutgoingData → Option ErrorCode
-code_of (error_reply id error) = Some error
-code_of m = None
+abbrev pub reply_code : OutgoingData → Option ErrorCode
+reply_code (error_reply id error) = Some error
+reply_code m = None
 
 -- A reply as it is sent.
 abbrev pub sent : OutgoingData → Sent
-sent m = record { frame = frame (body_of m); code = code_of m }
+sent m = record { frame = frame (body_of m); code = reply_code m }
 
 -- An answer, with its reply as it is sent.
 abbrev pub as_sent : AnswerData OutgoingData → AnswerData Sent
@@ -45,7 +45,4 @@ IsQuiet dropped = ⊤
 IsQuiet ignored = ⊤
 IsQuiet (exits status) = ⊤
 IsQuiet (refused InvalidParams) = ⊤
-IsQuiet (refused (Store fault)) = ⊥
-IsQuiet changed = ⊥
-IsQuiet already_ended = ⊥
-IsQuiet (reply r) = ⊥
+IsQuiet answer = ⊥

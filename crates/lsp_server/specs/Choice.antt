@@ -11,8 +11,8 @@ use Rattle.lsp_frame.specs.Limits.{default_limits}
 use Rattle.lsp_server.specs.declared.config.Config.{Config}
 use Rattle.lsp_server.specs.declared.config.EncodingChoice.{EncodingChoice}
 use Rattle.lsp_server.specs.declared.config.EncodingChoice.TheVariants.{Fixed, Negotiated}
-use Rattle.lsp_server.specs.declared.config.Sync.{Sync}
-use Rattle.lsp_server.specs.declared.config.Sync.TheVariants.{Incremental, Full}
+use Rattle.lsp_server.specs.declared.config.ChangeForm.{ChangeForm}
+use Rattle.lsp_server.specs.declared.config.ChangeForm.TheVariants.{Incremental, Full}
 
 -- The encoding of a session: a fixed one whatever is offered, else the preferred one if it is
 -- offered, else UTF-16.
@@ -21,9 +21,9 @@ chosen (Fixed encoding) offers = encoding
 chosen (Negotiated prefer) offers = if is_offered offers prefer then prefer else Utf16
 
 -- The kind of synchronisation that a server announces.
-abbrev pub kind_of : Sync → SyncKind
-kind_of Incremental = kind.Incremental
-kind_of Full = kind.Full
+abbrev pub announced_kind : ChangeForm → SyncKind
+announced_kind Incremental = kind.Incremental
+announced_kind Full = kind.Full
 
 -- A server's set-up where a user chooses none: the default limits, UTF-16 whatever the client
 -- offers, changed ranges.

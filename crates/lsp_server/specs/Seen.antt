@@ -1,4 +1,5 @@
 -- The types of `src/` as the definitions see them.
+use Rattle.std.specs.Prelude.{IsSome, ⊤}
 pub use Rattle.lsp_reader.specs.Seen.{incoming_view}
 use Rattle.lsp_server.specs.declared.answer.Answer.{Answer}
 use Rattle.lsp_server.specs.declared.answer.Answer.TheVariants.{Reply, Changed, Dropped, Ignored, Refused}
@@ -13,3 +14,11 @@ answer_view Dropped = dropped
 answer_view Ignored = ignored
 answer_view (Refused refusal) = refused refusal
 answer_view (answer.Exit status) = exits status
+
+-- An answer to a message that isn't obeyed: an error response, or the notification is dropped,
+-- ignored or refused.
+abbrev pub IsRefusing : Answer → Type 0
+IsRefusing (Reply frame code) = IsSome code
+IsRefusing Changed = ⊥
+IsRefusing (answer.Exit status) = ⊥
+IsRefusing a = ⊤

@@ -19,7 +19,7 @@ use Rattle.lsp_server.specs.declared.config.Config.{Config}
 use Rattle.lsp_server.specs.declared.phase.Phase.{Phase}
 use Rattle.lsp_server.specs.declared.phase.Phase.TheVariants.{New, Running, Down, Ended}
 use Rattle.lsp_server.specs.Answer.{AnswerData, reply, changed, dropped, ignored, already_ended, refused, exits}
-use Rattle.lsp_server.specs.Choice.{chosen, kind_of}
+use Rattle.lsp_server.specs.Choice.{chosen, announced_kind}
 use Rattle.lsp_reader.specs.Incoming.{IncomingData, not_json, not_a_message, response, initialize, shutdown, other_request, exit, did_open, did_change, did_close, other_notification, incoming_of}
 
 -- A server: its configuration, its phase, the chosen encoding, if there is one, and the open
@@ -36,8 +36,8 @@ pub record Step : Type 0 where
   pub state : State
 
 -- A new server.
-abbrev pub start : Config → State
-start config = record { config = config; phase = New; encoding = None; table = [] }
+abbrev pub new_server : Config → State
+new_server config = record { config = config; phase = New; encoding = None; table = [] }
 
 -- ---- what a step may do
 
@@ -57,7 +57,7 @@ step_to s phase answer = record { answer = answer; state = record s { phase = ph
 abbrev pub begins_in : State → IdData → Encoding → Step
 begins_in s id encoding =
     record {
-      answer = reply (initialize_result id encoding (kind_of s.config.sync));
+      answer = reply (initialize_result id encoding (announced_kind s.config.sync));
       state = record s { phase = Running; encoding = Some encoding };
     }
 
@@ -82,12 +82,12 @@ edit_from_data e = record { range = e.range; text = chars e.text }
 
 -- The encoding of changes. Before one is chosen there are no changes; UTF-16 is the protocol's
 -- default.
-abbrev pub encoding_of : State → Encoding
-encoding_of s = unwrap_or s.encoding Utf16
+abbrev pub session_encoding : State → Encoding
+session_encoding s = unwrap_or s.encoding Utf16
 
 -- The command of a `textDocument/didChange`.
 abbrev pub change_command : State → ChangeData → Command
-change_command s p = changes p.uri p.version (encoding_of s) (map edit_from_data p.changes)
+change_command s p = changes p.uri p.version (session_encoding s) (map edit_from_data p.changes)
 
 -- The command of a `textDocument/didClose`.
 abbrev pub close_command : CloseData → Command

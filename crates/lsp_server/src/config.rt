@@ -1,19 +1,20 @@
 //! The configuration of a server.
 
 ghost use Rattle.std.specs.Prelude.{◌≡◌};
-ghost use Rattle.lsp_server.specs.Choice.{chosen, kind_of};
+ghost use Rattle.lsp_server.specs.Choice.{chosen, announced_kind};
 
 use lsp_frame::Limits;
 use lsp_message::{Offers, SyncKind};
 use lsp_text::Encoding;
 
 /// The configuration of a server: its limits, how it chooses the encoding of positions, and how it
-/// wants to be notified of changes.
+/// wants to be notified of changes. For editors that repeat versions or open an open document,
+/// choose [lenient](Limits::lenient) limits.
 #[derive(Clone, Copy, Debug, PartialEq, Eq)]
 pub struct Config {
     pub limits: Limits,
     pub choice: EncodingChoice,
-    pub sync: Sync,
+    pub sync: ChangeForm,
 }
 
 impl Default for Config {
@@ -28,7 +29,7 @@ impl Default for Config {
             choice: EncodingChoice::Negotiated {
                 prefer: Encoding::Utf16,
             },
-            sync: Sync::Incremental,
+            sync: ChangeForm::Incremental,
         }
     }
 }
@@ -45,7 +46,7 @@ pub enum EncodingChoice {
 
 impl EncodingChoice {
     /// Returns the encoding for a client that offers these.
-    pub fn chosen(self, offers: Offers) -> Encoding
+    pub fn choose(self, offers: Offers) -> Encoding
         ensures { result ≡ chosen self offers }
     {
         match self {
@@ -59,21 +60,21 @@ impl EncodingChoice {
 /// How the server wants to be notified of changes (LSP 3.17, TextDocumentSyncKind). It accepts both
 /// forms, whichever it announces.
 #[derive(Clone, Copy, Debug, PartialEq, Eq, Hash)]
-pub enum Sync {
+pub enum ChangeForm {
     /// With the changed ranges.
     Incremental,
     /// With the whole text.
     Full,
 }
 
-impl Sync {
+impl ChangeForm {
     /// Returns the kind that the server announces.
     pub fn kind(self) -> SyncKind
-        ensures { result ≡ kind_of self }
+        ensures { result ≡ announced_kind self }
     {
         match self {
-            Sync::Incremental => SyncKind::Incremental,
-            Sync::Full => SyncKind::Full,
+            ChangeForm::Incremental => SyncKind::Incremental,
+            ChangeForm::Full => SyncKind::Full,
         }
     }
 }

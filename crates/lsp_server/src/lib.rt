@@ -77,7 +77,7 @@ mod planned;
 mod server;
 
 pub use answer::{Answer, Refusal, ServerFault};
-pub use config::{Config, EncodingChoice, Sync};
+pub use config::{ChangeForm, Config, EncodingChoice};
 pub use laws::step_laws;
 pub use lsp_edit::{Change, EditFault, Side, TextEdit, TextEditFault};
 pub use lsp_frame::{BadLimits, Limits};

@@ -3,9 +3,9 @@
 ghost use Rattle.std.specs.Prelude.{◌≡◌, ◌≢◌, ◌↔◌, IfOk, OnOk, OnErr, IsOk, IsSome, IsErrOf, IsUtf8};
 ghost use Rattle.lsp_message.specs.Message.{reading};
 ghost use Rattle.lsp_server.specs.declared.phase.Phase.TheVariants.{Running, Ended};
-ghost use Rattle.lsp_server.specs.Step.{start, with_encoding, step, step_on};
+ghost use Rattle.lsp_server.specs.Step.{new_server, with_encoding, step, step_on};
 ghost use Rattle.lsp_server.specs.Answer.{IsQuiet, as_sent};
-ghost use Rattle.lsp_server.specs.Seen.{answer_view};
+ghost use Rattle.lsp_server.specs.Seen.{answer_view, IsRefusing};
 ghost use Rattle.lsp_server.specs.Calls.{IsRowOf};
 ghost use Rattle.lsp_reader.specs.Incoming.{incoming_of};
 ghost use Rattle.lsp_reader.specs.Seen.{incoming_view};
@@ -14,7 +14,7 @@ mod documents;
 mod lifecycle;
 
 use crate::answer::{Answer, ServerFault};
-use crate::config::{Config, EncodingChoice, Sync};
+use crate::config::{ChangeForm, Config, EncodingChoice};
 use crate::phase::Phase;
 use lsp_message::ErrorCode;
 use lsp_reader::{Incoming, Scratch};
@@ -30,7 +30,7 @@ use std::marker::Model;
 pub struct Server {
     alloc: Global,
     choice: EncodingChoice,
-    sync: Sync,
+    sync: ChangeForm,
     phase: Phase,
     encoding: Option<Encoding>,
     store: Store,
@@ -71,7 +71,7 @@ impl fmt::Debug for Server {
 impl Server {
     /// Returns a server in phase New, with no open document. Takes no memory.
     pub fn new(alloc: Global, config: Config) -> Server
-        ensures { result ≡ start config }
+        ensures { result ≡ new_server config }
     {
         let Config {
             limits,
@@ -122,27 +122,31 @@ impl Server {
     /// | all but Ended | a response | ignored |
     /// | Down | notification `exit` | exit with status 0; now Ended |
     /// | New, Running | notification `exit` | exit with status 1; now Ended |
+    /// | New | request `initialize` with faulty params | a reply -32602 |
     /// | New | request `initialize` | the encoding that is chosen; now Running |
-    /// | New | the same with faulty params | a reply -32602 |
     /// | New | another request | a reply -32002 |
-    /// | Running | request `shutdown` | a result; now Down |
+    /// | New | another notification | dropped |
     /// | Running | request `initialize` | a reply -32600 |
+    /// | Running | request `shutdown` | a result; now Down |
     /// | Running | another request | a reply -32601 |
     /// | Running | `textDocument/didOpen`, `didChange`, `didClose` | changed, or refused |
     /// | Running | another notification | ignored |
     /// | Down | a request | a reply -32600 |
-    /// | New, Down | another notification | dropped |
+    /// | Down | another notification | dropped |
     ///
-    /// Nothing changes but what the table names. After [`ServerFault::NoMemory`] the server is
+    /// The first row that fits counts. Nothing changes but what the table names. After [`ServerFault::NoMemory`] the server is
     /// unchanged, and a caller can pass the same body again. [`ServerFault::AlreadyEnded`] comes in
     /// phase Ended, and only there.
     ///
     /// Costs one parse of the body, whose texts are moved into the store; then what the command
     /// costs there, or the reply's bytes.
+    #[tactic(auto, using(crate::proofs::RefusalLemmas::refused_stays))]
     pub fn handle(&mut self, body: &[u8]) -> Result<Answer, ServerFault>
         ensures answer { IfOk result
             (λ a. answer_view a ≡ as_sent (step self.old (reading body.now)).answer) }
         ensures state { OnOk result (self.new ≡ (step self.old (reading body.now)).state) }
+        // A message that isn't obeyed changes nothing.
+        ensures refused { IfOk result (λ a. IsRefusing a → self.new ≡ self.old) }
         ensures unchanged { OnErr result (self.new ≡ self.old) }
         ensures ended { IsErrOf result ServerFault.AlreadyEnded ↔ (self.old.phase ≡ Ended) }
     {
@@ -173,10 +177,12 @@ impl Server {
     /// Returns what [`handle`](Server::handle) returns for that body, with the same faults. It
     /// consumes what was read, so after [`ServerFault::NoMemory`] the body has to be read again.
     /// Nothing is parsed: costs a reply's bytes, or what the command costs in the store.
+    #[tactic(auto, using(crate::proofs::RefusalLemmas::refused_stays))]
     pub fn handle_incoming(&mut self, incoming: Incoming) -> Result<Answer, ServerFault>
         ensures answer { IfOk result
             (λ a. answer_view a ≡ as_sent (step_on self.old (incoming_view incoming)).answer) }
         ensures state { OnOk result (self.new ≡ (step_on self.old (incoming_view incoming)).state) }
+        ensures refused { IfOk result (λ a. IsRefusing a → self.new ≡ self.old) }
         ensures unchanged { OnErr result (self.new ≡ self.old) }
         // Only a reply, and a document that is opened or changed, take memory.
         ensures quiet { IsQuiet (step_on self.old (incoming_view incoming)).answer → IsOk result }

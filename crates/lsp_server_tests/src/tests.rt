@@ -12,7 +12,7 @@ mod texts;
 
 use lsp_edit::EditFault;
 use lsp_frame::{BadLimits, Limits, frame};
-use lsp_server::{Answer, Config, EncodingChoice, Phase, Refusal, Server, ServerFault, Sync};
+use lsp_server::{Answer, ChangeForm, Config, EncodingChoice, Phase, Refusal, Server, ServerFault};
 use lsp_store::StoreFault;
 use lsp_text::Encoding;
 use std::alloc::{AllocError, Global};
@@ -24,11 +24,14 @@ pub(super) fn new_server(alloc: Global) -> Result<Server, BadLimits> {
 
 /// UTF-16, incremental synchronisation and wide limits.
 pub(super) fn usual() -> Result<Config, BadLimits> {
-    config_with(EncodingChoice::Fixed(Encoding::Utf16), Sync::Incremental)
+    config_with(
+        EncodingChoice::Fixed(Encoding::Utf16),
+        ChangeForm::Incremental,
+    )
 }
 
 /// Wide limits.
-pub(super) fn config_with(choice: EncodingChoice, sync: Sync) -> Result<Config, BadLimits> {
+pub(super) fn config_with(choice: EncodingChoice, sync: ChangeForm) -> Result<Config, BadLimits> {
     Ok(Config {
         limits: Limits::new(16_777_216, 16_777_216, 1_024, 65_536)?,
         choice,

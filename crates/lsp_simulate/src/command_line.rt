@@ -2,12 +2,12 @@
 
 mod help;
 
-use crate::command_line::help::{Limit, Offer};
+use crate::command_line::help::{Flag, Limit};
 use clap::builder::ValueParser;
 use clap::{Arg, ArgAction, ArgMatches, Command, Error};
 use lsp_frame::Limits;
 use lsp_message::Offers;
-use lsp_server::{Config, EncodingChoice, Sync};
+use lsp_server::{ChangeForm, Config, EncodingChoice};
 use lsp_text::Encoding;
 use std::alloc::{AllocError, Global};
 
@@ -29,8 +29,8 @@ pub fn parse<'a>(alloc: Global, words: &'a [&'a str]) -> Result<Option<Setting>,
 
 fn setting_of(options: &ArgMatches<'_>) -> Option<Setting> {
     let sync = match options.get_str("sync")? {
-        "full" => Sync::Full,
-        _ => Sync::Incremental,
+        "full" => ChangeForm::Full,
+        _ => ChangeForm::Incremental,
     };
     Some(Setting {
         limits: client_limits(options)?,
@@ -55,24 +55,34 @@ fn choice_of(options: &ArgMatches<'_>) -> Option<EncodingChoice> {
 }
 
 fn client_limits(options: &ArgMatches<'_>) -> Option<Limits> {
-    Limits::new(
+    let limits = Limits::new(
         options.get_one::<usize>("max-body")?,
         options.get_one::<usize>("max-text")?,
         options.get_one::<usize>("max-docs")?,
         options.get_one::<usize>("max-changes")?,
     )
-    .ok()
+    .ok()?;
+    Some(asked(options, limits))
+}
+
+/// These limits, lenient if that is asked for: those of both ends are.
+fn asked(options: &ArgMatches<'_>, limits: Limits) -> Limits {
+    if options.get_flag("lenient") {
+        return limits.lenient();
+    }
+    limits
 }
 
 /// The server's limits. Those that no option sets are the client's.
 fn server_limits(options: &ArgMatches<'_>) -> Option<Limits> {
-    Limits::new(
+    let limits = Limits::new(
         either(options, "server-max-body", "max-body")?,
         either(options, "server-max-text", "max-text")?,
         either(options, "server-max-docs", "max-docs")?,
         either(options, "server-max-changes", "max-changes")?,
     )
-    .ok()
+    .ok()?;
+    Some(asked(options, limits))
 }
 
 fn either(options: &ArgMatches<'_>, first: &str, second: &str) -> Option<usize> {
@@ -93,8 +103,8 @@ fn program<'a>(alloc: Global, defaults: &'a [String; 4]) -> Result<Command<'a>, 
         .arg(prefer(alloc))?
         .arg(fixed(alloc))?
         .arg(sync(alloc))?;
-    for offer in help::offers() {
-        program = program.arg(flag(alloc, offer))?;
+    for one in help::flags() {
+        program = program.arg(flag(alloc, one))?;
     }
     for (limit, default) in help::client_limits().into_iter().zip(defaults) {
         program = program.arg(number(alloc, limit).default_value(default))?;
@@ -105,11 +115,11 @@ fn program<'a>(alloc: Global, defaults: &'a [String; 4]) -> Result<Command<'a>, 
     Ok(program)
 }
 
-fn flag<'a>(alloc: Global, offer: Offer) -> Arg<'a> {
-    Arg::new(alloc, offer.name)
-        .long(offer.name)
+fn flag<'a>(alloc: Global, flag: Flag) -> Arg<'a> {
+    Arg::new(alloc, flag.name)
+        .long(flag.name)
         .action(ArgAction::SetTrue)
-        .help(offer.help)
+        .help(flag.help)
 }
 
 fn prefer<'a>(alloc: Global) -> Arg<'a> {

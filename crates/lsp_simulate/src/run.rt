@@ -17,10 +17,12 @@ use thiserror::Error;
 /// The status of words that are no call, or of ends that can't have a session.
 const USAGE: u8 = 2;
 
+/// The status of a failed read, write or flush.
 const STREAM_FAULT: u8 = 3;
 
 const OUT_OF_MEMORY: u8 = 4;
 
+/// The status of a line that is no event.
 const BAD_EVENT: u8 = 5;
 
 /// How often an interrupted flush is repeated.
@@ -78,10 +80,7 @@ pub fn simulate<R: BufRead + Drop, W: Write>(
     output: &mut W,
 ) -> Result<(), RunFault> {
     let pair = Pair::new(alloc, setting.limits, setting.offers, setting.config);
-    let mut pair = match pair {
-        Ok(pair) => pair,
-        Err(fault) => return Err(RunFault::Pair(fault)),
-    };
+    let mut pair = pair.map_err(RunFault::Pair)?;
     let mut number = 0u64;
     for line in input.split(alloc, b'\n') {
         number = number.saturating_add(1);
@@ -126,10 +125,7 @@ fn write_documents<W: Write>(
     store: &Store,
     output: &mut W,
 ) -> Result<(), RunFault> {
-    for index in 0..store.len() {
-        let Some(document) = store.at(index) else {
-            return Ok(());
-        };
+    for document in store {
         let line = document_line(alloc, &document)?;
         written(write!(output, "{end} "))?;
         written(output.write_all(&line))?;

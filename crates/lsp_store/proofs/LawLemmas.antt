@@ -1,5 +1,5 @@
 -- What is true of the table of documents.
-use Rattle.std.proofs.Common.{ℕ, ℤ, suc, ◌≡◌, ◌≤◌, ◌<◌, Bool, true, false, nat_lt, nat_le, List, [], ◌∷◌, ◌++◌, length, map, IsUtf8, bytes_eq, encode_utf8_all, Option, Some, None, is_some, Ok, refl, sym, ap, ◌∙◌, subst, arith, ⊎_elim}
+use Rattle.std.proofs.Common.{ℕ, ℤ, suc, ◌≡◌, ◌≤◌, ◌<◌, Bool, true, false, nat_lt, nat_le, List, [], ◌∷◌, ◌++◌, length, map, IsUtf8, bytes_eq, encode_utf8_all, Option, Some, None, Ok, refl, sym, ap, ◌∙◌, subst, arith, ⊎_elim}
 use Rattle.std.specs.Prelude.{if◌then◌else◌}
 use Rattle.std.specs.Str.{all_scalars, chars}
 use Rattle.std.proofs.lemmas.Bool.{cases_Bool, le-ltb, ltb-false, lt-leb, leb-false}
@@ -16,9 +16,10 @@ use Rattle.lsp_edit.specs.Laws.{IsCanonical}
 use Rattle.lsp_edit.proofs.LawLemmas.{canonical_law, units_some}
 use Rattle.lsp_edit.specs.Indexed.{bytes_left}
 use Rattle.lsp_message.specs.Params.{DocumentItem}
-use Rattle.lsp_store.specs.Table.{Command, opens, changes, closes, already_open, too_many_documents, text_too_long, not_open, batch_bytes, meant_text, entry_at, open_refusal, refusal_on, entry_refusal, change_refusal, changed, after_open, after_change, after_close, table_after, table_from}
+use Rattle.lsp_store.specs.Table.{Command, opens, changes, closes, already_open, too_many_documents, text_too_long, not_open, batch_bytes, meant_text, entry_at, is_taken, open_refusal, refusal_on, entry_refusal, change_refusal, changed, after_open, after_change, after_close, table_after, table_from}
 use Rattle.lsp_store.specs.Message.{AreTexts, canonical_batch, whole_text, whole_batch}
 use Rattle.lsp_store.specs.Laws.{AreWithin, GreaterLimitsLaw, CanonicalBatchLaw, WholeTextLaw, WithinLaw, UniqueLaw, TableLaw, LastLaw, IsWithin, AllWithin, AreUnique, AreAccepted, IsInOrder}
+use Rattle.lsp_store.proofs.LenientLemmas.{still_new, still_free}
 use Rattle.lsp_store.proofs.MessageLemmas.{Accepts, accepted_parts, accepted_from, leaves_same, batch_at, settled_accepted, settled_leaves, accepts}
 use Rattle.lsp_store.proofs.ScalarLemmas.{scalar-meaning, scalar-text}
 
@@ -26,8 +27,8 @@ use Rattle.lsp_store.proofs.ScalarLemmas.{scalar-meaning, scalar-text}
 
 -- a document may be opened
 pub record MayOpen (limits : Bounds) (table : List DocumentItem) (entry : DocumentItem) : Type 0 where
-  pub new : is_some (entry_at table entry.uri) ≡ false
-  pub few : length table < limits.max_docs
+  pub new : is_taken limits table entry.uri ≡ false
+  pub few : length (after_close table entry.uri) < limits.max_docs
   pub short : length entry.text ≤ limits.max_text
 
 open_cases : (a b c : Bool) → (if a then Some already_open else if b then Some too_many_documents else if c then Some text_too_long else None) ≡ None
@@ -39,11 +40,12 @@ open_cases false false false e = (refl, refl, refl)
 
 pub open_parts : (limits : Bounds) (table : List DocumentItem) (entry : DocumentItem) → open_refusal limits table entry ≡ None → MayOpen limits table entry
 open_parts limits table entry e =
-    let parts = open_cases (is_some (entry_at table entry.uri)) (nat_le limits.max_docs (length table)) (nat_lt limits.max_text (length entry.text)) e in
-    record { new = parts.0; few = leb-false limits.max_docs (length table) parts.1; short = ltb-false limits.max_text (length entry.text) parts.2 }
+    let others : ℕ = length (after_close table entry.uri) in
+    let parts = open_cases (is_taken limits table entry.uri) (nat_le limits.max_docs others) (nat_lt limits.max_text (length entry.text)) e in
+    record { new = parts.0; few = leb-false limits.max_docs others parts.1; short = ltb-false limits.max_text (length entry.text) parts.2 }
 
 pub open_from : (limits : Bounds) (table : List DocumentItem) (entry : DocumentItem) → MayOpen limits table entry → open_refusal limits table entry ≡ None
-open_from limits table entry may = rw (may.new, lt-leb limits.max_docs (length table) may.few, le-ltb limits.max_text (length entry.text) may.short) refl
+open_from limits table entry may = rw (may.new, lt-leb limits.max_docs (length (after_close table entry.uri)) may.few, le-ltb limits.max_text (length entry.text) may.short) refl
 
 -- an open document, which a batch changes
 pub record MayChange (limits : Bounds) (units : ℕ → ℕ) (table : List DocumentItem) (uri : List ℕ) (version : ℤ) (batch : List Edit) : Type 0 where
@@ -69,7 +71,8 @@ pub greater_accepts : (small great : Bounds) (units : ℕ → ℕ) (entry : Docu
 greater_accepts small great units entry version batch within a =
     let few = within.changes in
     let short = within.text in
-    record { newer = a.newer; few = omega (arith, a.few, few); fits = a.fits; items = a.items; means = a.means; short = omega (arith, a.short, short) }
+    let newer = still_new small great within.lenient version entry.version a.newer in
+    record { newer = newer; few = omega (arith, a.few, few); fits = a.fits; items = a.items; means = a.means; short = omega (arith, a.short, short) }
 
 pub greater_entry : (small great : Bounds) (units : ℕ → ℕ) (entry : DocumentItem) (version : ℤ) (batch : List Edit) → AreWithin small great
     → entry_refusal small units entry version batch ≡ None → entry_refusal great units entry version batch ≡ None
@@ -87,7 +90,8 @@ greater_limits_law small great table (opens entry) within e =
     let m = open_parts small table entry e in
     let docs = within.docs in
     let text = within.text in
-    open_from great table entry (record { new = m.new; few = omega (arith, m.few, docs); short = omega (arith, m.short, text) })
+    let new = still_free small great within.lenient table entry.uri m.new in
+    open_from great table entry (record { new = new; few = omega (arith, m.few, docs); short = omega (arith, m.short, text) })
 greater_limits_law small great table (changes uri version encoding batch) within e = greater_change small great (units_in encoding) table uri version batch within e
 greater_limits_law small great table (closes uri) within e = e
 
@@ -123,9 +127,17 @@ within_at limits (first ∷ table) uri entry kept found =
     (λ (not : bytes_eq uri first.uri ≡ false). within_at limits table uri entry kept.1 (rw not at found))
     (cases_Bool (bytes_eq uri first.uri))
 
+within_last : (limits : Bounds) (table : List DocumentItem) (entry : DocumentItem) → AllWithin limits table → IsWithin limits entry → AllWithin limits (table ++ entry ∷ [])
+within_last limits [] entry kept is = (is, tt)
+within_last limits (first ∷ table) entry kept is = (kept.0, within_last limits table entry kept.1 is)
+
+pub within_close : (limits : Bounds) (table : List DocumentItem) (uri : List ℕ) → AllWithin limits table → AllWithin limits (after_close table uri)
+within_close limits [] uri kept = tt
+within_close limits (first ∷ table) uri kept =
+    ⊎_elim (λ (is : bytes_eq uri first.uri ≡ true). rw is kept.1) (λ (not : bytes_eq uri first.uri ≡ false). rw not (kept.0, within_close limits table uri kept.1)) (cases_Bool (bytes_eq uri first.uri))
+
 pub within_end : (limits : Bounds) (table : List DocumentItem) (entry : DocumentItem) → AllWithin limits table → IsWithin limits entry → AllWithin limits (after_open table entry)
-within_end limits [] entry kept is = (is, tt)
-within_end limits (first ∷ table) entry kept is = (kept.0, within_end limits table entry kept.1 is)
+within_end limits table entry kept is = within_last limits (after_close table entry.uri) entry (within_close limits table entry.uri kept) is
 
 -- the text that an accepted batch leaves, and that it is a text
 left_text : (limits : Bounds) (units : ℕ → ℕ) (entry : DocumentItem) (version : ℤ) (batch : List Edit) (a : Accepts limits units entry version batch) → meant_text entry.text (meaning units (chars entry.text) batch) ≡ bytes_left entry.text a.items
@@ -156,11 +168,6 @@ within_change limits units (first ∷ table) uri version batch texts kept e =
     rw not (kept.0, within_change limits units table uri version batch texts kept.1 later))
     (cases_Bool (bytes_eq uri first.uri))
 
-pub within_close : (limits : Bounds) (table : List DocumentItem) (uri : List ℕ) → AllWithin limits table → AllWithin limits (after_close table uri)
-within_close limits [] uri kept = tt
-within_close limits (first ∷ table) uri kept =
-    ⊎_elim (λ (is : bytes_eq uri first.uri ≡ true). rw is kept.1) (λ (not : bytes_eq uri first.uri ≡ false). rw not (kept.0, within_close limits table uri kept.1)) (cases_Bool (bytes_eq uri first.uri))
-
 change_many : (units : ℕ → ℕ) (table : List DocumentItem) (uri : List ℕ) (version : ℤ) (batch : List Edit) → length (after_change units table uri version batch) ≡ length table
 change_many units [] uri version batch = refl
 change_many units (first ∷ table) uri version batch =
@@ -174,7 +181,7 @@ close_many (first ∷ table) uri =
 pub within_law : WithinLaw
 within_law limits table (opens entry) kept many texts e =
     let m = open_parts limits table entry e in
-    (within_end limits table entry kept (record { utf8 = texts; short = m.short }), omega (arith, m.few, length-append table (entry ∷ [])))
+    (within_end limits table entry kept (record { utf8 = texts; short = m.short }), omega (arith, m.few, length-append (after_close table entry.uri) (entry ∷ [])))
 within_law limits table (changes uri version encoding batch) kept many texts e =
     (within_change limits (units_in encoding) table uri version batch texts kept e, omega (arith, many, change_many (units_in encoding) table uri version batch))
 within_law limits table (closes uri) kept many texts e = (within_close limits table uri kept, omega (arith, many, close_many table uri))
@@ -223,7 +230,7 @@ whole_accepts small great units entry version batch ranges within kept texts e =
     let text = within.text in
     let few = within.changes in
     record {
-      newer = a.newer;
+      newer = still_new small great within.lenient version entry.version a.newer;
       few = omega (arith, few, ranges.least_changes);
       fits = omega (arith, one_weighs bytes left.utf8, left.short, ranges.greatest_text);
       items = map New (chars bytes);
@@ -274,10 +281,6 @@ not_equal uri other not =
     (λ (differs : bytes_eq other uri ≡ false). differs)
     (cases_Bool (bytes_eq other uri))
 
-is_none : (found : Option DocumentItem) → is_some found ≡ false → found ≡ None
-is_none None e = refl
-is_none (Some entry) e = absurd (let bad : true ≡ false = e in cc)
-
 -- a URI that is not open first is open neither first nor later
 first_differs : (first : DocumentItem) (table : List DocumentItem) (uri : List ℕ) → entry_at (first ∷ table) uri ≡ None
     → (bytes_eq uri first.uri ≡ false) × (entry_at table uri ≡ None)
@@ -287,17 +290,17 @@ first_differs first table uri none =
     (λ (not : bytes_eq uri first.uri ≡ false). (not, rw not at none))
     (cases_Bool (bytes_eq uri first.uri))
 
-none_opened : (table : List DocumentItem) (entry : DocumentItem) (uri : List ℕ) → entry_at table uri ≡ None → bytes_eq uri entry.uri ≡ false → entry_at (after_open table entry) uri ≡ None
-none_opened [] entry uri none not = rw not refl
-none_opened (first ∷ table) entry uri none not =
+none_last : (table : List DocumentItem) (entry : DocumentItem) (uri : List ℕ) → entry_at table uri ≡ None → bytes_eq uri entry.uri ≡ false → entry_at (table ++ entry ∷ []) uri ≡ None
+none_last [] entry uri none not = rw not refl
+none_last (first ∷ table) entry uri none not =
     let parts = first_differs first table uri none in
-    rw parts.0 (none_opened table entry uri parts.1 not)
+    rw parts.0 (none_last table entry uri parts.1 not)
 
-unique_opened : (table : List DocumentItem) (entry : DocumentItem) → AreUnique table → entry_at table entry.uri ≡ None → AreUnique (after_open table entry)
-unique_opened [] entry unique new = (refl, tt)
-unique_opened (first ∷ table) entry unique new =
+unique_last : (table : List DocumentItem) (entry : DocumentItem) → AreUnique table → entry_at table entry.uri ≡ None → AreUnique (table ++ entry ∷ [])
+unique_last [] entry unique new = (refl, tt)
+unique_last (first ∷ table) entry unique new =
     let parts = first_differs first table entry.uri new in
-    (none_opened table entry first.uri unique.0 (not_equal entry.uri first.uri parts.0), unique_opened table entry unique.1 parts.1)
+    (none_last table entry first.uri unique.0 (not_equal entry.uri first.uri parts.0), unique_last table entry unique.1 parts.1)
 
 none_changed : (units : ℕ → ℕ) (table : List DocumentItem) (uri : List ℕ) (version : ℤ) (batch : List Edit) (other : List ℕ) → entry_at table other ≡ None → entry_at (after_change units table uri version batch) other ≡ None
 none_changed units [] uri version batch other none = refl
@@ -333,9 +336,20 @@ unique_closed (first ∷ table) uri unique =
     (λ (not : bytes_eq uri first.uri ≡ false). rw not (none_closed table uri first.uri unique.0, unique_closed table uri unique.1))
     (cases_Bool (bytes_eq uri first.uri))
 
+-- a closed document is not open
+none_left : (table : List DocumentItem) (uri : List ℕ) → AreUnique table → entry_at (after_close table uri) uri ≡ None
+none_left [] uri unique = refl
+none_left (first ∷ table) uri unique =
+    ⊎_elim
+    (λ (is : bytes_eq uri first.uri ≡ true).
+    let same : first.uri ≡ uri = sym ((bytes_eq-Decides uri first.uri).0 is) in
+    rw is (subst (λ (key : List ℕ). entry_at table key ≡ None) same unique.0))
+    (λ (not : bytes_eq uri first.uri ≡ false). rw (not, not) (none_left table uri unique.1))
+    (cases_Bool (bytes_eq uri first.uri))
+
 pub unique_law : UniqueLaw
 unique_law limits table (opens entry) unique e =
-    unique_opened table entry unique (is_none (entry_at table entry.uri) (open_parts limits table entry e).new)
+    unique_last (after_close table entry.uri) entry (unique_closed table entry.uri unique) (none_left table entry.uri unique)
 unique_law limits table (changes uri version encoding batch) unique e = unique_changed (units_in encoding) table uri version batch unique
 unique_law limits table (closes uri) unique e = unique_closed table uri unique
 

@@ -1,3 +1,4 @@
+pub mod LenientLemmas
 pub mod TableLemmas
 pub mod RefusalLemmas
 pub mod StoreLemmas

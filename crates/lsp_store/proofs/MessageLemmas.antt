@@ -1,5 +1,5 @@
 -- The canonical message of a batch that is accepted on an open document.
-use Rattle.std.proofs.Common.{ℕ, ℤ, ◌≡◌, ◌<◌, ◌≤◌, ◌^◌, ◌↔◌, true, false, ◌||◌, nat_lt, int_le, List, [], ◌∷◌, ◌++◌, length, map, sum_by, FitsSigned, IsUtf8, bytes_eq, string_bytes, encode_utf8_all, Option, Some, None, Result, Ok, Err, refl, sym, ap, ◌∙◌, subst, arith, ⊎_elim, inl, inr}
+use Rattle.std.proofs.Common.{ℕ, ℤ, ◌≡◌, ◌<◌, ◌≤◌, ◌^◌, ◌↔◌, true, false, ◌||◌, nat_lt, List, [], ◌∷◌, ◌++◌, length, map, sum_by, FitsSigned, IsUtf8, bytes_eq, string_bytes, encode_utf8_all, Option, Some, None, Result, Ok, Err, refl, sym, ap, ◌∙◌, subst, arith, ⊎_elim, inl, inr}
 use Rattle.std.proofs.lemmas.Bool.{cases_Bool, lt-ltb, le-ltb, ltb-false, or_parts, or_from}
 use Rattle.std.proofs.lemmas.List.Sums.{sum_by-le-sum_by}
 use Rattle.std.proofs.lemmas.Str.{IsUtf8-string_bytes, encodes-chars, encodes_same, scalars-chars}
@@ -30,7 +30,7 @@ use Rattle.lsp_message.specs.Sent.{IsProper, IsReadAsSent, IsReadBack}
 use Rattle.lsp_store.specs.declared.fault.StoreFault.{StoreFault}
 use Rattle.lsp_store.specs.declared.fault.StoreFault.TheVariants.{NoMemory}
 use Rattle.lsp_store.specs.Faults.{store_fault_of_encode, IsRefusal}
-use Rattle.lsp_store.specs.Table.{IsLeftToMeaning, Refusal, stale_version, too_many_changes, text_too_long, edit, batch_bytes, greatest_batch, entry_at, entry_refusal, change_refusal, after_change, changed, meaning_refusal}
+use Rattle.lsp_store.specs.Table.{IsLeftToMeaning, Refusal, stale_version, too_many_changes, text_too_long, edit, batch_bytes, greatest_batch, entry_at, entry_refusal, change_refusal, after_change, changed, is_stale, meaning_refusal}
 use Rattle.lsp_store.specs.Message.{AreTexts, DoAlike, IsCanonicalOn, IsReadAgain, IsCanonicalOf, body_refusal, canonical_batch, canonical_body, canonical_frame, change_body, change_message, else_refused, message_refusal, written_edit}
 use Rattle.lsp_store.proofs.FrameLemmas.{frame_one}
 use Rattle.lsp_store.proofs.ProperLemmas.{bytes_sum, canonical_proper}
@@ -109,7 +109,7 @@ first_told None later fault error = ⊎_elim (λ (e : fault ≡ NoMemory). inl e
 
 -- What an accepted batch means on a document.
 pub record Accepts (limits : Bounds) (units : ℕ → ℕ) (entry : DocumentItem) (version : ℤ) (batch : List Edit) : Type 0 where
-  pub newer : int_le version entry.version ≡ false
+  pub newer : is_stale limits version entry.version ≡ false
   pub few : length batch ≤ limits.max_changes
   pub fits : batch_bytes batch ≤ greatest_batch
   pub items : List Item
@@ -125,9 +125,9 @@ meaning_parts limits text (Ok items) e =
 
 pub accepted_parts : (limits : Bounds) (units : ℕ → ℕ) (entry : DocumentItem) (version : ℤ) (batch : List Edit) → entry_refusal limits units entry version batch ≡ None → Accepts limits units entry version batch
 accepted_parts limits units entry version batch e =
-    ⊎_elim (λ (stale : int_le version entry.version ≡ true). let bad : Some (stale_version entry.version) ≡ None = rw stale at e in absurd (cc)) by (cases_Bool (int_le version entry.version))
+    ⊎_elim (λ (stale : is_stale limits version entry.version ≡ true). let bad : Some (stale_version entry.version) ≡ None = rw stale at e in absurd (cc)) by (cases_Bool (is_stale limits version entry.version))
   where
-    by : int_le version entry.version ≡ false → Accepts limits units entry version batch
+    by : is_stale limits version entry.version ≡ false → Accepts limits units entry version batch
     by newer =
         ⊎_elim
         (λ (many : (nat_lt limits.max_changes (length batch) || nat_lt greatest_batch (batch_bytes batch)) ≡ true). let bad : Some too_many_changes ≡ None = rw (newer, many) at e in absurd (cc))

@@ -1,5 +1,5 @@
 -- Which refusal of a batch stands first.
-use Rattle.std.proofs.Common.{◌≡◌, ◌≤◌, ◌+◌, ℕ, ℤ, Bool, true, false, ◌||◌, nat_lt, int_le, List, [], ◌∷◌, length, map, sum_by, string_bytes, string_len, encode_utf8_all, Some, None, option_map, Result, Ok, Err, refl, sym, ap, ◌∙◌, arith, ◌<◌, ◌↔◌, IsTrue, ◌⊎◌, ⊎_elim, inl, inr}
+use Rattle.std.proofs.Common.{◌≡◌, ◌≤◌, ◌+◌, ℕ, ℤ, Bool, true, false, ◌||◌, nat_lt, List, [], ◌∷◌, length, map, sum_by, string_bytes, string_len, encode_utf8_all, Some, None, option_map, Result, Ok, Err, refl, sym, ap, ◌∙◌, arith, ◌<◌, ◌↔◌, IsTrue, ◌⊎◌, ⊎_elim, inl, inr}
 use Rattle.std.proofs.lemmas.Bool.{lt-ltb, le-ltb, or_left, or_right, or_from, cases_lt, cases_Bool, true≢false, ltb-false}
 use Rattle.std.proofs.lemmas.List.{length-map}
 use Rattle.std.proofs.lemmas.List.Sums.{sum_by-cons}
@@ -14,10 +14,10 @@ use Rattle.lsp_edit.specs.Faults.{fault_at}
 use Rattle.lsp_edit.specs.Indexed.{bytes_left, text_within}
 use Rattle.lsp_edit.specs.Batch.{Edit, Fault, meaning}
 use Rattle.lsp_edit.specs.Edited.{edit_of}
-use Rattle.lsp_store.specs.declared.fault.StoreFault.TheVariants.{TooManyChanges}
+use Rattle.lsp_store.specs.declared.fault.StoreFault.TheVariants.{StaleVersion, TooManyChanges}
 use Rattle.lsp_store.specs.Faults.{fault_of, store_fault_of, IsRefusal}
 use Rattle.lsp_message.specs.Params.{DocumentItem}
-use Rattle.lsp_store.specs.Table.{too_many_changes, batch_bytes, greatest_batch, entry_refusal, meaning_refusal, meant_text}
+use Rattle.lsp_store.specs.Table.{too_many_changes, batch_bytes, greatest_batch, is_stale, entry_refusal, meaning_refusal, meant_text}
 
 -- the changes of a batch have together so many bytes
 pub batch_bytes-changes : (changes : List Change) → batch_bytes (map edit_of changes) ≡ sum_by (λ change. string_len change.text) changes
@@ -27,12 +27,16 @@ batch_bytes-changes (c ∷ cs) =
     ∙ (ap (λ n. n + batch_bytes (map edit_of cs)) (ap length (encodes-chars (string_bytes c.text) (IsUtf8-string_bytes c.text)) ∙ sym c.text.bytes.ok.0)
     ∙ (ap (λ n. string_len c.text + n) (batch_bytes-changes cs) ∙ sym (sum_by-cons (λ (c : Change). string_len c.text) c cs)))
 
-module _ (limits : Bounds) (units : ℕ → ℕ) (entry : DocumentItem) (version : ℤ) (batch : List Edit) (newer : int_le version entry.version ≡ false) where
+module _ (limits : Bounds) (units : ℕ → ℕ) (entry : DocumentItem) (version : ℤ) (batch : List Edit) (newer : is_stale limits version entry.version ≡ false) where
   pub refused_many : (nat_lt limits.max_changes (length batch) || nat_lt greatest_batch (batch_bytes batch)) ≡ true → entry_refusal limits units entry version batch ≡ Some too_many_changes
   refused_many many = rw (newer, many) refl
 
   pub refused_meaning : (nat_lt limits.max_changes (length batch) || nat_lt greatest_batch (batch_bytes batch)) ≡ false → entry_refusal limits units entry version batch ≡ meaning_refusal limits entry.text (meaning units (chars entry.text) batch)
   refused_meaning few = rw (newer, few) refl
+
+pub stale_refused : (limits : Bounds) (units : ℕ → ℕ) (entry : DocumentItem) (version given held : ℤ) (batch : List Edit) → given ≡ version → held ≡ entry.version → is_stale limits given entry.version ≡ true
+    → option_map fault_of (entry_refusal limits units entry version batch) ≡ Some (StaleVersion held)
+stale_refused limits units entry version given held batch same current stale = rw (rw same at stale, current) refl
 
 -- ---- the same, of the changes that a call was given
 
@@ -51,7 +55,7 @@ module _ (limits : Bounds) (changes : List Change) where
       or_from _ _ (le-ltb limits.max_changes (length (map edit_of changes)) (omega (arith, few, length-map changes edit_of)))
       (le-ltb greatest_batch (batch_bytes (map edit_of changes)) (omega (arith, fits, batch_bytes-changes changes)))
 
-  module _ (units : ℕ → ℕ) (entry : DocumentItem) (version given stored : ℤ) (given_is : given ≡ version) (held_is : stored ≡ entry.version) (newer : int_le given stored ≡ false) where
+  module _ (units : ℕ → ℕ) (entry : DocumentItem) (version given stored : ℤ) (given_is : given ≡ version) (held_is : stored ≡ entry.version) (newer : is_stale limits given stored ≡ false) where
     pub many_refused : limits.max_changes < length changes → option_map fault_of (entry_refusal limits units entry version (map edit_of changes)) ≡ Some TooManyChanges
     many_refused many = ap (option_map fault_of) (refused_many limits units entry version (map edit_of changes) (rw (given_is, held_is) at newer) (many_told many))
 

@@ -1,5 +1,5 @@
 -- Batches of changes on one document, as one: what the fields that are kept are.
-use Rattle.std.proofs.Common.{ℕ, ℤ, ◌≡◌, ◌≤◌, true, false, nat_lt, int_le, if◌then◌else◌, List, [], ◌++◌, length, sum_by, IsUtf8, encode_utf8_all, Option, None, Some, Ok, Err, ◌⊎◌, refl, sym, ap, ap₂, ◌∙◌, subst, arith}
+use Rattle.std.proofs.Common.{ℕ, ℤ, ◌≡◌, ◌≤◌, true, false, nat_lt, if◌then◌else◌, List, [], ◌++◌, length, sum_by, IsUtf8, encode_utf8_all, Option, None, Some, Ok, Err, ◌⊎◌, refl, sym, ap, ap₂, ◌∙◌, subst, arith}
 use Rattle.std.proofs.lemmas.Bool.{le-ltb}
 use Rattle.std.proofs.lemmas.List.Sums.{sum_by-le-sum_by}
 use Rattle.std.proofs.lemmas.Str.{chars-encodes, encodes-chars, scalars-chars}
@@ -31,7 +31,7 @@ use Rattle.lsp_store.specs.Opened.{StoreData, entry_under}
 use Rattle.lsp_store.specs.Plan.{IsPlanOf, IsPlanOn}
 use Rattle.lsp_store.specs.Squash.{HasReached, IsSquashAfter, SquashData, add_refusal, reached_entry, squash_after, items_meant, squash_batch, squash_of, squash_refusal}
 use Rattle.lsp_message.specs.Params.{DocumentItem}
-use Rattle.lsp_store.specs.Table.{IsLeftToMeaning, Refusal, batch_bytes, changed, greatest_batch, entry_refusal, meant_text, too_many_changes}
+use Rattle.lsp_store.specs.Table.{IsLeftToMeaning, Refusal, batch_bytes, changed, greatest_batch, entry_refusal, is_stale, meant_text, too_many_changes}
 use Rattle.lsp_store.proofs.MessageLemmas.{accepted_parts}
 use Rattle.lsp_store.proofs.ProperLemmas.{bytes_sum}
 use Rattle.lsp_store.proofs.RefusalLemmas.{meaning_accepted, only_memory}
@@ -114,7 +114,7 @@ module _ (uri : List ℕ) (limits : Bounds) (encoding : Encoding) (joined : Join
 
 module _ (limits : Bounds) (encoding : Encoding) (entry : DocumentItem) (version : ℤ) (batch : List Edit) (items : List Item)
     (means : meaning (units_in encoding) (chars entry.text) batch ≡ Ok items)
-    (newer : int_le version entry.version ≡ false)
+    (newer : is_stale limits version entry.version ≡ false)
     (short : length (bytes_left entry.text items) ≤ limits.max_text) (within : limits.max_text ≤ 1073741824)
     (few : nat_lt limits.max_changes (length (canonical (units_in encoding) (chars entry.text) items)) ≡ false) where
   all_law : IsCanonical (units_in encoding) (chars entry.text) batch items

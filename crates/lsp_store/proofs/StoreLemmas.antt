@@ -1,12 +1,13 @@
 -- What the calls of a store make of it.
-use Rattle.std.proofs.Common.{◌≡◌, ◌≤◌, ◌<◌, ℕ, ℤ, true, false, List, length, map, Option, Some, None, option_map, is_some, slice_get, String, string_bytes, refl, sym, ap, ◌∙◌, subst, ⊎_elim, inr}
-use Rattle.std.proofs.lemmas.Bool.{cases_Bool, lt-ltb, le-ltb, le-leb, lt-leb}
-use Rattle.std.proofs.lemmas.List.{length-map}
+use Rattle.std.proofs.Common.{◌≡◌, ◌≤◌, ◌<◌, ◌+◌, ◌-◌, ℕ, ℤ, Bool, true, false, not, ◌&&◌, List, [], ◌∷◌, length, map, Option, Some, None, Ok, option_map, is_some, slice_get, String, string_bytes, refl, sym, ap, ◌∙◌, subst, arith, inr}
+use Rattle.std.proofs.lemmas.Bool.{lt-ltb, le-ltb, le-leb, lt-leb}
+use Rattle.std.proofs.lemmas.List.{length-append, length-map}
 use Rattle.std.proofs.lemmas.Option.{slice_get-map}
-use Rattle.std.specs.Map.{lookup, lookup_key, set_value, remove_entry}
+use Rattle.std.specs.List.{position_or_len}
+use Rattle.std.specs.Map.{keys_of, lookup, lookup_key, set_value, remove_entry}
 use Rattle.std.specs.String.{string_eq}
 use Rattle.std.specs.declared.alloc.Global.{Global}
-use Rattle.indexmap.specs.IndexMap.{insert_entry}
+use Rattle.indexmap.specs.IndexMap.{insert_entry, move_index}
 use Rattle.lsp_frame.specs.Limits.{Bounds}
 use Rattle.lsp_text.specs.declared.encoding.Encoding.{Encoding}
 use Rattle.lsp_text.specs.Units.{units_in}
@@ -16,19 +17,30 @@ use Rattle.lsp_store.specs.declared.fault.StoreFault.TheVariants.{AlreadyOpen, T
 use Rattle.lsp_store.specs.declared.store.stored.Stored.{Stored}
 use Rattle.lsp_store.specs.Faults.{fault_of, IsRefusal}
 use Rattle.lsp_message.specs.Params.{DocumentItem}
-use Rattle.lsp_store.specs.Table.{IsLeftToMeaning, Refusal, entry_at, open_refusal, entry_refusal, change_refusal, changed, already_open, opens, changes, closes}
+use Rattle.lsp_store.specs.Table.{IsLeftToMeaning, Refusal, entry_at, is_taken, open_refusal, entry_refusal, change_refusal, changed, after_close, after_open, unless_refused, opens, changes, closes}
 use Rattle.lsp_store.specs.Opened.{MayTakeMemory, StoreData, Takes, IsRefused, entry_under, entry_of}
-use Rattle.lsp_store.proofs.TableLemmas.{at_uri, entry_at-lookup, is_some-entry_at, entry_found, table-insert_entry, table-set_value, set_value-found, table-remove_entry}
+use Rattle.lsp_store.proofs.TableLemmas.{at_uri, entry_at-lookup, is_some-entry_at, entry_found, table-opened, others_all, others_but_one, table-set_value, set_value-found, table-remove_entry}
 
 -- what callers see of the fields
 abbrev pub seen : Bounds → List (String Global × Stored) → StoreData
 seen limits es = record { limits = limits; table = map entry_of es }
 
--- a document that may be opened is not open
-new_from_open : (limits : Bounds) (table : List DocumentItem) (entry : DocumentItem) → open_refusal limits table entry ≡ None → is_some (entry_at table entry.uri) ≡ false
-new_from_open limits table entry may =
-    ⊎_elim (λ (is : is_some (entry_at table entry.uri) ≡ true). let bad : Some already_open ≡ None = rw is at may in absurd (cc)) (λ (not : is_some (entry_at table entry.uri) ≡ false). not)
-    (cases_Bool (is_some (entry_at table entry.uri)))
+-- ---- whether a document may be opened
+
+module _ (limits : Bounds) (table : List DocumentItem) (entry : DocumentItem) where
+  pub taken_refused : is_taken limits table entry.uri ≡ true → option_map fault_of (open_refusal limits table entry) ≡ Some AlreadyOpen
+  taken_refused taken = rw taken refl
+
+  module _ (free : is_taken limits table entry.uri ≡ false) where
+    pub many_refused : limits.max_docs ≤ length (after_close table entry.uri) → option_map fault_of (open_refusal limits table entry) ≡ Some TooManyDocuments
+    many_refused many = rw (free, le-leb limits.max_docs (length (after_close table entry.uri)) many) refl
+
+    module _ (few : length (after_close table entry.uri) < limits.max_docs) where
+      pub long_refused : limits.max_text < length entry.text → option_map fault_of (open_refusal limits table entry) ≡ Some TextTooLong
+      long_refused long = rw (free, lt-leb limits.max_docs (length (after_close table entry.uri)) few, lt-ltb limits.max_text (length entry.text) long) refl
+
+      pub open_accepted : length entry.text ≤ limits.max_text → open_refusal limits table entry ≡ None
+      open_accepted short = rw (free, lt-leb limits.max_docs (length (after_close table entry.uri)) few, le-ltb limits.max_text (length entry.text) short) refl
 
 module _ (limits : Bounds) (es : List (String Global × Stored)) (kept : StoreData) (view : seen limits es ≡ kept) where
   -- ---- looking a document up
@@ -44,36 +56,46 @@ module _ (limits : Bounds) (es : List (String Global × Stored)) (kept : StoreDa
 
   -- ---- opening
 
-  module _ (entry : DocumentItem) where
-    seen_open : {A : Type 0} (of : Option Refusal → A) → of (open_refusal limits (map entry_of es) entry) ≡ of (open_refusal kept.limits kept.table entry)
-    seen_open of = ap (λ (d : StoreData). of (open_refusal d.limits d.table entry)) view
+  taken_is : (uri : List ℕ) → (not limits.lenient && is_some (lookup (at_uri uri) es)) ≡ is_taken kept.limits kept.table uri
+  taken_is uri = ap (λ (found : Bool). not limits.lenient && found) (sym (is_some-entry_at uri es)) ∙ ap (λ (d : StoreData). is_taken d.limits d.table uri) view
 
-    pub known_refused : is_some (lookup (at_uri entry.uri) es) ≡ true → option_map fault_of (open_refusal kept.limits kept.table entry) ≡ Some AlreadyOpen
-    known_refused is = sym (seen_open (option_map fault_of)) ∙ rw (is_some-entry_at entry.uri es, is) refl
+  pub taken_strict : (uri : List ℕ) → limits.lenient ≡ false → is_some (lookup (at_uri uri) es) ≡ is_taken kept.limits kept.table uri
+  taken_strict uri strict = ap (λ (lenient : Bool). not lenient && is_some (lookup (at_uri uri) es)) (sym strict) ∙ taken_is uri
 
-    pub many_refused : is_some (lookup (at_uri entry.uri) es) ≡ false → limits.max_docs ≤ length es → option_map fault_of (open_refusal kept.limits kept.table entry) ≡ Some TooManyDocuments
-    many_refused not many = sym (seen_open (option_map fault_of)) ∙ rw (is_some-entry_at entry.uri es, not, length-map es entry_of, le-leb limits.max_docs (length es) many) refl
+  pub taken_never : (uri : List ℕ) → limits.lenient ≡ true → false ≡ is_taken kept.limits kept.table uri
+  taken_never uri lenient = ap (λ (lenient : Bool). not lenient && is_some (lookup (at_uri uri) es)) (sym lenient) ∙ taken_is uri
 
-    pub long_refused : is_some (lookup (at_uri entry.uri) es) ≡ false → length es < limits.max_docs → limits.max_text < length entry.text → option_map fault_of (open_refusal kept.limits kept.table entry) ≡ Some TextTooLong
-    long_refused not few long =
-        sym (seen_open (option_map fault_of))
-        ∙ rw (is_some-entry_at entry.uri es, not, length-map es entry_of, lt-leb limits.max_docs (length es) few, lt-ltb limits.max_text (length entry.text) long) refl
+  others_seen : (uri : List ℕ) (count : ℕ) → length (after_close (map entry_of es) uri) ≡ count → length (after_close kept.table uri) ≡ count
+  others_seen uri count is = sym (ap (λ (d : StoreData). length (after_close d.table uri)) view) ∙ is
 
-    pub open_accepted : is_some (lookup (at_uri entry.uri) es) ≡ false → length es < limits.max_docs → length entry.text ≤ limits.max_text → open_refusal kept.limits kept.table entry ≡ None
-    open_accepted not few short =
-        sym (seen_open (λ (r : Option Refusal). r))
-        ∙ rw (is_some-entry_at entry.uri es, not, length-map es entry_of, lt-leb limits.max_docs (length es) few, le-ltb limits.max_text (length entry.text) short) refl
+  pub others_new : (uri : List ℕ) → is_some (lookup (at_uri uri) es) ≡ false → length (after_close kept.table uri) ≡ length es
+  others_new uri new = others_seen uri (length es) (ap length (others_all (map entry_of es) uri (is_some-entry_at uri es ∙ new)) ∙ length-map es entry_of)
 
-  pub opened : (uri : String Global) (stored : Stored) (entry : DocumentItem) → entry_under (string_bytes uri) stored ≡ entry → open_refusal kept.limits kept.table entry ≡ None → (next : List (String Global × Stored)) → next ≡ insert_entry string_eq es uri stored
-      → Takes kept (opens entry) (seen limits next)
-  opened uri stored entry is may next inserted =
-      subst (λ (d : StoreData). Takes d (opens entry) (seen limits next)) view (record {
-        table =
-            let free : open_refusal limits (map entry_of es) entry ≡ None = seen_open entry (λ (r : Option Refusal). r) ∙ may in
-            let new : is_some (entry_at (map entry_of es) (string_bytes uri)) ≡ false = ap (λ (e : DocumentItem). is_some (entry_at (map entry_of es) e.uri)) is ∙ new_from_open limits (map entry_of es) entry free in
-            rw (free, inserted, table-insert_entry es uri stored new, is) refl;
-        limits = refl;
-      })
+  pub others_open : (uri : List ℕ) → is_some (lookup (at_uri uri) es) ≡ true → length (after_close kept.table uri) + 1 ≡ length es
+  others_open uri is =
+      ap (λ n. n + 1) (others_seen uri (length (after_close (map entry_of es) uri)) refl) ∙ (others_but_one (map entry_of es) uri (is_some-entry_at uri es ∙ is) ∙ length-map es entry_of)
+
+  module _ (uri : String Global) (stored : Stored) (entry : DocumentItem) (is : entry_under (string_bytes uri) stored ≡ entry) (index : ℕ) (put next : List (String Global × Stored))
+      (index_is : index ≡ position_or_len (string_eq uri) (keys_of es)) (put_is : put ≡ insert_entry string_eq es uri stored) (next_is : next ≡ move_index put index (length put - 1)) where
+    opened_table : map entry_of next ≡ after_open (map entry_of es) entry
+    opened_table =
+        ap (map entry_of) next_is ∙ ((λ i. map entry_of (move_index (put_is i) (index_is i) (length (put_is i) - 1)))
+        ∙ (table-opened es uri stored ∙ ap (after_open (map entry_of es)) is))
+
+    pub opened : open_refusal kept.limits kept.table entry ≡ None → Takes kept (opens entry) (seen limits next)
+    opened may =
+        subst (λ (d : StoreData). Takes d (opens entry) (seen limits next)) view (record {
+          table =
+              ap (λ (r : Option Refusal). unless_refused r (after_open (map entry_of es) entry)) (ap (λ (d : StoreData). open_refusal d.limits d.table entry) view ∙ may)
+              ∙ ap Ok (sym opened_table);
+          limits = refl;
+        })
+
+    pub opened_few : length (after_close kept.table entry.uri) < kept.limits.max_docs → length next ≤ limits.max_docs
+    opened_few few =
+        let here : length (after_close (map entry_of es) entry.uri) < limits.max_docs
+        = subst (λ (d : StoreData). length (after_close d.table entry.uri) < d.limits.max_docs) (sym view) few in
+        omega (arith, here, sym (length-map next entry_of), ap length opened_table, length-append (after_close (map entry_of es) entry.uri) (entry ∷ []))
 
   -- ---- changing
 

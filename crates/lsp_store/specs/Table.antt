@@ -1,7 +1,7 @@
 -- The table of open documents, in order of opening (LSP 3.17, Text Document Synchronization). The
 -- definitions say which command on it is refused and why, and what the result of an accepted one
 -- is.
-use Rattle.std.specs.Prelude.{ℕ, ℤ, ◌≡◌, ◌||◌, if◌then◌else◌, nat_lt, nat_le, int_le, List, [], ◌∷◌, ◌++◌, length, sum_by, encode_utf8_all, Option, Some, None, is_some, Result, Ok, Err}
+use Rattle.std.specs.Prelude.{ℕ, ℤ, ◌≡◌, Bool, not, ◌&&◌, ◌||◌, if◌then◌else◌, nat_lt, nat_le, int_le, List, [], ◌∷◌, ◌++◌, length, sum_by, encode_utf8_all, Option, Some, None, is_some, Result, Ok, Err}
 use Rattle.std.specs.Str.{bytes_eq, chars}
 use Rattle.lsp_frame.specs.Limits.{Bounds}
 use Rattle.lsp_text.specs.declared.encoding.Encoding.{Encoding}
@@ -24,20 +24,34 @@ abbrev pub entry_at : List DocumentItem → List ℕ → Option DocumentItem
 entry_at [] uri = None
 entry_at (entry ∷ table) uri = if bytes_eq uri entry.uri then Some entry else entry_at table uri
 
+-- The table without the document of a URI; the others keep their order.
+abbrev pub after_close : List DocumentItem → List ℕ → List DocumentItem
+after_close [] uri = []
+after_close (entry ∷ table) uri = if bytes_eq uri entry.uri then table else
+    entry ∷ after_close table uri
+
 -- ---- opening (DidOpenTextDocument)
 
--- Why opening a document is refused: it is open, or there are too many documents, or its text is
--- too long.
+-- How many documents with other URIs are open.
+abbrev pub other_count : List DocumentItem → List ℕ → ℕ
+other_count table uri = length (after_close table uri)
+
+-- A URI is taken where its document is open. Where lenient none is.
+abbrev pub is_taken : Bounds → List DocumentItem → List ℕ → Bool
+is_taken limits table uri = not limits.lenient && is_some (entry_at table uri)
+
+-- Why opening a document is refused: it is open, or there are too many others, or its text is too
+-- long.
 abbrev pub open_refusal : Bounds → List DocumentItem → DocumentItem → Option Refusal
 open_refusal limits table entry =
-    if is_some (entry_at table entry.uri) then Some already_open
-    else if nat_le limits.max_docs (length table) then Some too_many_documents
+    if is_taken limits table entry.uri then Some already_open
+    else if nat_le limits.max_docs (other_count table entry.uri) then Some too_many_documents
     else if nat_lt limits.max_text (length entry.text) then Some text_too_long
     else None
 
--- An opened document comes last.
+-- An opened document comes last, and replaces an open one of its URI.
 abbrev pub after_open : List DocumentItem → DocumentItem → List DocumentItem
-after_open table entry = table ++ entry ∷ []
+after_open table entry = after_close table entry.uri ++ entry ∷ []
 
 -- ---- changing (DidChangeTextDocument); a character `c` of a text has `units c` units
 
@@ -56,16 +70,20 @@ meaning_refusal limits text (Err fault) = Some (edit fault.0 fault.1)
 meaning_refusal limits text (Ok items)
     = if nat_lt limits.max_text (length (bytes_left text items)) then Some text_too_long else None
 
--- Why a batch on a document is refused: a version that isn't greater, too many changes or too long
--- ones, or its meaning.
+-- A version is stale where it isn't greater than the current one. Where lenient none is.
+abbrev pub is_stale : Bounds → ℤ → ℤ → Bool
+is_stale limits version current = not limits.lenient && int_le version current
+
+-- Why a batch on a document is refused: a stale version, too many changes or too long ones, or its
+-- meaning.
 abbrev pub entry_refusal : Bounds → (ℕ → ℕ) → DocumentItem → ℤ → List Edit → Option Refusal
 entry_refusal limits units entry version batch =
-    if int_le version entry.version then Some (stale_version entry.version)
+    if is_stale limits version entry.version then Some (stale_version entry.version)
     else if nat_lt limits.max_changes (length batch)
     || nat_lt greatest_batch (batch_bytes batch) then Some too_many_changes
     else meaning_refusal limits entry.text (meaning units (chars entry.text) batch)
 
--- Only its meaning can refuse a batch: the version is greater, and there are not too many changes
+-- Only its meaning can refuse a batch: the version isn't stale, and there are not too many changes
 -- nor too long ones.
 abbrev pub IsLeftToMeaning : Bounds → DocumentItem → ℤ → List Edit → Type 0
 IsLeftToMeaning limits entry version batch =
@@ -109,12 +127,6 @@ after_change units (entry ∷ table) uri version batch =
 -- Why closing a document is refused: it isn't open.
 abbrev pub close_refusal : List DocumentItem → List ℕ → Option Refusal
 close_refusal table uri = if is_some (entry_at table uri) then None else Some not_open
-
--- The table without a closed document; the others keep their order.
-abbrev pub after_close : List DocumentItem → List ℕ → List DocumentItem
-after_close [] uri = []
-after_close (entry ∷ table) uri = if bytes_eq uri entry.uri then table else
-    entry ∷ after_close table uri
 
 -- ---- commands
 

@@ -11,7 +11,7 @@ use thiserror::Error;
 /// Why a call of the store is refused. A refused call changes nothing.
 #[derive(Clone, Copy, Debug, PartialEq, Eq, Error)]
 pub enum StoreFault {
-    /// S1: a document with this URI is open.
+    /// S1: a document with this URI is open, and the limits are strict.
     #[error("the document is open already")]
     AlreadyOpen,
     /// S2: `max_docs` documents are open.
@@ -23,7 +23,7 @@ pub enum StoreFault {
     /// S4: no document with this URI is open.
     #[error("the document is not open")]
     NotOpen,
-    /// S5: the version is not greater than the current one.
+    /// S5: the version is not greater than the current one, and the limits are strict.
     #[error("the version is not greater than {held}")]
     StaleVersion { held: i32 },
     /// S6: there are more than `max_changes` changes, or their texts together have more than

@@ -11,7 +11,7 @@ pub(crate) mod batches;
 pub(crate) mod reached;
 
 use crate::fault::StoreFault;
-use crate::store::canonical::framed_batch;
+use crate::store::canonical::batch_frame;
 use crate::store::document::Document;
 use crate::store::stored::Stored;
 use lsp_edit::{Change, Joined};
@@ -69,7 +69,7 @@ impl Squash {
         let stored = document.stored;
         let uri = String::from_str(alloc, document.uri)?;
         let joined = Joined::over(alloc, &stored.text)?;
-        let text = stored.text.copied(alloc)?;
+        let text = stored.text.clone_in(alloc)?;
         let reached = Stored {
             language: String::new(alloc),
             version: stored.version,
@@ -127,6 +127,6 @@ impl Squash {
         let batch = self.joined.canonical(self.encoding)?;
         let alloc = *self.uri.allocator();
         let version = self.reached.version;
-        framed_batch(alloc, &self.limits, &self.uri, version, batch)
+        batch_frame(alloc, &self.limits, &self.uri, version, batch)
     }
 }

@@ -5,7 +5,7 @@ ghost use Rattle.lsp_edit.specs.Batch.{Edit};
 ghost use Rattle.lsp_edit.specs.Edited.{edit_of};
 ghost use Rattle.lsp_store.specs.declared.fault.StoreFault.TheVariants.{NotOpen, NoMemory};
 ghost use Rattle.lsp_message.specs.Params.{DocumentItem};
-ghost use Rattle.lsp_store.specs.Table.{entry_at, open_refusal, opens, changes as changing, closes};
+ghost use Rattle.lsp_store.specs.Table.{entry_at, is_taken, open_refusal, opens, other_count, changes as changing, closes};
 ghost use Rattle.lsp_store.specs.Opened.{IsRefused, MayTakeMemory, Takes};
 ghost use Rattle.lsp_store.specs.Faults.{fault_of};
 ghost use Rattle.lsp_store.specs.Plan.{IsPlanOf, IsPlanOn, after_plan};
@@ -109,7 +109,7 @@ impl Store {
     /// Checks whether [`Store::open`] would accept a document of this URI and text, whatever its
     /// language and version.
     ///
-    /// Refuses as `open` does, in the same order. Takes no memory. Costs one hash look-up.
+    /// Refuses as `open` does, in the same order. Takes no memory. Costs two hash look-ups.
     pub fn may_open(&self, uri: &str, text: &str) -> Result<(), StoreFault>
         ensures may { OnOk result ((language : List ℕ) (version : ℤ) →
             open_refusal self.now.limits self.now.table
@@ -120,13 +120,13 @@ impl Store {
             (record { uri = uri.now; language = language; version = version; text = text.now }))
             ≡ Some fault) }
         ensures short { OnOk result (length text.now ≤ 1073741824) }
-        ensures room { OnOk result (length self.now.table < self.now.limits.max_docs) }
+        ensures room { OnOk result (other_count self.now.table uri.now < self.now.limits.max_docs) }
         ensures memory { result ≢ Err NoMemory }
     {
-        if self.documents.contains_key(uri) {
+        if self.is_taken(uri) {
             return Err(StoreFault::AlreadyOpen);
         }
-        if self.documents.len() >= self.limits.max_docs() {
+        if self.others(uri) >= self.limits.max_docs() {
             return Err(StoreFault::TooManyDocuments);
         }
         if text.len() > self.limits.max_text() {
@@ -135,13 +135,34 @@ impl Store {
         Ok(())
     }
 
+    /// Returns whether a URI can't be opened: its document is open, and the limits are strict.
+    fn is_taken(&self, uri: &str) -> bool
+        ensures { result ≡ is_taken self.now.limits self.now.table uri.now }
+    {
+        !self.limits.is_lenient() && self.documents.contains_key(uri)
+    }
+
+    /// Returns the number of open documents with other URIs.
+    fn others(&self, uri: &str) -> usize
+        ensures { result ≡ other_count self.now.table uri.now }
+    {
+        let count = self.documents.len();
+        if self.documents.contains_key(uri) {
+            count - 1
+        } else {
+            count
+        }
+    }
+
     /// Opens a document after all others, even one that was open before (LSP 3.17,
-    /// DidOpenTextDocument). Any version is accepted.
+    /// DidOpenTextDocument). Any version is accepted. Within lenient limits
+    /// ([`Limits::lenient`]) it replaces an open document of its URI.
     ///
     /// Refuses, in this order, with [`StoreFault::AlreadyOpen`], [`StoreFault::TooManyDocuments`]
     /// and, where the text has more than `max_text` bytes, [`StoreFault::TextTooLong`]; and with
-    /// [`StoreFault::NoMemory`]. The texts are moved in, not copied. Costs two hash look-ups and a
-    /// search through the text for its lines.
+    /// [`StoreFault::NoMemory`]. The texts are moved in, not copied. Costs a few hash look-ups and a
+    /// search through the text for its lines. Where it replaces a document, each that was opened
+    /// later costs a step more.
     pub fn open(
         &mut self,
         uri: String,
@@ -175,17 +196,18 @@ impl Store {
     {
         self.may_open(&uri, &text)?;
         let stored = Stored::new(*self.documents.allocator(), language, version, text)?;
-        self.documents.insert(uri, stored)?;
+        let (index, _replaced) = self.documents.insert_full(uri, stored)?;
+        self.documents.move_index(index, self.documents.len() - 1);
         Ok(())
     }
 
     /// Changes an open document: applies the batch to its text, and sets its version (LSP 3.17,
     /// DidChangeTextDocument). Positions are in the units of `encoding`.
     ///
-    /// Refuses, in this order, with [`StoreFault::NotOpen`], [`StoreFault::StaleVersion`],
-    /// [`StoreFault::TooManyChanges`], [`StoreFault::Edit`] and [`StoreFault::TextTooLong`]; and
-    /// with [`StoreFault::NoMemory`]. Only the text after the whole batch has to be within
-    /// `max_text` bytes. Costs a hash look-up, and what the batch costs to apply
+    /// Refuses, in this order, with [`StoreFault::NotOpen`], [`StoreFault::StaleVersion`] within
+    /// strict limits, [`StoreFault::TooManyChanges`], [`StoreFault::Edit`] and
+    /// [`StoreFault::TextTooLong`]; and with [`StoreFault::NoMemory`]. Only the text after the whole
+    /// batch has to be within `max_text` bytes. Costs a hash look-up, and what the batch costs to apply
     /// ([`lsp_edit::IndexedText::change`]). For one change of a range: its two positions, one move
     /// of the text after it, and one pass over the line starts after it.
     pub fn change(

@@ -73,7 +73,7 @@ impl Lines {
     }
 
     /// Returns a copy, or fails if it is out of memory. Costs four bytes for each line.
-    pub fn copied(&self, alloc: Global) -> Result<Self, AllocError>
+    pub fn clone_in(&self, alloc: Global) -> Result<Self, AllocError>
         ensures { IfOk result (λ lines. lines ≡ self.now) }
     {
         let mut starts = Vec::with_capacity(alloc, self.count())?;

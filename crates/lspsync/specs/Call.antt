@@ -17,8 +17,8 @@ use Rattle.lsp_text.specs.Units.{encoding_named}
 use Rattle.lsp_text.specs.declared.encoding.Encoding.{Encoding}
 use Rattle.lsp_server.specs.declared.config.Config.{Config}
 use Rattle.lsp_server.specs.declared.config.EncodingChoice.TheVariants.{Negotiated}
-use Rattle.lsp_server.specs.declared.config.Sync.{Sync}
-use Rattle.lsp_server.specs.declared.config.Sync.TheVariants.{Incremental, Full}
+use Rattle.lsp_server.specs.declared.config.ChangeForm.{ChangeForm}
+use Rattle.lsp_server.specs.declared.config.ChangeForm.TheVariants.{Incremental, Full}
 use Rattle.lsp_replay.specs.declared.engines.Settings.{Settings}
 use Rattle.lsp_replay.specs.declared.engines.parts.Part.{Part}
 use Rattle.lsp_replay.specs.declared.engines.traced.Details.{Details}
@@ -34,13 +34,20 @@ pub record HasNumber (options : ArgMatches) (id : List ℕ) (n : ℕ) : Type 0 w
   pub value : n ≡ digits_value 10 (without_leading_plus text)
   pub small : digits_value 10 (without_leading_plus text) < 2 ^ 64
 
--- The four limits are those of the options, each in its range.
+-- A flag is set exactly if its option is there: `clap` finds the text `true` then, else `false`.
+pub record IsFlag (options : ArgMatches) (id : List ℕ) (flag : Bool) : Type 0 where
+  pub missing : one_text (found_of options) id ≡ None → flag ≡ false
+  pub set : one_text (found_of options) id ≡ Some (codes "true") → flag ≡ true
+  pub not_set : one_text (found_of options) id ≡ Some (codes "false") → flag ≡ false
+
+-- The four limits are those of the options, each in its range, and lenient by a flag.
 pub record AreLimits (options : ArgMatches) (limits : Bounds) : Type 0 where
   pub max_body : HasNumber options (codes "max-body") limits.max_body
   pub max_text : HasNumber options (codes "max-text") limits.max_text
   pub max_docs : HasNumber options (codes "max-docs") limits.max_docs
   pub max_changes : HasNumber options (codes "max-changes") limits.max_changes
   pub in_range : first_out_of_range limits ≡ None
+  pub lenient : IsFlag options (codes "lenient") limits.lenient
 
 -- The encoding that the options name.
 abbrev pub encoding_given : ArgMatches → Option Encoding
@@ -48,18 +55,12 @@ encoding_given options
     = option_and_then encoding_named (first_value (found_of options) (codes "encoding"))
 
 -- The meaning of a name of `--sync`.
-abbrev pub sync_named : List ℕ → Sync
+abbrev pub sync_named : List ℕ → ChangeForm
 sync_named name = if bytes_eq name (codes "full") then Full else Incremental
 
 -- The kind of synchronisation that the options name.
-abbrev pub sync_given : ArgMatches → Option Sync
+abbrev pub sync_given : ArgMatches → Option ChangeForm
 sync_given options = option_map sync_named (first_value (found_of options) (codes "sync"))
-
--- A flag is set exactly if its option is there: `clap` finds the text `true` then, else `false`.
-pub record IsFlag (options : ArgMatches) (id : List ℕ) (flag : Bool) : Type 0 where
-  pub missing : one_text (found_of options) id ≡ None → flag ≡ false
-  pub set : one_text (found_of options) id ≡ Some (codes "true") → flag ≡ true
-  pub not_set : one_text (found_of options) id ≡ Some (codes "false") → flag ≡ false
 
 -- The settings of a command that reads a log.
 pub record AreSettings (options : ArgMatches) (settings : Settings) : Type 0 where

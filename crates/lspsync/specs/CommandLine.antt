@@ -29,12 +29,12 @@ abbrev pub limit_rule : Text → ℕ → ℕ → ℕ → Rule
 limit_rule name least greatest default =
     option_rule name (Unsigned least greatest) (decimal default)
 
--- The options that each command has: the limits.
+-- The options that each command has: the limits, and whether they are lenient.
 abbrev pub limit_rules : List Rule
 limit_rules = limit_rule (codes "max-body") 4096 1073741824 16777216
     ∷ limit_rule (codes "max-text") 0 1073741824 16777216
     ∷ limit_rule (codes "max-docs") 1 65536 1024
-    ∷ limit_rule (codes "max-changes") 1 1048576 65536 ∷ []
+    ∷ limit_rule (codes "max-changes") 1 1048576 65536 ∷ flag_rule (codes "lenient") ∷ []
 
 -- An option with one value, any text, and no default.
 abbrev pub text_rule : Text → Rule

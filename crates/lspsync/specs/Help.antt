@@ -1,18 +1,18 @@
 -- What the program's help has of its options.
-use Rattle.std.specs.Prelude.{◌≡◌, ◌∷◌, [], List}
+use Rattle.std.specs.Prelude.{◌≡◌, ◌∷◌, [], List, codes}
 use Rattle.clap.specs.Words.{Rule, Text}
 use Rattle.clap.specs.declared.builder.value_parser.ValueParser.TheVariants.{Unsigned}
-use Rattle.lspsync.specs.CommandLine.{Choices, detail_rules, explain_rule, option_rule, part_rules, sync_rule, writing_rules}
+use Rattle.lspsync.specs.CommandLine.{Choices, detail_rules, explain_rule, flag_rule, option_rule, part_rules, sync_rule, writing_rules}
 use Rattle.lspsync.specs.declared.command_line.help.Limit.{Limit}
 use Rattle.lspsync.specs.declared.command_line.help.LimitOptions.{LimitOptions}
 use Rattle.lspsync.specs.declared.command_line.help.OwnHelp.{OwnHelp}
-use Rattle.lspsync.specs.declared.command_line.help.OwnHelp.TheVariants.{Nothing, Sync, Explain, Details, Part, Writing}
+use Rattle.lspsync.specs.declared.command_line.help.OwnHelp.TheVariants.{Nothing, ChangeForm, Explain, Details, Part, Writing}
 use Rattle.lspsync.specs.declared.command_line.help.Page.{Page}
 
 -- The options that a command has beside those of all, by the help of them.
 abbrev pub own_rules : Choices → OwnHelp → List Rule
 own_rules kinds Nothing = []
-own_rules kinds (Sync help) = sync_rule kinds ∷ []
+own_rules kinds (ChangeForm help) = sync_rule kinds ∷ []
 own_rules kinds (Explain help) = explain_rule ∷ []
 own_rules kinds (Details help) = detail_rules
 own_rules kinds (Part help) = part_rules
@@ -30,4 +30,5 @@ rule_of_limit limit =
 
 abbrev pub rules_of_limits : LimitOptions → List Rule
 rules_of_limits limits = rule_of_limit limits.body ∷ rule_of_limit limits.text
-    ∷ rule_of_limit limits.docs ∷ rule_of_limit limits.changes ∷ []
+    ∷ rule_of_limit limits.docs ∷ rule_of_limit limits.changes
+    ∷ flag_rule (codes "lenient") ∷ []

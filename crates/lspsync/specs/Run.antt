@@ -6,7 +6,7 @@ use Rattle.clap.specs.declared.error.Error.{Error}
 use Rattle.clap.specs.declared.error.kind.ErrorKind.{ErrorKind}
 use Rattle.clap.specs.declared.error.kind.ErrorKind.TheVariants as kind
 use Rattle.lsp_stream.specs.declared.fault.EngineFault.{EngineFault}
-use Rattle.lsp_stream.specs.declared.fault.EngineFault.TheVariants.{Read, Write, Frame, Truncated, BodyTooLong, NoMemory, TooManyTurns, BadLog}
+use Rattle.lsp_stream.specs.declared.fault.EngineFault.TheVariants.{Read, Write, NoMemory, TooManyTurns}
 use Rattle.lsp_stream.specs.Ports.{Ports, Rose, WriterState, ports}
 use Rattle.lsp_stream.specs.Turns.{Spends}
 use Rattle.lsp_replay.specs.declared.outcome.Outcome.{Outcome}
@@ -25,12 +25,9 @@ use Rattle.lspsync.specs.FaultText.{fault_text}
 abbrev pub status_of : EngineFault → ℕ
 status_of Read = 3
 status_of Write = 3
-status_of (Frame fault) = 5
-status_of (Truncated place) = 5
-status_of (BodyTooLong place) = 5
 status_of NoMemory = 4
 status_of TooManyTurns = 3
-status_of (BadLog place) = 5
+status_of fault = 5
 
 -- The engine that a call names.
 abbrev pub engine_of : Call → Engine

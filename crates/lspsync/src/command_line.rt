@@ -22,7 +22,7 @@ use clap::builder::ValueParser;
 use clap::{Arg, ArgAction, ArgMatches, Command, Error};
 use lsp_frame::Limits;
 use lsp_replay::{Details, Part, Settings};
-use lsp_server::{Config, EncodingChoice, Sync};
+use lsp_server::{ChangeForm, Config, EncodingChoice};
 use lsp_text::Encoding;
 use std::alloc::{AllocError, Global};
 
@@ -191,12 +191,12 @@ fn config_of(options: &ArgMatches<'_>) -> Option<Config>
     })
 }
 
-fn sync_of(options: &ArgMatches<'_>) -> Option<Sync>
+fn sync_of(options: &ArgMatches<'_>) -> Option<ChangeForm>
     ensures { result ≡ sync_given options.now }
 {
     match options.get_str("sync")? {
-        "full" => Some(Sync::Full),
-        _ => Some(Sync::Incremental),
+        "full" => Some(ChangeForm::Full),
+        _ => Some(ChangeForm::Incremental),
     }
 }
 
@@ -228,10 +228,13 @@ fn limits_of(options: &ArgMatches<'_>) -> Option<Limits>
     let max_text = number_of(options, "max-text")?;
     let max_docs = number_of(options, "max-docs")?;
     let max_changes = number_of(options, "max-changes")?;
-    match Limits::new(max_body, max_text, max_docs, max_changes) {
-        Ok(limits) => Some(limits),
-        Err(_) => None,
+    let Ok(limits) = Limits::new(max_body, max_text, max_docs, max_changes) else {
+        return None;
+    };
+    if options.get_flag("lenient") {
+        return Some(limits.lenient());
     }
+    Some(limits)
 }
 
 fn number_of(options: &ArgMatches<'_>, id: &str) -> Option<usize>
@@ -339,7 +342,7 @@ fn with_own<'a>(
 {
     match own {
         OwnHelp::Nothing => Ok(command),
-        OwnHelp::Sync(help) => with_sync(alloc, command, help, kinds),
+        OwnHelp::ChangeForm(help) => with_sync(alloc, command, help, kinds),
         OwnHelp::Explain(help) => with_explain(alloc, command, help),
         OwnHelp::Details(help) => with_details(alloc, command, help),
         OwnHelp::Part(help) => with_part(alloc, command, help),
@@ -409,7 +412,7 @@ fn with_details<'a>(
         .arg(flag(alloc, "bodies", help.bodies))
 }
 
-/// Adds the options that set limits.
+/// Adds the options that set limits, and `--lenient`.
 fn with_limits<'a>(
     alloc: Global,
     command: Command<'a>,
@@ -421,7 +424,8 @@ fn with_limits<'a>(
         .arg(number(alloc, &limits.body))?
         .arg(number(alloc, &limits.text))?
         .arg(number(alloc, &limits.docs))?
-        .arg(number(alloc, &limits.changes))
+        .arg(number(alloc, &limits.changes))?
+        .arg(flag(alloc, "lenient", limits.lenient))
 }
 
 /// An option with one of these names.

@@ -169,7 +169,7 @@ extern "C" {
         log_len: usize,
         ending: *mut Ending,
     ) -> u32;
-    pub fn laspidru_log_output(
+    pub fn laspidru_output_copy(
         output: *mut Raw,
         start: usize,
         out: *mut u8,

@@ -69,7 +69,7 @@ fn object_message(
 
 /// Puts the frame of the canonical message of a batch on an open document into an empty handle (LSP
 /// 3.17, DidChangeTextDocument): that of [`Store::canonical_message`](lsp_store::Store). It is
-/// copied by `laspidru_log_output`. The document stays as it is.
+/// copied by `laspidru_output_copy`. The document stays as it is.
 ///
 /// Codes, in this order: NOT_UTF8 of the URI; BAD_ENCODING; BAD_LENGTH or NOT_UTF8 of the first
 /// such edit; IN_USE of `output`; EMPTY, OTHER_KIND. Then OUT_OF_MEMORY, or NOT_OPEN,

@@ -62,7 +62,7 @@ fn a_text_is_emptied_line_by_line(rt: HostRuntime) -> Result<(), Fail> {
 
 /// Returns whether a copy, a slice and what `Display` shows are the text.
 fn reads_alike(alloc: Global, both: &Pair) -> Result<bool, AllocError> {
-    let copy = both.buffer.copied(alloc)?;
+    let copy = both.buffer.clone_in(alloc)?;
     let shown = format!(in alloc; "{}", both.buffer)?;
     let len = both.buffer.len();
     if !both.buffer.is_char_boundary(10) || !both.buffer.is_char_boundary(len) || len < 10 {

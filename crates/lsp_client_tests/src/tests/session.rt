@@ -8,7 +8,7 @@ use lsp_message::Offers;
 use lsp_samples::bodies::{
     ACCEPTED, CHANGE, CLOSE, EXIT, INITIALIZE, INITIALIZED, OPEN, SHUT_DOWN, SHUTDOWN, WHOLE,
 };
-use lsp_server::{Answer, Config, EncodingChoice, Server, Sync};
+use lsp_server::{Answer, ChangeForm, Config, EncodingChoice, Server};
 use lsp_store::StoreFault;
 use lsp_text::Encoding;
 use std::alloc::{AllocError, Global};
@@ -202,7 +202,7 @@ fn new_ends(alloc: Global) -> Result<Ends, Fail> {
     let config = Config {
         limits,
         choice,
-        sync: Sync::Incremental,
+        sync: ChangeForm::Incremental,
     };
     Ok(Ends {
         client: Client::new(alloc, limits, Offers::new(true, false)),

@@ -105,7 +105,7 @@ impl Draft {
         requires room { room ≤ MAX_NEW_TEXT }
         ensures { IfOk result (λ draft. draft ≡ text.now) }
     {
-        let text = GapText::new(alloc, text, lines.copied(alloc)?, room)?;
+        let text = GapText::new(alloc, text, lines.clone_in(alloc)?, room)?;
         Ok(Draft { alloc, text })
     }
 

@@ -2,7 +2,7 @@
 
 ghost use Rattle.std.specs.Prelude.{◌≡◌, ◌≢◌, ◌+◌, ◌-◌, ◌<◌, ◌≤◌, ◌^◌, ℕ, false, [], ◌++◌, length, take, slice_index, IfOk, IfErr, OnOk, OnErr, vec_len, vec_capacity};
 ghost use Rattle.lsp_frame.specs.Header.{Line, IsLine, line_bytes};
-ghost use Rattle.lsp_frame.specs.Progress.{IsSoFar, is_over};
+ghost use Rattle.lsp_frame.specs.inside.Stage.{IsSoFar, is_over};
 ghost use Rattle.lsp_frame.specs.inside.Progress.{IsLineStop, IsHeaderStop, stopped_at};
 ghost use Rattle.lsp_frame.specs.declared.framer.shape.Shape.TheVariants as shape;
 

@@ -3,7 +3,7 @@
 ghost use Rattle.std.specs.Prelude.{◌≡◌, ◌<◌, ◌^◌, ℕ, [], true, nat_lt, if◌then◌else◌, None, Some};
 ghost use Rattle.std.specs.List.{list_all};
 ghost use Rattle.lsp_frame.specs.Verdict.{is_digit, number};
-ghost use Rattle.lsp_frame.specs.Progress.{length_said, length_noted, charset_noted, noted, notes_of};
+ghost use Rattle.lsp_frame.specs.inside.Stage.{length_said, length_noted, charset_noted, noted, notes_of};
 ghost use Rattle.lsp_frame.specs.inside.Progress.{judge_notes};
 
 use crate::fault::HeaderFault;
@@ -37,7 +37,7 @@ pub(crate) struct Notes {
 
 impl Notes {
     /// Makes the notes of a header without lines.
-    #[tactic(auto, unfolding(crate::specs::Progress::notes_of))]
+    #[tactic(auto, unfolding(crate::specs::inside::Stage::notes_of))]
     pub(crate) fn new() -> Notes
         ensures { (max_body : ℕ) → result ≡ notes_of max_body [] }
     {

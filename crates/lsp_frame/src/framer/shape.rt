@@ -3,7 +3,7 @@
 ghost use Rattle.std.specs.Prelude.{◌≡◌, ◌≢◌, ◌+◌, ◌<◌, ℕ, Bool, true, false, List, [], ◌∷◌, ◌++◌, length, take, slice_index, IsTrue, ◌↔◌, ◌⊎◌, IfSome, IfNone, IfOk, IfErr};
 ghost use Rattle.lsp_frame.specs.Header.{IsNameByte, IsValueByte};
 ghost use Rattle.lsp_frame.specs.declared.framer.shape.Shape.TheVariants as shape;
-ghost use Rattle.lsp_frame.specs.Progress.{IsPartOfLine, is_over, CanContinue};
+ghost use Rattle.lsp_frame.specs.inside.Stage.{IsPartOfLine, is_over, CanContinue};
 ghost use Rattle.lsp_frame.specs.inside.Progress.{StopsHeader};
 
 /// Which part of a header's line has come in.

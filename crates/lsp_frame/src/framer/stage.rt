@@ -2,7 +2,8 @@
 
 ghost use Rattle.std.specs.Prelude.{◌≡◌, ◌+◌, ◌<◌, ◌≤◌, ◌^◌, ℕ, [], ◌++◌, length, take, IfOk, IfErr, OnOk, OnErr, IsOkAnd, Ok, false, vec_len, vec_capacity};
 ghost use Rattle.lsp_frame.specs.Stream.{IsFrame};
-ghost use Rattle.lsp_frame.specs.Progress.{IsWhole, IsInHeader, IsInBody, IsAtStage, BeginsWritten, has_failed};
+ghost use Rattle.lsp_frame.specs.inside.Stage.{IsWhole, IsInHeader, IsInBody, IsAtStage, BeginsWritten};
+ghost use Rattle.lsp_frame.specs.Stream.{has_failed};
 ghost use Rattle.lsp_frame.specs.inside.Progress.{IsHeaderStop, stage_after};
 ghost use Rattle.lsp_frame.specs.declared.framer.header.Stop.TheVariants as stop;
 

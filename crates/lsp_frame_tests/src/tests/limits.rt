@@ -57,7 +57,7 @@ fn limits_at_the_ends_of_their_ranges(rt: HostRuntime) -> Result<(), Fail> {
     Ok(())
 }
 
-/// The numbers that `docs/FORMATS.md` has as the defaults.
+/// The numbers that `docs/LSPSYNC.md` has as the defaults.
 const DEFAULT: Four = [16_777_216, 16_777_216, 1_024, 65_536];
 
 #[test]

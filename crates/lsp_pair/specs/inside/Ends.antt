@@ -1,12 +1,12 @@
 -- Definitions for the private functions of this crate: the first frame of a queue, the call of an
 -- event, and what is sent as frames.
 use Rattle.std.specs.Prelude.{ℕ, List, [], ◌∷◌, ⊤}
-use Rattle.std.specs.Prelude.{Option}
-use Rattle.lsp_message.specs.declared.outgoing.ErrorCode.{ErrorCode}
-use Rattle.lsp_server.specs.Answer.{AnswerData, reply, changed, dropped, ignored, already_ended, refused, exits, Sent}
+use Rattle.lsp_server.specs.Answer.{AnswerData, reply, changed, ignored, refused, exits, Sent}
 use Rattle.lsp_client.specs.Step as client
 use Rattle.lsp_client.specs.Step.{Call, DeliveredData}
 use Rattle.lsp_server.specs.Step as server
+use Rattle.lsp_pair.specs.declared.event.Did.{Did}
+use Rattle.lsp_pair.specs.declared.event.Did.TheVariants as done
 use Rattle.lsp_pair.specs.World.{EventData, calls, to_server, to_client}
 use Rattle.lsp_pair.specs.Pair.{PairData}
 
@@ -34,26 +34,18 @@ HoldsOfFirst [] P = ⊤
 HoldsOfFirst (first ∷ rest) P = P first
 
 -- An answer of the server without its frame.
-abbrev pub without_frame : AnswerData Sent → AnswerData (Option ErrorCode)
-without_frame (reply r) = reply r.code
-without_frame changed = changed
-without_frame dropped = dropped
-without_frame ignored = ignored
-without_frame already_ended = already_ended
-without_frame (refused refusal) = refused refusal
-without_frame (exits status) = exits status
+abbrev pub did_of_sent : AnswerData Sent → Did
+did_of_sent (reply r) = done.Reply r.code
+did_of_sent changed = done.Changed
+did_of_sent ignored = done.Ignored
+did_of_sent (refused refusal) = done.Refused refusal
+did_of_sent (exits status) = done.Exit status
+did_of_sent a = done.Dropped
 
 -- The frame of a reply.
 abbrev pub frames_in_answer : AnswerData Sent → List (List ℕ)
 frames_in_answer (reply r) = r.frame ∷ []
 frames_in_answer a = []
-
--- The result of a delivery without its frame.
-abbrev pub without_bytes : DeliveredData (List ℕ) → DeliveredData (Unit {0})
-without_bytes (client.sends bytes) = client.sends tt
-without_bytes client.noted = client.noted
-without_bytes client.ignored = client.ignored
-without_bytes (client.bad_server reason) = client.bad_server reason
 
 -- The frame that a client sends.
 abbrev pub frames_in_delivery : DeliveredData (List ℕ) → List (List ℕ)

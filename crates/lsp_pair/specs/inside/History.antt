@@ -3,7 +3,7 @@
 use Rattle.std.specs.Prelude.{◌≡◌, List, [], ◌∷◌}
 use Rattle.lsp_message.specs.Params.{DocumentItem}
 use Rattle.lsp_pair.specs.World.{Setting, ClientMessage, World, EventData, world_of}
-use Rattle.lsp_pair.specs.Pair.{PairData, table_with, IsSound, IsAt}
+use Rattle.lsp_pair.specs.Pair.{PairData, table_with, IsFitting, IsAt}
 use Rattle.lsp_pair.specs.Documents.{History}
 
 -- The tables after each of these messages, where the client had this table before the first.
@@ -19,7 +19,7 @@ history_of w = record { sent = tables_from [] w.out; handled = w.out_delivered }
 -- The pair is at the world of some list of events, and this is the history of that world.
 pub record IsHistory (h : History) (pair : PairData) : Type 0 where
   pub setting : Setting
-  pub sound : IsSound setting
+  pub sound : IsFitting setting
   pub events : List EventData
   pub at : IsAt setting pair events
   pub told : h ≡ history_of (world_of setting events)

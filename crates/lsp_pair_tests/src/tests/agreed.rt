@@ -5,7 +5,7 @@ use lsp_client::ClientFault;
 use lsp_edit::{EditFault, Side};
 use lsp_message::Offers;
 use lsp_pair::{Did, Happened, Heard, Pair};
-use lsp_server::{EncodingChoice, Sync};
+use lsp_server::{ChangeForm, EncodingChoice};
 use lsp_store::StoreFault;
 use lsp_text::Encoding;
 use std::alloc::{AllocError, Global};
@@ -101,7 +101,11 @@ fn agrees(pair: &mut Pair, alloc: Global, wanted: Encoding) -> Result<bool, Allo
     Ok(wrong_row(pair, alloc, edits_in(wanted))?.is_none())
 }
 
-fn is_agreed(alloc: Global, row: &(Encoding, bool, Encoding), sync: Sync) -> Result<bool, Fail> {
+fn is_agreed(
+    alloc: Global,
+    row: &(Encoding, bool, Encoding),
+    sync: ChangeForm,
+) -> Result<bool, Fail> {
     let (prefer, utf32, wanted) = *row;
     let offers = Offers { utf8: true, utf32 };
     let mut pair = new_pair(alloc, offers, EncodingChoice::Negotiated { prefer }, sync)?;
@@ -111,8 +115,11 @@ fn is_agreed(alloc: Global, row: &(Encoding, bool, Encoding), sync: Sync) -> Res
 #[test]
 fn what_the_server_prefers(rt: HostRuntime) -> Result<(), Fail> {
     for (index, row) in PREFERRED.iter().enumerate() {
-        assert!(rt; is_agreed(rt.alloc(), row, Sync::Incremental)?, "{index}");
-        assert!(rt; is_agreed(rt.alloc(), row, Sync::Full)?, "{index}");
+        assert!(rt;
+            is_agreed(rt.alloc(), row, ChangeForm::Incremental)?,
+            "{index}"
+        );
+        assert!(rt; is_agreed(rt.alloc(), row, ChangeForm::Full)?, "{index}");
     }
     Ok(())
 }

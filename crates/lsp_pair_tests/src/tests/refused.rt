@@ -2,7 +2,7 @@
 
 use super::{NO_OFFERS, Open, Script, UTF16, ends_have, event, new_pair};
 use lsp_pair::{Event, Pair, run_pair};
-use lsp_server::{Phase, Sync};
+use lsp_server::{ChangeForm, Phase};
 use std::alloc::{AllocError, Global};
 use std::test::Fail;
 
@@ -76,7 +76,7 @@ const EDITED: Open = Some((2, "aXc"));
 
 /// How often memory ran out in the session of a new pair, if both ends have the edited document
 /// after it, and nothing waits.
-fn run_session(alloc: Global, sync: Sync) -> Result<Option<u32>, Fail> {
+fn run_session(alloc: Global, sync: ChangeForm) -> Result<Option<u32>, Fail> {
     let mut pair = new_pair(alloc, NO_OFFERS, UTF16, sync)?;
     let refused = run(&mut pair, alloc, SESSION)?;
     let is_edited = ends_have(&pair, EDITED, EDITED) && pair.waiting() == (0, 0);
@@ -85,7 +85,7 @@ fn run_session(alloc: Global, sync: Sync) -> Result<Option<u32>, Fail> {
 
 #[test]
 fn refused_run(rt: HostRuntime) -> Result<(), Fail> {
-    let refused = run_session(rt.alloc(), Sync::Incremental)?;
+    let refused = run_session(rt.alloc(), ChangeForm::Incremental)?;
     assert!(rt; refused.is_some());
     println!(rt; "refused {}", refused.unwrap_or(0))?;
     Ok(())
@@ -93,7 +93,7 @@ fn refused_run(rt: HostRuntime) -> Result<(), Fail> {
 
 #[test]
 fn refused_run_by_whole_texts(rt: HostRuntime) -> Result<(), Fail> {
-    let refused = run_session(rt.alloc(), Sync::Full)?;
+    let refused = run_session(rt.alloc(), ChangeForm::Full)?;
     assert!(rt; refused.is_some());
     println!(rt; "refused {}", refused.unwrap_or(0))?;
     Ok(())
@@ -112,7 +112,7 @@ fn run_both(pair: &mut Pair, alloc: Global) -> Result<u32, AllocError> {
 
 /// The same up to the end of the session.
 fn run_to_end(alloc: Global) -> Result<Option<u32>, Fail> {
-    let mut pair = new_pair(alloc, NO_OFFERS, UTF16, Sync::Incremental)?;
+    let mut pair = new_pair(alloc, NO_OFFERS, UTF16, ChangeForm::Incremental)?;
     let refused = run_both(&mut pair, alloc)?;
     Ok(if is_ended(&pair) { Some(refused) } else { None })
 }

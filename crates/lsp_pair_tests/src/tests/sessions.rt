@@ -3,7 +3,7 @@
 use super::{NO_OFFERS, Row, Script, UTF16, event, new_pair, wrong_row};
 use lsp_client::{ClientFault, Phase};
 use lsp_pair::{Did, Happened, Heard, Pair};
-use lsp_server::Sync;
+use lsp_server::ChangeForm;
 use std::alloc::{AllocError, Global};
 use std::test::Fail;
 
@@ -80,7 +80,7 @@ static AT_ONCE: &[Row] = &[
 ];
 
 /// Does a session of a new pair go so, and does nothing wait at its end?
-fn is_session(alloc: Global, sync: Sync, rows: &[Row]) -> Result<bool, Fail> {
+fn is_session(alloc: Global, sync: ChangeForm, rows: &[Row]) -> Result<bool, Fail> {
     let mut pair = new_pair(alloc, NO_OFFERS, UTF16, sync)?;
     Ok(wrong_row(&mut pair, alloc, rows)?.is_none() && are_waiting(&pair, (0, 0)))
 }
@@ -91,20 +91,20 @@ fn are_waiting(pair: &Pair, wanted: (usize, usize)) -> bool {
 
 #[test]
 fn delivered_late(rt: HostRuntime) -> Result<(), Fail> {
-    assert!(rt; is_session(rt.alloc(), Sync::Incremental, LATE)?);
+    assert!(rt; is_session(rt.alloc(), ChangeForm::Incremental, LATE)?);
     Ok(())
 }
 
 #[test]
 fn delivered_at_once(rt: HostRuntime) -> Result<(), Fail> {
-    assert!(rt; is_session(rt.alloc(), Sync::Incremental, AT_ONCE)?);
+    assert!(rt; is_session(rt.alloc(), ChangeForm::Incremental, AT_ONCE)?);
     Ok(())
 }
 
 /// A server that wants whole texts has the same text.
 #[test]
 fn whole_texts(rt: HostRuntime) -> Result<(), Fail> {
-    assert!(rt; is_session(rt.alloc(), Sync::Full, AT_ONCE)?);
+    assert!(rt; is_session(rt.alloc(), ChangeForm::Full, AT_ONCE)?);
     Ok(())
 }
 
@@ -148,7 +148,7 @@ fn wrong_waiting(pair: &mut Pair, alloc: Global) -> Result<Option<usize>, AllocE
 }
 
 fn new_pair_waits(alloc: Global) -> Result<bool, Fail> {
-    let mut pair = new_pair(alloc, NO_OFFERS, UTF16, Sync::Incremental)?;
+    let mut pair = new_pair(alloc, NO_OFFERS, UTF16, ChangeForm::Incremental)?;
     Ok(wrong_waiting(&mut pair, alloc)?.is_none())
 }
 

@@ -3,7 +3,7 @@
 use super::{NO_OFFERS, UTF16};
 use lsp_frame::{BadLimits, Limits};
 use lsp_pair::{Pair, PairFault};
-use lsp_server::{Config, EncodingChoice, Sync};
+use lsp_server::{ChangeForm, Config, EncodingChoice};
 use lsp_text::Encoding;
 use std::alloc::{AllocError, Global};
 use std::test::Fail;
@@ -36,7 +36,7 @@ fn is_fault(alloc: Global, row: &Setting) -> Result<bool, BadLimits> {
     let config = Config {
         limits: Limits::new(limits.0, limits.1, limits.2, limits.3)?,
         choice,
-        sync: Sync::Incremental,
+        sync: ChangeForm::Incremental,
     };
     Ok(Pair::new(alloc, Limits::new(4_097, 8, 2, 2)?, NO_OFFERS, config).err() == wanted)
 }
@@ -46,6 +46,32 @@ fn which_ends_fit(rt: HostRuntime) -> Result<(), Fail> {
     for (index, row) in SETTINGS.iter().enumerate() {
         assert!(rt; is_fault(rt.alloc(), row)?, "{index}");
     }
+    Ok(())
+}
+
+/// Are lenient ends refused where only the client is?
+fn lenient_ends_fit(alloc: Global) -> Result<bool, BadLimits> {
+    let limits = Limits::new(4_097, 8, 2, 2)?;
+    let strict = Config {
+        limits,
+        choice: UTF16,
+        sync: ChangeForm::Incremental,
+    };
+    let lenient = Config {
+        limits: limits.lenient(),
+        ..strict
+    };
+    let refused = Pair::new(alloc, limits.lenient(), NO_OFFERS, strict).err();
+    Ok(
+        refused == Some(PairFault::LimitsTooSmall)
+            && Pair::new(alloc, limits, NO_OFFERS, lenient).is_ok()
+            && Pair::new(alloc, limits.lenient(), NO_OFFERS, lenient).is_ok(),
+    )
+}
+
+#[test]
+fn a_lenient_client_needs_a_lenient_server(rt: HostRuntime) -> Result<(), Fail> {
+    assert!(rt; lenient_ends_fit(rt.alloc())?);
     Ok(())
 }
 

@@ -7,7 +7,7 @@ use Rattle.lsp_store.specs.Squash.{SquashData, HasReached, squash_of}
 use Rattle.lsp_store.specs.Table.{Refusal, after_change, change_refusal, entry_at}
 use Rattle.lsp_text.specs.Units.{units_in}
 use Rattle.lsp_server.specs.Answer.{changed}
-use Rattle.lsp_server.specs.Step.{State, edit_from_data, encoding_of}
+use Rattle.lsp_server.specs.Step.{State, edit_from_data, session_encoding}
 use Rattle.lsp_replay.specs.declared.session.joining.Writing.{Writing}
 use Rattle.lsp_replay.specs.declared.session.joining.Writing.TheVariants.{AsItIs, TooLong, Continues, Begins}
 use Rattle.lsp_replay.specs.Engines.{canonical_if, canonical_change_body}
@@ -21,7 +21,7 @@ pub record IsOpenIn (server : State) (squash : SquashData) : Type 0 where
   pub is_open : entry_at server.table squash.uri ≡ Some entry
   pub reached : HasReached squash entry
   pub limits : squash.limits ≡ server.config.limits
-  pub encoding : squash.encoding ≡ encoding_of server
+  pub encoding : squash.encoding ≡ session_encoding server
 
 -- No batches are open, or they lead to the document that is open now.
 abbrev pub MayBeOpenIn : State → Option SquashData → Type 0
@@ -33,7 +33,7 @@ MayBeOpenIn server (Some squash) = IsOpenIn server squash
 -- Why a running server refuses a change, if it does.
 abbrev pub refusal_of : State → ChangeData → Option Refusal
 refusal_of server p
-    = change_refusal server.config.limits (units_in (encoding_of server)) server.table p.uri
+    = change_refusal server.config.limits (units_in (session_encoding server)) server.table p.uri
     p.version (map edit_from_data p.changes)
 
 -- The server after the change.
@@ -41,7 +41,7 @@ abbrev pub server_after : State → ChangeData → State
 server_after server p
     = record server {
       table
-          = after_change (units_in (encoding_of server)) server.table p.uri p.version
+          = after_change (units_in (session_encoding server)) server.table p.uri p.version
           (map edit_from_data p.changes);
     }
 
@@ -84,7 +84,7 @@ IsOther (Some squash) p = bytes_eq p.uri squash.uri ≡ false
 pub record IsBegun (server : State) (p : ChangeData) (batches : SquashData) : Type 0 where
   pub entry : DocumentItem
   pub is_open : entry_at server.table p.uri ≡ Some entry
-  pub joined : batches ≡ joined_by p (squash_of server.config.limits (encoding_of server) entry)
+  pub joined : batches ≡ joined_by p (squash_of server.config.limits (session_encoding server) entry)
 
 -- How a record is written: as it is, as part of the open run, or as the first of a new one.
 abbrev pub IsWriting : State → Option SquashData → Option ChangeData → Verdict → Writing → Type 0

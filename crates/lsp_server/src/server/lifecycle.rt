@@ -3,7 +3,7 @@
 use super::Server;
 use crate::answer::Answer;
 use crate::phase::Phase;
-use lsp_message::{ErrorCode, Id, Offers, Outgoing, write_frame};
+use lsp_message::{ErrorCode, Id, Offers, Outgoing, message_frame};
 use std::alloc::AllocError;
 
 impl Server {
@@ -21,7 +21,7 @@ impl Server {
         ensures { IsStepOf (fails self.now (option_map id_view id) error) result
             self.now self.now }
     {
-        let frame = write_frame(self.alloc, &Outgoing::ErrorReply { id, error })?;
+        let frame = message_frame(self.alloc, &Outgoing::ErrorReply { id, error })?;
         Ok(Answer::Reply {
             frame,
             code: Some(error),
@@ -49,13 +49,13 @@ impl Server {
     fn begin(&mut self, id: Id, offers: Offers) -> Result<Answer, AllocError>
         ensures { IsStepOf (begins self.old (id_view id) offers) result self.old self.new }
     {
-        let encoding = self.choice.chosen(offers);
+        let encoding = self.choice.choose(offers);
         let accepted = Outgoing::InitializeResult {
             id,
             encoding,
             kind: self.sync.kind(),
         };
-        let frame = write_frame(self.alloc, &accepted)?;
+        let frame = message_frame(self.alloc, &accepted)?;
         self.phase = Phase::Running;
         self.encoding = Some(encoding);
         Ok(Answer::Reply { frame, code: None })
@@ -68,7 +68,7 @@ impl Server {
         match self.phase {
             Phase::New => self.fail(Some(id), ErrorCode::ServerNotInitialized),
             Phase::Running => {
-                let frame = write_frame(self.alloc, &Outgoing::ShutdownResult { id })?;
+                let frame = message_frame(self.alloc, &Outgoing::ShutdownResult { id })?;
                 self.phase = Phase::Down;
                 Ok(Answer::Reply { frame, code: None })
             }

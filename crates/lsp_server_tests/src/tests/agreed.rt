@@ -3,7 +3,7 @@
 
 use super::{Row, config_with, has_document, is_answered, new_server, wrong_row};
 use lsp_samples::bodies::{ACCEPTED, AFTER_ONE_UNIT, INITIALIZE, INITIALIZED, OPEN, OPEN_EMOJI};
-use lsp_server::{EncodingChoice, Server, Sync};
+use lsp_server::{ChangeForm, EncodingChoice, Server};
 use lsp_text::Encoding;
 use std::alloc::{AllocError, Global};
 use std::test::Fail;
@@ -99,7 +99,7 @@ fn is_chosen(
     general: &str,
     name: &str,
 ) -> Result<bool, Fail> {
-    let mut server = Server::new(alloc, config_with(choice, Sync::Incremental)?);
+    let mut server = Server::new(alloc, config_with(choice, ChangeForm::Incremental)?);
     Ok(
         is_announced(alloc, &mut server, general, name)?
             && server.encoding() == Encoding::of_name(name),
@@ -163,7 +163,7 @@ static FULL: [Row; 5] = [
 ];
 
 fn is_changed_under_full(alloc: Global) -> Result<bool, Fail> {
-    let mut server = Server::new(alloc, config_with(NEGOTIATED_8, Sync::Full)?);
+    let mut server = Server::new(alloc, config_with(NEGOTIATED_8, ChangeForm::Full)?);
     Ok(wrong_row(alloc, &mut server, &FULL)?.is_none() && has_document(&server, Some((3, "aYZc"))))
 }
 

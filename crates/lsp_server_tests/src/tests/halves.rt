@@ -7,8 +7,8 @@ use lsp_frame::{BadLimits, Limits, frame};
 use lsp_samples::bodies::{CANONICAL, CHANGE, EXIT, INITIALIZE, OPEN, SHUTDOWN};
 use lsp_samples::edits::{ALL, Edit, batch};
 use lsp_server::{
-    Answer, ChangeParams, Config, EncodingChoice, Phase, PlannedChange, Refusal, Server,
-    ServerFault, Sync,
+    Answer, ChangeForm, ChangeParams, Config, EncodingChoice, Phase, PlannedChange, Refusal,
+    Server, ServerFault,
 };
 use lsp_store::StoreFault;
 use lsp_text::Encoding;
@@ -188,7 +188,7 @@ fn config(max_text: usize) -> Result<Config, BadLimits> {
     Ok(Config {
         limits: Limits::new(4_096, max_text, 2, 2)?,
         choice: EncodingChoice::Fixed(Encoding::Utf16),
-        sync: Sync::Incremental,
+        sync: ChangeForm::Incremental,
     })
 }
 

@@ -1,10 +1,12 @@
 //! Limits, hostile bodies, a message that is read first, and the texts of faults.
 
-use super::{Row, is_answer, new_server, usual, wrong_row, wrong_row_of_new};
+use super::{Row, holds, is_answer, new_server, usual, wrong_row, wrong_row_of_new};
 use lsp_frame::{BadLimits, Limits};
 use lsp_message::{ErrorCode, Message, read};
 use lsp_samples::bodies::{ACCEPTED, CHANGE, INITIALIZE, OPEN, PARSE_ERROR};
-use lsp_server::{Answer, Config, EncodingChoice, Incoming, Phase, Server, ServerFault, Sync};
+use lsp_server::{
+    Answer, ChangeForm, Config, EncodingChoice, Incoming, Phase, Server, ServerFault,
+};
 use lsp_text::Encoding;
 use std::alloc::{AllocError, Global};
 use std::test::Fail;
@@ -64,20 +66,53 @@ fn the_smallest_limits(rt: HostRuntime) -> Result<(), Fail> {
     let config = Config {
         limits: Limits::new(4_096, 0, 1, 1)?,
         choice: EncodingChoice::Fixed(Encoding::Utf16),
-        sync: Sync::Incremental,
+        sync: ChangeForm::Incremental,
     };
     assert!(rt; wrong_row_of_new(rt.alloc(), config, &SMALLEST)?.is_none());
     Ok(())
 }
 
-/// The numbers that `docs/FORMATS.md` has as the defaults, and the default of `serve`.
+/// What a lenient server takes of an editor that repeats a version with edits, begins again at
+/// version 1, and opens an open document.
+static LENIENT: [Row; 7] = [
+    (INITIALIZE, ACCEPTED),
+    (OPEN, "changed"),
+    (CHANGE, "changed"),
+    (CHANGE, "changed"),
+    (
+        r#"{"jsonrpc":"2.0","method":"textDocument/didChange","params":{"contentChanges":[{"text":"d"}],"textDocument":{"uri":"file:///a","version":1}}}"#,
+        "changed",
+    ),
+    (OPEN, "changed"),
+    (CHANGE, "changed"),
+];
+
+/// Returns a server that took these bodies, or none if one has another answer.
+fn lenient_server(alloc: Global) -> Result<Option<Server>, Fail> {
+    let mut config = usual()?;
+    config.limits = config.limits.lenient();
+    let mut server = Server::new(alloc, config);
+    let wrong = wrong_row(alloc, &mut server, &LENIENT)?;
+    Ok(wrong.is_none().then_some(server))
+}
+
+#[test]
+fn a_lenient_server_takes_what_editors_send(rt: HostRuntime) -> Result<(), Fail> {
+    let Some(server) = lenient_server(rt.alloc())? else {
+        return Err(Fail::from("refused"));
+    };
+    assert!(rt; holds(&server, Some((2, "aXc"))));
+    Ok(())
+}
+
+/// The numbers that `docs/LSPSYNC.md` has as the defaults, and the default of `serve`.
 fn documented() -> Result<Config, BadLimits> {
     Ok(Config {
         limits: Limits::new(16_777_216, 16_777_216, 1_024, 65_536)?,
         choice: EncodingChoice::Negotiated {
             prefer: Encoding::Utf16,
         },
-        sync: Sync::Incremental,
+        sync: ChangeForm::Incremental,
     })
 }
 

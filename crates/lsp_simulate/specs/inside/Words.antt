@@ -25,7 +25,7 @@ reason_name ErrorAnswer = codes "error-answer"
 reason_name NoSync = codes "no-sync"
 reason_name BadEncoding = codes "bad-encoding"
 
--- The letters of a refusal, as docs/FORMATS.md lists them.
+-- The letters of a refusal, as docs/PROTOCOL.md lists them.
 abbrev pub refusal_name : StoreFault → List ℕ
 refusal_name AlreadyOpen = codes "S1"
 refusal_name TooManyDocuments = codes "S2"

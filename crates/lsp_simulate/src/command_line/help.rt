@@ -12,9 +12,9 @@ pub struct Limit {
     pub help: &'static str,
 }
 
-/// An option without a value: the client offers an encoding.
+/// An option without a value.
 #[derive(Clone, Copy, Debug)]
-pub struct Offer {
+pub struct Flag {
     pub name: &'static str,
     pub help: &'static str,
 }
@@ -29,16 +29,20 @@ pub fn notes() -> &'static str {
     NOTES
 }
 
-/// The encodings that a client may offer beside UTF-16.
-pub fn offers() -> [Offer; 2] {
+/// The encodings that a client may offer beside UTF-16, and `--lenient`.
+pub fn flags() -> [Flag; 3] {
     [
-        Offer {
+        Flag {
             name: "utf-8",
             help: UTF8,
         },
-        Offer {
+        Flag {
             name: "utf-32",
             help: UTF32,
+        },
+        Flag {
+            name: "lenient",
+            help: LENIENT,
         },
     ]
 }
@@ -150,6 +154,8 @@ Example, messages that arrive late:
 static UTF8: &str = "The client offers to count characters in UTF-8";
 
 static UTF32: &str = "The client offers to count characters in UTF-32";
+
+static LENIENT: &str = "Both ends take an edit of any version, and open an open document again";
 
 static PREFER: &str = "What the server prefers to count in, if the client offers it; else utf-16";
 

@@ -80,6 +80,18 @@ waiting 3 0
 client {\"languageId\":\"plaintext\",\"text\":\"\u{1F600}b\",\"uri\":\"file:///a\",\"version\":2}
 ";
 
+const FACE_WHERE_LENIENT: &str = "1 sent
+2 server reply
+3 client send
+4 sent
+5 sent
+6 sent
+7 sent
+8 refused S4
+waiting 5 0
+client {\"languageId\":\"plaintext\",\"text\":\"b\",\"uri\":\"file:///a\",\"version\":1}
+";
+
 /// A server that counts in what the client didn't offer.
 const BEGIN: &str = "{\"event\":\"start\"}
 {\"event\":\"toServer\"}
@@ -110,6 +122,7 @@ static RUNS: &[(&[&str], &str, &str)] = &[
         FACE,
         FACE_IN_UTF32,
     ),
+    (&["lsp_simulate", "--lenient"], FACE, FACE_WHERE_LENIENT),
     (
         &["lsp_simulate", "--prefer", "utf-32", "--max-docs", "1"],
         BEGIN,

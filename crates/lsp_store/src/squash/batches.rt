@@ -11,7 +11,7 @@ ghost use Rattle.lsp_store.specs.Table.{changed, entry_refusal};
 
 use crate::fault::StoreFault;
 use crate::store::Store;
-use crate::store::canonical::framed_batch;
+use crate::store::canonical::batch_frame;
 use crate::store::document::Document;
 use crate::store::plan::Plan;
 use lsp_edit::{Change, Joined, TextFault};
@@ -146,6 +146,6 @@ impl Batches {
     {
         let batch = self.joined.canonical(self.encoding)?;
         let alloc = *self.uri.allocator();
-        framed_batch(alloc, &self.limits, &self.uri, self.version, batch)
+        batch_frame(alloc, &self.limits, &self.uri, self.version, batch)
     }
 }

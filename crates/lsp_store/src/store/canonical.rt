@@ -41,7 +41,7 @@ fn may_be_written(limits: &Limits, changes: &[Change]) -> Result<(), StoreFault>
 const USUAL_LENGTH: usize = 256;
 
 /// Returns the frame of the `textDocument/didChange` of a batch.
-fn framed_change(
+fn change_frame(
     alloc: Global,
     limits: &Limits,
     uri: &str,
@@ -62,12 +62,12 @@ fn framed_change(
 {
     let mut body = Vec::with_capacity(alloc, USUAL_LENGTH)?;
     push_change(&mut body, uri, version, &changes)?;
-    framed(alloc, limits, &body)
+    body_frame(alloc, limits, &body)
 }
 
 /// Returns the frame of the `textDocument/didChange` of a batch that may have too many changes.
 /// Out of memory only where it hasn't.
-pub fn framed_batch(
+pub fn batch_frame(
     alloc: Global,
     limits: &Limits,
     uri: &str,
@@ -86,7 +86,7 @@ pub fn framed_batch(
     ensures memory { result ≡ Err NoMemory → length changes.items ≤ limits.now.max_changes }
 {
     may_be_written(limits, &changes)?;
-    framed_change(alloc, limits, uri, version, changes)
+    change_frame(alloc, limits, uri, version, changes)
 }
 
 /// Appends the body of the `textDocument/didChange` of a batch, unless it is too long.
@@ -129,7 +129,7 @@ fn keep_within(bytes: &mut Vec<u8>, start: usize, limits: &Limits) -> Result<(),
 }
 
 /// Returns the frame of a body. Out of memory only where the body isn't too long.
-fn framed(alloc: Global, limits: &Limits, body: &[u8]) -> Result<Vec<u8>, StoreFault>
+fn body_frame(alloc: Global, limits: &Limits, body: &[u8]) -> Result<Vec<u8>, StoreFault>
     ensures framed { IfOk result (λ bytes. bytes.items ≡ frame body.now) }
     ensures within { OnOk result (body_refusal limits.now body.now ≡ None) }
     ensures error { IfErr result (IsRefusal (body_refusal limits.now body.now)) }
@@ -198,9 +198,10 @@ impl Store {
         };
         let changes = stored.canonical(&self.limits, version, encoding, changes)?;
         let alloc = *self.documents.allocator();
-        let bytes = framed_change(alloc, &self.limits, uri, version, changes)?;
+        let bytes = change_frame(alloc, &self.limits, uri, version, changes)?;
         Ok(bytes)
     }
+
     /// Appends the body of that message, so that a caller can put its header before it
     /// ([`lsp_frame::put_header`]).
     ///
@@ -264,7 +265,7 @@ impl Store {
     {
         let alloc = *self.documents.allocator();
         let (uri, version, batch) = self.planned_batch(plan)?;
-        framed_change(alloc, &self.limits, uri, version, batch)
+        change_frame(alloc, &self.limits, uri, version, batch)
     }
 
     /// Appends the body of that message, so that a caller can put its header before it

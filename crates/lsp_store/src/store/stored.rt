@@ -25,7 +25,7 @@ impl Stored {
     ghost use Rattle.lsp_edit.specs.Once.{IsDeltaOf, IsOn, bytes_after};
     ghost use Rattle.lsp_store.specs.Plan.{planned};
     ghost use Rattle.lsp_store.specs.declared.fault.StoreFault.TheVariants.{NoMemory};
-    ghost use Rattle.lsp_store.specs.Table.{IsLeftToMeaning, entry_refusal};
+    ghost use Rattle.lsp_store.specs.Table.{IsLeftToMeaning, entry_refusal, is_stale};
     ghost use Rattle.lsp_store.specs.Faults.{fault_of, IsRefusal};
     ghost use Rattle.lsp_store.specs.Opened.{entry_under};
 
@@ -54,6 +54,13 @@ impl Stored {
         })
     }
 
+    /// Returns whether a version is stale: not greater than the current one, within strict limits.
+    fn is_stale(&self, limits: &Limits, version: i32) -> bool
+        ensures { result ≡ is_stale limits.now version self.now.version }
+    {
+        !limits.is_lenient() && version <= self.version
+    }
+
     /// Checks a batch apart from its meaning: its version, and the limits on its changes. Takes no
     /// memory.
     pub fn may_change(
@@ -73,7 +80,7 @@ impl Stored {
             (sum_by (λ change. string_len change.text) changes.now ≤ 1073741824) }
         ensures memory { result ≢ Err NoMemory }
     {
-        if version <= self.version {
+        if self.is_stale(limits, version) {
             return Err(StoreFault::StaleVersion { held: self.version });
         }
         if changes.len() > limits.max_changes() || !fits(changes) {

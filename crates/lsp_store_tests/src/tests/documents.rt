@@ -330,7 +330,7 @@ pub(super) fn names_at(store: &Store, index: usize) -> (&str, &str) {
 }
 
 /// Returns whether these are the URIs of all open documents, in order.
-fn is_order(store: &Store, uris: &[&str]) -> bool {
+pub(super) fn uris_of(store: &Store, uris: &[&str]) -> bool {
     for (index, uri) in uris.iter().enumerate() {
         if names_at(store, index) != (*uri, "plaintext") {
             return false;
@@ -365,10 +365,10 @@ static OPENED_AGAIN: [Row; 1] = [(Step::Open(URI, 1, ""), Ok(0), Some((1, "")))]
 
 /// Returns whether a document that is closed and opened again comes after the others.
 fn goes_last(store: &mut Store, alloc: Global) -> bool {
-    if wrong_row(store, alloc, &THREE_OPENED).is_some() || !is_order(store, &["b", "c"]) {
+    if wrong_row(store, alloc, &THREE_OPENED).is_some() || !uris_of(store, &["b", "c"]) {
         return false;
     }
-    wrong_row(store, alloc, &OPENED_AGAIN).is_none() && is_order(store, &["b", "c", URI])
+    wrong_row(store, alloc, &OPENED_AGAIN).is_none() && uris_of(store, &["b", "c", URI])
 }
 
 fn goes_last_in_new(alloc: Global) -> Result<bool, StoreFault> {

@@ -1,4 +1,4 @@
-//! The pictures of docs/FORMATS.md: what each position of a line denotes.
+//! The pictures of docs/PROTOCOL.md: what each position of a line denotes.
 
 use super::{UTF8, UTF16, UTF32, positioned, resolved};
 use lsp_text::Encoding;

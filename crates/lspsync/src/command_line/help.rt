@@ -25,7 +25,7 @@ pub enum OwnHelp {
     /// There are none.
     Nothing,
     /// `--sync`.
-    Sync(&'static str),
+    ChangeForm(&'static str),
     /// `--explain`.
     Explain(&'static str),
     /// `--texts` and `--bodies`.
@@ -86,7 +86,7 @@ pub fn serve() -> Page
         about: SERVE,
         example: SERVE_EXAMPLE,
         encoding: PREFERRED_ENCODING,
-        own: OwnHelp::Sync(SYNC),
+        own: OwnHelp::ChangeForm(SYNC),
     }
 }
 
@@ -158,6 +158,8 @@ pub struct LimitOptions {
     pub text: Limit,
     pub docs: Limit,
     pub changes: Limit,
+    /// The meaning of `--lenient`.
+    pub lenient: &'static str,
 }
 
 /// The options that all commands have. Their defaults are those of `Limits::default()`.
@@ -196,6 +198,7 @@ static LIMITS: LimitOptions = LimitOptions {
         default: "65536",
         help: MAX_CHANGES,
     },
+    lenient: LENIENT,
 };
 
 static PROGRAM: &str =
@@ -335,3 +338,6 @@ const MAX_TEXT: &str = "Greatest length of a document, in bytes, up to 107374182
 const MAX_DOCS: &str = "Greatest number of open documents, from 1 to 65536";
 
 const MAX_CHANGES: &str = "Greatest number of changes in one message, from 1 to 1048576";
+
+const LENIENT: &str =
+    "Take each change whatever its version, and let a `didOpen` of an open document replace it";

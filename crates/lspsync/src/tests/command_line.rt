@@ -2,12 +2,13 @@
 
 use super::*;
 use crate::command_line::{self, parse};
+use lsp_frame::Limits;
 use lsp_replay::Settings;
 use lsp_server::Config;
 use std::str;
 use std::test::Fail;
 
-static WRONG: [&[&str]; 43] = [
+static WRONG: [&[&str]; 45] = [
     &["lspsync"],
     &["lspsync", "rewrite"],
     &["lspsync", "--max-body", "4096", "check"],
@@ -21,6 +22,8 @@ static WRONG: [&[&str]; 43] = [
     &["lspsync", "replay", "--documents"],
     &["lspsync", "check", "--explain", "--explain"],
     &["lspsync", "check", "--explain=yes"],
+    &["lspsync", "check", "--lenient", "--lenient"],
+    &["lspsync", "serve", "--lenient=yes"],
     &["lspsync", "trace", "--explain"],
     &["lspsync", "trace", "--texts", "--texts"],
     &["lspsync", "trace", "--bodies", "--bodies"],
@@ -142,6 +145,31 @@ fn a_call_without_options_has_the_defaults(rt: HostRuntime) -> Result<(), Fail> 
     Ok(())
 }
 
+#[test]
+fn each_command_can_be_lenient(rt: HostRuntime) -> Result<(), Fail> {
+    let limits = Limits::default().lenient();
+    let config = Config {
+        limits,
+        ..Config::default()
+    };
+    let serve = command_line::Call::Serve(config);
+    assert!(rt; is_call(rt.alloc(), &["lspsync", "serve", "--lenient"], serve));
+    let settings = Settings {
+        limits,
+        ..Settings::default()
+    };
+    let convert = command_line::Call::Convert(settings);
+    assert!(rt; is_call(rt.alloc(), &["lspsync", "convert", "--lenient"], convert));
+    for command in &COMMANDS {
+        let status = if *command == "serve" { 1 } else { 0 };
+        assert_eq!(rt;
+            status_of(rt.alloc(), &["lspsync", command, "--lenient"])?,
+            status
+        );
+    }
+    Ok(())
+}
+
 static HELP: [&[&str]; 3] = [
     &["lspsync", "--help"],
     &["lspsync", "-h"],
@@ -180,12 +208,13 @@ fn help_names_each_command(rt: HostRuntime) -> Result<(), Fail> {
     Ok(())
 }
 
-static OPTIONS: [&str; 5] = [
+static OPTIONS: [&str; 6] = [
     "--encoding",
     "--max-body",
     "--max-text",
     "--max-docs",
     "--max-changes",
+    "--lenient",
 ];
 
 /// How help shows the defaults of the limits.

@@ -60,6 +60,53 @@ fn a_whole_session_ends_at_exit(rt: HostRuntime) -> Result<(), Fail> {
     Ok(())
 }
 
+/// A third message after `initialize` and the opening of `abc`, and the text and the version that it
+/// leaves where the limits are lenient.
+static LENIENT: [(&str, &str, i32); 4] = [
+    (OPEN, "abc", 1),
+    (
+        r#"{"jsonrpc":"2.0","method":"textDocument/didOpen","params":{"textDocument":{"languageId":"plaintext","text":"x","uri":"file:///a","version":0}}}"#,
+        "x",
+        0,
+    ),
+    (
+        r#"{"jsonrpc":"2.0","method":"textDocument/didChange","params":{"contentChanges":[{"range":{"end":{"character":3,"line":0},"start":{"character":0,"line":0}},"text":"x"}],"textDocument":{"uri":"file:///a","version":1}}}"#,
+        "x",
+        1,
+    ),
+    (
+        r#"{"jsonrpc":"2.0","method":"textDocument/didChange","params":{"contentChanges":[],"textDocument":{"uri":"file:///a","version":-1}}}"#,
+        "abc",
+        -1,
+    ),
+];
+
+/// Is the third message taken leniently, and is the log canonical?
+fn is_taken(alloc: Global, third: &str, text: &str, version: i32) -> Result<bool, AllocError> {
+    let input = log(alloc, &[INITIALIZE, OPEN, third])?;
+    let lines = b"1 reply\n2 changed\n3 changed\n";
+    if !answers(alloc, &["lspsync", "check", "--lenient"], &input, 0, lines)? {
+        return Ok(false);
+    }
+    let words = ["lspsync", "normalise", "--lenient"];
+    if !answers(alloc, &words, &input, 0, &input)? {
+        return Ok(false);
+    }
+    let report = format!(in alloc;
+        "{{\"languageId\":\"plaintext\",\"text\":\"{text}\",\"uri\":\"file:///a\",\"version\":{version}}}\n"
+    )?;
+    let words = ["lspsync", "replay", "--lenient"];
+    answers(alloc, &words, &input, 0, report.as_bytes())
+}
+
+#[test]
+fn what_a_lenient_server_takes(rt: HostRuntime) -> Result<(), Fail> {
+    for (third, text, version) in &LENIENT {
+        assert!(rt; is_taken(rt.alloc(), third, text, *version)?, "at {text}");
+    }
+    Ok(())
+}
+
 /// Options of `check`, a third message after `initialize` and the opening of `abc`, and its word.
 pub(super) static THIRD: [(&str, &str, &str); 12] = [
     ("--max-docs=2", "[", "error -32700"),

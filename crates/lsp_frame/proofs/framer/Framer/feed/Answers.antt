@@ -2,7 +2,7 @@ use Rattle.std.proofs.Common.{◌≡◌, ◌++◌, ℕ, false, take, ap, sym, �
 use Rattle.std.proofs.lemmas.Bool.{false≢true}
 use Rattle.lsp_frame.specs.declared.fault.FrameFault.TheVariants.{Failed}
 use Rattle.lsp_frame.specs.Stream.{Framing, IsPart, HoldsOne}
-use Rattle.lsp_frame.specs.Progress.{has_failed}
+use Rattle.lsp_frame.specs.Stream.{has_failed}
 use Rattle.lsp_frame.proofs.FaultLemmas.{stage_part, part_one, not_failed, same_framing, feed_stop}
 use Rattle.lsp_frame.proofs.framer.Framer.feed.Goals as goal
 

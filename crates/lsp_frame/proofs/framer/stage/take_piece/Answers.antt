@@ -1,5 +1,5 @@
 use Rattle.std.proofs.Common.{refl, subst}
-use Rattle.lsp_frame.specs.Progress.{IsInHeader, IsInBody, IsAtStage}
+use Rattle.lsp_frame.specs.inside.Stage.{IsInHeader, IsInBody, IsAtStage}
 use Rattle.lsp_frame.specs.declared.framer.stage.Stage.{Stage}
 use Rattle.lsp_frame.proofs.ProgressLemmas.{so_far_begins}
 use Rattle.lsp_frame.proofs.FaultLemmas.{no_frame_at_header, frame_len}

@@ -1,4 +1,4 @@
--- What a framer knows of a frame that is coming in. Only this crate uses these definitions.
+-- What a framer knows of a frame that is coming in.
 use Rattle.std.specs.Prelude.{ℕ, ◌≡◌, ◌+◌, ◌≤◌, ◌<◌, Bool, true, false, not, nat_lt, if◌then◌else◌, List, [], ◌∷◌, ◌++◌, length, codes, Ok}
 use Rattle.std.specs.List.{AllByRecursion, list_all}
 use Rattle.lsp_frame.specs.Header.{Line, IsLine, AreLines, IsNameByte, lines_bytes, header_of, line_bytes}
@@ -12,7 +12,6 @@ use Rattle.lsp_frame.specs.declared.framer.notes.Charset.{Charset}
 use Rattle.lsp_frame.specs.declared.framer.notes.Charset.TheVariants as named
 use Rattle.lsp_frame.specs.declared.framer.notes.Notes.{Notes}
 use Rattle.lsp_frame.specs.declared.framer.header.Header.{Header}
-use Rattle.lsp_frame.specs.declared.framer.header.Stop.TheVariants as stop
 use Rattle.lsp_frame.specs.declared.framer.stage.Stage.{Stage}
 use Rattle.lsp_frame.specs.declared.framer.stage.Stage.TheVariants as stage
 use Rattle.lsp_frame.specs.declared.written.WrittenHeader.{WrittenHeader}
@@ -151,9 +150,3 @@ abbrev pub IsAtStage : ℕ → List ℕ → Stage → Type 0
 IsAtStage max_body buffered (stage.Header header) = IsInHeader max_body buffered header
 IsAtStage max_body buffered (stage.Body start stop_at) = IsInBody max_body buffered start stop_at
 IsAtStage max_body buffered stage.Failed = length buffered ≤ 8192 + max_body
-
--- A fault was found.
-abbrev pub has_failed : Stage → Bool
-has_failed (stage.Header header) = false
-has_failed (stage.Body start stop_at) = false
-has_failed stage.Failed = true

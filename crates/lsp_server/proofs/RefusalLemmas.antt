@@ -1,0 +1,58 @@
+-- A message that isn't obeyed changes nothing.
+use Rattle.std.proofs.Common.{◌≡◌, None, IsSome, Result, Ok, Err, IfOk, OnOk, subst, ◌∙◌}
+use Rattle.std.specs.Prelude.{⊤}
+use Rattle.lsp_message.specs.declared.outgoing.ErrorCode.{ErrorCode}
+use Rattle.lsp_message.specs.Outgoing as outgoing
+use Rattle.lsp_message.specs.Outgoing.{OutgoingData}
+use Rattle.lsp_reader.specs.Incoming.{IncomingData}
+use Rattle.lsp_server.specs.declared.answer.Answer.{Answer}
+use Rattle.lsp_server.specs.declared.answer.Answer.TheVariants.{Reply, Changed, Dropped, Ignored, Refused}
+use Rattle.lsp_server.specs.declared.answer.Answer.TheVariants as variants
+use Rattle.lsp_server.specs.Answer.{AnswerData, Sent, reply, changed, dropped, ignored, already_ended, refused, exits, as_sent}
+use Rattle.lsp_server.specs.Laws.{IsRefusal}
+use Rattle.lsp_server.specs.Seen.{answer_view, IsRefusing}
+use Rattle.lsp_server.specs.Step.{State, step_on}
+use Rattle.lsp_server.proofs.LawLemmas.{kept}
+
+-- the same of an answer as it is sent
+abbrev IsRefusingSent : AnswerData Sent → Type 0
+IsRefusingSent (reply r) = IsSome r.code
+IsRefusingSent changed = ⊥
+IsRefusingSent (exits status) = ⊥
+IsRefusingSent a = ⊤
+
+as_viewed : (a : Answer) → IsRefusing a → IsRefusingSent (answer_view a)
+as_viewed (Reply frame code) h = h
+as_viewed Changed h = h
+as_viewed Dropped h = h
+as_viewed Ignored h = h
+as_viewed (Refused refusal) h = h
+as_viewed (variants.Exit status) h = h
+
+no_code : IsSome {T = ErrorCode} None → ⊥
+no_code h = cc
+
+as_answered : (a : AnswerData OutgoingData) → IsRefusingSent (as_sent a) → IsRefusal a
+as_answered (reply (outgoing.error_reply id error)) h = tt
+as_answered (reply (outgoing.initialize offers)) h = no_code h
+as_answered (reply outgoing.initialized) h = no_code h
+as_answered (reply (outgoing.did_open p)) h = no_code h
+as_answered (reply (outgoing.did_change p)) h = no_code h
+as_answered (reply (outgoing.did_close p)) h = no_code h
+as_answered (reply outgoing.shutdown) h = no_code h
+as_answered (reply outgoing.exit) h = no_code h
+as_answered (reply (outgoing.initialize_result id encoding kind)) h = no_code h
+as_answered (reply (outgoing.shutdown_result id)) h = no_code h
+as_answered changed h = h
+as_answered dropped h = tt
+as_answered ignored h = tt
+as_answered already_ended h = tt
+as_answered (refused why) h = tt
+as_answered (exits status) h = h
+
+-- After a call that took a step and was refused the server is as before.
+pub refused_stays : {E : Type 0} (s new : State) (m : IncomingData) (result : Result Answer E) → IfOk result (λ a. answer_view a ≡ as_sent (step_on s m).answer) → OnOk result (new ≡ (step_on s m).state)
+    → IfOk result (λ a. IsRefusing a → new ≡ s)
+refused_stays s new m (Ok a) answer state =
+    λ refusing. state ∙ (kept s.phase s m refl).refusal (as_answered (step_on s m).answer (subst IsRefusingSent answer (as_viewed a refusing)))
+refused_stays s new m (Err e) answer state = tt
