@@ -1,4 +1,4 @@
 use Rattle.lspsync.proofs.command_line.with_own.Goals as goal
 
-pub returns-in-Sync : goal.returns-in-Sync
-returns-in-Sync c = rw c.in-Sync.is c.with_sync.ensures
+pub returns-in-ChangeForm : goal.returns-in-ChangeForm
+returns-in-ChangeForm c = rw c.in-ChangeForm.is c.with_sync.ensures
