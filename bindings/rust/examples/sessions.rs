@@ -1,7 +1,7 @@
 //! Both ends of sessions in Rust, as `bindings/sessions` asks for them.
 
 use laspidru::client::{self, Client, ClientError, Delivered, Reason};
-use laspidru::server::{self, Answer, Refusal, Server};
+use laspidru::server::{self, Answer, ChangeForm, EncodingChoice, Refusal, Server};
 use laspidru::{Change, Encoding, Position, Range};
 use std::collections::VecDeque;
 use std::error::Error;
@@ -70,8 +70,9 @@ impl Session {
         };
         let offers =
             client::Settings { max_text, max_docs, max_changes, utf8: utf8 > 0, utf32: utf32 > 0, ..Default::default() };
-        let settings =
-            server::Settings { max_text, max_docs, max_changes, encoding, is_full: full > 0, ..Default::default() };
+        let choice = EncodingChoice::Negotiated { prefer: encoding };
+        let sync = if full > 0 { ChangeForm::Full } else { ChangeForm::Incremental };
+        let settings = server::Settings { max_text, max_docs, max_changes, choice, sync, ..Default::default() };
         let (client, server) = (Client::new(&offers)?, Server::new(&settings)?);
         Ok(Session { client, server, to_server: Frames::new(), to_client: Frames::new() })
     }

@@ -16,12 +16,10 @@ pub struct Settings {
     pub max_docs: usize,
     /// 1 to 1,048,576 changes in one message.
     pub max_changes: usize,
-    /// The encoding that the server takes where the client offers it, else UTF-16.
-    pub encoding: Encoding,
-    /// Does the server take `encoding` whatever the client offers?
-    pub is_fixed: bool,
-    /// Does the server ask for whole texts, not for ranges?
-    pub is_full: bool,
+    /// Which encoding of positions the server takes.
+    pub choice: EncodingChoice,
+    /// How the client is asked to send changes. Both forms are taken.
+    pub sync: ChangeForm,
     /// Is a change of any version taken, and may an open document be opened again?
     pub lenient: bool,
 }
@@ -34,12 +32,29 @@ impl Default for Settings {
             max_text,
             max_docs,
             max_changes,
-            encoding: Encoding::Utf16,
-            is_fixed: false,
-            is_full: false,
+            choice: EncodingChoice::Negotiated { prefer: Encoding::Utf16 },
+            sync: ChangeForm::Incremental,
             lenient: false,
         }
     }
+}
+
+/// Which encoding of positions a server takes.
+#[derive(Clone, Copy, Debug, PartialEq, Eq)]
+pub enum EncodingChoice {
+    /// The preferred one where the client offers it, else UTF-16.
+    Negotiated { prefer: Encoding },
+    /// This one, whatever the client offers.
+    Fixed(Encoding),
+}
+
+/// How a server asks the client to send changes.
+#[derive(Clone, Copy, Debug, PartialEq, Eq)]
+pub enum ChangeForm {
+    /// As ranges with their texts.
+    Incremental,
+    /// As whole texts.
+    Full,
 }
 
 /// What a server answers to a message.
@@ -155,14 +170,18 @@ pub struct Server {
 impl Server {
     /// A server at the start of a session.
     pub fn new(settings: &Settings) -> Result<Self, ServerError> {
+        let (encoding, is_fixed) = match settings.choice {
+            EncodingChoice::Negotiated { prefer } => (prefer, false),
+            EncodingChoice::Fixed(encoding) => (encoding, true),
+        };
         let settings = ffi::Settings {
             max_body: settings.max_body,
             max_text: settings.max_text,
             max_docs: settings.max_docs,
             max_changes: settings.max_changes,
-            encoding: settings.encoding as u32,
-            is_fixed: settings.is_fixed,
-            is_full: settings.is_full,
+            encoding: encoding as u32,
+            is_fixed,
+            is_full: settings.sync == ChangeForm::Full,
             lenient: settings.lenient,
         };
         let handle = ffi::Handle::empty();

@@ -2,7 +2,7 @@
 
 use laspidru::client::{Client, ClientError, Delivered, Phase, Reason};
 use laspidru::framer::{FrameError, Framer};
-use laspidru::server::{Answer, Refusal, Server, ServerError};
+use laspidru::server::{Answer, ChangeForm, EncodingChoice, Refusal, Server, ServerError};
 use laspidru::{client, server, Change, Encoding, Position, Range};
 use std::collections::VecDeque;
 
@@ -42,8 +42,9 @@ struct Pair {
 
 impl Pair {
     fn new(chance: &mut Chance) -> Self {
-        let encoding = [Encoding::Utf8, Encoding::Utf16, Encoding::Utf32][chance.below(3) as usize];
-        let server = server::Settings { encoding, is_full: chance.below(4) == 0, ..Default::default() };
+        let prefer = [Encoding::Utf8, Encoding::Utf16, Encoding::Utf32][chance.below(3) as usize];
+        let sync = if chance.below(4) == 0 { ChangeForm::Full } else { ChangeForm::Incremental };
+        let server = server::Settings { choice: EncodingChoice::Negotiated { prefer }, sync, ..Default::default() };
         let client = client::Settings { utf8: chance.below(2) == 0, utf32: chance.below(2) == 0, ..Default::default() };
         let (client, server) = (Client::new(&client).unwrap(), Server::new(&server).unwrap());
         Pair { client, server, to_server: VecDeque::new(), to_client: VecDeque::new() }

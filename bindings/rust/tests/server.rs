@@ -1,4 +1,4 @@
-use laspidru::server::{Answer, MessageError, Refusal, Server, ServerError, Settings};
+use laspidru::server::{Answer, EncodingChoice, MessageError, Refusal, Server, ServerError, Settings};
 use laspidru::{Change, Encoding, Error, Position, Range, TextEdit};
 
 const URI: &str = "file:///a";
@@ -67,7 +67,8 @@ fn refused_notifications_leave_the_documents() -> Result<(), ServerError> {
 
 #[test]
 fn each_refusal_has_its_name() -> Result<(), ServerError> {
-    let settings = Settings { max_text: 8, max_docs: 1, max_changes: 1, is_fixed: true, ..Settings::default() };
+    let choice = EncodingChoice::Fixed(Encoding::Utf16);
+    let settings = Settings { max_text: 8, max_docs: 1, max_changes: 1, choice, ..Settings::default() };
     let mut server = Server::new(&settings)?;
     assert_eq!(server.handle(open("").as_bytes())?, Answer::Dropped);
     assert!(replies(&mut server, &request(1, "initialize", r#"{"capabilities":{}}"#), None)?);
@@ -95,7 +96,7 @@ fn each_refusal_has_its_name() -> Result<(), ServerError> {
 fn settings() -> Result<(), ServerError> {
     let bad = Settings { max_body: 1, ..Settings::default() };
     assert_eq!(Server::new(&bad).map(drop), Err(ServerError::BadLimit));
-    let fixed = Settings { encoding: Encoding::Utf8, is_fixed: true, ..Settings::default() };
+    let fixed = Settings { choice: EncodingChoice::Fixed(Encoding::Utf8), ..Settings::default() };
     let mut server = Server::new(&fixed)?;
     let body = request(1, "initialize", r#"{"capabilities":{}}"#);
     let Answer::Reply { frame, .. } = server.handle(body.as_bytes())? else { panic!("no reply") };
@@ -150,7 +151,7 @@ fn the_canonical_message_of_changes() -> Result<(), Box<dyn std::error::Error>> 
 
 #[test]
 fn the_encoding_is_known_once_it_is_chosen() -> Result<(), ServerError> {
-    let mut server = Server::new(&Settings { encoding: Encoding::Utf8, ..Settings::default() })?;
+    let mut server = Server::new(&Settings { choice: EncodingChoice::Negotiated { prefer: Encoding::Utf8 }, ..Settings::default() })?;
     assert_eq!(server.encoding(), None);
     let offers = r#"{"capabilities":{"general":{"positionEncodings":["utf-8"]}}}"#;
     assert!(replies(&mut server, &request(1, "initialize", offers), None)?);
