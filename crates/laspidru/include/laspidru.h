@@ -33,7 +33,7 @@ enum {
     LASPIDRU_OUT_OF_MEMORY = 2,
     LASPIDRU_IN_USE = 3,           /* the handle is not empty */
     LASPIDRU_EMPTY = 4,            /* the handle is empty */
-    LASPIDRU_TOO_LONG = 5,         /* a text has more than 1,073,741,824 bytes or max_text, or a client's message more than max_body */
+    LASPIDRU_TOO_LONG = 5,         /* a text has more than 1,073,741,824 bytes or max_text, or a message to send more than max_body */
     LASPIDRU_INSIDE_CHARACTER = 6, /* a position or offset inside a character, or an offset between CR and LF or past the end */
     LASPIDRU_REVERSED_RANGE = 7,   /* a range starts after its end */
     LASPIDRU_BAD_ENCODING = 8,     /* not one of the encodings */
