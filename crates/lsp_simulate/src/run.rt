@@ -9,24 +9,12 @@ use crate::word::write_happened;
 use clap::error as clap_error;
 use lsp_message::push_document;
 use lsp_pair::{Pair, PairFault};
+use lsp_program::{BAD_INPUT, OUT_OF_MEMORY, STREAM_FAULT, USAGE, flush, print_help};
 use lsp_store::{Document, Store};
+use lsp_stream::{EngineFault, Told};
 use std::alloc::{AllocError, Global};
 use std::io::{self, BufRead, ErrorKind, Write};
 use thiserror::Error;
-
-/// The status of words that are no call, or of ends that can't have a session.
-const USAGE: u8 = 2;
-
-/// The status of a failed read, write or flush.
-const STREAM_FAULT: u8 = 3;
-
-const OUT_OF_MEMORY: u8 = 4;
-
-/// The status of a line that is no event.
-const BAD_EVENT: u8 = 5;
-
-/// How often an interrupted flush is repeated.
-const MAX_TURNS: u64 = 1_099_511_627_776;
 
 /// Why a run ended before its input did.
 #[derive(Clone, Copy, Debug, PartialEq, Eq, Error)]
@@ -49,6 +37,16 @@ impl From<AllocError> for RunFault {
     }
 }
 
+impl From<EngineFault> for RunFault {
+    /// The fault of help, or of the last flush: nothing is read there.
+    fn from(fault: EngineFault) -> RunFault {
+        match fault {
+            EngineFault::NoMemory => RunFault::NoMemory,
+            _ => RunFault::Write,
+        }
+    }
+}
+
 /// Runs the program, and returns its exit status. `words` is its command line, the program's name
 /// first. A fault's line is written to `errors`.
 pub fn run<R: BufRead + Drop, W: Write, E: Write>(
@@ -64,7 +62,7 @@ pub fn run<R: BufRead + Drop, W: Write, E: Write>(
         Err(error) => return explain(alloc, &error, output, errors),
     };
     let ran = simulate(alloc, setting, input, output);
-    let flushed = flush(output);
+    let flushed = flush(&mut Told::new(output)).map_err(RunFault::from);
     match ran.and(flushed) {
         Ok(()) => 0,
         Err(fault) => report(fault, errors),
@@ -177,28 +175,10 @@ fn explain<W: Write, E: Write>(
         let _ = write!(errors, "{error}");
         return USAGE;
     }
-    match print_help(alloc, error, output) {
-        Ok(()) => 0,
-        Err(fault) => report(fault, errors),
+    match print_help(alloc, error, &mut Told::new(output)) {
+        Ok(status) => status,
+        Err(fault) => report(RunFault::from(fault), errors),
     }
-}
-
-fn print_help<W: Write>(alloc: Global, help: &clap::Error, output: &mut W) -> Result<(), RunFault> {
-    let text = format!(in alloc; "{help}")?;
-    written(output.write_all(text.as_bytes()))?;
-    flush(output)
-}
-
-/// Flushes the output. An interrupted flush is repeated.
-fn flush<W: Write>(output: &mut W) -> Result<(), RunFault> {
-    for _ in 0..MAX_TURNS {
-        match output.flush() {
-            Ok(()) => return Ok(()),
-            Err(error) if error.kind() == ErrorKind::Interrupted => {}
-            Err(_) => return Err(RunFault::Write),
-        }
-    }
-    Err(RunFault::Write)
 }
 
 /// Prints why the program can't start: out of memory, or a word that isn't UTF-8. Returns the
@@ -223,6 +203,6 @@ pub fn report<E: Write>(fault: RunFault, errors: &mut E) -> u8
         RunFault::Pair(_) => USAGE,
         RunFault::Read | RunFault::Write => STREAM_FAULT,
         RunFault::NoMemory => OUT_OF_MEMORY,
-        RunFault::BadEvent { .. } => BAD_EVENT,
+        RunFault::BadEvent { .. } => BAD_INPUT,
     }
 }

@@ -1,4 +1,3 @@
 pub mod OptionLemmas
 pub mod ProgramLemmas
 pub mod ReadLemmas
-pub mod RunLemmas

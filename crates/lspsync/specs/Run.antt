@@ -1,5 +1,5 @@
 -- What the program writes, and the status that it ends with.
-use Rattle.std.specs.Prelude.{ℕ, ◌≡◌, ◌⊎◌, ◌==◌, if◌then◌else◌, ◌++◌, ◌∷◌, [], true, false, List, codes, Option, Some, None, Result, Ok, Err, OnOk}
+use Rattle.std.specs.Prelude.{ℕ, ◌≡◌, ◌⊎◌, ◌==◌, if◌then◌else◌, ◌++◌, ◌∷◌, [], List, codes, Option, Some, None, Result, Ok, Err, OnOk}
 use Rattle.std.specs.Io.KnownBytes.{Keeps, Appends}
 use Rattle.clap.specs.Values.{kind_of}
 use Rattle.clap.specs.declared.error.Error.{Error}
@@ -7,8 +7,8 @@ use Rattle.clap.specs.declared.error.kind.ErrorKind.{ErrorKind}
 use Rattle.clap.specs.declared.error.kind.ErrorKind.TheVariants as kind
 use Rattle.lsp_stream.specs.declared.fault.EngineFault.{EngineFault}
 use Rattle.lsp_stream.specs.declared.fault.EngineFault.TheVariants.{Read, Write, NoMemory, TooManyTurns}
-use Rattle.lsp_stream.specs.Ports.{Ports, Rose, WriterState, ports}
-use Rattle.lsp_stream.specs.Turns.{Spends}
+use Rattle.lsp_stream.specs.Ports.{Ports, WriterState, ports}
+use Rattle.lsp_program.specs.Output.{IsFlushed, IsHelp, allowed_turns}
 use Rattle.lsp_replay.specs.declared.outcome.Outcome.{Outcome}
 use Rattle.lsp_replay.specs.Documents.{documents_engine}
 use Rattle.lsp_replay.specs.Explained.{explain_engine}
@@ -40,19 +40,6 @@ engine_of (call.ReplayPart settings part) = part_engine settings part
 engine_of (call.Normalise settings) = normalise_engine settings
 engine_of (call.NormaliseDocuments settings) = documents_engine settings
 engine_of (call.Convert settings) = convert_engine settings
-
--- How many reads, writes and flushes an engine may make. The last flush may be tried as often.
-abbrev pub allowed_turns : ℕ
-allowed_turns = 1099511627776
-
--- The last flush, and what it answered. After one that succeeded all that was written is flushed.
--- Else the writer failed at it, or each flush that was allowed was made and interrupted.
-abbrev pub IsFlushed : WriterState → WriterState → Result (Unit {0}) EngineFault → Type 0
-IsFlushed before after (Ok _) = (after.flushed ≡ true) × (after.failed ≡ false)
-    × Rose before.calls after.calls
-IsFlushed before after (Err fault) =
-    ((fault ≡ Write) × (after.failed ≡ true) × Rose before.calls after.calls)
-    ⊎ ((fault ≡ TooManyTurns) × Spends before.calls after.calls allowed_turns 0)
 
 -- A fault of the engine comes before one of the flush.
 abbrev pub answer_of : Result Outcome EngineFault → Result (Unit {0}) EngineFault →
@@ -119,15 +106,6 @@ pub record IsCalled (asked : Call) (s : Streams) (ending : Ending) : Type 0 wher
   pub answer : Result ℕ EngineFault
   pub performed : IsPerformed asked s.before s.after answer
   pub ends : IsEnding answer s.errors_before s.errors ending
-
--- A text of help was written and flushed, with status 0. Else memory ran out and nothing was
--- written, the writer failed, or each call that was allowed was made.
-abbrev pub IsHelp : WriterState → WriterState → Result ℕ EngineFault → Type 0
-IsHelp before after (Ok status) = (status ≡ 0) × (after.flushed ≡ true)
-    × ((text : List ℕ) × Appends before.written after.written text)
-IsHelp before after (Err fault) = ((fault ≡ NoMemory) × (after ≡ before))
-    ⊎ (((fault ≡ Write) × (after.failed ≡ true) × Rose before.calls after.calls)
-    ⊎ ((fault ≡ TooManyTurns) × Spends before.calls after.calls allowed_turns 0))
 
 -- What the program does with words that are no call. Out of memory is reported, a mistake has
 -- status 2, and help is written.

@@ -1,43 +1,32 @@
 //! The program over any reader and writers.
 
 ghost use Rattle.std.specs.Prelude.{◌≡◌, ◌≢◌, ◌⊎◌, ◌++◌, OnOk, codes, List, ℕ, Result, Err, map};
-ghost use Rattle.std.specs.Io.KnownBytes.{Appends, Keeps};
+ghost use Rattle.std.specs.Io.KnownBytes.{Appends};
 ghost use Rattle.std.specs.Process.{exit_status};
 ghost use Rattle.clap.specs.Values.{kind_of};
 ghost use Rattle.clap.specs.declared.error.kind.ErrorKind.TheVariants.{OutOfMemory};
 ghost use Rattle.clap.specs.declared.error.kind.ErrorKind.TheVariants.{DisplayHelp, DisplayVersion};
 ghost use Rattle.lsp_stream.specs.Ports.{ports};
+ghost use Rattle.lsp_program.specs.Output.{IsHelp, allowed_turns};
 ghost use Rattle.lsp_replay.specs.Run.{IsEngineRun};
 ghost use Rattle.lspsync.specs.Run.{IsStatus, missing_line};
-ghost use Rattle.lspsync.specs.Run.{IsEnding, IsFlushed, IsHelp, IsPerformed, IsReported};
-ghost use Rattle.lspsync.specs.Run.{IsRun, Streams, allowed_turns, answer_of, engine_of, status_of};
+ghost use Rattle.lspsync.specs.Run.{IsEnding, IsPerformed, IsReported};
+ghost use Rattle.lspsync.specs.Run.{IsRun, Streams, answer_of, engine_of, status_of};
 
 use crate::command_line::{Call, parse};
 use crate::fault_text::FaultText;
 use clap::error as clap_error;
+use lsp_program::{BAD_INPUT, MAX_TURNS, OUT_OF_MEMORY, STREAM_FAULT, USAGE, flush, print_help};
 use lsp_replay::{
     EngineFault, NEVER_OPEN, NO_RECORD, Outcome, Sink, Source, check, convert, normalise,
     normalise_documents, replay, replay_part, serve, trace,
 };
-use lsp_stream::{Turns, flush_out, write_given};
 use std::alloc::Global;
 use std::io::{self, ErrorKind, Write};
 use std::process::ExitCode;
 
-/// How many reads, writes and flushes an engine may make. The last flush may be tried as often.
-const MAX_TURNS: u64 = 1_099_511_627_776;
-
 /// The status of a call that asked for something that isn't in the log.
 const MISSING: u8 = 1;
-
-/// The status of a call that is none, or can't be done.
-const USAGE: u8 = 2;
-
-const STREAM_FAULT: u8 = 3;
-
-const OUT_OF_MEMORY: u8 = 4;
-
-const BAD_LOG: u8 = 5;
 
 /// The end of the program.
 #[derive(Drop)]
@@ -213,24 +202,6 @@ fn explain<W: Sink, E: Write>(
     end_with(answer, errors)
 }
 
-/// Writes a text of help and flushes it. Returns the status.
-fn print_help<W: Sink>(alloc: Global, help: &clap::Error, output: &mut W) -> Result<u8, EngineFault>
-    ensures { IsHelp (W.seen output.old) (W.seen output.new) result }
-{
-    let text = format!(in alloc; "{help}")?;
-    let mut turns = Turns::new(MAX_TURNS);
-    write_given(output, text.as_bytes(), true, &mut turns)?;
-    Ok(0)
-}
-
-/// Flushes the output. An interrupted flush is repeated.
-fn flush<W: Sink>(output: &mut W) -> Result<(), EngineFault>
-    ensures kept { Keeps (W.seen output.old).written (W.seen output.new).written }
-    ensures flushed { IsFlushed (W.seen output.old) (W.seen output.new) result }
-{
-    flush_out(output, &mut Turns::new(MAX_TURNS))
-}
-
 /// Prints why the words of the command line can't be read: out of memory, or a word that isn't
 /// UTF-8.
 pub fn refuse<E: Write>(kind: ErrorKind, errors: &mut E) -> Ending
@@ -280,6 +251,6 @@ fn status_of(fault: EngineFault) -> u8
         EngineFault::Frame(_)
         | EngineFault::Truncated { .. }
         | EngineFault::BodyTooLong { .. }
-        | EngineFault::BadLog { .. } => BAD_LOG,
+        | EngineFault::BadLog { .. } => BAD_INPUT,
     }
 }

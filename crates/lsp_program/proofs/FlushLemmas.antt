@@ -5,7 +5,7 @@ use Rattle.lsp_stream.specs.declared.fault.EngineFault.{EngineFault}
 use Rattle.lsp_stream.specs.declared.fault.EngineFault.TheVariants.{TooManyTurns, Write}
 use Rattle.lsp_stream.specs.Ports.{Rose, WriterState}
 use Rattle.lsp_stream.specs.Turns.{Spends, WritesWithin}
-use Rattle.lspsync.specs.Run.{IsFlushed, allowed_turns}
+use Rattle.lsp_program.specs.Output.{IsFlushed, allowed_turns}
 
 pub flushed_of : (before after : WriterState) (most left : ℕ) (answer : Result (Unit {0}) EngineFault) → most ≡ allowed_turns
     → OnOk answer ((after.failed ≡ false) × Rose before.calls after.calls) → OnOk answer (after.flushed ≡ true)

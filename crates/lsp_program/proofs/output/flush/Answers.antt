@@ -1,5 +1,5 @@
-use Rattle.lspsync.proofs.RunLemmas.{flushed_of}
-use Rattle.lspsync.proofs.run.flush.Goals as goal
+use Rattle.lsp_program.proofs.FlushLemmas.{flushed_of}
+use Rattle.lsp_program.proofs.output.flush.Goals as goal
 
 pub returns-clause-flushed : goal.returns-clause-flushed
 returns-clause-flushed g c =
