@@ -71,7 +71,7 @@ impl Handler for Check {
     fn finish(
         &mut self,
         _line_due: bool,
-        _made: &mut Vec<u8>,
+        _buffer: &mut Vec<u8>,
     ) -> Result<Option<Outcome>, EngineFault> {
         Ok(Some(self.session.outcome()))
     }

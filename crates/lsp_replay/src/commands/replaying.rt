@@ -52,7 +52,7 @@ impl Handler for Replay {
         head: Head,
         _raw: &[u8],
         body: &[u8],
-        _made: &mut Vec<u8>,
+        _buffer: &mut Vec<u8>,
     ) -> Result<Given, EngineFault> {
         self.session.accept(head, body)?;
         Ok(Given::more(Output::Bytes))

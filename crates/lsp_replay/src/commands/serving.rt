@@ -105,7 +105,7 @@ impl Handler for Serve {
     fn finish(
         &mut self,
         _line_due: bool,
-        _made: &mut Vec<u8>,
+        _buffer: &mut Vec<u8>,
     ) -> Result<Option<Outcome>, EngineFault> {
         Ok(Some(self.without_exit()))
     }
