@@ -78,7 +78,7 @@ unless_bad r verdict given = given
 abbrev pub served : Session → AnswerData Sent → RecordOutput
 served s (reply m) = writes m.frame
 served s (exits status)
-    = ends [] (Ok (record { status = status; messages = s.messages; refused = s.refusals }))
+    = ends [] (Ok (record (outcome_of s) { status = status }))
 served s answer = writes []
 
 -- The same by the judgement of a record. Only a client's record is answered.
@@ -91,7 +91,7 @@ abbrev pub serving : View
 serving = record {
   record_output = λ s r j. serve_output j.session j.verdict;
   end_output = λ s line_due. [];
-  outcome = λ s. record { status = 1; messages = s.messages; refused = s.refusals };
+  outcome = λ s. record (outcome_of s) { status = 1 };
 }
 
 -- ---- `check`: a line for each record, its number and a word

@@ -6,6 +6,8 @@ use Rattle.lsp_store.specs.Table.{entry_at}
 use Rattle.lsp_log.specs.Log.{Record}
 use Rattle.lsp_replay.specs.declared.engines.parts.Part.{Part}
 use Rattle.lsp_replay.specs.declared.engines.Settings.{Settings}
+use Rattle.lsp_replay.specs.declared.outcome.Missing.{Missing}
+use Rattle.lsp_replay.specs.declared.outcome.Missing.TheVariants as missing
 use Rattle.lsp_replay.specs.declared.outcome.Outcome.{Outcome}
 use Rattle.lsp_replay.specs.RunOutput.{RunOutput}
 use Rattle.lsp_replay.specs.Engines.{RecordOutput, writes, ends, continue_with, unless_bad, report_from, as_log, log_config}
@@ -43,17 +45,14 @@ part_bytes None last table = report_from 0 table
 part_bytes (Some uri) None table = []
 part_bytes (Some uri) (Some text) table = text
 
--- The statuses of a part whose last record isn't in the log, and of a document that was never open.
-abbrev pub no_record : ℕ
-no_record = 6
+-- The outcome of a part of which something is missing.
+abbrev pub lacking : Missing → Outcome → Outcome
+lacking what outcome = record outcome { status = 1; missing = Some what }
 
-abbrev pub never_open : ℕ
-never_open = 7
-
--- The outcome is that of `replay`. A document that was never open has a status of its own.
+-- The outcome is that of `replay`, unless the document was never open.
 abbrev pub part_outcome : Option (List ℕ) → Option (List ℕ) → Outcome → Outcome
 part_outcome None last outcome = outcome
-part_outcome (Some uri) None outcome = record outcome { status = never_open }
+part_outcome (Some uri) None outcome = lacking missing.Document outcome
 part_outcome (Some uri) (Some text) outcome = outcome
 
 -- Is this the number of the part's last record?
@@ -76,7 +75,7 @@ end_bytes part last s =
 -- The outcome then.
 abbrev pub end_outcome : PartData → Option (List ℕ) → Session → Outcome
 end_outcome part last s =
-    if is_some part.at then record (outcome_of s) { status = no_record }
+    if is_some part.at then lacking missing.Record (outcome_of s)
     else part_outcome part.uri last (outcome_of s)
 
 -- ---- all records

@@ -1,5 +1,5 @@
 -- The output of an engine for the records of a log and for its end.
-use Rattle.std.specs.Prelude.{ℕ, Bool, List, [], ◌++◌, Option, Some, Result}
+use Rattle.std.specs.Prelude.{ℕ, Bool, List, [], ◌++◌, Option, Some, None, Result}
 use Rattle.lsp_replay.specs.declared.outcome.Outcome.{Outcome}
 use Rattle.lsp_stream.specs.declared.fault.EngineFault.{EngineFault}
 use Rattle.lsp_replay.specs.declared.handler.Output.TheVariants as output
@@ -27,5 +27,5 @@ stopped bytes answer
       out = bytes;
       stop = Some answer;
       last = λ _. [];
-      outcome = record { status = 0; messages = 0; refused = 0 };
+      outcome = record { status = 0; messages = 0; refused = 0; missing = None };
     }

@@ -204,4 +204,5 @@ outcome_of s = record {
   status = (if s.refusals == 0 then 0 else 1);
   messages = s.messages;
   refused = s.refusals;
+  missing = None;
 }

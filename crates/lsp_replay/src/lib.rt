@@ -11,7 +11,7 @@
 //!   `converting`.
 //! - `members`: what a line of JSON is put together from.
 //! - `mentions`: which record opened, closed or refused a document last.
-//! - `outcome`: the status and the counts at the end of a run.
+//! - `outcome`: the status and the counts at the end of a run, and what a part of a log lacks.
 //! - `laws`: what holds of the logs that are written.
 #![tactic(auto)]
 
@@ -31,4 +31,4 @@ pub use engines::{
 };
 pub use laws::{documents_laws, log_laws};
 pub use lsp_stream::{Call, Duplex, EngineFault, Sink, Source, StopReader, StopWriter, Told};
-pub use outcome::{NEVER_OPEN, NO_RECORD, Outcome};
+pub use outcome::{Missing, Outcome};

@@ -134,6 +134,7 @@ impl Session {
             status: if self.refusals == 0 { 0 } else { 1 },
             messages: self.messages,
             refused: self.refusals,
+            missing: None,
         }
     }
 

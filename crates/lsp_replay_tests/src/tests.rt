@@ -335,6 +335,7 @@ impl End {
                 status,
                 messages,
                 refused,
+                missing: None,
             }),
             Fault(fault) => Err(fault),
         }

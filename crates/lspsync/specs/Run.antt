@@ -1,5 +1,5 @@
 -- What the program writes, and the status that it ends with.
-use Rattle.std.specs.Prelude.{ℕ, ◌≡◌, ◌⊎◌, ◌==◌, if◌then◌else◌, ◌++◌, ◌∷◌, [], List, codes, Option, Some, None, Result, Ok, Err, OnOk}
+use Rattle.std.specs.Prelude.{ℕ, ◌≡◌, ◌⊎◌, ◌++◌, ◌∷◌, [], List, codes, Option, Some, None, option_map, Result, Ok, Err, OnOk}
 use Rattle.std.specs.Io.KnownBytes.{Keeps, Appends}
 use Rattle.clap.specs.Values.{kind_of}
 use Rattle.clap.specs.declared.error.Error.{Error}
@@ -9,10 +9,12 @@ use Rattle.lsp_stream.specs.declared.fault.EngineFault.{EngineFault}
 use Rattle.lsp_stream.specs.declared.fault.EngineFault.TheVariants.{Read, Write, NoMemory, TooManyTurns}
 use Rattle.lsp_stream.specs.Ports.{Ports, WriterState, ports}
 use Rattle.lsp_program.specs.Output.{IsFlushed, IsHelp, allowed_turns}
+use Rattle.lsp_replay.specs.declared.outcome.Missing.{Missing}
+use Rattle.lsp_replay.specs.declared.outcome.Missing.TheVariants as missing
 use Rattle.lsp_replay.specs.declared.outcome.Outcome.{Outcome}
 use Rattle.lsp_replay.specs.Documents.{documents_engine}
 use Rattle.lsp_replay.specs.Explained.{explain_engine}
-use Rattle.lsp_replay.specs.Parts.{never_open, no_record, part_engine}
+use Rattle.lsp_replay.specs.Parts.{part_engine}
 use Rattle.lsp_replay.specs.Trace.{trace_engine}
 use Rattle.lsp_replay.specs.Run.{Engine, IsEngineRun, check_engine, convert_engine, normalise_engine, replay_engine, serve_engine}
 use Rattle.lspsync.specs.declared.command_line.Call.{Call}
@@ -43,15 +45,15 @@ engine_of (call.Convert settings) = convert_engine settings
 
 -- A fault of the engine comes before one of the flush.
 abbrev pub answer_of : Result Outcome EngineFault → Result (Unit {0}) EngineFault →
-    Result ℕ EngineFault
-answer_of (Ok outcome) (Ok _) = Ok outcome.status
+    Result Outcome EngineFault
+answer_of (Ok outcome) (Ok _) = Ok outcome
 answer_of (Ok outcome) (Err fault) = Err fault
 answer_of (Err fault) flushed = Err fault
 
 -- The engine of a call ran, and then its output was flushed, whatever the engine answered. The
--- answer is the outcome's status, or the first fault. With a status all output was flushed.
+-- answer is the outcome, or the first fault. With an outcome all output was flushed.
 pub record IsPerformed (asked : Call) (before after : Ports)
-    (answer : Result ℕ EngineFault) : Type 0 where
+    (answer : Result Outcome EngineFault) : Type 0 where
   pub result : Result Outcome EngineFault
   pub flushed : Result (Unit {0}) EngineFault
   -- the writer between the engine and the flush
@@ -71,26 +73,29 @@ abbrev pub IsReported : EngineFault → Option (List ℕ) → Option (List ℕ) 
 IsReported fault before after ending = (ending.status ≡ status_of fault)
     × OnOk ending.printed (Appends before after (fault_line fault))
 
--- What a part of a log has not, by the status of `replay`: a record of this number, or a document
--- that was open. The line that says so.
-abbrev pub missing_line : ℕ → Option (List ℕ)
-missing_line status =
-    if status == no_record then Some (codes "lspsync: the log has no message of this number\n")
-    else if status == never_open then Some (codes "lspsync: the document was never open\n")
-    else None
+-- The line that says what a part of a log lacks.
+abbrev pub missing_line : Missing → List ℕ
+missing_line missing.Record = codes "lspsync: the log has no record of this number\n"
+missing_line missing.Document = codes "lspsync: the document was never open\n"
 
--- A status ends the program, with nothing on standard error. Where something is missing its line is
--- printed, and the status is 1.
+-- A status ends the program, with a line on standard error or with none.
 abbrev pub IsStatus : Option (List ℕ) → ℕ → Option (List ℕ) → Option (List ℕ) → Ending → Type 0
 IsStatus None status before after ending = (ending.status ≡ status) × (after ≡ before)
-IsStatus (Some line) status before after ending = (ending.status ≡ 1)
+IsStatus (Some line) status before after ending = (ending.status ≡ status)
     × OnOk ending.printed (Appends before after line)
 
--- A status ends the program. A fault is reported.
-abbrev pub IsEnding : Result ℕ EngineFault → Option (List ℕ) → Option (List ℕ) → Ending → Type 0
-IsEnding (Ok status) before after ending
-    = IsStatus (missing_line status) status before after ending
+-- An outcome ends the program with its status, and with a line where something is missing. A fault
+-- is reported.
+abbrev pub IsEnding : Result Outcome EngineFault → Option (List ℕ) → Option (List ℕ) →
+    Ending → Type 0
+IsEnding (Ok outcome) before after ending
+    = IsStatus (option_map missing_line outcome.missing) outcome.status before after ending
 IsEnding (Err fault) before after ending = IsReported fault before after ending
+
+-- The status of help ends the program. A fault is reported.
+abbrev pub IsHelpEnd : Result ℕ EngineFault → Option (List ℕ) → Option (List ℕ) → Ending → Type 0
+IsHelpEnd (Ok status) before after ending = IsStatus None status before after ending
+IsHelpEnd (Err fault) before after ending = IsReported fault before after ending
 
 -- What is known of the program's streams before and after a run.
 pub record Streams : Type 0 where
@@ -103,7 +108,7 @@ pub record Streams : Type 0 where
 
 -- The engine of a call ran, and the program ends with its status or reports its fault.
 pub record IsCalled (asked : Call) (s : Streams) (ending : Ending) : Type 0 where
-  pub answer : Result ℕ EngineFault
+  pub answer : Result Outcome EngineFault
   pub performed : IsPerformed asked s.before s.after answer
   pub ends : IsEnding answer s.errors_before s.errors ending
 
@@ -120,7 +125,7 @@ pub record IsExplained (k : ErrorKind) (s : Streams) (ending : Ending) : Type 0 
   pub help : (k ≡ kind.DisplayHelp) ⊎ (k ≡ kind.DisplayVersion)
       → (answer : Result ℕ EngineFault)
       × IsHelp s.before.writer s.after.writer answer
-      × IsEnding answer s.errors_before s.errors ending
+      × IsHelpEnd answer s.errors_before s.errors ending
 
 -- What the program does with words: the call that they are, or an explanation. Where there is none
 -- of both, it ends with status 2 alone.

@@ -1,6 +1,6 @@
 //! The program over any reader and writers.
 
-ghost use Rattle.std.specs.Prelude.{◌≡◌, ◌≢◌, ◌⊎◌, ◌++◌, OnOk, codes, List, ℕ, Result, Err, map};
+ghost use Rattle.std.specs.Prelude.{◌≡◌, ◌≢◌, ◌⊎◌, ◌++◌, OnOk, codes, List, ℕ, Result, Err, map, option_map};
 ghost use Rattle.std.specs.Io.KnownBytes.{Appends};
 ghost use Rattle.std.specs.Process.{exit_status};
 ghost use Rattle.clap.specs.Values.{kind_of};
@@ -10,7 +10,7 @@ ghost use Rattle.lsp_stream.specs.Ports.{ports};
 ghost use Rattle.lsp_program.specs.Output.{IsHelp, allowed_turns};
 ghost use Rattle.lsp_replay.specs.Run.{IsEngineRun};
 ghost use Rattle.lspsync.specs.Run.{IsStatus, missing_line};
-ghost use Rattle.lspsync.specs.Run.{IsEnding, IsPerformed, IsReported};
+ghost use Rattle.lspsync.specs.Run.{IsEnding, IsHelpEnd, IsPerformed, IsReported};
 ghost use Rattle.lspsync.specs.Run.{IsRun, Streams, answer_of, engine_of, status_of};
 
 use crate::command_line::{Call, parse};
@@ -18,15 +18,12 @@ use crate::fault_text::FaultText;
 use clap::error as clap_error;
 use lsp_program::{BAD_INPUT, MAX_TURNS, OUT_OF_MEMORY, STREAM_FAULT, USAGE, flush, print_help};
 use lsp_replay::{
-    EngineFault, NEVER_OPEN, NO_RECORD, Outcome, Sink, Source, check, convert, normalise,
-    normalise_documents, replay, replay_part, serve, trace,
+    EngineFault, Missing, Outcome, Sink, Source, check, convert, normalise, normalise_documents,
+    replay, replay_part, serve, trace,
 };
 use std::alloc::Global;
 use std::io::{self, ErrorKind, Write};
 use std::process::ExitCode;
-
-/// The status of a call that asked for something that isn't in the log.
-const MISSING: u8 = 1;
 
 /// The end of the program.
 #[derive(Drop)]
@@ -66,46 +63,44 @@ pub fn run<R: Source, W: Sink, E: Write>(
     }
 }
 
-/// Ends with a status, or reports a fault.
-fn end_with<E: Write>(answer: Result<u8, EngineFault>, errors: &mut E) -> Ending
+/// Ends with an outcome, or reports a fault.
+fn end_with<E: Write>(answer: Result<Outcome, EngineFault>, errors: &mut E) -> Ending
     ensures { IsEnding answer (E.contents errors.old) (E.contents errors.new) result }
 {
     match answer {
-        Ok(status) => end_well(status, errors),
+        Ok(outcome) => end_well(outcome, errors),
         Err(fault) => report(fault, errors),
     }
 }
 
-/// Ends with a status. If something is missing that was asked for, a line says what.
-fn end_well<E: Write>(status: u8, errors: &mut E) -> Ending
-    ensures { IsStatus (missing_line status) status
+/// Ends with an outcome's status. If something is missing that was asked for, a line says what.
+fn end_well<E: Write>(outcome: Outcome, errors: &mut E) -> Ending
+    ensures { IsStatus (option_map missing_line outcome.missing) outcome.status
         (E.contents errors.old) (E.contents errors.new) result }
 {
-    match status {
-        NO_RECORD => missing("the log has no message of this number", errors),
-        NEVER_OPEN => missing("the document was never open", errors),
-        _ => Ending {
+    let status = outcome.status;
+    match outcome.missing {
+        None => Ending {
             status,
             printed: Ok(()),
         },
+        Some(Missing::Record) => say(status, "the log has no record of this number", errors),
+        Some(Missing::Document) => say(status, "the document was never open", errors),
     }
 }
 
-/// Prints what is missing.
-fn missing<E: Write>(what: &str, errors: &mut E) -> Ending
-    ensures status { result.status ≡ 1 }
+/// Ends with a status, and prints a line.
+fn say<E: Write>(status: u8, what: &str, errors: &mut E) -> Ending
+    ensures status { result.status ≡ status }
     ensures line { OnOk result.printed (Appends (E.contents errors.old) (E.contents errors.new)
         ((codes "lspsync: " ++ what.now) ++ codes "\n")) }
 {
     let printed = writeln!(errors, "lspsync: {what}");
-    Ending {
-        status: MISSING,
-        printed,
-    }
+    Ending { status, printed }
 }
 
 /// Runs the engine that a call names, and then flushes the output, also after a fault. Returns the
-/// outcome's status.
+/// engine's outcome.
 ///
 /// # Errors
 /// The fault of the engine, else that of the flush.
@@ -114,7 +109,7 @@ pub fn perform<R: Source, W: Sink>(
     call: Call,
     input: &mut R,
     output: &mut W,
-) -> Result<u8, EngineFault>
+) -> Result<Outcome, EngineFault>
     ensures performed { IsPerformed call
         (ports (R.seen input.old) (W.seen output.old))
         (ports (R.seen input.new) (W.seen output.new)) result }
@@ -128,11 +123,11 @@ pub fn perform<R: Source, W: Sink>(
 fn answer_with(
     ran: Result<Outcome, EngineFault>,
     flushed: Result<(), EngineFault>,
-) -> Result<u8, EngineFault>
+) -> Result<Outcome, EngineFault>
     ensures { result ≡ answer_of ran flushed }
 {
     match (ran, flushed) {
-        (Ok(outcome), Ok(())) => Ok(outcome.status),
+        (Ok(outcome), Ok(())) => Ok(outcome),
         (Ok(_), Err(fault)) => Err(fault),
         (Err(fault), _) => Err(fault),
     }
@@ -186,7 +181,7 @@ fn explain<W: Sink, E: Write>(
     ensures help { (kind_of error.now ≡ DisplayHelp) ⊎ (kind_of error.now ≡ DisplayVersion)
         → (answer : Result ℕ EngineFault)
         × IsHelp (W.seen output.old) (W.seen output.new) answer
-        × IsEnding answer (E.contents errors.old) (E.contents errors.new) result }
+        × IsHelpEnd answer (E.contents errors.old) (E.contents errors.new) result }
 {
     if error.kind() == clap_error::ErrorKind::OutOfMemory {
         return report(EngineFault::NoMemory, errors);
@@ -199,7 +194,20 @@ fn explain<W: Sink, E: Write>(
         };
     }
     let answer = print_help(alloc, error, output);
-    end_with(answer, errors)
+    end_help(answer, errors)
+}
+
+/// Ends with the status of help, or reports why it couldn't be written.
+fn end_help<E: Write>(answer: Result<u8, EngineFault>, errors: &mut E) -> Ending
+    ensures { IsHelpEnd answer (E.contents errors.old) (E.contents errors.new) result }
+{
+    match answer {
+        Err(fault) => report(fault, errors),
+        Ok(status) => Ending {
+            status,
+            printed: Ok(()),
+        },
+    }
 }
 
 /// Prints why the words of the command line can't be read: out of memory, or a word that isn't

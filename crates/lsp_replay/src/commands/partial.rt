@@ -13,7 +13,7 @@ ghost use Rattle.lsp_replay.specs.inside.Parts.{last_of};
 use crate::commands::replaying::push_document_line;
 use crate::engines::Part;
 use crate::handler::{Given, Handler, Output};
-use crate::outcome::{NEVER_OPEN, NO_RECORD, Outcome};
+use crate::outcome::{Missing, Outcome};
 use crate::session::Session;
 use lsp_log::Head;
 use lsp_server::Config;
@@ -82,7 +82,8 @@ impl ReplayPart {
         };
         let Some(text) = self.last_text(uri) else {
             return Ok(Outcome {
-                status: NEVER_OPEN,
+                status: 1,
+                missing: Some(Missing::Document),
                 ..outcome
             });
         };
@@ -131,7 +132,8 @@ impl Handler for ReplayPart {
     ) -> Result<Option<Outcome>, EngineFault> {
         if self.part.at.is_some() {
             return Ok(Some(Outcome {
-                status: NO_RECORD,
+                status: 1,
+                missing: Some(Missing::Record),
                 ..self.session.outcome()
             }));
         }

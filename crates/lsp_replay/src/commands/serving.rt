@@ -1,7 +1,7 @@
 //! `serve`: runs a server's end between a reader and a writer.
 
 ghost use Rattle.std.specs.Prelude.{◌≡◌, [], Ok, option_map, refl, true};
-ghost use Rattle.lsp_replay.specs.Session.{opened};
+ghost use Rattle.lsp_replay.specs.Session.{opened, outcome_of};
 ghost use Rattle.lsp_replay.specs.Session as spec;
 ghost use Rattle.lsp_replay.specs.Engines.{serving, serve_output, run_output_in};
 ghost use Rattle.lsp_replay.specs.inside.Verdicts.{verdict_view};
@@ -30,17 +30,11 @@ impl Serve {
     }
 
     fn outcome(&self, status: u8) -> Outcome
-        ensures { result
-            ≡ record {
-              status = status;
-              messages = self.now.session.messages;
-              refused = self.now.session.refusals;
-            } }
+        ensures { result ≡ record (outcome_of self.now.session) { status = status } }
     {
         Outcome {
             status,
-            messages: self.session.messages(),
-            refused: self.session.refusals(),
+            ..self.session.outcome()
         }
     }
 

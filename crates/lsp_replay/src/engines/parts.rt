@@ -24,9 +24,8 @@ pub struct Part {
 /// Writes the documents that are open after a record of a log, as [`replay`](crate::replay) does at
 /// its end; or the last text of one document, byte for byte, also if it was closed. After the
 /// part's last record nothing is read. The status is 1 if something was refused up to there, else
-/// 0. It is [`NO_RECORD`](crate::NO_RECORD) if the log has fewer records, and
-/// [`NEVER_OPEN`](crate::NEVER_OPEN) if the document was not open up to there; then nothing is
-/// written.
+/// 0. If the log has fewer records, or the document was not open up to there, nothing is written:
+/// the outcome says which is missing, and the status is 1.
 ///
 /// Errors and costs are those of [`replay`](crate::replay). The memory is for what is written, too.
 pub fn replay_part<R: Source, W: Sink>(

@@ -7,7 +7,7 @@ use std::test::Fail;
 
 static SESSION: [&str; 7] = [INITIALIZE, INITIALIZED, OPEN, CHANGE, CLOSE, SHUTDOWN, EXIT];
 
-const NO_MESSAGE: &str = "lspsync: the log has no message of this number\n";
+const NO_RECORD: &str = "lspsync: the log has no record of this number\n";
 
 const NEVER_OPEN: &str = "lspsync: the document was never open\n";
 
@@ -29,12 +29,12 @@ static ROWS: [(&[&str], u8, &str, &str); 11] = [
     (&["lspsync", "replay", "--at", "3"], 0, OPENED, ""),
     (&["lspsync", "replay", "--at", "5"], 0, "", ""),
     (&["lspsync", "replay", "--at", "7"], 0, "", ""),
-    (&["lspsync", "replay", "--at", "8"], 1, "", NO_MESSAGE),
+    (&["lspsync", "replay", "--at", "8"], 1, "", NO_RECORD),
     (
         &["lspsync", "replay", "--at=8", "--uri=file:///a"],
         1,
         "",
-        NO_MESSAGE,
+        NO_RECORD,
     ),
     (
         &["lspsync", "replay", "--at=3", "--uri=file:///a"],
