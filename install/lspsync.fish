@@ -18,7 +18,7 @@ complete -c lspsync -n '__fish_seen_subcommand_from normalise' -l documents -d "
 complete -c lspsync -n '__fish_seen_subcommand_from normalise' -l squash -d 'One message for changes that follow each other'
 complete -c lspsync -n '__fish_seen_subcommand_from trace' -l texts -d 'Print the texts of documents too'
 complete -c lspsync -n '__fish_seen_subcommand_from trace' -l bodies -d 'Print each message too'
-complete -c lspsync -n '__fish_seen_subcommand_from replay' -l at -x -d 'The last message that is read: 1 to 18446744073709551615'
+complete -c lspsync -n '__fish_seen_subcommand_from replay' -l at -x -d 'The last record that is read: 1 to 18446744073709551615'
 complete -c lspsync -n '__fish_seen_subcommand_from replay' -l uri -x -d 'The document whose text is printed'
 complete -c lspsync -n $some -l max-body -x -a 16777216 -d 'Bytes of a body: 4096 to 1073741824'
 complete -c lspsync -n $some -l max-text -x -a 16777216 -d 'Bytes of a document: 0 to 1073741824'

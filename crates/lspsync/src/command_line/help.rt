@@ -210,8 +210,8 @@ server, byte for byte; one of version 2 has both directions. Where the editor st
 start this, and it is recorded:
   tee session.log | some-server
 
-Exit status: 0 all is well, 1 something in the session was refused, 2 the command line is wrong,
-3 reading or writing failed, 4 out of memory, 5 the log is faulty. From 3 on a line on standard
+Exit status: 0 all is well, 1 a record counts as refused (`lspsync check --help`), 2 the command line
+is wrong, 3 reading or writing failed, 4 out of memory, 5 the log is faulty. From 3 on a line on standard
 error says what, and for 5 where: `lspsync: truncated at 505` is byte 505 of the input.
 
 `lspsync COMMAND --help` has the options of a command and an example to paste.
@@ -234,7 +234,8 @@ static CHECK: &str = "Print what a server answers to each message of a log, a li
 static CHECK_EXAMPLE: &str =
     "A line has the record's number and a word: `reply` or `error CODE` for a request, `changed`,
 `dropped`, `ignored` or `refused CAUSE` for a notification, `exit 0` or `exit 1`, and `server` for
-what the server sent. The status is 1 where an error (other than -32601) or a refusal is among them.
+what the server sent. A record counts as refused where its word is `refused CAUSE`, `exit 1`, or an
+`error` other than -32601. Then the status is 1.
 
 With `--explain` a line of an error, a refusal or `exit 1` also has the document and the reason, and a
 last line says what to do next.
@@ -261,14 +262,14 @@ static REPLAY: &str =
 
 static REPLAY_EXAMPLE: &str =
     "A line has the document's `languageId`, `text`, `uri` and `version`, in order of opening. The status
-is 1 where something was refused. Nothing is printed where the log is faulty.
+is that of `check`. Nothing is printed where the log is faulty.
 
-With `--at N` it is the documents after the Nth message, as `check` counts; what comes after it isn't
+With `--at N` it is the documents after the Nth record, as `check` counts; what comes after it isn't
 read. With `--uri URI` it is that document's text alone, byte for byte, also after its `didClose`:
-the last text that it had. Where there is no such message, or the document was never open, a line on
+the last text that it had. Where there is no such record, or the document was never open, a line on
 standard error says so, and the status is 1.
 
-Example, and a document's text alone, then and after the third message:
+Example, and a document's text alone, then and after the third record:
   ./lspsync replay < examples/typing.log
   ./lspsync replay --uri file:///home/ada/hello.py < examples/typing.log
   ./lspsync replay --uri file:///home/ada/hello.py --at 3 < examples/typing.log";
@@ -279,8 +280,7 @@ static NORMALISE: &str =
 static NORMALISE_EXAMPLE: &str =
     "All other messages, and the refused ones, stay byte for byte. Two changes of one text of one document
 (its URI), under one version and in one encoding, get the same bytes exactly if they keep the same
-characters and insert the same texts, so such logs can be compared. The status is 1 where something
-was refused.
+characters and insert the same texts, so such logs can be compared. The status is that of `check`.
 
 Example, a change of the whole text, which becomes one with a range:
   ./lspsync normalise < examples/whole-text.log
@@ -301,7 +301,7 @@ static CONVERT: &str =
 static CONVERT_EXAMPLE: &str =
     "The output begins with the line `lsp-session-log 2`. Then come the messages, each after a mark:
 `>` for the editor's, byte for byte, and `<` for the server's reply. The other commands on logs
-read both versions, `convert` reads version 1 alone. The status is 1 where something was refused.
+read both versions, `convert` reads version 1 alone. The status is that of `check`.
 
 Example, and what its output says:
   ./lspsync convert < examples/whole-text.log
@@ -321,7 +321,7 @@ static DOCUMENTS: &str =
 static SQUASH: &str =
     "Write changes of one document that follow each other as one message, as between two saves";
 
-static AT: &str = "Replay up to the Nth message alone, from 1";
+static AT: &str = "Replay up to the Nth record alone, from 1";
 
 static URI: &str = "Print this document's last text alone, as it is, also if it was closed";
 
