@@ -72,7 +72,7 @@ pub fn client_limits() -> [Limit; 4] {
     ]
 }
 
-/// The options that set the server's limits.
+/// The defaults of the client's limits, in decimal digits.
 pub fn defaults(alloc: Global) -> Result<[String; 4], AllocError> {
     let default = Limits::default();
     Ok([
@@ -87,6 +87,7 @@ fn digits(alloc: Global, number: usize) -> Result<String, AllocError> {
     format!(in alloc; "{number}")
 }
 
+/// The options that set the server's limits.
 pub fn server_limits() -> [Limit; 4] {
     [
         body("server-max-body", SERVER_MAX_BODY),
