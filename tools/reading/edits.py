@@ -14,11 +14,11 @@ class Unfit(Exception):
 
 
 class Function:
-    """A function: its file, the head of its `impl` or `trait` block, and its lines."""
+    """A function: its file, the head of its `impl` or `trait` block, the type that the trait is of, and its lines."""
 
-    def __init__(self, path, block, lines, first, head):
+    def __init__(self, path, block, trait_of, lines, first, head):
         indent, words, self.name = head.groups()
-        self.path, self.block, self.first, self.is_const = path, block, first, "const" in words.split()
+        self.path, self.block, self.trait_of, self.first, self.is_const = path, block, trait_of, first, "const" in words.split()
         self.opens = self.ends = first
         for n in range(first, len(lines)):
             outer = lines[n].strip() and not lines[n].startswith(f"{indent} ")
@@ -56,7 +56,9 @@ class Function:
             own = [*filter(None, path), self.name]
             return words[: len(own)] == own
         trait = re.findall(r"\w+", self.block.partition(" for ")[0])[-1] if " for " in self.block else ""
-        return any(one.startswith(self.owner + trait) and two == self.name for one, two in zip(words[1:], words[2:]))
+        begin = ("Ref" if " for &" in self.block else "") + self.owner + trait
+        # (`impl From<AllocError> for Fault` is FaultFromAllocError)
+        return any(one.startswith(begin) and one.endswith(self.trait_of) and two == self.name for one, two in zip(words[1:], words[2:]))
 
 
 class Edit:
@@ -140,17 +142,19 @@ class Calls:
 
 def functions_of(path, text):
     """Returns the functions of a file's text, as `rt fmt` lays it out."""
-    lines, block, found = text.split("\n"), "", []
+    lines, block, trait_of, found = text.split("\n"), "", "", []
     for n, line in enumerate(lines):
         if re.match(r"(pub(\(\w+\))? )?(impl|trait)\b", line):
             block = line
+            of = re.search(r"\w<(?:\w+::)*([A-Z]\w*)(?:<[^>]*>)?> for ", line)
+            trait_of = of[1] if of else ""
             while "<" in block and (flat := re.sub(r"<[^<>]*>", "", block.replace("->", ""))) != block:
                 block = flat
         elif line == "}":
-            block = ""
+            block = trait_of = ""
         head = FUNCTION.match(line)
         if head:
-            found.append(Function(path, block, lines, n, head))
+            found.append(Function(path, block, trait_of, lines, n, head))
     return found
 
 
