@@ -9,7 +9,8 @@ use Rattle.lsp_message.specs.Agreement.{is_offered, announced_of}
 use Rattle.serde_json.specs.Data.{null}
 use Rattle.lsp_message.specs.Message.{whole, reading, message, OutcomeData, given, failed}
 use Rattle.lsp_message.specs.Outgoing as outgoing
-use Rattle.lsp_message.specs.Outgoing.{OutgoingData, body_of, initialize_value}
+use Rattle.lsp_message.specs.Outgoing.{OutgoingData, body_of}
+use Rattle.lsp_message.specs.Written.{initialize_value}
 use Rattle.lsp_message.specs.Sent.{sent}
 use Rattle.lsp_message.proofs.ReadBack.{reading-body_of, is_read_back}
 use Rattle.lsp_server.specs.declared.config.EncodingChoice.{EncodingChoice}

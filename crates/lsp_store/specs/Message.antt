@@ -9,8 +9,7 @@ use Rattle.lsp_edit.specs.Batch.{Edit, Fault, meaning}
 use Rattle.lsp_edit.specs.Canonical.{DoTheSame, canonical}
 use Rattle.lsp_edit.specs.Laws.{IsCanonical}
 use Rattle.lsp_message.specs.Outgoing.{OutgoingData, did_change, body_of}
-use Rattle.lsp_message.specs.Params.{DocumentItem, EditData}
-use Rattle.lsp_message.specs.Sent.{IsReadAsSent, IsReadBack}
+use Rattle.lsp_message.specs.Params.{DocumentItem, EditData, IsChangeRead}
 use Rattle.lsp_store.specs.Table.{Refusal, body_too_long, entry_at, change_refusal, after_change}
 
 -- A change as it is written, with its text as bytes.
@@ -116,8 +115,7 @@ pub record IsCanonicalOf (limits : Bounds) (units : ℕ → ℕ) (table : List D
   pub same_frame : canonical_frame units table uri version canonical
       ≡ canonical_frame units table uri version batch
 
--- The receiver reads the message as the one that was written, and its params as the URI, the
--- version and the batch.
-pub record IsReadAgain (uri : List ℕ) (version : ℤ) (batch : List Edit) : Type 0 where
-  pub as_sent : IsReadAsSent (change_message uri version batch)
-  pub back : IsReadBack (change_message uri version batch)
+-- The receiver reads the message as the one that was written: this URI, version and batch.
+abbrev pub IsReadAgain : List ℕ → ℤ → List Edit → Type 0
+IsReadAgain uri version batch = IsChangeRead (change_body uri version batch)
+    (record { uri = uri; version = version; changes = map written_edit batch })
