@@ -195,7 +195,7 @@ module _ (limits : Bounds) (encoding : Encoding) (table : List DocumentItem) (ur
     canonical_is answered items means is = batch_at batch items means ∙ sym is
 
     pub canonical_on : IsCanonicalOn (units_in encoding) table uri batch
-    canonical_on = record { entry = entry; is_open = is_open; items = accepts.items; means = accepts.means; is = batch_at batch accepts.items accepts.means; law = law }
+    canonical_on = record { entry = entry; is_open = is_open; items = accepts.items; means = accepts.means; is = batch_at batch accepts.items accepts.means }
 
     settled_fits : limits.max_text ≤ 1073741824 → batch_bytes (canonical (units_in encoding) (chars entry.text) accepts.items) ≤ greatest_batch
     settled_fits small =

@@ -7,7 +7,6 @@ use Rattle.lsp_frame.specs.Limits.{Bounds}
 use Rattle.lsp_edit.specs.Items.{Item}
 use Rattle.lsp_edit.specs.Batch.{Edit, Fault, meaning}
 use Rattle.lsp_edit.specs.Canonical.{DoTheSame, canonical}
-use Rattle.lsp_edit.specs.Laws.{IsCanonical}
 use Rattle.lsp_message.specs.Outgoing.{OutgoingData, did_change, body_of}
 use Rattle.lsp_message.specs.Params.{DocumentItem, EditData, IsChangeRead}
 use Rattle.lsp_store.specs.Table.{Refusal, body_too_long, entry_at, change_refusal, after_change}
@@ -95,7 +94,8 @@ pub record DoAlike (units : ℕ → ℕ) (table : List DocumentItem) (uri : List
   pub other_means : meaning units (chars entry.text) other ≡ Ok others
   pub same : DoTheSame items others
 
--- What a batch means on the open document of a URI, and what holds of its canonical batch.
+-- What a batch means on the open document of a URI, and its canonical batch. What holds of every
+-- such batch is a law of `batch_laws`.
 pub record IsCanonicalOn (units : ℕ → ℕ) (table : List DocumentItem) (uri : List ℕ)
     (batch : List Edit) : Type 0 where
   pub entry : DocumentItem
@@ -103,7 +103,6 @@ pub record IsCanonicalOn (units : ℕ → ℕ) (table : List DocumentItem) (uri 
   pub items : List Item
   pub means : meaning units (chars entry.text) batch ≡ Ok items
   pub is : canonical_batch units table uri batch ≡ canonical units (chars entry.text) items
-  pub law : IsCanonical units (chars entry.text) batch items
 
 -- A canonical batch is accepted where the batch was, has the same result, and has the same
 -- canonical message.
