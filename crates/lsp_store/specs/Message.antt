@@ -24,12 +24,13 @@ change_message uri version batch
 unfoldable pub change_body : List ℕ → ℤ → List Edit → List ℕ
 change_body uri version batch = body_of (change_message uri version batch)
 
--- The canonical batch of a meaning on a text with these bytes; no changes where nothing is meant.
+-- The canonical batch of a meaning on a text with these bytes. The second row means nothing: such a
+-- batch is refused.
 abbrev pub batch_of : (ℕ → ℕ) → List ℕ → Result (List Item) (ℕ × Fault) → List Edit
 batch_of units text (Ok items) = canonical units (chars text) items
 batch_of units text (Err fault) = []
 
--- The canonical batch of a batch on a document; no changes where it has no meaning.
+-- The canonical batch of a batch on a document. Without one a batch is refused too.
 abbrev pub batch_on : (ℕ → ℕ) → Option DocumentItem → List Edit → List Edit
 batch_on units (Some entry) batch
     = batch_of units entry.text (meaning units (chars entry.text) batch)
