@@ -193,7 +193,7 @@ class Repository:
             bound = set(" ".join(it[1] for it in re.finditer(rf"[({{]((?:{NAME} +)*{NAME}) +: ", head)).split())
             yield from self.names(head, scope, module, bound)
             for field in fields:
-                name, _, kind = field.partition(" : ")
+                name, kind = re.split(r"\s:\s", field, maxsplit=1)
                 yield from self.names(kind, scope, module, bound)
                 bound.add(name.strip())
         else:

@@ -93,7 +93,7 @@ class Token:
         name = self.name
         for module in repository.modules.values():
             for one in module.definitions.values():
-                if one.name != name and not one.is_inside and any(it.name == name for it, _ in repository.spoken_of(one)):
+                if one.name != name and not (one.is_inside or one.is_law) and any(it.name == name for it, _ in repository.spoken_of(one)):
                     self.faults.append(f"the definition {one.path()} names the token {name}")
 
     def can_change(self, function):

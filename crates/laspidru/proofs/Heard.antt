@@ -1,5 +1,5 @@
 -- What a server and a client do with a piece of a stream.
-use Rattle.std.proofs.Common.{◌≡◌, ◌≢◌, if◌then◌else◌, true, ℕ, List, Option, Some, None, Ok, Err, inl, inr, ap, refl, subst, sym, ◌∙◌}
+use Rattle.std.proofs.Common.{◌≡◌, ◌≢◌, if◌then◌else◌, true, ℕ, List, Option, Some, None, Ok, Err, IsOkAnd, inl, inr, ap, refl, subst, sym, ◌∙◌}
 use Rattle.lsp_message.specs.Message.{reading}
 use Rattle.lsp_server.specs.Answer.{AnswerData, Sent, as_sent}
 use Rattle.lsp_server.specs.Step as server
@@ -18,7 +18,7 @@ use Rattle.laspidru.specs.Framers.{HasNoBody, IsBodyOf, IsFedTo}
 use Rattle.laspidru.specs.Servers.{answer_out, ended, live_asked, reply_out, server_of, step_at}
 use Rattle.laspidru.specs.Sessions.{SessionData}
 use Rattle.laspidru.specs.Streams.{StreamData}
-use Rattle.laspidru.specs.Taking.{IsHeard, IsHeardIn, IsServed, IsServedIn, handled, listening_asked}
+use Rattle.laspidru.specs.Taking.{IsHeard, IsServed, handled, listening_asked}
 
 -- The same with the code `OK`.
 fed_well : (old new : StreamData) (piece : List ℕ) (code : ℕ) (taken : Taken) → code ≡ OK
@@ -32,31 +32,33 @@ pub not_served : (old new : SessionData) (piece : List ℕ) (code : ℕ) (taken 
     → IsFedTo old.stream piece code new.stream taken → code ≢ OK
     → new ≡ record old { stream = new.stream } → after ≡ before → IsServed old piece code new taken before after
 not_served old new piece code taken before after fed bad rest same =
-    inl (record { stream = record { fed = fed; none = λ is. absurd (bad is) }; rest = rest; answer = same })
+    inl (rest, record { took = inl (record { fed = fed; none = λ is. absurd (bad is) }); answer = same })
 
 -- No message is whole.
 pub none_served : (old new : SessionData) (piece : List ℕ) (code : ℕ) (taken : Taken) (before after : Answer)
     → IsFedTo old.stream piece code new.stream taken → code ≡ OK → HasNoBody new.stream.framing
     → new ≡ record old { stream = new.stream } → after ≡ before → IsServed old piece OK new taken before after
 none_served old new piece code taken before after fed is no_body rest same =
-    inl (record {
-      stream = record { fed = fed_well old.stream new.stream piece code taken is fed; none = λ _. no_body };
-      rest = rest;
-      answer = same;
-    })
+    inl (
+      rest,
+      record {
+        took = inl (record { fed = fed_well old.stream new.stream piece code taken is fed; none = λ _. no_body });
+        answer = same;
+      },
+    )
 
 -- A message is whole, and out of memory.
 pub waits : (old new : SessionData) (piece body : List ℕ) (code : ℕ) (taken : Taken) (before after : Answer)
     → IsFedTo old.stream piece code new.stream taken → code ≡ OK → IsBodyOf new.stream.framing body
     → new ≡ record old { stream = new.stream } → after ≡ before → IsServed old piece OUT_OF_MEMORY new taken before after
 waits old new piece body code taken before after fed is whole rest same =
-    inr (inl (record {
-      body = body;
-      message = record { fed = fed_well old.stream new.stream piece code taken is fed; is = whole };
-      memory = refl;
-      rest = rest;
-      answer = same;
-    }))
+    inl (
+      rest,
+      record {
+        took = inr (refl, body, record { fed = fed_well old.stream new.stream piece code taken is fed; is = whole });
+        answer = same;
+      },
+    )
 
 -- A message is whole, and was handled.
 pub one_served : (old new : SessionData) (stream : StreamData) (piece body reply : List ℕ) (code : ℕ) (taken : Taken)
@@ -66,7 +68,7 @@ pub one_served : (old new : SessionData) (stream : StreamData) (piece body reply
     → new ≡ record { server = after_it; reply = reply; stream = handled stream } → after ≡ answer_out given
     → IsServed old piece OK new taken before after
 one_served old new stream piece body reply code taken before after after_it given fed is whole answered moved replied held written =
-    inr (inr (record {
+    inr (record {
       stream = stream;
       body = body;
       message = record { fed = fed_well old.stream stream piece code taken is fed; is = whole };
@@ -79,7 +81,7 @@ one_served old new stream piece body reply code taken before after after_it give
         })));
         answer = written ∙ ap answer_out answered;
       };
-    }))
+    })
 
 -- A session that hasn't ended is not refused.
 live : (phase : Phase) → phase ≢ Ended → ended phase ≡ None
@@ -92,12 +94,12 @@ live Ended other = absurd (other refl)
 pub served_in : (object stored : Object) (session new : SessionData) (piece : List ℕ) (code : ℕ) (taken : Taken) (before after : Answer)
     → object ≡ Server session → session.server.phase ≢ Ended → stored ≡ Server new
     → IsServed session piece code new taken before after
-    → IsRefusedOr (live_asked (server_of object)) code (λ s. IsServedIn s piece code stored taken before after)
+    → IsRefusedOr (live_asked (server_of object)) code (λ s. IsOkAnd (server_of stored) (λ t. IsServed s piece code t taken before after))
 served_in object stored session new piece code taken before after is other left served =
-    subst (λ (o : Object). IsRefusedOr (live_asked (server_of o)) code (λ s. IsServedIn s piece code stored taken before after)) (sym is)
-    (subst (λ (o : Option ℕ). IsRefusedOr (unless o (Ok session)) code (λ s. IsServedIn s piece code stored taken before after))
+    subst (λ (o : Object). IsRefusedOr (live_asked (server_of o)) code (λ s. IsOkAnd (server_of stored) (λ t. IsServed s piece code t taken before after))) (sym is)
+    (subst (λ (o : Option ℕ). IsRefusedOr (unless o (Ok session)) code (λ s. IsOkAnd (server_of stored) (λ t. IsServed s piece code t taken before after)))
     (sym (live session.server.phase other))
-    (subst (λ (o : Object). IsServedIn session piece code o taken before after) (sym left) served))
+    (subst (λ (o : Object). IsOkAnd (server_of o) (λ t. IsServed session piece code t taken before after)) (sym left) served))
 
 -- It isn't refused.
 pub served_unrefused : (object : Object) (session : SessionData) (Fact : Type 0) → object ≡ Server session
@@ -113,31 +115,33 @@ pub not_heard : (old new : EditorData) (piece : List ℕ) (code : ℕ) (taken : 
     → IsFedTo old.stream piece code new.stream taken → code ≢ OK
     → new ≡ record old { stream = new.stream } → after ≡ before → IsHeard old piece code new taken before after
 not_heard old new piece code taken before after fed bad rest same =
-    inl (record { stream = record { fed = fed; none = λ is. absurd (bad is) }; rest = rest; answer = same })
+    inl (rest, record { took = inl (record { fed = fed; none = λ is. absurd (bad is) }); answer = same })
 
 -- No message is whole.
 pub none_heard : (old new : EditorData) (piece : List ℕ) (code : ℕ) (taken : Taken) (before after : Answer)
     → IsFedTo old.stream piece code new.stream taken → code ≡ OK → HasNoBody new.stream.framing
     → new ≡ record old { stream = new.stream } → after ≡ before → IsHeard old piece OK new taken before after
 none_heard old new piece code taken before after fed is no_body rest same =
-    inl (record {
-      stream = record { fed = fed_well old.stream new.stream piece code taken is fed; none = λ _. no_body };
-      rest = rest;
-      answer = same;
-    })
+    inl (
+      rest,
+      record {
+        took = inl (record { fed = fed_well old.stream new.stream piece code taken is fed; none = λ _. no_body });
+        answer = same;
+      },
+    )
 
 -- A message is whole, and out of memory.
 pub unheard : (old new : EditorData) (piece body : List ℕ) (code : ℕ) (taken : Taken) (before after : Answer)
     → IsFedTo old.stream piece code new.stream taken → code ≡ OK → IsBodyOf new.stream.framing body
     → new ≡ record old { stream = new.stream } → after ≡ before → IsHeard old piece OUT_OF_MEMORY new taken before after
 unheard old new piece body code taken before after fed is whole rest same =
-    inr (inl (record {
-      body = body;
-      message = record { fed = fed_well old.stream new.stream piece code taken is fed; is = whole };
-      memory = refl;
-      rest = rest;
-      answer = same;
-    }))
+    inl (
+      rest,
+      record {
+        took = inr (refl, body, record { fed = fed_well old.stream new.stream piece code taken is fed; is = whole });
+        answer = same;
+      },
+    )
 
 -- A message is whole, and was handled.
 pub one_heard : (old new : EditorData) (stream : StreamData) (piece body : List ℕ) (code : ℕ) (taken : Taken) (before after : Answer)
@@ -145,23 +149,23 @@ pub one_heard : (old new : EditorData) (stream : StreamData) (piece body : List 
     → IsTakenIn (handled stream) (delivery_of old.client (reading body)) OK (Some (Client new)) after
     → IsHeard old piece OK new taken before after
 one_heard old new stream piece body code taken before after fed is whole delivered =
-    inr (inr (record {
+    inr (record {
       stream = stream;
       body = body;
       message = record { fed = fed_well old.stream stream piece code taken is fed; is = whole };
       delivered = delivered;
-    }))
+    })
 
 -- The client of an object takes a piece.
 pub heard_in : (object stored : Object) (editor new : EditorData) (piece : List ℕ) (code : ℕ) (taken : Taken) (before after : Answer)
     → object ≡ Client editor → is_listening editor.client.phase ≡ true → stored ≡ Client new
     → IsHeard editor piece code new taken before after
-    → IsRefusedOr (listening_asked (client_of object)) code (λ e. IsHeardIn e piece code stored taken before after)
+    → IsRefusedOr (listening_asked (client_of object)) code (λ e. IsOkAnd (client_of stored) (λ t. IsHeard e piece code t taken before after))
 heard_in object stored editor new piece code taken before after is listens left heard =
-    subst (λ (o : Object). IsRefusedOr (listening_asked (client_of o)) code (λ e. IsHeardIn e piece code stored taken before after)) (sym is)
-    (subst (λ b. IsRefusedOr (if b then Ok editor else Err WRONG_PHASE) code (λ e. IsHeardIn e piece code stored taken before after))
+    subst (λ (o : Object). IsRefusedOr (listening_asked (client_of o)) code (λ e. IsOkAnd (client_of stored) (λ t. IsHeard e piece code t taken before after))) (sym is)
+    (subst (λ b. IsRefusedOr (if b then Ok editor else Err WRONG_PHASE) code (λ e. IsOkAnd (client_of stored) (λ t. IsHeard e piece code t taken before after)))
     (sym listens)
-    (subst (λ (o : Object). IsHeardIn editor piece code o taken before after) (sym left) heard))
+    (subst (λ (o : Object). IsOkAnd (client_of o) (λ t. IsHeard editor piece code t taken before after)) (sym left) heard))
 
 -- It isn't refused.
 pub heard_unrefused : (object : Object) (editor : EditorData) (Fact : Type 0) → object ≡ Client editor

@@ -1,5 +1,5 @@
 -- The batch that C passes: its edits, and their texts one after another in one array of bytes.
-use Rattle.std.specs.Prelude.{ℕ, ◌≡◌, ◌&&◌, if◌then◌else◌, nat_le, nat_lt, length, slice_get, string_bytes, string_len, sum_by, Bool, true, false, List, [], ◌∷◌, take, drop, map, Option, Some, None, Result, Ok, Err}
+use Rattle.std.specs.Prelude.{ℕ, ◌≡◌, ◌&&◌, if◌then◌else◌, nat_le, nat_lt, length, slice_get, string_bytes, string_len, sum_by, Bool, true, false, List, [], ◌∷◌, take, drop, map, Option, Some, None, Result, Ok, Err, IsOkAnd}
 use Rattle.std.specs.Option.{ok_or}
 use Rattle.std.specs.Str.{chars, is_utf8}
 use Rattle.lsp_text.specs.declared.position.Range.{Range}
@@ -15,16 +15,18 @@ use Rattle.lsp_edit.specs.declared.indexed.TextFault.{TextFault}
 use Rattle.lsp_edit.specs.declared.indexed.TextFault.TheVariants.{Edit as EditOf, TooLong, NoMemory}
 use Rattle.lsp_edit.specs.Batch as batch
 use Rattle.lsp_edit.specs.Batch.{meaning}
+use Rattle.lsp_edit.specs.Items.{Item}
 use Rattle.lsp_edit.specs.Edited.{edit_of}
-use Rattle.lsp_edit.specs.Indexed.{IsCanonicalBatch, text_within}
+use Rattle.lsp_edit.specs.Canonical.{canonical}
+use Rattle.lsp_edit.specs.Indexed.{text_within}
 use Rattle.laspidru.specs.declared.codes.TheConstants.{BAD_LENGTH, INSIDE_CHARACTER, NOT_UTF8, OK, OUT_OF_MEMORY, OUT_OF_RANGE, REVERSED_RANGE, TOO_LONG}
 use Rattle.laspidru.specs.declared.object.Object.{Object}
-use Rattle.laspidru.specs.declared.object.Object.TheVariants.{Document, Batch}
+use Rattle.laspidru.specs.declared.object.Object.TheVariants.{Document}
 use Rattle.laspidru.specs.declared.place.Place.{Place}
 use Rattle.laspidru.specs.declared.place.Edit.{Edit}
 use Rattle.laspidru.specs.declared.place.Fault.{Fault}
 use Rattle.laspidru.specs.Codes.{and_then, unless}
-use Rattle.laspidru.specs.Objects.{encoding_at, position_at, IsCopy}
+use Rattle.laspidru.specs.Objects.{batch_in, encoding_at, position_at, IsCopy}
 
 -- The range of an edit, if it isn't one of the whole text.
 abbrev pub range_if : Bool → Place → Place → Option Range
@@ -98,21 +100,17 @@ abbrev pub IsLeft : Result (List ℕ) TextFault → ℕ → Option Object → Fa
 IsLeft (Ok text) code stored out = (code ≡ OK) × (stored ≡ Some (Document text))
 IsLeft (Err fault) code stored out = IsReport fault code out
 
--- The object is the canonical batch of this batch.
-abbrev pub IsBatchOf : Asked → Object → Type 0
-IsBatchOf asked (Batch changes) =
-    let canonical = map edit_of changes.items in
-    IsCanonicalBatch (units_in asked.encoding) MAX_OLD_TEXT asked.text asked.edits canonical
-IsBatchOf asked other = ⊥
-
--- The handle has the canonical batch of this batch.
-abbrev pub HoldsBatchOf : Asked → Option Object → Type 0
-HoldsBatchOf asked (Some object) = IsBatchOf asked object
-HoldsBatchOf asked None = ⊥
+-- These changes are the canonical batch of this batch. What holds of every canonical batch is a law
+-- of `batch_laws` of `lsp_edit`.
+pub record IsBatchOf (asked : Asked) (changes : List Change) : Type 0 where
+  pub items : List Item
+  pub means : meaning (units_in asked.encoding) (chars asked.text) asked.edits ≡ Ok items
+  pub is : map edit_of changes ≡ canonical (units_in asked.encoding) (chars asked.text) items
 
 -- The handle has the canonical batch if there is a text after the batch, or the fault is reported.
 abbrev pub IsCanonicalIf : Result (List ℕ) TextFault → Asked → ℕ → Option Object → Fault → Type 0
-IsCanonicalIf (Ok text) asked code stored out = (code ≡ OK) × HoldsBatchOf asked stored
+IsCanonicalIf (Ok text) asked code stored out =
+    (code ≡ OK) × IsOkAnd (batch_in stored) (IsBatchOf asked)
 IsCanonicalIf (Err fault) asked code stored out = IsReport fault code out
 
 -- A change of a batch, by its number.

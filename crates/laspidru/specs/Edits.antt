@@ -1,5 +1,5 @@
 -- The text edits that C passes (LSP 3.17, TextEdit[]): all of them count in the text as it is.
-use Rattle.std.specs.Prelude.{ℕ, ◌≡◌, ◌≢◌, ◌<◌, ◌⊎◌, ◌&&◌, if◌then◌else◌, nat_le, length, string_bytes, string_len, sum_by, Bool, true, false, List, [], ◌∷◌, take, drop, map, Option, Some, None, Result, Ok, Err}
+use Rattle.std.specs.Prelude.{ℕ, ◌≡◌, ◌≢◌, ◌<◌, ◌⊎◌, ◌&&◌, if◌then◌else◌, nat_le, length, string_bytes, string_len, sum_by, Bool, true, false, List, [], ◌∷◌, take, drop, map, Option, Some, Result, Ok, Err, IsOkAnd}
 use Rattle.std.specs.Str.{chars}
 use Rattle.lsp_text.specs.declared.position.Range.{Range}
 use Rattle.lsp_text.specs.declared.encoding.Encoding.{Encoding}
@@ -18,13 +18,13 @@ use Rattle.lsp_edit.specs.Indexed.{text_within}
 use Rattle.lsp_edit.specs.TextEdits.{IsBatchOfEdits, IsEditsFault}
 use Rattle.laspidru.specs.declared.codes.TheConstants.{INSIDE_CHARACTER, OK, OUT_OF_MEMORY, OVERLAP, REVERSED_RANGE, TOO_LONG}
 use Rattle.laspidru.specs.declared.object.Object.{Object}
-use Rattle.laspidru.specs.declared.object.Object.TheVariants.{Document, Batch}
+use Rattle.laspidru.specs.declared.object.Object.TheVariants.{Document}
 use Rattle.laspidru.specs.declared.place.Place.{Place}
 use Rattle.laspidru.specs.declared.place.Edit.{Edit}
 use Rattle.laspidru.specs.declared.place.EditsFault.{EditsFault}
 use Rattle.laspidru.specs.Batches.{len_of, refused_edit, side_at}
 use Rattle.laspidru.specs.Codes.{and_then, unless}
-use Rattle.laspidru.specs.Objects.{encoding_at, position_at}
+use Rattle.laspidru.specs.Objects.{batch_in, encoding_at, position_at}
 
 -- The bytes that take a range's place.
 pub record Replacement : Type 0 where
@@ -100,20 +100,10 @@ pub record IsBatchOfAsked (asked : EditsAsked) (changes : List Change) : Type 0 
   pub are : map replacement_of edits ≡ asked.replacements
   pub batch : IsBatchOfEdits (units_in asked.encoding) asked.text edits (map edit_of changes)
 
--- The object is that batch.
-abbrev pub IsEditsBatch : EditsAsked → Object → Type 0
-IsEditsBatch asked (Batch changes) = IsBatchOfAsked asked changes.items
-IsEditsBatch asked other = ⊥
-
--- the same of what a handle holds
-abbrev pub HoldsEditsBatch : EditsAsked → Option Object → Type 0
-HoldsEditsBatch asked (Some object) = IsEditsBatch asked object
-HoldsEditsBatch asked None = ⊥
-
 -- The handle holds the batch, or the edits are faulty.
 abbrev pub AreBatched : EditsAsked → ℕ → Option Object → EditsFault → Type 0
 AreBatched asked code stored out =
-    ((code ≡ OK) × HoldsEditsBatch asked stored) ⊎ AreFaulty asked code out
+    ((code ≡ OK) × IsOkAnd (batch_in stored) (IsBatchOfAsked asked)) ⊎ AreFaulty asked code out
 
 -- what changes leave of a text, if that isn't too long
 abbrev pub text_left : Encoding → List ℕ → List Change → Result (List ℕ) TextFault

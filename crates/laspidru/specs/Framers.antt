@@ -86,16 +86,6 @@ abbrev pub IsFed : Framing → List ℕ → ℕ → Framing → Taken → Type 0
 IsFed old piece code new out =
     ((code ≡ OK) × HasTaken old new piece out) ⊎ IsNotTaken old new piece code out
 
--- The same of the framer that an object has.
-abbrev pub IsFedObject : Framing → List ℕ → ℕ → Object → Taken → Type 0
-IsFedObject old piece code (Framer new) out = IsFed old piece code new out
-IsFedObject old piece code other out = ⊥
-
--- The same of what a handle has.
-abbrev pub IsFedStored : Framing → List ℕ → ℕ → Option Object → Taken → Type 0
-IsFedStored old piece code (Some object) out = IsFedObject old piece code object out
-IsFedStored old piece code None out = ⊥
-
 -- ---- the message that is buffered
 
 -- No whole message is buffered.
@@ -120,15 +110,6 @@ IsBodyAnswer framing start code old new copied =
 pub record IsReleased (old new : Framing) : Type 0 where
   pub whole : old.failed ≡ false → IsFrame old.limits.max_body old.buffered → new ≡ released old
   pub none : (old.failed ≡ false → IsFrame old.limits.max_body old.buffered → ⊥) → new ≡ old
-
--- The same of what a handle has.
-abbrev pub IsReleasedIn : Framing → Object → Type 0
-IsReleasedIn old (Framer new) = IsReleased old new
-IsReleasedIn old other = ⊥
-
-abbrev pub IsReleasedStored : Framing → Option Object → Type 0
-IsReleasedStored old (Some object) = IsReleasedIn old object
-IsReleasedStored old None = ⊥
 
 -- ---- the stream of an end
 

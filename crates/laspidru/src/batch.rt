@@ -1,7 +1,7 @@
 //! The functions on canonical batches.
 
 ghost use Rattle.std.specs.Prelude.{◌≡◌, ◌≢◌, None, length};
-ghost use Rattle.laspidru.specs.Batches.{HoldsBatchOf, IsBatchOf, IsCanonicalIf, IsEdit, IsEditOf};
+ghost use Rattle.laspidru.specs.Batches.{IsBatchOf, IsCanonicalIf, IsEdit, IsEditOf};
 ghost use Rattle.laspidru.specs.Batches.{IsReport, batch_asked, change_asked, fitting, left_by};
 ghost use Rattle.laspidru.specs.Batches.{refused_edit};
 ghost use Rattle.laspidru.specs.Codes.{IsAnswer, IsAnswerOrNoMemory, unless};
@@ -22,6 +22,7 @@ use lsp_text::{Encoding, Position};
 use std::alloc::Global;
 
 /// Puts the canonical batch of a batch on an object's text into an empty handle.
+#[tactic(auto, using(crate::proofs::Batches::is_batch_of))]
 fn object_canonical(
     alloc: Global,
     object: &Object,

@@ -1,10 +1,9 @@
 //! The functions on framers.
 
-ghost use Rattle.std.specs.Prelude.{◌≡◌, ◌≢◌, ◌↔◌, IsTrue, Some, false, []};
+ghost use Rattle.std.specs.Prelude.{◌≡◌, ◌≢◌, ◌↔◌, IsTrue, IsOkAnd, Some, false, []};
 ghost use Rattle.laspidru.specs.declared.object.Object.TheVariants.{Framer as FramerOf};
 ghost use Rattle.laspidru.specs.Codes.{IsAnswer, IsAnswerOrNoMemory, IsRefusedOr, unless};
-ghost use Rattle.laspidru.specs.Framers.{IsBodyAnswer, IsFedObject, IsFedStored, IsReleasedIn};
-ghost use Rattle.laspidru.specs.Framers.{IsReleasedStored, framer_in, framer_limits, framer_of};
+ghost use Rattle.laspidru.specs.Framers.{IsBodyAnswer, IsFed, IsReleased, framer_in, framer_limits, framer_of};
 ghost use Rattle.laspidru.specs.Objects.{in_use};
 ghost use Rattle.laspidru.specs.Streams.{framing_of};
 
@@ -50,7 +49,8 @@ pub extern "C" fn laspidru_framer_new(alloc: Global, handle: &mut Handle, max_bo
 /// Feeds a piece of a stream to an object's framer.
 fn object_feed(object: &mut Object, piece: &[u8], out: &mut Taken) -> u32
     ensures answer { IsRefusedOr (framer_of object.old) result
-        (λ framing. IsFedObject framing piece.now result object.new out.new) }
+        (λ framing. IsOkAnd (framer_of object.new)
+        (λ new. IsFed framing piece.now result new out.new)) }
     ensures unchanged { result ≢ OK → result ≢ BAD_FRAME
         → (object.new ≡ object.old) × (out.new ≡ out.old) }
 {
@@ -73,7 +73,8 @@ pub extern "C" fn laspidru_framer_feed(
     out: &mut Taken,
 ) -> u32
     ensures answer { IsRefusedOr (framer_in handle.old.value) result
-        (λ framing. IsFedStored framing piece.now result handle.new.value out.new) }
+        (λ framing. IsOkAnd (framer_in handle.new.value)
+        (λ new. IsFed framing piece.now result new out.new)) }
     ensures unchanged { result ≢ OK → result ≢ BAD_FRAME
         → (handle.new.value ≡ handle.old.value) × (out.new ≡ out.old) }
 {
@@ -135,7 +136,7 @@ pub extern "C" fn laspidru_framer_body(
 /// Releases the message that an object's framer has buffered.
 fn object_next(object: &mut Object) -> u32
     ensures answer { IsAnswer (framer_of object.old) result
-        (λ framing. IsReleasedIn framing object.new) }
+        (λ framing. IsOkAnd (framer_of object.new) (λ new. IsReleased framing new)) }
     ensures unchanged { result ≢ OK → object.new ≡ object.old }
 {
     let Object::Framer(framer) = object else {
@@ -150,7 +151,7 @@ fn object_next(object: &mut Object) -> u32
 #[unsafe(no_mangle)]
 pub extern "C" fn laspidru_framer_next(alloc: Global, handle: &mut Handle) -> u32
     ensures answer { IsAnswer (framer_in handle.old.value) result
-        (λ framing. IsReleasedStored framing handle.new.value) }
+        (λ framing. IsOkAnd (framer_in handle.new.value) (λ new. IsReleased framing new)) }
     ensures unchanged { result ≢ OK → handle.new.value ≡ handle.old.value }
 {
     let Some(mut object) = handle.take(alloc) else {

@@ -7,3 +7,4 @@ pub mod MessageLemmas
 pub mod RefusalLemmas
 pub mod Examples
 pub mod Tokens
+pub mod BodyLemmas

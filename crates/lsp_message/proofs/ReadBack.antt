@@ -23,6 +23,7 @@ use Rattle.lsp_message.specs.Agreement.{offers_of, announced_of}
 use Rattle.lsp_message.specs.Message.{IdData, whole, text, message_of, message, reading, id_in, id_found}
 use Rattle.lsp_message.specs.Params.{DocumentItem, EditData, ChangeData, open_of, change_of, close_of, within_version, version_in, position_in, range_in, edit_in, edits_in}
 use Rattle.lsp_message.specs.Outgoing as spec
+use Rattle.lsp_message.specs.Written as values
 use Rattle.lsp_message.specs.Outgoing.{OutgoingData}
 use Rattle.lsp_message.specs.Sent.{sent, IsReadBack, IsProper, IsProperId, IsProperDocument, IsProperChange, IsProperEdit, IsProperRange, IsProperPosition}
 use Rattle.lsp_message.proofs.Readings.{reading_of_value}
@@ -45,20 +46,20 @@ version_in-of_integer z h =
 
 -- ---- which message it is
 
-id_in-id_value : (id : IdData) → IsProperId id → id_in (spec.id_value id) ≡ Some id
+id_in-id_value : (id : IdData) → IsProperId id → id_in (values.id_value id) ≡ Some id
 id_in-id_value (whole (pos n)) h = ap (option_map whole) (as_i64-of_integer (pos n) h)
 id_in-id_value (whole (negsuc n)) h = refl
 id_in-id_value (text s) h = refl
 
-is_null-id_value : (id : IdData) → is_null (spec.id_value id) ≡ false
+is_null-id_value : (id : IdData) → is_null (values.id_value id) ≡ false
 is_null-id_value (whole n) = refl
 is_null-id_value (text s) = refl
 
-message_of-error_reply : (id : Option IdData) (error : ErrorCode) → IfSome id IsProperId → message_of (spec.error_reply_value id error) ≡ message (sent (spec.error_reply id error))
+message_of-error_reply : (id : Option IdData) (error : ErrorCode) → IfSome id IsProperId → message_of (values.error_reply_value id error) ≡ message (sent (spec.error_reply id error))
 message_of-error_reply None error h = refl
 message_of-error_reply (Some id) error h = rw (is_null-id_value id, id_in-id_value id h) refl
 
-message_of-value_of : (m : OutgoingData) → IsProper m → message_of (spec.value_of m) ≡ message (sent m)
+message_of-value_of : (m : OutgoingData) → IsProper m → message_of (values.value_of m) ≡ message (sent m)
 message_of-value_of (spec.initialize offers) h = refl
 message_of-value_of spec.initialized h = refl
 message_of-value_of (spec.did_open p) h = refl
@@ -71,36 +72,36 @@ message_of-value_of (spec.shutdown_result id) h = rw (is_null-id_value id, id_in
 message_of-value_of (spec.error_reply id error) h = message_of-error_reply id error h
 
 pub reading-body_of : (m : OutgoingData) → IsProper m → reading (spec.body_of m) ≡ message (sent m)
-reading-body_of m h = reading_of_value (spec.body_of m) (spec.value_of m) (utf8-body_of m h) (read-body_of m h) ∙ message_of-value_of m h
+reading-body_of m h = reading_of_value (spec.body_of m) (values.value_of m) (utf8-body_of m h) (read-body_of m h) ∙ message_of-value_of m h
 
 -- ---- its parameters
 
-position_in-position_value : (p : Position) → IsProperPosition p → position_in (Some (spec.position_value p)) ≡ Some p
+position_in-position_value : (p : Position) → IsProperPosition p → position_in (Some (values.position_value p)) ≡ Some p
 position_in-position_value p h =
     let line = h.line in
     let character = h.character in
     rw (lt-ltb p.line (2 ^ 32) line, lt-ltb p.character (2 ^ 32) character) refl
 
-range_in-range_value : (r : Range) → IsProperRange r → range_in (Some (spec.range_value r)) ≡ Some r
+range_in-range_value : (r : Range) → IsProperRange r → range_in (Some (values.range_value r)) ≡ Some r
 range_in-range_value r h = rw (position_in-position_value r.start h.start, position_in-position_value r.stop h.stop) refl
 
-edit_in-edit_value : (r : Option Range) (s : List ℕ) → IfSome r IsProperRange → edit_in (spec.edit_value (record { range = r; text = s })) ≡ Some (record { range = r; text = s })
+edit_in-edit_value : (r : Option Range) (s : List ℕ) → IfSome r IsProperRange → edit_in (values.edit_value (record { range = r; text = s })) ≡ Some (record { range = r; text = s })
 edit_in-edit_value None s h = refl
 edit_in-edit_value (Some r) s h = rw (range_in-range_value r h) refl
 
-edits_in-edits : (es : List EditData) → All IsProperEdit es → edits_in (items_of (map spec.edit_value es)) ≡ Some es
+edits_in-edits : (es : List EditData) → All IsProperEdit es → edits_in (items_of (map values.edit_value es)) ≡ Some es
 edits_in-edits [] h = refl
 edits_in-edits (e ∷ es) h =
     let first = h 0 e (omega arith) in
     rw (edit_in-edit_value e.range e.text first.range, edits_in-edits es (λ k d l. h (suc k) d (omega arith))) refl
 
-open_of-open_params : (p : DocumentItem) → IsProperDocument p → open_of (Some (spec.open_params p)) ≡ Some p
+open_of-open_params : (p : DocumentItem) → IsProperDocument p → open_of (Some (values.open_params p)) ≡ Some p
 open_of-open_params p h = rw (version_in-of_integer p.version h.version) refl
 
-change_of-change_params : (p : ChangeData) → IsProperChange p → change_of (Some (spec.change_params p)) ≡ Some p
+change_of-change_params : (p : ChangeData) → IsProperChange p → change_of (Some (values.change_params p)) ≡ Some p
 change_of-change_params p h = rw (version_in-of_integer p.version h.version, edits_in-edits p.changes h.changes) refl
 
-offers_of-initialize_params : (utf8 utf32 : Bool) → let offers : Offers = record { utf8 = utf8; utf32 = utf32 } in offers_of (Some (spec.initialize_params offers)) ≡ Some offers
+offers_of-initialize_params : (utf8 utf32 : Bool) → let offers : Offers = record { utf8 = utf8; utf32 = utf32 } in offers_of (Some (values.initialize_params offers)) ≡ Some offers
 offers_of-initialize_params true true = refl
 offers_of-initialize_params true false = refl
 offers_of-initialize_params false true = refl
@@ -109,7 +110,7 @@ offers_of-initialize_params false false = refl
 abbrev announces : Encoding → SyncKind → Announced
 announces encoding kind = record { open_close = true; kind = kind; encoding = Some encoding }
 
-announced_of-initialize_value : (encoding : Encoding) (kind : SyncKind) → announced_of (spec.initialize_value encoding kind) ≡ Some (announces encoding kind)
+announced_of-initialize_value : (encoding : Encoding) (kind : SyncKind) → announced_of (values.initialize_value encoding kind) ≡ Some (announces encoding kind)
 announced_of-initialize_value Utf8 Off = refl
 announced_of-initialize_value Utf8 Full = refl
 announced_of-initialize_value Utf8 Incremental = refl
@@ -173,7 +174,7 @@ written_by None d = replied (id_found (get (codes "id") d)) (get (codes "error")
 abbrev written_as : Data → Option OutgoingData
 written_as d = written_by (text_in (get (codes "method") d)) d
 
-id_found-id_or_null : (id : Option IdData) → IfSome id IsProperId → id_found (Some (spec.id_or_null id)) ≡ id
+id_found-id_or_null : (id : Option IdData) → IfSome id IsProperId → id_found (Some (values.id_or_null id)) ≡ id
 id_found-id_or_null None h = refl
 id_found-id_or_null (Some id) h = id_in-id_value id h
 
@@ -184,7 +185,7 @@ error_named-text MethodNotFound = refl
 error_named-text InvalidParams = refl
 error_named-text ServerNotInitialized = refl
 
-written_as-value_of : (m : OutgoingData) → IsProper m → written_as (spec.value_of m) ≡ Some m
+written_as-value_of : (m : OutgoingData) → IsProper m → written_as (values.value_of m) ≡ Some m
 written_as-value_of (spec.initialize offers) h = ap (option_map spec.initialize) (offers_of-initialize_params offers.utf8 offers.utf32)
 written_as-value_of spec.initialized h = refl
 written_as-value_of (spec.did_open p) h = ap (option_map spec.did_open) (open_of-open_params p h)
@@ -196,10 +197,10 @@ written_as-value_of (spec.initialize_result id encoding kind) h =
     rw (id_in-id_value id h) (ap (option_and_then (announced id)) (announced_of-initialize_value encoding kind))
 written_as-value_of (spec.shutdown_result id) h = rw (id_in-id_value id h) refl
 written_as-value_of (spec.error_reply id error) h =
-    ap (λ i. refused i (spec.error_value error)) (id_found-id_or_null id h) ∙ ap (option_map (spec.error_reply id)) (error_named-text error)
+    ap (λ i. refused i (values.error_value error)) (id_found-id_or_null id h) ∙ ap (option_map (spec.error_reply id)) (error_named-text error)
 
 -- two messages with one text are one message
 pub body_of-unique : (m n : OutgoingData) → IsProper m → IsProper n → spec.body_of m ≡ spec.body_of n → m ≡ n
 body_of-unique m n h k same =
-    let values : spec.value_of m ≡ spec.value_of n = same_Some _ _ (sym (read-body_of m h) ∙ ap read same ∙ read-body_of n k) in
-    same_Some _ _ (sym (written_as-value_of m h) ∙ ap written_as values ∙ written_as-value_of n k)
+    let same_values : values.value_of m ≡ values.value_of n = same_Some _ _ (sym (read-body_of m h) ∙ ap read same ∙ read-body_of n k) in
+    same_Some _ _ (sym (written_as-value_of m h) ∙ ap written_as same_values ∙ written_as-value_of n k)

@@ -13,7 +13,7 @@ use Rattle.serde_json.specs.Find.{of_integer}
 use Rattle.serde_json.specs.View.{items_of}
 use Rattle.serde_json.specs.Written.{number_text, items_outline, members_outline}
 use Rattle.lsp_text.specs.declared.position.Range.{Range}
-use Rattle.lsp_message.specs.Outgoing.{range_before}
+use Rattle.lsp_message.specs.Written.{range_before}
 use Rattle.lsp_message.specs.inside.Tokens.{Appends, tokens_of, range_tokens}
 
 -- some tokens, and then more

@@ -3,6 +3,7 @@ pub mod Message
 pub mod Params
 pub mod Agreement
 pub mod Outgoing
+pub mod Written
 pub mod Sent
 pub mod Seen
 pub mod MessageLaws

@@ -1,12 +1,13 @@
 -- The typed parameters of the three document messages (LSP 3.17, DidOpen, DidChange and DidClose
 -- Text Document Notification). A member that isn't named here is ignored. Where a type is wrong, a
 -- member is missing or a number is out of range, there are no parameters.
-use Rattle.std.specs.Prelude.{ℕ, ◌^◌, ℤ, pos, negsuc, int_lt, List, [], ◌∷◌, Option, Some, None, option_map, option_and_then, codes, nat_lt, ◌||◌, if◌then◌else◌, ◌<◌, length, IsSomeAnd}
+use Rattle.std.specs.Prelude.{ℕ, ◌≡◌, ◌^◌, ℤ, pos, negsuc, int_lt, List, [], ◌∷◌, Option, Some, None, option_map, option_and_then, codes, nat_lt, ◌||◌, if◌then◌else◌, ◌<◌, length, IsSomeAnd}
 use Rattle.serde_json.specs.Data.{Data, Items, no_items, item, Members}
 use Rattle.serde_json.specs.Find.{get_member, as_object}
 use Rattle.lsp_text.specs.declared.position.Position.{Position}
 use Rattle.lsp_text.specs.declared.position.Range.{Range}
 use Rattle.lsp_message.specs.Values.{◌>>=◌, member_at, text_in, members_in, items_in, whole_in, natural_in, is_missing}
+use Rattle.lsp_message.specs.Message.{notification, message, reading}
 
 -- An item of a document (TextDocumentItem). Its texts are bytes of UTF-8.
 pub record DocumentItem : Type 0 where
@@ -137,3 +138,10 @@ close_by document
 -- What params are as those of a `textDocument/didClose`; none where they are refused.
 abbrev pub close_of : Option Data → Option CloseData
 close_of params = option_and_then close_by (document_in params)
+
+-- A body is read as a `textDocument/didChange` with these params.
+pub record IsChangeRead (body : List ℕ) (change : ChangeData) : Type 0 where
+  pub params : Data
+  pub as_sent : reading body
+      ≡ message (notification (codes "textDocument/didChange") (Some params))
+  pub back : change_of (Some params) ≡ Some change

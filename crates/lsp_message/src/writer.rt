@@ -1,9 +1,9 @@
 //! The canonical body of each message, written a token at a time.
 
 ghost use Rattle.std.specs.Prelude.{◌≡◌, ◌++◌, IfOk, OnErr, OnOk};
-ghost use Rattle.serde_json.specs.Written.{compact_text};
 ghost use Rattle.lsp_frame.specs.Frame.{frame};
 ghost use Rattle.lsp_message.specs.Outgoing as spec;
+ghost use Rattle.lsp_message.specs.Written as values;
 ghost use Rattle.lsp_message.specs.Sent.{IsProper, IsReadAsSent, IsReadBack};
 ghost use Rattle.lsp_message.specs.Seen.{change_message, outgoing_view};
 ghost use Rattle.lsp_message.specs.inside.Tokens.{Appends, tokens_of};
@@ -87,9 +87,8 @@ pub fn push_document(
     version: i32,
     text: &str,
 ) -> Result<(), AllocError>
-    ensures ok { OnOk result (bytes.new.items ≡ bytes.old.items ++ compact_text
-        (spec.opened_document
-        (record { uri = uri.now; language = language.now; version = version; text = text.now }))) }
+    ensures ok { OnOk result (bytes.new.items ≡ bytes.old.items ++ spec.document_text
+        (record { uri = uri.now; language = language.now; version = version; text = text.now })) }
     ensures unchanged { OnErr result (bytes.new.items ≡ bytes.old.items) }
 {
     let alloc = *bytes.allocator();
@@ -117,7 +116,7 @@ pub fn message_frame(alloc: Global, message: &Outgoing) -> Result<Vec<u8>, Alloc
 
 fn write_message(writer: &mut Writer, message: &Outgoing) -> Result<(), AllocError>
     ensures { OnOk result
-        (Appends writer.old writer.new (tokens_of (spec.value_of (outgoing_view message.now)))) }
+        (Appends writer.old writer.new (tokens_of (values.value_of (outgoing_view message.now)))) }
 {
     match message {
         Outgoing::Initialize(offers) => write_initialize(writer, *offers),

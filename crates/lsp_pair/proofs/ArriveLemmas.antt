@@ -21,9 +21,11 @@ use Rattle.lsp_server.specs.Step as server
 use Rattle.lsp_server.specs.Step.{State, Step, step_on, step_in, step, begins}
 use Rattle.lsp_client.specs.Step.{sent_body}
 use Rattle.lsp_pair.specs.declared.event.Happened.TheVariants.{Server}
-use Rattle.lsp_pair.specs.World.{Setting, ClientMessage, commands, lifecycle, World, incoming_of_message, server_of, did_of, replies_in, turn_of_step}
-use Rattle.lsp_pair.specs.Pair.{IsFitting, waiting_out, table_with}
-use Rattle.lsp_pair.specs.Usual.{IsUsual}
+use Rattle.lsp_pair.specs.Events.{Setting, did_of, replies_in}
+use Rattle.lsp_pair.specs.Pair.{IsFitting}
+use Rattle.lsp_pair.specs.laws.World.{ClientMessage, commands, lifecycle, World, incoming_of_message, server_of, turn_of_step}
+use Rattle.lsp_pair.specs.laws.At.{waiting_out, table_with}
+use Rattle.lsp_pair.specs.laws.Usual.{IsUsual}
 use Rattle.lsp_pair.proofs.SaidLemmas as lemmas
 use Rattle.lsp_pair.proofs.SaidLemmas.{sent_short, done_by, IsServedAs}
 use Rattle.lsp_pair.proofs.LifeLemmas.{last_result, short_initialize, short_initialized, short_shutdown, short_exit}

@@ -15,9 +15,11 @@ use Rattle.lsp_client.specs.declared.phase.Phase.{Phase}
 use Rattle.lsp_client.specs.declared.phase.Phase.TheVariants.{Asked, Closing, Done}
 use Rattle.lsp_client.specs.Step as client
 use Rattle.lsp_client.specs.Step.{Sending, Order, Call, opens, edits, closes, starts, shuts_down, exits, orders, call_result, call_result_in, command_result, command_of, message_of, order_refusal, sending_unless, agreement}
-use Rattle.lsp_pair.specs.World.{Setting, ClientMessage, commands, lifecycle, World, commands_in, client_of, turn_of_call, message_of_call, calls, IsProperOrder, IsProperEvent}
-use Rattle.lsp_pair.specs.Pair.{message_frame, frame_of, table_with}
-use Rattle.lsp_pair.specs.Usual.{agreed_of}
+use Rattle.lsp_pair.specs.Events.{Setting, calls}
+use Rattle.lsp_pair.specs.Pair.{message_frame}
+use Rattle.lsp_pair.specs.laws.World.{ClientMessage, commands, lifecycle, World, commands_in, client_of, turn_of_call, message_of_call, IsProperOrder, IsProperEvent}
+use Rattle.lsp_pair.specs.laws.At.{frame_of, table_with}
+use Rattle.lsp_pair.specs.laws.Usual.{agreed_of}
 use Rattle.lsp_pair.proofs.SaidLemmas.{IsProperCommand}
 use Rattle.lsp_pair.proofs.ListLemmas.{length_more}
 use Rattle.lsp_pair.proofs.Shapes.{the_encoding, the_kind, IsSaidOn, said-append, Shape, fresh, asking, answered, down, closed, leaving, left, working, closing, client_at, server_at, agreed_at, encoding_at, there_at, here_at, busy_last, IsBusyShape, AtShape, WorldSound}

@@ -15,7 +15,7 @@ use Rattle.lsp_pair.specs.declared.event.Happened.{Happened}
 use Rattle.lsp_pair.specs.declared.event.Happened.TheVariants.{Sent, Refused, Server, Client}
 use Rattle.lsp_pair.specs.declared.event.Did.{Did}
 use Rattle.lsp_pair.specs.declared.event.Heard.{Heard}
-use Rattle.lsp_pair.specs.World.{EventData, calls, to_server, to_client}
+use Rattle.lsp_pair.specs.Events.{EventData, calls, to_server, to_client}
 use Rattle.lsp_pair.specs.Pair.{PairData, IsCallStep, IsServerStep, IsClientStep, IsDeliveryStep, IsStep}
 use Rattle.lsp_pair.specs.Seen.{event_view, frames}
 use Rattle.lsp_pair.specs.inside.Ends.{IsCall, HoldsOnCall, both_ends}

@@ -1,5 +1,5 @@
 -- The documents of both ends of a pair at a world.
-use Rattle.std.proofs.Common.{ℕ, ◌≡◌, ◌≤◌, nat_le, true, false, List, [], ◌∷◌, ◌++◌, length, map, take, slice_get, Option, Some, None, Result, Ok, Err, IfOk, OnOk, refl, sym, ap, ◌∙◌, subst, arith, ⊎_elim}
+use Rattle.std.proofs.Common.{ℕ, ◌≡◌, ◌≤◌, nat_le, true, false, List, [], ◌∷◌, ◌++◌, length, map, take, slice_get, Option, Some, None, Result, Ok, Err, refl, sym, ap, ◌∙◌, arith, ⊎_elim}
 use Rattle.std.proofs.lemmas.Bool.{cases_Bool, leb-true, leb-false}
 use Rattle.std.proofs.lemmas.List.{append_assoc, append-nil, length-append, take-append-le, take_all, take-append-drop}
 use Rattle.lsp_message.specs.declared.agreement.SyncKind.{SyncKind}
@@ -10,11 +10,11 @@ use Rattle.lsp_message.specs.Params.{DocumentItem}
 use Rattle.lsp_store.specs.Table.{table_of}
 use Rattle.lsp_client.specs.declared.fault.ClientFault.{ClientFault}
 use Rattle.lsp_client.specs.Step as client
-use Rattle.lsp_pair.specs.declared.event.Happened.{Happened}
-use Rattle.lsp_pair.specs.World.{Setting, ClientMessage, lifecycle, World, commands_in, EventData, calls, to_server, to_client, turn_of_call, to_server_event, to_client_event, turn_of_result, messages_in, turn, world_from, world_of, beginning, client_of}
-use Rattle.lsp_pair.specs.Pair.{PairData, IsFitting, IsAt, frames_from, waiting_out}
-use Rattle.lsp_pair.specs.At.{IsStepAt}
-use Rattle.lsp_pair.specs.Commanded.{sent_messages, delivered_messages, HaveCommanded}
+use Rattle.lsp_pair.specs.Events.{Setting, EventData, calls, to_server, to_client, messages_in}
+use Rattle.lsp_pair.specs.Pair.{PairData, IsFitting}
+use Rattle.lsp_pair.specs.laws.World.{ClientMessage, lifecycle, World, commands_in, turn_of_call, to_server_event, to_client_event, turn_of_result, turn, world_from, world_of, beginning, client_of}
+use Rattle.lsp_pair.specs.laws.At.{IsAt, frames_from, waiting_out}
+use Rattle.lsp_pair.specs.laws.Commanded.{sent_messages, delivered_messages, HaveCommanded}
 use Rattle.lsp_pair.proofs.WorldLemmas.{world_sound}
 
 -- ---- what waits
@@ -138,16 +138,3 @@ documents_at setting pair events sound at =
         same = server_is ∙ ap (λ (ms : List ClientMessage). table_of (commands_in ms)) (sym past.sent);
       };
     }
-
--- after a step that leads to the world of the list with its event added
-pub documents_if : {E : Type 0} (old new : PairData) (event : EventData) (result : Result Happened E)
-    → IfOk result (λ happened. (setting : Setting) (events : List EventData) → IsFitting setting → IsAt setting old events → IsStepAt setting events event happened new)
-    → OnOk result ((setting : Setting) (events : List EventData) → IsFitting setting → IsAt setting old events → HaveCommanded setting (events ++ event ∷ []) new)
-documents_if old new event (Ok a) steps = λ setting events sound at. documents_at setting new (events ++ event ∷ []) sound (steps setting events sound at).at
-documents_if old new event (Err e) steps = tt
-
--- after a run, whose number of steps is known by another name
-pub documents_after : (setting : Setting) (pair now : PairData) (before all : List EventData) (i n : ℕ) → IsFitting setting → n ≡ i → now ≡ pair → IsAt setting pair (before ++ take i all) → HaveCommanded setting (before ++ take n all) now
-documents_after setting pair now before all i n sound counted same at =
-    subst (λ (p : PairData). HaveCommanded setting (before ++ take n all) p) (sym same)
-    (subst (λ (k : ℕ). HaveCommanded setting (before ++ take k all) pair) (sym counted) (documents_at setting pair (before ++ take i all) sound at))

@@ -5,7 +5,7 @@ use Rattle.std.proofs.lemmas.Str.{IsUtf8-string_bytes}
 use Rattle.lsp_store.proofs.MessageLemmas.{texts_held}
 use Rattle.lsp_pair.specs.declared.event.Event.{Event}
 use Rattle.lsp_pair.specs.declared.event.Event.TheVariants.{Start, Open, Edit, Close, Shutdown, Exit, ToServer, ToClient}
-use Rattle.lsp_pair.specs.World.{IsProperEvent}
+use Rattle.lsp_pair.specs.laws.World.{IsProperEvent}
 use Rattle.lsp_pair.specs.Seen.{event_view}
 
 -- its version fits

@@ -9,9 +9,11 @@ use Rattle.lsp_message.specs.Params.{DocumentItem}
 use Rattle.lsp_client.specs.declared.fault.ClientFault.{ClientFault}
 use Rattle.lsp_client.specs.Step as client
 use Rattle.lsp_pair.specs.declared.event.Happened.{Happened}
-use Rattle.lsp_pair.specs.World.{Setting, ClientMessage, commands, lifecycle, World, EventData, calls, to_server, to_client, Turn, turn_of_call, turn_of_delivery, to_server_event, to_client_event, turn_of_result, turn, world_of, beginning, client_of, server_of}
-use Rattle.lsp_pair.specs.Pair.{PairData, table_with, frames_from, IsFitting, waiting_out, IsAt, IsStep, new_pair}
-use Rattle.lsp_pair.specs.At.{IsStepAt}
+use Rattle.lsp_pair.specs.Events.{Setting, EventData, calls, to_server, to_client}
+use Rattle.lsp_pair.specs.Pair.{PairData, IsFitting, IsStep, new_pair}
+use Rattle.lsp_pair.specs.laws.World.{ClientMessage, commands, lifecycle, World, Turn, turn_of_call, turn_of_delivery, to_server_event, to_client_event, turn_of_result, turn, world_of, beginning, client_of, server_of}
+use Rattle.lsp_pair.specs.laws.At.{table_with, frames_from, waiting_out, IsAt}
+use Rattle.lsp_pair.specs.laws.Steps.{IsStepAt}
 use Rattle.lsp_pair.specs.Documents.{History, no_history, after, HaveDocuments, IsLater}
 use Rattle.lsp_pair.specs.inside.History.{tables_from, history_of, IsHistory}
 use Rattle.lsp_pair.proofs.ListLemmas.{table_after_all}

@@ -16,3 +16,4 @@ pub mod CalledLemmas
 pub mod EventLemmas
 pub mod DocumentLemmas
 pub mod HistoryLemmas
+pub mod LawLemmas

@@ -6,8 +6,9 @@ use Rattle.lsp_message.specs.declared.agreement.SyncKind.{SyncKind}
 use Rattle.lsp_message.specs.Outgoing.{OutgoingData}
 use Rattle.lsp_message.specs.Params.{DocumentItem}
 use Rattle.lsp_store.specs.Table.{Command, table_after, table_from}
-use Rattle.lsp_pair.specs.World.{ClientMessage, commands, lifecycle, commands_in}
-use Rattle.lsp_pair.specs.Pair.{message_frame, frame_of, table_with, frames_from}
+use Rattle.lsp_pair.specs.Pair.{message_frame}
+use Rattle.lsp_pair.specs.laws.World.{ClientMessage, commands, lifecycle, commands_in}
+use Rattle.lsp_pair.specs.laws.At.{frame_of, table_with, frames_from}
 
 -- ---- what is at an index of a list
 

@@ -6,8 +6,9 @@ use Rattle.lsp_frame.specs.Limits.{Bounds, AreInRange}
 use Rattle.lsp_message.specs.declared.agreement.Offers.{Offers}
 use Rattle.lsp_server.specs.declared.config.Config.{Config}
 use Rattle.lsp_store.specs.Laws.{AreWithin}
-use Rattle.lsp_pair.specs.World.{Setting}
-use Rattle.lsp_pair.specs.Pair.{IsFitting, is_utf16, are_within, IsReached, new_pair}
+use Rattle.lsp_pair.specs.Events.{Setting}
+use Rattle.lsp_pair.specs.Pair.{IsFitting, is_utf16, are_within, new_pair}
+use Rattle.lsp_pair.specs.inside.Reached.{IsReached}
 use Rattle.lsp_pair.proofs.StepLemmas.{new_at}
 
 lenient_from : (small great : Bool) → (not small || great) ≡ true → IsTrue small → IsTrue great

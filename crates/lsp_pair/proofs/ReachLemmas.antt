@@ -1,5 +1,5 @@
 -- What a reached pair has in its queues.
-use Rattle.std.proofs.Common.{ℕ, ◌≡◌, ◌≢◌, true, List, [], ◌∷◌, map, Result, Ok, Err, IfOk, OnErr, sym, ap, ◌∙◌, subst, arith}
+use Rattle.std.proofs.Common.{ℕ, ◌≡◌, ◌≢◌, true, List, [], ◌∷◌, ◌++◌, map, Result, Ok, Err, IfOk, OnOk, OnErr, sym, ap, ◌∙◌, subst, arith}
 use Rattle.lsp_frame.specs.Frame.{IsFrameOf}
 use Rattle.lsp_frame.specs.Stream.{IsFrame}
 use Rattle.lsp_frame.proofs.WrittenLemmas.{written_is_frame}
@@ -14,11 +14,14 @@ use Rattle.lsp_client.specs.Step.{is_listening}
 use Rattle.lsp_pair.specs.declared.event.Happened.{Happened}
 use Rattle.lsp_pair.specs.declared.event.Happened.TheVariants.{Server}
 use Rattle.lsp_pair.specs.declared.event.Did.TheVariants as done
-use Rattle.lsp_pair.specs.World.{Setting, ClientMessage, commands, lifecycle, World, EventData, did_of, incoming_of_message, server_of, world_of, IsProperEvent}
+use Rattle.lsp_pair.specs.Events.{Setting, EventData, did_of}
+use Rattle.lsp_pair.specs.Pair.{PairData, message_frame, IsFitting, IsStep}
+use Rattle.lsp_pair.specs.laws.World.{ClientMessage, commands, lifecycle, World, incoming_of_message, server_of, world_of, IsProperEvent}
+use Rattle.lsp_pair.specs.laws.At.{frames_from, waiting_out, waiting_back, IsAt}
+use Rattle.lsp_pair.specs.laws.Usual.{IsUsual}
+use Rattle.lsp_pair.specs.laws.Steps.{IsStepAt}
+use Rattle.lsp_pair.specs.inside.Reached.{IsReached}
 use Rattle.lsp_pair.specs.inside.Ends.{both_ends}
-use Rattle.lsp_pair.specs.Pair.{PairData, message_frame, frames_from, IsFitting, waiting_out, waiting_back, IsAt, IsReached, IsStep}
-use Rattle.lsp_pair.specs.Usual.{IsUsual}
-use Rattle.lsp_pair.specs.At.{IsStepAt}
 use Rattle.lsp_pair.specs.inside.Ends.{HoldsOfFirst}
 use Rattle.lsp_pair.proofs.Shapes.{the_kind, WorldSound}
 use Rattle.lsp_pair.proofs.ArriveLemmas.{Arrives, Arrivals, body_on}
@@ -99,6 +102,12 @@ pub at_if : {E : Type 0} (old new : PairData) (event : EventData) (result : Resu
     → IfOk result (λ a. (setting : Setting) (events : List EventData) → IsFitting setting → IsAt setting old events → IsStepAt setting events event a new)
 at_if old new event (Ok a) proper steps = λ setting events sound at. steps_at setting sound old new events event a proper at steps
 at_if old new event (Err e) proper steps = tt
+
+pub at_next : {E : Type 0} (old new : PairData) (event : EventData) (result : Result Happened E)
+    → IfOk result (λ happened. (setting : Setting) (events : List EventData) → IsFitting setting → IsAt setting old events → IsStepAt setting events event happened new)
+    → OnOk result ((setting : Setting) (events : List EventData) → IsFitting setting → IsAt setting old events → IsAt setting new (events ++ event ∷ []))
+at_next old new event (Ok a) steps = λ setting events sound at. (steps setting events sound at).at
+at_next old new event (Err e) steps = tt
 
 -- what is left of a delivery that ran out of memory
 pub same_at_server : {A E : Type 0} (c : client.State) (s t : server.State) (q p b d : List (List ℕ)) (result : Result A E) → OnErr result ((t ≡ s) × (p ≡ q) × (d ≡ b))

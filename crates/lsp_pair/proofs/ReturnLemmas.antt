@@ -9,7 +9,8 @@ use Rattle.lsp_message.specs.Agreement.{is_offered, announced_of}
 use Rattle.serde_json.specs.Data.{null}
 use Rattle.lsp_message.specs.Message.{whole, reading, message, OutcomeData, given, failed}
 use Rattle.lsp_message.specs.Outgoing as outgoing
-use Rattle.lsp_message.specs.Outgoing.{OutgoingData, body_of, initialize_value}
+use Rattle.lsp_message.specs.Outgoing.{OutgoingData, body_of}
+use Rattle.lsp_message.specs.Written.{initialize_value}
 use Rattle.lsp_message.specs.Sent.{sent}
 use Rattle.lsp_message.proofs.ReadBack.{reading-body_of, is_read_back}
 use Rattle.lsp_server.specs.declared.config.EncodingChoice.{EncodingChoice}
@@ -23,9 +24,11 @@ use Rattle.lsp_client.specs.declared.phase.Phase.TheVariants.{Closed}
 use Rattle.lsp_client.specs.Step as client
 use Rattle.lsp_client.specs.Step.{State, Delivery, delivery_of, begin_if_synced, begin_as_announced, begin_in, response_delivery, is_listening}
 use Rattle.lsp_pair.specs.declared.event.Happened.TheVariants.{Client}
-use Rattle.lsp_pair.specs.World.{Setting, ClientMessage, lifecycle, World, client_of, heard_of, messages_in, turn_of_delivery}
-use Rattle.lsp_pair.specs.Pair.{IsFitting, is_utf16, waiting_back}
-use Rattle.lsp_pair.specs.Usual.{IsUsualBack}
+use Rattle.lsp_pair.specs.Events.{Setting, heard_of, messages_in}
+use Rattle.lsp_pair.specs.Pair.{IsFitting, is_utf16}
+use Rattle.lsp_pair.specs.laws.World.{ClientMessage, lifecycle, World, client_of, turn_of_delivery}
+use Rattle.lsp_pair.specs.laws.At.{waiting_back}
+use Rattle.lsp_pair.specs.laws.Usual.{IsUsualBack}
 use Rattle.lsp_pair.proofs.LifeLemmas.{first_result, last_result, short_first, short_last}
 use Rattle.lsp_pair.proofs.ListLemmas.{table_after_all, next_is, length_more}
 use Rattle.lsp_pair.proofs.Shapes.{the_encoding, the_kind, said-append, said_quiet, Shape, fresh, asking, answered, down, closed, leaving, left, working, closing, client_at, server_at, agreed_at, encoding_at, there_at, here_at, IsBusyShape, AtShape, WorldSound}

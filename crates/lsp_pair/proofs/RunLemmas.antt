@@ -1,7 +1,7 @@
 -- Runs of a pair.
 use Rattle.std.proofs.Common.{ℕ, zero, suc, ◌≡◌, ◌<◌, ◌+◌, length, map, take, get_or, add-one, arith, List, [], ◌∷◌, ◌++◌, refl, sym, ap, ◌∙◌, subst}
 use Rattle.lsp_pair.specs.declared.event.Happened.{Happened}
-use Rattle.lsp_pair.specs.World.{EventData}
+use Rattle.lsp_pair.specs.Events.{EventData}
 use Rattle.lsp_pair.specs.Pair.{PairData, IsStep, IsRun}
 
 -- A run goes on by one step.

@@ -14,7 +14,7 @@ use Rattle.lsp_client.specs.Seen as seen
 use Rattle.lsp_pair.specs.declared.event.Did.{Did}
 use Rattle.lsp_pair.specs.declared.event.Heard.{Heard}
 use Rattle.lsp_pair.specs.declared.event.Happened.TheVariants.{Server, Client}
-use Rattle.lsp_pair.specs.World.{to_server, to_client, did_of, replies_in, heard_of, messages_in}
+use Rattle.lsp_pair.specs.Events.{to_server, to_client, did_of, replies_in, heard_of, messages_in}
 use Rattle.lsp_pair.specs.Pair.{message_frame, IsStep}
 use Rattle.lsp_pair.specs.Seen.{frames}
 use Rattle.lsp_pair.specs.inside.Ends.{HoldsOfFirst, did_of_sent, frames_in_answer, frames_in_delivery}

@@ -5,7 +5,7 @@ use Rattle.std.proofs.lemmas.List.{take-append-drop}
 use Rattle.lsp_text.specs.declared.encoding.Encoding.{Encoding}
 use Rattle.lsp_message.specs.declared.agreement.SyncKind.{SyncKind}
 use Rattle.lsp_message.specs.Outgoing as outgoing
-use Rattle.lsp_message.specs.Outgoing.{OutgoingData, body_of}
+use Rattle.lsp_message.specs.Outgoing.{OutgoingData}
 use Rattle.lsp_message.specs.Params.{DocumentItem}
 use Rattle.lsp_store.specs.Table.{Command, opens, changes, closes, table_after}
 use Rattle.lsp_store.specs.Laws.{AllWithin, HasTexts}
@@ -16,9 +16,10 @@ use Rattle.lsp_server.specs.Choice.{chosen, announced_kind}
 use Rattle.lsp_client.specs.declared.agreed.Agreed.{Agreed}
 use Rattle.lsp_client.specs.declared.phase.Phase as client_phase
 use Rattle.lsp_client.specs.declared.phase.Phase.TheVariants as client_phases
-use Rattle.lsp_pair.specs.World.{Setting, ClientMessage, commands, lifecycle, World}
-use Rattle.lsp_pair.specs.Pair.{waiting_out, waiting_back, table_with}
-use Rattle.lsp_pair.specs.Usual.{agreed_of}
+use Rattle.lsp_pair.specs.Events.{Setting}
+use Rattle.lsp_pair.specs.laws.World.{ClientMessage, commands, lifecycle, World}
+use Rattle.lsp_pair.specs.laws.At.{waiting_out, waiting_back, table_with}
+use Rattle.lsp_pair.specs.laws.Usual.{agreed_of}
 use Rattle.lsp_pair.proofs.SaidLemmas.{IsProperCommand, IsSaid, may_command}
 use Rattle.lsp_pair.proofs.LifeLemmas.{first_result, last_result}
 use Rattle.lsp_pair.proofs.ListLemmas.{table_after_all}

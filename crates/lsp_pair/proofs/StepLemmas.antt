@@ -12,10 +12,13 @@ use Rattle.lsp_client.specs.declared.fault.ClientFault.{ClientFault}
 use Rattle.lsp_client.specs.Step.{Call, Sending, Delivery, call_result, delivery_of, sent_body}
 use Rattle.lsp_pair.specs.declared.event.Happened.{Happened}
 use Rattle.lsp_pair.specs.declared.event.Happened.TheVariants.{Server, Client}
-use Rattle.lsp_pair.specs.World.{Setting, ClientMessage, commands, lifecycle, World, commands_in, EventData, calls, to_server, to_client, Turn, turn_of_call, message_of_call, message_in, turn_of_step, turn_of_delivery, turn, world_of, beginning, client_of, server_of, did_of, replies_in, heard_of, messages_in, IsProperEvent}
-use Rattle.lsp_pair.specs.Pair.{PairData, new_pair, message_frame, frame_of, table_with, frames_from, IsFitting, waiting_out, waiting_back, pair_of, IsAt, IsReached, IsCallStep, IsServerStep, IsClientStep, IsDeliveryStep, IsStep}
-use Rattle.lsp_pair.specs.Usual.{IsUsualTurn, HaveOneEncoding}
-use Rattle.lsp_pair.specs.At.{IsStepAt}
+use Rattle.lsp_pair.specs.Events.{Setting, EventData, calls, to_server, to_client, did_of, replies_in, heard_of, messages_in}
+use Rattle.lsp_pair.specs.Pair.{PairData, new_pair, message_frame, IsFitting, IsCallStep, IsServerStep, IsClientStep, IsDeliveryStep, IsStep}
+use Rattle.lsp_pair.specs.laws.World.{ClientMessage, commands, lifecycle, World, commands_in, Turn, turn_of_call, message_of_call, message_in, turn_of_step, turn_of_delivery, turn, world_of, beginning, client_of, server_of, IsProperEvent}
+use Rattle.lsp_pair.specs.laws.At.{frame_of, table_with, frames_from, waiting_out, waiting_back, pair_of, IsAt}
+use Rattle.lsp_pair.specs.laws.Usual.{IsUsualTurn, HaveOneEncoding}
+use Rattle.lsp_pair.specs.laws.Steps.{IsStepAt}
+use Rattle.lsp_pair.specs.inside.Reached.{IsReached}
 use Rattle.lsp_pair.proofs.LifeLemmas.{one_body}
 use Rattle.lsp_pair.proofs.ListLemmas.{table_after_all, after-last, quiet, whole_after, frames-append, frames_said, next_is}
 use Rattle.lsp_pair.proofs.Shapes.{the_kind, WorldSound}

@@ -8,9 +8,11 @@ use Rattle.lsp_client.specs.declared.fault.ClientFault.{ClientFault}
 use Rattle.lsp_client.specs.Step as client
 use Rattle.lsp_client.specs.Step.{Call, call_result}
 use Rattle.lsp_pair.specs.declared.event.Happened.TheVariants.{Server, Client, Nothing}
-use Rattle.lsp_pair.specs.World.{Setting, ClientMessage, World, beginning, EventData, calls, to_server, to_client, Turn, turn_of_call, message_of_call, message_in, turn_of_step, to_server_event, turn_of_delivery, turn_of_result, to_client_event, turn, world_from, world_of, client_of, did_of, heard_of, IsProperEvent, AreProperEvents}
-use Rattle.lsp_pair.specs.Pair.{IsFitting, waiting_out, waiting_back, pair_of}
-use Rattle.lsp_pair.specs.Usual.{IsUsual, IsUsualBack, IsUsualTurn, agreed_of, has_agreed, HaveOneEncoding}
+use Rattle.lsp_pair.specs.Events.{Setting, EventData, calls, to_server, to_client, did_of, heard_of}
+use Rattle.lsp_pair.specs.Pair.{IsFitting}
+use Rattle.lsp_pair.specs.laws.World.{ClientMessage, World, beginning, Turn, turn_of_call, message_of_call, message_in, turn_of_step, to_server_event, turn_of_delivery, turn_of_result, to_client_event, turn, world_from, world_of, client_of, IsProperEvent, AreProperEvents}
+use Rattle.lsp_pair.specs.laws.At.{waiting_out, waiting_back, pair_of}
+use Rattle.lsp_pair.specs.laws.Usual.{IsUsual, IsUsualBack, IsUsualTurn, agreed_of, has_agreed, HaveOneEncoding}
 use Rattle.lsp_pair.proofs.ListLemmas.{next_is, none_next}
 use Rattle.lsp_pair.proofs.Shapes.{Shape, fresh, asking, answered, client_at, agreed_at, encoding_at, AtShape, WorldSound}
 use Rattle.lsp_pair.proofs.ArriveLemmas.{Arrives, Arrivals, arrivals}

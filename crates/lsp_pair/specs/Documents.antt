@@ -4,7 +4,7 @@ use Rattle.lsp_message.specs.Params.{DocumentItem}
 use Rattle.lsp_pair.specs.declared.event.Happened.{Happened}
 use Rattle.lsp_pair.specs.declared.event.Happened.TheVariants.{Sent, Server, Client}
 use Rattle.lsp_pair.specs.declared.event.Heard.TheVariants.{Send}
-use Rattle.lsp_pair.specs.World.{EventData}
+use Rattle.lsp_pair.specs.Events.{EventData}
 use Rattle.lsp_pair.specs.Pair.{PairData, IsStep}
 
 -- What happened so far: the client's documents after each message that it sent, and how many of

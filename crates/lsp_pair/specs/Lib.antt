@@ -1,8 +1,6 @@
-pub mod World
+pub mod Events
 pub mod Pair
-pub mod Usual
-pub mod At
 pub mod Seen
 pub mod Documents
-pub mod Commanded
+pub mod laws
 pub mod inside

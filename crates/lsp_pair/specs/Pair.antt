@@ -1,25 +1,20 @@
--- Both ends of a session and the frames between them, and when a pair is at the world of a list of
--- events.
-use Rattle.std.specs.Prelude.{ℕ, ◌≡◌, ◌≢◌, Bool, true, false, not, nat_le, ◌&&◌, ◌||◌, List, [], ◌∷◌, ◌++◌, drop, map, Result, Ok, Err}
+-- Both ends of a session and the frames between them, and one step of both.
+use Rattle.std.specs.Prelude.{ℕ, ◌≡◌, ◌≢◌, Bool, true, false, not, nat_le, ◌&&◌, ◌||◌, List, [], ◌∷◌, ◌++◌, map, Result, Ok, Err}
 use Rattle.lsp_frame.specs.Frame.{frame, IsFrameOf}
 use Rattle.lsp_frame.specs.Limits.{Bounds, AreInRange}
 use Rattle.lsp_text.specs.declared.encoding.Encoding.TheVariants.{Utf16}
-use Rattle.lsp_message.specs.declared.agreement.SyncKind.{SyncKind}
 use Rattle.lsp_message.specs.Message.{reading}
 use Rattle.lsp_message.specs.Outgoing.{OutgoingData, body_of}
-use Rattle.lsp_message.specs.Params.{DocumentItem}
-use Rattle.lsp_store.specs.Table.{table_after}
 use Rattle.lsp_store.specs.Laws.{AreWithin}
 use Rattle.lsp_server.specs.declared.config.EncodingChoice.{EncodingChoice}
 use Rattle.lsp_server.specs.declared.config.EncodingChoice.TheVariants.{Fixed, Negotiated}
 use Rattle.lsp_server.specs.declared.phase.Phase.TheVariants.{Ended}
-use Rattle.lsp_server.specs.Choice.{announced_kind}
 use Rattle.lsp_server.specs.Step as server
 use Rattle.lsp_client.specs.declared.fault.ClientFault.{ClientFault}
 use Rattle.lsp_client.specs.Step as client
 use Rattle.lsp_pair.specs.declared.event.Happened.{Happened}
 use Rattle.lsp_pair.specs.declared.event.Happened.TheVariants.{Sent, Refused, Server, Client, Nothing}
-use Rattle.lsp_pair.specs.World.{Setting, ClientMessage, commands, lifecycle, World, client_of, server_of, EventData, calls, to_server, to_client, did_of, replies_in, heard_of, messages_in, AreProperEvents, world_of}
+use Rattle.lsp_pair.specs.Events.{Setting, EventData, calls, to_server, to_client, did_of, replies_in, heard_of, messages_in}
 
 -- Both ends, and the frames on the way to each, oldest first.
 pub record PairData : Type 0 where
@@ -115,48 +110,6 @@ IsRun old (event ∷ events) new =
     (happened : Happened) × (mid : PairData) × IsStep old event happened mid
     × IsRun mid events new
 
--- ---- a pair at a world
-
--- The frame of a message, where the client had this table when it sent it.
-abbrev pub frame_of : SyncKind → List DocumentItem → ClientMessage → List ℕ
-frame_of kind table (commands command) = message_frame (client.message_of kind table command)
-frame_of kind table (lifecycle m) = message_frame m
-
--- The table after a message.
-abbrev pub table_with : List DocumentItem → ClientMessage → List DocumentItem
-table_with table (commands command) = table_after table command
-table_with table (lifecycle m) = table
-
--- The frames of messages, where the client had this table when it sent the first.
-abbrev pub frames_from : SyncKind → List DocumentItem → List ClientMessage → List (List ℕ)
-frames_from kind table [] = []
-frames_from kind table (sent ∷ rest) =
-    frame_of kind table sent ∷ frames_from kind (table_with table sent) rest
-
--- The messages that wait for the server.
-abbrev pub waiting_out : World → List ClientMessage
-waiting_out w = drop w.out_delivered w.out
-
--- The messages that wait for the client.
-abbrev pub waiting_back : World → List OutgoingData
-waiting_back w = drop w.back_delivered w.back
-
--- The pair of a world: its ends, and in its queues the frames of the messages that wait.
-abbrev pub pair_of : Setting → World → PairData
-pair_of setting w =
-    record {
-      client = client_of setting w;
-      server = server_of setting w;
-      to_server =
-          frames_from (announced_kind setting.config.sync) (server_of setting w).table (waiting_out w);
-      to_client = map message_frame (waiting_back w);
-    }
-
--- A pair is at the world of a list of events.
-pub record IsAt (setting : Setting) (pair : PairData) (events : List EventData) : Type 0 where
-  pub proper : AreProperEvents events
-  pub is : pair ≡ pair_of setting (world_of setting events)
-
 -- ---- which settings a pair accepts
 
 -- A server of this choice can choose UTF-16, which a client uses where nothing else was agreed on.
@@ -178,10 +131,3 @@ pub record IsFitting (setting : Setting) : Type 0 where
   pub great : AreInRange setting.config.limits
   pub within : AreWithin setting.limits setting.config.limits
   pub choice : is_utf16 setting.config.choice ≡ true
-
--- A pair that comes from a new one by steps. It is at the world of some list of events.
-pub record IsReached (pair : PairData) : Type 0 where
-  pub setting : Setting
-  pub sound : IsFitting setting
-  pub events : List EventData
-  pub at : IsAt setting pair events

@@ -6,7 +6,7 @@ use Rattle.lsp_edit.specs.Edited.{edit_of}
 use Rattle.lsp_client.specs.Step as client
 use Rattle.lsp_pair.specs.declared.event.Event.{Event}
 use Rattle.lsp_pair.specs.declared.event.Event.TheVariants.{Start, Open, Edit, Close, Shutdown, Exit, ToServer, ToClient}
-use Rattle.lsp_pair.specs.World.{EventData, calls, to_server, to_client}
+use Rattle.lsp_pair.specs.Events.{EventData, calls, to_server, to_client}
 
 -- An event, with its texts as bytes.
 abbrev pub event_view : Event → EventData

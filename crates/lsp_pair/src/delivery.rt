@@ -8,9 +8,9 @@ ghost use Rattle.lsp_client.specs.Step.{State, is_listening};
 ghost use Rattle.lsp_server.specs.declared.phase.Phase.TheVariants.{Ended};
 ghost use Rattle.lsp_server.specs.Seen.{answer_view};
 ghost use Rattle.lsp_server.specs.Step as server;
-ghost use Rattle.lsp_pair.specs.World.{to_server, to_client, heard_of};
-ghost use Rattle.lsp_pair.specs.inside.Ends.{HoldsOfFirst, both_ends, did_of_sent, frames_in_answer, frames_in_delivery};
+ghost use Rattle.lsp_pair.specs.Events.{to_server, to_client, heard_of};
 ghost use Rattle.lsp_pair.specs.Pair.{IsStep};
+ghost use Rattle.lsp_pair.specs.inside.Ends.{HoldsOfFirst, both_ends, did_of_sent, frames_in_answer, frames_in_delivery};
 ghost use Rattle.lsp_pair.specs.Seen.{frames};
 
 use crate::event::{Did, Happened, Heard};

@@ -20,15 +20,18 @@
 //! - `event`: what may happen, and what happened.
 //! - `setting`: which configurations of the two ends fit together.
 //! - `delivery`: an end handles the first frame of its queue.
+//! - `laws`: what holds of each pair, whatever its events were.
 #![tactic(auto)]
 
 mod delivery;
 mod event;
+mod laws;
 mod pair;
 mod run;
 mod setting;
 
 pub use event::{Did, Event, Happened, Heard};
+pub use laws::pair_laws;
 pub use pair::Pair;
 pub use run::{Ran, run_pair};
 pub use setting::PairFault;

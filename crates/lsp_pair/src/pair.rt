@@ -5,11 +5,11 @@ ghost use Rattle.std.specs.VecDeque.{deque_len, deque_capacity};
 ghost use Rattle.lsp_client.specs.declared.fault.ClientFault.TheVariants.{NoMemory};
 ghost use Rattle.lsp_client.specs.Seen.{IsSent, IsFaultOf};
 ghost use Rattle.lsp_client.specs.Step.{call_result};
-ghost use Rattle.lsp_pair.specs.World.{Setting, EventData, IsProperEvent, to_server, to_client};
+ghost use Rattle.lsp_pair.specs.Events.{Setting, EventData, to_server, to_client};
+ghost use Rattle.lsp_pair.specs.Pair.{new_pair, IsFitting, IsStep, is_utf16, are_within};
+ghost use Rattle.lsp_pair.specs.laws.World.{IsProperEvent};
+ghost use Rattle.lsp_pair.specs.laws.At.{IsAt};
 ghost use Rattle.lsp_pair.specs.inside.Ends.{IsCall, HoldsOnCall};
-ghost use Rattle.lsp_pair.specs.Pair.{new_pair, IsFitting, IsAt, IsStep, is_utf16, are_within};
-ghost use Rattle.lsp_pair.specs.At.{IsStepAt};
-ghost use Rattle.lsp_pair.specs.Commanded.{HaveCommanded};
 ghost use Rattle.lsp_pair.specs.inside.History.{IsHistory};
 ghost use Rattle.lsp_pair.specs.Documents.{History, no_history, after, HaveDocuments};
 ghost use Rattle.lsp_pair.specs.Seen.{event_view};
@@ -38,7 +38,8 @@ pub struct Pair {
 }
 
 impl Model for Pair {
-    ghost use Rattle.lsp_pair.specs.Pair.{PairData, IsReached};
+    ghost use Rattle.lsp_pair.specs.Pair.{PairData};
+    ghost use Rattle.lsp_pair.specs.inside.Reached.{IsReached};
     ghost use Rattle.lsp_pair.specs.Seen.{frames};
 
     ghost Value = { PairData };
@@ -137,14 +138,10 @@ impl Pair {
             → self.old.to_server ≢ []) × (event_view event.now ≡ to_client
             → self.old.to_client ≢ [])) }
         // A pair at the world of a list of events is afterwards at the world of the list with this
-        // one added.
-        ensures at { IfOk result (λ happened. (setting : Setting) (events : List EventData)
+        // one added. `IsAt` need not be opened: `pair_laws` has what holds of such pairs.
+        ensures at { OnOk result ((setting : Setting) (events : List EventData)
             → IsFitting setting → IsAt setting self.old events
-            → IsStepAt setting events (event_view event.now) happened self.new) }
-        // Each end has the table of the document commands that it sent, or that were delivered.
-        ensures commanded { OnOk result ((setting : Setting) (events : List EventData)
-            → IsFitting setting → IsAt setting self.old events
-            → HaveCommanded setting (events ++ event_view event.now ∷ []) self.new) }
+            → IsAt setting self.new (events ++ event_view event.now ∷ [])) }
         // The server has the documents that the client had when it sent the last message that the
         // server has handled. `IsHistory` need not be opened: each pair has a history.
         ensures history { IfOk result (λ happened. (h : History) → IsHistory h self.old

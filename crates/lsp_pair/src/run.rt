@@ -1,10 +1,9 @@
 //! Many steps of a pair.
 
 ghost use Rattle.std.specs.Prelude.{◌↔◌, ◌≤◌, ◌<◌, ◌++◌, List, IsTrue, length, map, take};
-ghost use Rattle.lsp_pair.specs.World.{Setting, EventData};
-ghost use Rattle.lsp_pair.specs.Pair.{IsFitting, IsAt, IsRun};
-ghost use Rattle.lsp_pair.specs.Usual.{HaveOneEncoding};
-ghost use Rattle.lsp_pair.specs.Commanded.{HaveCommanded};
+ghost use Rattle.lsp_pair.specs.Events.{Setting, EventData};
+ghost use Rattle.lsp_pair.specs.Pair.{IsFitting, IsRun};
+ghost use Rattle.lsp_pair.specs.laws.At.{IsAt};
 ghost use Rattle.lsp_pair.specs.inside.History.{IsHistory};
 ghost use Rattle.lsp_pair.specs.Documents.{History, HaveDocuments, IsLater};
 ghost use Rattle.lsp_pair.specs.Seen.{event_view};
@@ -35,13 +34,6 @@ pub fn run_pair(pair: &mut Pair, events: &[Event]) -> Ran
     ensures at { (setting : Setting) (before : List EventData) → IsFitting setting
         → IsAt setting pair.old before
         → IsAt setting pair.new (before ++ take result.stepped (map event_view events.now)) }
-    // From Ready on both ends use the encoding that was chosen.
-    ensures agree { (setting : Setting) (before : List EventData) → IsFitting setting
-        → IsAt setting pair.old before → HaveOneEncoding setting pair.new }
-    // Each end has the table of the document commands that it sent, or that were delivered.
-    ensures commanded { (setting : Setting) (before : List EventData) → IsFitting setting
-        → IsAt setting pair.old before → HaveCommanded setting
-        (before ++ take result.stepped (map event_view events.now)) pair.new }
     // The server has the documents that the client had when it sent the last message that the
     // server has handled.
     ensures history { (h : History) → IsHistory h pair.old → (later : History)

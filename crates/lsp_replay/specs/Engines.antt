@@ -1,6 +1,5 @@
 -- The output of each engine for the records of a log.
 use Rattle.std.specs.Prelude.{ℕ, Bool, true, false, ◌==◌, ◌++◌, if◌then◌else◌, nat_lt, length, map, drop, List, [], ◌∷◌, Option, Some, None, Result, Ok, Err, codes, decimal, flat_map}
-use Rattle.serde_json.specs.Written.{compact_text}
 use Rattle.lsp_frame.specs.Frame.{frame}
 use Rattle.lsp_frame.specs.Limits.{default_limits}
 use Rattle.lsp_text.specs.declared.encoding.Encoding.TheVariants.{Utf16}
@@ -10,7 +9,7 @@ use Rattle.lsp_edit.specs.declared.fault.EditFault.TheVariants.{InsideCharacter,
 use Rattle.lsp_message.specs.declared.outgoing.ErrorCode.{ErrorCode}
 use Rattle.lsp_message.specs.declared.outgoing.ErrorCode.TheVariants.{ParseError, InvalidRequest, MethodNotFound, InvalidParams, ServerNotInitialized}
 use Rattle.lsp_message.specs.Message.{reading}
-use Rattle.lsp_message.specs.Outgoing.{opened_document}
+use Rattle.lsp_message.specs.Outgoing.{document_text}
 use Rattle.lsp_message.specs.Params.{DocumentItem, ChangeData}
 use Rattle.lsp_store.specs.Message.{canonical_body}
 use Rattle.lsp_store.specs.declared.fault.StoreFault.{StoreFault}
@@ -159,7 +158,7 @@ checking = record {
 
 -- A document's line: its object without spaces, as `textDocument/didOpen` has it, and a line feed.
 unfoldable pub document_line : DocumentItem → List ℕ
-document_line entry = compact_text (opened_document entry) ++ codes "\n"
+document_line entry = document_text entry ++ codes "\n"
 
 -- The lines of the documents from an index on.
 abbrev pub report_from : ℕ → List DocumentItem → List ℕ

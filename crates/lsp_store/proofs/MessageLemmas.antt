@@ -27,6 +27,7 @@ use Rattle.lsp_message.specs.Params.{DocumentItem, EditData}
 use Rattle.lsp_message.specs.Seen.{edit_view}
 use Rattle.lsp_message.specs.Seen as seen
 use Rattle.lsp_message.specs.Sent.{IsProper, IsReadAsSent, IsReadBack}
+use Rattle.lsp_message.specs.Written.{change_params}
 use Rattle.lsp_store.specs.declared.fault.StoreFault.{StoreFault}
 use Rattle.lsp_store.specs.declared.fault.StoreFault.TheVariants.{NoMemory}
 use Rattle.lsp_store.specs.Faults.{store_fault_of_encode, IsRefusal}
@@ -194,7 +195,7 @@ module _ (limits : Bounds) (encoding : Encoding) (table : List DocumentItem) (ur
     canonical_is answered items means is = batch_at batch items means ∙ sym is
 
     pub canonical_on : IsCanonicalOn (units_in encoding) table uri batch
-    canonical_on = record { entry = entry; is_open = is_open; items = accepts.items; means = accepts.means; is = batch_at batch accepts.items accepts.means; law = law }
+    canonical_on = record { entry = entry; is_open = is_open; items = accepts.items; means = accepts.means; is = batch_at batch accepts.items accepts.means }
 
     settled_fits : limits.max_text ≤ 1073741824 → batch_bytes (canonical (units_in encoding) (chars entry.text) accepts.items) ≤ greatest_batch
     settled_fits small =
@@ -294,9 +295,16 @@ module _ (limits : Bounds) (encoding : Encoding) (table : List DocumentItem) (ur
 
     pub is_read : (batch : List Edit) → AreTexts batch → entry_refusal limits (units_in encoding) entry version batch ≡ None
         → ((m : OutgoingData) → IsProper m → IsReadAsSent m) → ((m : OutgoingData) → IsProper m → IsReadBack m) → IsReadAgain uri version (canonical_batch (units_in encoding) table uri batch)
+    unfolding change_body
     is_read batch texts may read_as read_back =
         let a : Accepts limits (units_in encoding) entry version batch = accepted_parts limits (units_in encoding) entry version batch may in
         let p : IsProper (change_message uri version (canonical (units_in encoding) (chars entry.text) a.items)) = proper batch a.items texts a.means in
         let m : OutgoingData = change_message uri version (canonical (units_in encoding) (chars entry.text) a.items) in
-        let read : IsReadAgain uri version (canonical (units_in encoding) (chars entry.text) a.items) = record { as_sent = read_as m p; back = read_back m p } in
+        let read : IsReadAgain uri version (canonical (units_in encoding) (chars entry.text) a.items) =
+        record {
+          params =
+              change_params (record { uri = uri; version = version; changes = map written_edit (canonical (units_in encoding) (chars entry.text) a.items) });
+          as_sent = read_as m p;
+          back = read_back m p;
+        } in
         subst (λ (b : List Edit). IsReadAgain uri version b) (sym (batch_at batch a.items a.means)) read

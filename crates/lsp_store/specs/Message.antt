@@ -7,10 +7,8 @@ use Rattle.lsp_frame.specs.Limits.{Bounds}
 use Rattle.lsp_edit.specs.Items.{Item}
 use Rattle.lsp_edit.specs.Batch.{Edit, Fault, meaning}
 use Rattle.lsp_edit.specs.Canonical.{DoTheSame, canonical}
-use Rattle.lsp_edit.specs.Laws.{IsCanonical}
 use Rattle.lsp_message.specs.Outgoing.{OutgoingData, did_change, body_of}
-use Rattle.lsp_message.specs.Params.{DocumentItem, EditData}
-use Rattle.lsp_message.specs.Sent.{IsReadAsSent, IsReadBack}
+use Rattle.lsp_message.specs.Params.{DocumentItem, EditData, IsChangeRead}
 use Rattle.lsp_store.specs.Table.{Refusal, body_too_long, entry_at, change_refusal, after_change}
 
 -- A change as it is written, with its text as bytes.
@@ -26,12 +24,13 @@ change_message uri version batch
 unfoldable pub change_body : List ℕ → ℤ → List Edit → List ℕ
 change_body uri version batch = body_of (change_message uri version batch)
 
--- The canonical batch of a meaning on a text with these bytes; no changes where nothing is meant.
+-- The canonical batch of a meaning on a text with these bytes. The second row means nothing: such a
+-- batch is refused.
 abbrev pub batch_of : (ℕ → ℕ) → List ℕ → Result (List Item) (ℕ × Fault) → List Edit
 batch_of units text (Ok items) = canonical units (chars text) items
 batch_of units text (Err fault) = []
 
--- The canonical batch of a batch on a document; no changes where it has no meaning.
+-- The canonical batch of a batch on a document. Without one a batch is refused too.
 abbrev pub batch_on : (ℕ → ℕ) → Option DocumentItem → List Edit → List Edit
 batch_on units (Some entry) batch
     = batch_of units entry.text (meaning units (chars entry.text) batch)
@@ -96,7 +95,8 @@ pub record DoAlike (units : ℕ → ℕ) (table : List DocumentItem) (uri : List
   pub other_means : meaning units (chars entry.text) other ≡ Ok others
   pub same : DoTheSame items others
 
--- What a batch means on the open document of a URI, and what holds of its canonical batch.
+-- What a batch means on the open document of a URI, and its canonical batch. What holds of every
+-- such batch is a law of `batch_laws`.
 pub record IsCanonicalOn (units : ℕ → ℕ) (table : List DocumentItem) (uri : List ℕ)
     (batch : List Edit) : Type 0 where
   pub entry : DocumentItem
@@ -104,7 +104,6 @@ pub record IsCanonicalOn (units : ℕ → ℕ) (table : List DocumentItem) (uri 
   pub items : List Item
   pub means : meaning units (chars entry.text) batch ≡ Ok items
   pub is : canonical_batch units table uri batch ≡ canonical units (chars entry.text) items
-  pub law : IsCanonical units (chars entry.text) batch items
 
 -- A canonical batch is accepted where the batch was, has the same result, and has the same
 -- canonical message.
@@ -116,8 +115,7 @@ pub record IsCanonicalOf (limits : Bounds) (units : ℕ → ℕ) (table : List D
   pub same_frame : canonical_frame units table uri version canonical
       ≡ canonical_frame units table uri version batch
 
--- The receiver reads the message as the one that was written, and its params as the URI, the
--- version and the batch.
-pub record IsReadAgain (uri : List ℕ) (version : ℤ) (batch : List Edit) : Type 0 where
-  pub as_sent : IsReadAsSent (change_message uri version batch)
-  pub back : IsReadBack (change_message uri version batch)
+-- The receiver reads the message as the one that was written: this URI, version and batch.
+abbrev pub IsReadAgain : List ℕ → ℤ → List Edit → Type 0
+IsReadAgain uri version batch = IsChangeRead (change_body uri version batch)
+    (record { uri = uri; version = version; changes = map written_edit batch })

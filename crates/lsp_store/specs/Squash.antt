@@ -60,7 +60,7 @@ pub record HasReached (squash : SquashData) (entry : DocumentItem) : Type 0 wher
   pub text : chars entry.text ≡ text_of (chars squash.text) squash.items
   pub version : entry.version ≡ squash.version
 
--- The items that a batch means; none where it has no meaning.
+-- The items that a batch means. The second row means nothing: such a batch is refused.
 abbrev pub items_meant : Result (List Item) (ℕ × Fault) → List Item
 items_meant (Ok items) = items
 items_meant (Err fault) = []

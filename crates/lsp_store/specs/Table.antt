@@ -102,7 +102,8 @@ abbrev pub change_refusal : Bounds → (ℕ → ℕ) → List DocumentItem → L
 change_refusal limits units table uri version batch
     = refusal_on limits units (entry_at table uri) version batch
 
--- The text that a meaning leads to, from this text.
+-- The text that a meaning leads to, from this text. The second row means nothing: such a batch is
+-- refused.
 abbrev pub meant_text : List ℕ → Result (List Item) (ℕ × Fault) → List ℕ
 meant_text text (Ok items) = bytes_left text items
 meant_text text (Err fault) = text

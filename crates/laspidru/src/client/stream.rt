@@ -1,11 +1,11 @@
 //! The functions on a client's stream.
 
-ghost use Rattle.std.specs.Prelude.{◌≡◌, ◌≢◌, true};
+ghost use Rattle.std.specs.Prelude.{◌≡◌, ◌≢◌, true, IsOkAnd};
 ghost use Rattle.lsp_client.specs.Step.{is_listening};
 ghost use Rattle.laspidru.specs.Clients.{client_in, client_of};
 ghost use Rattle.laspidru.specs.Codes.{IsRefusedOr, OnRefused};
 ghost use Rattle.laspidru.specs.Framers.{IsBodyAnswer};
-ghost use Rattle.laspidru.specs.Taking.{IsHeard, IsHeardIn, IsHeardStored, listening_asked};
+ghost use Rattle.laspidru.specs.Taking.{IsHeard, listening_asked};
 
 use crate::answers::Answer;
 use crate::codes::{EMPTY, OK, OTHER_KIND, OUT_OF_MEMORY, WRONG_PHASE};
@@ -65,7 +65,8 @@ fn object_hear(
     out: &mut Answer,
 ) -> u32
     ensures answer { IsRefusedOr (listening_asked (client_of object.old)) result (λ editor.
-        IsHeardIn editor piece.now result object.new taken.new out.old out.new) }
+        IsOkAnd (client_of object.new) (λ new.
+        IsHeard editor piece.now result new taken.new out.old out.new)) }
     ensures unchanged { OnRefused (listening_asked (client_of object.old))
         ((object.new ≡ object.old) × (taken.new ≡ taken.old) × (out.new ≡ out.old)) }
 {
@@ -96,7 +97,8 @@ pub extern "C" fn laspidru_client_take(
     out: &mut Answer,
 ) -> u32
     ensures answer { IsRefusedOr (listening_asked (client_in handle.old.value)) result (λ editor.
-        IsHeardStored editor piece.now result handle.new.value taken.new out.old out.new) }
+        IsOkAnd (client_in handle.new.value) (λ new.
+        IsHeard editor piece.now result new taken.new out.old out.new)) }
     ensures unchanged { OnRefused (listening_asked (client_in handle.old.value))
         ((handle.new.value ≡ handle.old.value) × (taken.new ≡ taken.old) × (out.new ≡ out.old)) }
 {

@@ -1,11 +1,11 @@
 //! The functions on a server's stream.
 
-ghost use Rattle.std.specs.Prelude.{◌≡◌, ◌≢◌};
+ghost use Rattle.std.specs.Prelude.{◌≡◌, ◌≢◌, IsOkAnd};
 ghost use Rattle.lsp_server.specs.declared.phase.Phase.TheVariants.{Ended};
 ghost use Rattle.laspidru.specs.Codes.{IsRefusedOr, OnRefused};
 ghost use Rattle.laspidru.specs.Framers.{IsBodyAnswer};
 ghost use Rattle.laspidru.specs.Servers.{live_asked, server_in, server_of};
-ghost use Rattle.laspidru.specs.Taking.{IsServed, IsServedIn, IsServedStored};
+ghost use Rattle.laspidru.specs.Taking.{IsServed};
 
 use crate::answers::{Answer, answer_of};
 use crate::codes::{EMPTY, ENDED, OK, OTHER_KIND, OUT_OF_MEMORY};
@@ -55,7 +55,8 @@ fn object_serve(
     out: &mut Answer,
 ) -> u32
     ensures answer { IsRefusedOr (live_asked (server_of object.old)) result (λ session.
-        IsServedIn session piece.now result object.new taken.new out.old out.new) }
+        IsOkAnd (server_of object.new) (λ new.
+        IsServed session piece.now result new taken.new out.old out.new)) }
     ensures unchanged { OnRefused (live_asked (server_of object.old))
         ((object.new ≡ object.old) × (taken.new ≡ taken.old) × (out.new ≡ out.old)) }
 {
@@ -86,7 +87,8 @@ pub extern "C" fn laspidru_server_take(
     out: &mut Answer,
 ) -> u32
     ensures answer { IsRefusedOr (live_asked (server_in handle.old.value)) result (λ session.
-        IsServedStored session piece.now result handle.new.value taken.new out.old out.new) }
+        IsOkAnd (server_in handle.new.value) (λ new.
+        IsServed session piece.now result new taken.new out.old out.new)) }
     ensures unchanged { OnRefused (live_asked (server_in handle.old.value))
         ((handle.new.value ≡ handle.old.value) × (taken.new ≡ taken.old) × (out.new ≡ out.old)) }
 {

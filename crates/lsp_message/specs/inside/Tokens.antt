@@ -11,7 +11,7 @@ use Rattle.lsp_text.specs.Units.{name_of}
 use Rattle.lsp_text.specs.declared.position.Range.{Range}
 use Rattle.lsp_message.specs.declared.agreement.Offers.{Offers}
 use Rattle.lsp_message.specs.Agreement.{is_offered}
-use Rattle.lsp_message.specs.Outgoing.{range_value}
+use Rattle.lsp_message.specs.Written.{range_value}
 
 -- The tokens of a JSON value.
 abbrev pub tokens_of : Data → List Token

@@ -4,6 +4,7 @@ ghost use Rattle.std.specs.Prelude.{◌≡◌, OnOk, map};
 ghost use Rattle.serde_json.specs.Data.{array};
 ghost use Rattle.serde_json.specs.View.{items_of};
 ghost use Rattle.lsp_message.specs.Outgoing as spec;
+ghost use Rattle.lsp_message.specs.Written as values;
 ghost use Rattle.lsp_message.specs.Seen.{open_view, edit_view, change_data, change_message, close_view};
 ghost use Rattle.lsp_message.specs.inside.Tokens.{Appends, tokens_of, range_tokens};
 
@@ -18,7 +19,7 @@ use std::alloc::AllocError;
 pub fn write_open(writer: &mut Writer, params: &OpenParams) -> Result<(), AllocError>
     ensures { OnOk result
         (Appends writer.old writer.new
-        (tokens_of (spec.value_of (spec.did_open (open_view params.now))))) }
+        (tokens_of (values.value_of (spec.did_open (open_view params.now))))) }
 {
     writer.begin_object()?;
     call_members(writer, "textDocument/didOpen")?;
@@ -29,7 +30,7 @@ pub fn write_open(writer: &mut Writer, params: &OpenParams) -> Result<(), AllocE
 
 fn open_params(writer: &mut Writer, params: &OpenParams) -> Result<(), AllocError>
     ensures { OnOk result
-        (Appends writer.old writer.new (tokens_of (spec.open_params (open_view params.now)))) }
+        (Appends writer.old writer.new (tokens_of (values.open_params (open_view params.now)))) }
 {
     writer.begin_object()?;
     writer.key("textDocument")?;
@@ -47,7 +48,7 @@ pub fn write_document(
     text: &str,
 ) -> Result<(), AllocError>
     ensures tokens { OnOk result (Appends writer.old writer.new
-        (tokens_of (spec.opened_document
+        (tokens_of (values.opened_document
         (record { uri = uri.now; language = language.now; version = version; text = text.now })))) }
     ensures before { writer.new.before ≡ writer.old.before }
 {
@@ -67,7 +68,7 @@ pub fn write_change(
     changes: &[Change],
 ) -> Result<(), AllocError>
     ensures tokens { OnOk result (Appends writer.old writer.new
-        (tokens_of (spec.value_of (change_message uri.now version changes.now)))) }
+        (tokens_of (values.value_of (change_message uri.now version changes.now)))) }
     ensures before { writer.new.before ≡ writer.old.before }
 {
     writer.begin_object()?;
@@ -84,7 +85,7 @@ fn change_params(
     changes: &[Change],
 ) -> Result<(), AllocError>
     ensures tokens { OnOk result (Appends writer.old writer.new
-        (tokens_of (spec.change_params (change_data uri.now version changes.now)))) }
+        (tokens_of (values.change_params (change_data uri.now version changes.now)))) }
     ensures before { writer.new.before ≡ writer.old.before }
 {
     writer.begin_object()?;
@@ -97,7 +98,7 @@ fn change_params(
 
 fn versioned_document(writer: &mut Writer, uri: &str, version: i32) -> Result<(), AllocError>
     ensures tokens { OnOk result
-        (Appends writer.old writer.new (tokens_of (spec.versioned_document uri.now version))) }
+        (Appends writer.old writer.new (tokens_of (values.versioned_document uri.now version))) }
     ensures before { writer.new.before ≡ writer.old.before }
 {
     writer.begin_object()?;
@@ -108,7 +109,7 @@ fn versioned_document(writer: &mut Writer, uri: &str, version: i32) -> Result<()
 
 fn edits_value(writer: &mut Writer, changes: &[Change]) -> Result<(), AllocError>
     ensures tokens { OnOk result (Appends writer.old writer.new
-        (tokens_of (array (items_of (map spec.edit_value (map edit_view changes.now)))))) }
+        (tokens_of (array (items_of (map values.edit_value (map edit_view changes.now)))))) }
     ensures before { writer.new.before ≡ writer.old.before }
 {
     writer.begin_array()?;
@@ -120,7 +121,7 @@ fn edits_value(writer: &mut Writer, changes: &[Change]) -> Result<(), AllocError
 
 fn edit_value(writer: &mut Writer, change: &Change) -> Result<(), AllocError>
     ensures tokens { OnOk result
-        (Appends writer.old writer.new (tokens_of (spec.edit_value (edit_view change.now)))) }
+        (Appends writer.old writer.new (tokens_of (values.edit_value (edit_view change.now)))) }
     ensures before { writer.new.before ≡ writer.old.before }
 {
     writer.begin_object()?;
@@ -142,7 +143,7 @@ fn range_member(writer: &mut Writer, range: Option<Range>) -> Result<(), AllocEr
 
 fn range_value(writer: &mut Writer, range: Range) -> Result<(), AllocError>
     ensures tokens { OnOk result
-        (Appends writer.old writer.new (tokens_of (spec.range_value range))) }
+        (Appends writer.old writer.new (tokens_of (values.range_value range))) }
     ensures before { writer.new.before ≡ writer.old.before }
 {
     writer.begin_object()?;
@@ -155,7 +156,7 @@ fn range_value(writer: &mut Writer, range: Range) -> Result<(), AllocError>
 
 fn position_value(writer: &mut Writer, position: Position) -> Result<(), AllocError>
     ensures tokens { OnOk result
-        (Appends writer.old writer.new (tokens_of (spec.position_value position))) }
+        (Appends writer.old writer.new (tokens_of (values.position_value position))) }
     ensures before { writer.new.before ≡ writer.old.before }
 {
     writer.begin_object()?;
@@ -168,7 +169,7 @@ fn position_value(writer: &mut Writer, position: Position) -> Result<(), AllocEr
 pub fn write_close(writer: &mut Writer, params: &CloseParams) -> Result<(), AllocError>
     ensures { OnOk result
         (Appends writer.old writer.new
-        (tokens_of (spec.value_of (spec.did_close (close_view params.now))))) }
+        (tokens_of (values.value_of (spec.did_close (close_view params.now))))) }
 {
     writer.begin_object()?;
     call_members(writer, "textDocument/didClose")?;
@@ -179,7 +180,7 @@ pub fn write_close(writer: &mut Writer, params: &CloseParams) -> Result<(), Allo
 
 fn close_params(writer: &mut Writer, params: &CloseParams) -> Result<(), AllocError>
     ensures { OnOk result
-        (Appends writer.old writer.new (tokens_of (spec.close_params (close_view params.now)))) }
+        (Appends writer.old writer.new (tokens_of (values.close_params (close_view params.now)))) }
 {
     writer.begin_object()?;
     writer.key("textDocument")?;
@@ -189,7 +190,7 @@ fn close_params(writer: &mut Writer, params: &CloseParams) -> Result<(), AllocEr
 
 fn closed_document(writer: &mut Writer, uri: &str) -> Result<(), AllocError>
     ensures { OnOk result
-        (Appends writer.old writer.new (tokens_of (spec.closed_document uri.now))) }
+        (Appends writer.old writer.new (tokens_of (values.closed_document uri.now))) }
 {
     writer.begin_object()?;
     text_member(writer, "uri", uri)?;

@@ -4,6 +4,7 @@ ghost use Rattle.std.specs.Prelude.{OnOk, option_map};
 ghost use Rattle.serde_json.specs.Data.{array};
 ghost use Rattle.serde_json.specs.View.{items_of};
 ghost use Rattle.lsp_message.specs.Outgoing as spec;
+ghost use Rattle.lsp_message.specs.Written as values;
 ghost use Rattle.lsp_message.specs.Seen.{id_view};
 ghost use Rattle.lsp_message.specs.inside.Tokens.{Appends, tokens_of, offer_tokens};
 
@@ -18,7 +19,7 @@ use std::alloc::AllocError;
 /// Writes `initialize`, with the encodings that the client offers.
 pub fn write_initialize(writer: &mut Writer, offers: Offers) -> Result<(), AllocError>
     ensures { OnOk result
-        (Appends writer.old writer.new (tokens_of (spec.value_of (spec.initialize offers)))) }
+        (Appends writer.old writer.new (tokens_of (values.value_of (spec.initialize offers)))) }
 {
     writer.begin_object()?;
     number_member(writer, "id", 1)?;
@@ -30,7 +31,7 @@ pub fn write_initialize(writer: &mut Writer, offers: Offers) -> Result<(), Alloc
 
 fn initialize_params(writer: &mut Writer, offers: Offers) -> Result<(), AllocError>
     ensures { OnOk result
-        (Appends writer.old writer.new (tokens_of (spec.initialize_params offers))) }
+        (Appends writer.old writer.new (tokens_of (values.initialize_params offers))) }
 {
     writer.begin_object()?;
     writer.key("capabilities")?;
@@ -44,7 +45,7 @@ fn initialize_params(writer: &mut Writer, offers: Offers) -> Result<(), AllocErr
 
 fn capabilities_value(writer: &mut Writer, offers: Offers) -> Result<(), AllocError>
     ensures { OnOk result
-        (Appends writer.old writer.new (tokens_of (spec.capabilities_value offers))) }
+        (Appends writer.old writer.new (tokens_of (values.capabilities_value offers))) }
 {
     writer.begin_object()?;
     writer.key("general")?;
@@ -53,7 +54,7 @@ fn capabilities_value(writer: &mut Writer, offers: Offers) -> Result<(), AllocEr
 }
 
 fn general_value(writer: &mut Writer, offers: Offers) -> Result<(), AllocError>
-    ensures { OnOk result (Appends writer.old writer.new (tokens_of (spec.general_value offers))) }
+    ensures { OnOk result (Appends writer.old writer.new (tokens_of (values.general_value offers))) }
 {
     writer.begin_object()?;
     writer.key("positionEncodings")?;
@@ -63,7 +64,7 @@ fn general_value(writer: &mut Writer, offers: Offers) -> Result<(), AllocError>
 
 fn names_value(writer: &mut Writer, offers: Offers) -> Result<(), AllocError>
     ensures { OnOk result
-        (Appends writer.old writer.new (tokens_of (array (items_of (spec.names_of offers))))) }
+        (Appends writer.old writer.new (tokens_of (array (items_of (values.names_of offers))))) }
 {
     writer.begin_array()?;
     write_offer(writer, offers, Encoding::Utf8)?;
@@ -84,7 +85,7 @@ fn write_offer(writer: &mut Writer, offers: Offers, encoding: Encoding) -> Resul
 /// Writes `initialized`, whose params are empty.
 pub fn write_initialized(writer: &mut Writer) -> Result<(), AllocError>
     ensures { OnOk result
-        (Appends writer.old writer.new (tokens_of (spec.value_of spec.initialized))) }
+        (Appends writer.old writer.new (tokens_of (values.value_of spec.initialized))) }
 {
     writer.begin_object()?;
     call_members(writer, "initialized")?;
@@ -102,7 +103,7 @@ pub fn write_initialize_result(
     kind: SyncKind,
 ) -> Result<(), AllocError>
     ensures { OnOk result (Appends writer.old writer.new
-        (tokens_of (spec.value_of (spec.initialize_result (id_view id.now) encoding kind)))) }
+        (tokens_of (values.value_of (spec.initialize_result (id_view id.now) encoding kind)))) }
 {
     writer.begin_object()?;
     writer.key("id")?;
@@ -119,7 +120,7 @@ fn initialize_value(
     kind: SyncKind,
 ) -> Result<(), AllocError>
     ensures { OnOk result
-        (Appends writer.old writer.new (tokens_of (spec.initialize_value encoding kind))) }
+        (Appends writer.old writer.new (tokens_of (values.initialize_value encoding kind))) }
 {
     writer.begin_object()?;
     writer.key("capabilities")?;
@@ -133,7 +134,7 @@ fn announced_value(
     kind: SyncKind,
 ) -> Result<(), AllocError>
     ensures { OnOk result
-        (Appends writer.old writer.new (tokens_of (spec.announced_value encoding kind))) }
+        (Appends writer.old writer.new (tokens_of (values.announced_value encoding kind))) }
 {
     writer.begin_object()?;
     text_member(writer, "positionEncoding", encoding.name())?;
@@ -143,7 +144,7 @@ fn announced_value(
 }
 
 fn sync_value(writer: &mut Writer, kind: SyncKind) -> Result<(), AllocError>
-    ensures { OnOk result (Appends writer.old writer.new (tokens_of (spec.sync_value kind))) }
+    ensures { OnOk result (Appends writer.old writer.new (tokens_of (values.sync_value kind))) }
 {
     writer.begin_object()?;
     number_member(writer, "change", kind.number())?;
@@ -155,7 +156,7 @@ fn sync_value(writer: &mut Writer, kind: SyncKind) -> Result<(), AllocError>
 /// Writes `shutdown`.
 pub fn write_shutdown(writer: &mut Writer) -> Result<(), AllocError>
     ensures { OnOk result
-        (Appends writer.old writer.new (tokens_of (spec.value_of spec.shutdown))) }
+        (Appends writer.old writer.new (tokens_of (values.value_of spec.shutdown))) }
 {
     writer.begin_object()?;
     number_member(writer, "id", 2)?;
@@ -166,7 +167,7 @@ pub fn write_shutdown(writer: &mut Writer) -> Result<(), AllocError>
 /// Writes the result of `shutdown`, which is null.
 pub fn write_shutdown_result(writer: &mut Writer, id: &Id) -> Result<(), AllocError>
     ensures { OnOk result (Appends writer.old writer.new
-        (tokens_of (spec.value_of (spec.shutdown_result (id_view id.now))))) }
+        (tokens_of (values.value_of (spec.shutdown_result (id_view id.now))))) }
 {
     writer.begin_object()?;
     writer.key("id")?;
@@ -179,7 +180,7 @@ pub fn write_shutdown_result(writer: &mut Writer, id: &Id) -> Result<(), AllocEr
 
 /// Writes `exit`.
 pub fn write_exit(writer: &mut Writer) -> Result<(), AllocError>
-    ensures { OnOk result (Appends writer.old writer.new (tokens_of (spec.value_of spec.exit))) }
+    ensures { OnOk result (Appends writer.old writer.new (tokens_of (values.value_of spec.exit))) }
 {
     writer.begin_object()?;
     call_members(writer, "exit")?;
@@ -193,7 +194,7 @@ pub fn write_error_reply(
     error: ErrorCode,
 ) -> Result<(), AllocError>
     ensures { OnOk result (Appends writer.old writer.new
-        (tokens_of (spec.value_of (spec.error_reply (option_map id_view id.now) error)))) }
+        (tokens_of (values.value_of (spec.error_reply (option_map id_view id.now) error)))) }
 {
     writer.begin_object()?;
     writer.key("error")?;
@@ -205,7 +206,7 @@ pub fn write_error_reply(
 }
 
 fn error_value(writer: &mut Writer, error: ErrorCode) -> Result<(), AllocError>
-    ensures { OnOk result (Appends writer.old writer.new (tokens_of (spec.error_value error))) }
+    ensures { OnOk result (Appends writer.old writer.new (tokens_of (values.error_value error))) }
 {
     writer.begin_object()?;
     integer_member(writer, "code", error.code())?;
@@ -215,7 +216,7 @@ fn error_value(writer: &mut Writer, error: ErrorCode) -> Result<(), AllocError>
 
 fn write_id(writer: &mut Writer, id: &Id) -> Result<(), AllocError>
     ensures { OnOk result
-        (Appends writer.old writer.new (tokens_of (spec.id_value (id_view id.now)))) }
+        (Appends writer.old writer.new (tokens_of (values.id_value (id_view id.now)))) }
 {
     match id {
         Id::Whole(number) => writer.i64(*number),
@@ -225,7 +226,7 @@ fn write_id(writer: &mut Writer, id: &Id) -> Result<(), AllocError>
 
 fn write_id_or_null(writer: &mut Writer, id: &Option<Id>) -> Result<(), AllocError>
     ensures { OnOk result
-        (Appends writer.old writer.new (tokens_of (spec.id_or_null (option_map id_view id.now)))) }
+        (Appends writer.old writer.new (tokens_of (values.id_or_null (option_map id_view id.now)))) }
 {
     match id {
         Some(id) => write_id(writer, id),

@@ -7,7 +7,7 @@ use Rattle.lsp_client.specs.Step.{Call, DeliveredData}
 use Rattle.lsp_server.specs.Step as server
 use Rattle.lsp_pair.specs.declared.event.Did.{Did}
 use Rattle.lsp_pair.specs.declared.event.Did.TheVariants as done
-use Rattle.lsp_pair.specs.World.{EventData, calls, to_server, to_client}
+use Rattle.lsp_pair.specs.Events.{EventData, calls, to_server, to_client}
 use Rattle.lsp_pair.specs.Pair.{PairData}
 
 -- The pair of two ends and two queues.

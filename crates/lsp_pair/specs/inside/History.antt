@@ -2,8 +2,10 @@
 -- world says.
 use Rattle.std.specs.Prelude.{◌≡◌, List, [], ◌∷◌}
 use Rattle.lsp_message.specs.Params.{DocumentItem}
-use Rattle.lsp_pair.specs.World.{Setting, ClientMessage, World, EventData, world_of}
-use Rattle.lsp_pair.specs.Pair.{PairData, table_with, IsFitting, IsAt}
+use Rattle.lsp_pair.specs.Events.{Setting, EventData}
+use Rattle.lsp_pair.specs.Pair.{PairData, IsFitting}
+use Rattle.lsp_pair.specs.laws.World.{ClientMessage, World, world_of}
+use Rattle.lsp_pair.specs.laws.At.{table_with, IsAt}
 use Rattle.lsp_pair.specs.Documents.{History}
 
 -- The tables after each of these messages, where the client had this table before the first.

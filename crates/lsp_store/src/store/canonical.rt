@@ -168,7 +168,7 @@ impl Store {
         // refuse it.
         ensures memory { result ≡ Err NoMemory
             → MayTakeMemory self.now uri.now version (map edit_of changes.now) }
-        // What holds of the canonical batch.
+        // The canonical batch is that of what the batch means; `batch_laws` has what holds of it.
         ensures canonical { OnOk result
             (IsCanonicalOn (units_in encoding) self.now.table uri.now (map edit_of changes.now)) }
         // Every other batch that is accepted here has the same canonical message exactly if both

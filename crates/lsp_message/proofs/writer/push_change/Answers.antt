@@ -1,11 +1,12 @@
-use Rattle.std.proofs.Common.{◌≡◌, ◌++◌, ap, ap₂, ◌∙◌, rules, w32, to_z, of_z}
+use Rattle.std.proofs.Common.{◌≡◌, ◌++◌, sym, ap, ap₂, ◌∙◌, rules, w32, to_z, of_z}
 use Rattle.std.proofs.lemmas.Int.{to_z-of_z}
 use Rattle.std.proofs.lemmas.Result.{on_ok_weaker}
 use Rattle.json.specs.Print.{print}
 use Rattle.serde_json.proofs.Texts.{print-outline}
-use Rattle.lsp_message.specs.Outgoing.{value_of}
+use Rattle.lsp_message.specs.Written.{value_of}
 use Rattle.lsp_message.specs.Seen.{change_message}
 use Rattle.lsp_message.specs.inside.Tokens.{tokens_of}
+use Rattle.lsp_message.proofs.BodyLemmas.{body_is}
 use Rattle.lsp_message.proofs.ReadBack.{reading-body_of, is_read_back, body_of-unique}
 use Rattle.lsp_message.proofs.writer.push_change.Goals as goal
 
@@ -18,7 +19,7 @@ returns-else-is_err-clause-ok c =
     (λ appended.
     let before : c.write_change-written.new.writer.before ≡ c.args.bytes.now.items = appended.before ∙ c.new-writer.ensures.before ∙ ap (λ v. v.items) c.replace.ensures.value in
     let tokens : c.write_change-written.new.writer.tokens ≡ tokens_of value = appended.tokens ∙ ap (λ ts. ts ++ tokens_of value) c.new-writer.ensures.tokens in
-    c.into_inner.ensures.items ∙ ap₂ (λ bytes ts. bytes ++ print ts) before tokens ∙ ap (λ text. c.args.bytes.now.items ++ text) (print-outline value))
+    c.into_inner.ensures.items ∙ ap₂ (λ bytes ts. bytes ++ print ts) before tokens ∙ ap (λ text. c.args.bytes.now.items ++ text) (print-outline value ∙ sym (body_is (change_message c.args.uri.now number c.args.changes.now))))
     (rw version at c.write_change-written.ensures.tokens)
 
 pub returns-then-is_err-clause-read_as : goal.returns-then-is_err-clause-read_as

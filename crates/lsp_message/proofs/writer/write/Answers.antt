@@ -1,9 +1,10 @@
-use Rattle.std.proofs.Common.{◌≡◌, [], ◌++◌, ap, ap₂, ◌∙◌}
+use Rattle.std.proofs.Common.{◌≡◌, [], ◌++◌, sym, ap, ap₂, ◌∙◌}
 use Rattle.json.specs.Print.{print}
 use Rattle.serde_json.proofs.Texts.{print-outline}
-use Rattle.lsp_message.specs.Outgoing.{value_of}
+use Rattle.lsp_message.specs.Written.{value_of}
 use Rattle.lsp_message.specs.Seen.{outgoing_view}
 use Rattle.lsp_message.specs.inside.Tokens.{tokens_of}
+use Rattle.lsp_message.proofs.BodyLemmas.{body_is}
 use Rattle.lsp_message.proofs.ReadBack.{reading-body_of, is_read_back, body_of-unique}
 use Rattle.lsp_message.proofs.writer.write.Goals as goal
 
@@ -13,7 +14,7 @@ returns-clause-body c =
     let appended = c.in_ok-write_message.ensures in
     let before : c.write_message.new.writer.before ≡ [] = appended.before ∙ c.new-writer.ensures.before ∙ c.in_ok-with_capacity.ensures.items in
     let tokens : c.write_message.new.writer.tokens ≡ tokens_of value = appended.tokens ∙ ap (λ ts. ts ++ tokens_of value) c.new-writer.ensures.tokens in
-    c.into_inner.ensures.items ∙ ap₂ (λ bytes ts. bytes ++ print ts) before tokens ∙ print-outline value
+    c.into_inner.ensures.items ∙ ap₂ (λ bytes ts. bytes ++ print ts) before tokens ∙ print-outline value ∙ sym (body_is (outgoing_view c.args.message.now))
 
 pub returns-clause-read_as : goal.returns-clause-read_as
 returns-clause-read_as c = reading-body_of

@@ -1,12 +1,10 @@
 use Rattle.std.proofs.Common.{◌≡◌, ◌+◌, ◌++◌, ◌∷◌, [], map, take, refl, ap, sym, ◌∙◌, subst, arith}
 use Rattle.std.proofs.lemmas.List.{append_assoc}
-use Rattle.lsp_pair.specs.Pair.{IsAt, IsRun}
+use Rattle.lsp_pair.specs.Pair.{IsRun}
+use Rattle.lsp_pair.specs.laws.At.{IsAt}
 use Rattle.lsp_pair.specs.Seen.{event_view}
-use Rattle.lsp_pair.specs.Usual.{HaveOneEncoding}
 use Rattle.lsp_pair.specs.Documents.{after, IsLater}
-use Rattle.lsp_pair.proofs.StepLemmas.{agrees}
 use Rattle.lsp_pair.proofs.HistoryLemmas.{later-last, later_documents}
-use Rattle.lsp_pair.proofs.DocumentLemmas.{documents_after}
 use Rattle.lsp_pair.proofs.RunLemmas.{run-last, take_mapped}
 use Rattle.lsp_pair.proofs.run.run_pair.Goals as goal
 
@@ -23,7 +21,7 @@ loop-event-preserved c =
           (run-last c.args.pair.now _ c.step.new.self (take i events) (event_view c.event-item.result) _ c.loop-event.invariant.steps c.in-Ok.ensures.step);
       at = λ setting before sound at.
           subst (λ es. IsAt setting c.step.new.self es) (append_assoc before (take i events) (event_view c.event-item.result ∷ []) ∙ ap (λ es. before ++ es) (sym more))
-          (c.in-Ok.ensures.at setting (before ++ take i events) sound (c.loop-event.invariant.at setting before sound at)).at;
+          (c.in-Ok.ensures.at setting (before ++ take i events) sound (c.loop-event.invariant.at setting before sound at));
       history = λ h is.
           let was = c.loop-event.invariant.history h is in (
             after was.0 c.in-Ok.field-0 c.step.new.self.client.table,
@@ -32,25 +30,6 @@ loop-event-preserved c =
             (c.in-Ok.ensures.history was.0 was.2).0,
           );
     }
-
-pub returns-in_default-clause-agree : goal.returns-in_default-clause-agree
-returns-in_default-clause-agree c setting before sound at =
-    subst (HaveOneEncoding setting) (sym c.in_default.ensures.unchanged)
-    (agrees setting _ (before ++ take c.loop-event.event-index (map event_view c.args.events.now)) sound (c.loop-event.invariant.at setting before sound at))
-
-pub returns-clause-agree : goal.returns-clause-agree
-returns-clause-agree c setting before sound at =
-    agrees setting _ (before ++ take c.loop-event.event-index (map event_view c.args.events.now)) sound (c.loop-event.invariant.at setting before sound at)
-
-pub returns-in_default-clause-commanded : goal.returns-in_default-clause-commanded
-returns-in_default-clause-commanded c setting before sound at =
-    documents_after setting _ c.step.new.self before (map event_view c.args.events.now) c.loop-event.event-index c.loop-event.stepped sound c.loop-event.invariant.counted
-    c.in_default.ensures.unchanged (c.loop-event.invariant.at setting before sound at)
-
-pub returns-clause-commanded : goal.returns-clause-commanded
-returns-clause-commanded c setting before sound at =
-    documents_after setting _ _ before (map event_view c.args.events.now) c.loop-event.event-index c.loop-event.stepped sound c.loop-event.invariant.counted
-    refl (c.loop-event.invariant.at setting before sound at)
 
 pub returns-in_default-clause-history : goal.returns-in_default-clause-history
 returns-in_default-clause-history c h is =

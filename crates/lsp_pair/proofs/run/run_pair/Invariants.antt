@@ -1,6 +1,7 @@
 use Rattle.std.proofs.Common.{◌≡◌, ◌++◌, List, map, take}
-use Rattle.lsp_pair.specs.World.{Setting, EventData}
-use Rattle.lsp_pair.specs.Pair.{IsFitting, IsAt, IsRun}
+use Rattle.lsp_pair.specs.Events.{Setting, EventData}
+use Rattle.lsp_pair.specs.Pair.{IsFitting, IsRun}
+use Rattle.lsp_pair.specs.laws.At.{IsAt}
 use Rattle.lsp_pair.specs.Seen.{event_view}
 use Rattle.lsp_pair.specs.Documents.{History, IsLater}
 use Rattle.lsp_pair.specs.inside.History.{IsHistory}

@@ -1,10 +1,9 @@
-use Rattle.lsp_pair.specs.World.{to_server, to_client}
+use Rattle.lsp_pair.specs.Events.{to_server, to_client}
 use Rattle.std.proofs.Common.{ap}
 use Rattle.lsp_pair.specs.inside.Ends.{both_ends}
 use Rattle.lsp_pair.specs.Seen.{event_view, frames}
 use Rattle.lsp_pair.proofs.pair.Pair.step.Goals as goal
-use Rattle.lsp_pair.proofs.ReachLemmas.{reached_serves, reached_hears, reach_or_same, at_if, step_from, same_at_server, same_at_client, same_from}
-use Rattle.lsp_pair.proofs.DocumentLemmas.{documents_if}
+use Rattle.lsp_pair.proofs.ReachLemmas.{reached_serves, reached_hears, reach_or_same, at_if, at_next, step_from, same_at_server, same_at_client, same_from}
 use Rattle.lsp_pair.proofs.HistoryLemmas.{history_if}
 use Rattle.lsp_pair.proofs.CalledLemmas.{is_call, call_is, call_same, no_delivery, refused_if}
 use Rattle.std.proofs.Common.{refl, ◌∙◌}
@@ -36,12 +35,7 @@ returns-in-ToServer-clause-refused c =
 pub returns-in-ToServer-clause-at : goal.returns-in-ToServer-clause-at
 returns-in-ToServer-clause-at c =
     rw (c.in-ToServer.is, ← c.self.view_is)
-    (at_if (both_ends c.self.inside.client c.self.inside.server (frames c.self.inside.to_server.items) (frames c.self.inside.to_client.items)) _ to_server c.serve_first.result tt (c.serve_first.ensures.step c.self.inside.client))
-
-pub returns-in-ToServer-clause-commanded : goal.returns-in-ToServer-clause-commanded
-returns-in-ToServer-clause-commanded c =
-    rw (c.in-ToServer.is, ← c.self.view_is)
-    (documents_if _ _ to_server c.serve_first.result
+    (at_next _ _ to_server c.serve_first.result
     (at_if (both_ends c.self.inside.client c.self.inside.server (frames c.self.inside.to_server.items) (frames c.self.inside.to_client.items)) _ to_server c.serve_first.result tt (c.serve_first.ensures.step c.self.inside.client)))
 
 pub returns-in-ToServer-clause-history : goal.returns-in-ToServer-clause-history
@@ -61,12 +55,7 @@ returns-in-ToClient-clause-refused c =
 pub returns-in-ToClient-clause-at : goal.returns-in-ToClient-clause-at
 returns-in-ToClient-clause-at c =
     rw (c.in-ToClient.is, ← c.self.view_is)
-    (at_if (both_ends c.self.inside.client c.self.inside.server (frames c.self.inside.to_server.items) (frames c.self.inside.to_client.items)) _ to_client c.hear_first.result tt (c.hear_first.ensures.step c.self.inside.server))
-
-pub returns-in-ToClient-clause-commanded : goal.returns-in-ToClient-clause-commanded
-returns-in-ToClient-clause-commanded c =
-    rw (c.in-ToClient.is, ← c.self.view_is)
-    (documents_if _ _ to_client c.hear_first.result
+    (at_next _ _ to_client c.hear_first.result
     (at_if (both_ends c.self.inside.client c.self.inside.server (frames c.self.inside.to_server.items) (frames c.self.inside.to_client.items)) _ to_client c.hear_first.result tt (c.hear_first.ensures.step c.self.inside.server)))
 
 pub returns-in-ToClient-clause-history : goal.returns-in-ToClient-clause-history
@@ -90,13 +79,12 @@ returns-in_ok-reserve-in_default c =
     (is_call c.args.event.now c.in_default.not-ToServer c.in_default.not-ToClient) c.call-sent.ensures.ok c.call-sent.ensures.unchanged c.call-sent.ensures.error c.push_call.ensures.sent c.push_call.ensures.refused in
     let same = call_same c.self.inside.server c.self.inside.client c.call-sent.new.client c.reserve.new.self.items c.push_call.new.queue.items (frames c.self.inside.to_client.items) c.call-sent.result c.push_call.result c.call-sent.ensures.unchanged c.push_call.ensures.sent c.push_call.ensures.refused in
     let was = ap (λ items. both_ends c.self.inside.client c.self.inside.server (frames items) (frames c.self.inside.to_client.items)) c.in_ok-reserve-in_default.ensures.items ∙ c.self.view_is in
-    let at = at_if _ _ _ c.push_call.result c.call-sent.ensures.proper (step_from _ _ _ _ _ c.push_call.result was refl steps) in
+    let here = at_if _ _ _ c.push_call.result c.call-sent.ensures.proper (step_from _ _ _ _ _ c.push_call.result was refl steps) in
     record {
       step = step_from _ _ _ _ _ c.push_call.result was refl steps;
       unchanged = same_from _ _ _ c.push_call.result was same;
       refused = refused_if _ _ _ c.push_call.result (step_from _ _ _ _ _ c.push_call.result was refl steps);
       memory = no_delivery _ _ _ c.push_call.result (is_call c.args.event.now c.in_default.not-ToServer c.in_default.not-ToClient);
-      at = at;
-      commanded = documents_if _ _ _ c.push_call.result at;
-      history = history_if _ _ _ c.push_call.result at;
+      at = at_next _ _ _ c.push_call.result here;
+      history = history_if _ _ _ c.push_call.result here;
     }

@@ -2,21 +2,16 @@
 -- of each end then. It has no bytes, and one function defines the documents of both ends.
 use Rattle.std.specs.Prelude.{ℕ, ℤ, ◌+◌, List, [], ◌∷◌, ◌++◌, take, map, slice_get, FitsSigned, IsUtf8, Option, Some, None, Result, Ok, Err, ⊤}
 use Rattle.std.specs.Int.{w32}
-use Rattle.lsp_frame.specs.Limits.{Bounds}
 use Rattle.lsp_text.specs.declared.encoding.Encoding.{Encoding}
 use Rattle.lsp_edit.specs.Batch.{Edit}
-use Rattle.lsp_message.specs.declared.agreement.Offers.{Offers}
 use Rattle.lsp_message.specs.Message.{message}
 use Rattle.lsp_message.specs.Outgoing as outgoing
 use Rattle.lsp_message.specs.Outgoing.{OutgoingData}
 use Rattle.lsp_message.specs.Sent.{sent, IsProperDocument}
 use Rattle.lsp_store.specs.Table.{Command, opens, changes, closes, table_of}
 use Rattle.lsp_store.specs.Message.{AreTexts, written_edit}
-use Rattle.lsp_server.specs.declared.config.Config.{Config}
 use Rattle.lsp_server.specs.declared.phase.Phase as server_phase
 use Rattle.lsp_server.specs.declared.phase.Phase.TheVariants as server_phases
-use Rattle.lsp_server.specs.Answer as answer
-use Rattle.lsp_server.specs.Answer.{AnswerData, reply_code}
 use Rattle.lsp_server.specs.Incoming as incoming
 use Rattle.lsp_server.specs.Incoming.{IncomingData}
 use Rattle.lsp_server.specs.Step as server
@@ -25,19 +20,10 @@ use Rattle.lsp_client.specs.declared.agreed.Agreed.{Agreed}
 use Rattle.lsp_client.specs.declared.phase.Phase as client_phase
 use Rattle.lsp_client.specs.declared.phase.Phase.TheVariants as client_phases
 use Rattle.lsp_client.specs.Step as client
-use Rattle.lsp_client.specs.Step.{Call, orders, Order, DeliveredData}
+use Rattle.lsp_client.specs.Step.{Call, orders, Order}
 use Rattle.lsp_pair.specs.declared.event.Happened.{Happened}
 use Rattle.lsp_pair.specs.declared.event.Happened.TheVariants.{Sent, Refused, Server, Client, Nothing}
-use Rattle.lsp_pair.specs.declared.event.Did.{Did}
-use Rattle.lsp_pair.specs.declared.event.Did.TheVariants as done
-use Rattle.lsp_pair.specs.declared.event.Heard.{Heard}
-use Rattle.lsp_pair.specs.declared.event.Heard.TheVariants as heard
-
--- The configuration of both ends.
-pub record Setting : Type 0 where
-  pub limits : Bounds
-  pub offers : Offers
-  pub config : Config
+use Rattle.lsp_pair.specs.Events.{Setting, EventData, calls, to_server, to_client, did_of, replies_in, heard_of, messages_in}
 
 -- A message of the client: a document command, with the batch that the caller passed, or a message
 -- of the session's lifecycle.
@@ -99,38 +85,6 @@ server_of setting w =
     }
 
 -- ---- events
-
--- What may happen: a call of the client, or the delivery of the first message for an end.
-pub data EventData : Type 0 where
-  calls : Call → EventData
-  to_server to_client : EventData
-
--- An answer of the server without its message. (An ended server has no answer: it drops what
--- comes.)
-abbrev pub did_of : AnswerData OutgoingData → Did
-did_of (answer.reply m) = done.Reply (reply_code m)
-did_of answer.changed = done.Changed
-did_of answer.ignored = done.Ignored
-did_of (answer.refused refusal) = done.Refused refusal
-did_of (answer.exits status) = done.Exit status
-did_of a = done.Dropped
-
--- The message of a reply.
-abbrev pub replies_in : AnswerData OutgoingData → List OutgoingData
-replies_in (answer.reply m) = m ∷ []
-replies_in a = []
-
--- The result of a delivery without its message.
-abbrev pub heard_of : {Message : Type 0} → DeliveredData Message → Heard
-heard_of (client.sends m) = heard.Send
-heard_of client.noted = heard.Noted
-heard_of client.ignored = heard.Ignored
-heard_of (client.bad_server reason) = heard.BadServer reason
-
--- The message that a client sends.
-abbrev pub messages_in : DeliveredData OutgoingData → List OutgoingData
-messages_in (client.sends m) = m ∷ []
-messages_in d = []
 
 -- What happens, and the world after it.
 pub record Turn : Type 0 where

@@ -1,8 +1,10 @@
 -- The documents of both ends, by the document commands that were sent and delivered.
 use Rattle.std.specs.Prelude.{◌≡◌, List, [], ◌++◌, take}
 use Rattle.lsp_store.specs.Table.{table_of}
-use Rattle.lsp_pair.specs.World.{Setting, ClientMessage, commands_in, EventData, world_of, client_of}
-use Rattle.lsp_pair.specs.Pair.{PairData}
+use Rattle.lsp_pair.specs.Events.{Setting, EventData}
+use Rattle.lsp_pair.specs.Pair.{PairData, IsFitting}
+use Rattle.lsp_pair.specs.laws.World.{ClientMessage, commands_in, world_of, client_of}
+use Rattle.lsp_pair.specs.laws.At.{IsAt}
 
 -- The messages that the client sent.
 abbrev pub sent_messages : Setting → List EventData → List ClientMessage
@@ -31,3 +33,9 @@ pub record HaveCommanded (setting : Setting) (events : List EventData) (pair : P
   pub server : pair.server.table ≡ table_of (commands_in (delivered_messages setting events))
   pub equal : pair.to_server ≡ [] → pair.server.table ≡ pair.client.table
   pub earlier : IsWhatTheClientHad setting events pair
+
+-- The documents of a pair at a world.
+abbrev pub CommandedLaw : Type 0
+CommandedLaw =
+    (setting : Setting) (events : List EventData) (pair : PairData) → IsFitting setting
+    → IsAt setting pair events → HaveCommanded setting events pair

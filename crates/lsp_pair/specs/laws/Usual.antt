@@ -10,8 +10,9 @@ use Rattle.lsp_pair.specs.declared.event.Happened.{Happened}
 use Rattle.lsp_pair.specs.declared.event.Happened.TheVariants.{Server, Client, Nothing}
 use Rattle.lsp_pair.specs.declared.event.Did.TheVariants as done
 use Rattle.lsp_pair.specs.declared.event.Heard.TheVariants as heard
-use Rattle.lsp_pair.specs.World.{Setting, ClientMessage, commands, lifecycle, World, EventData, calls, to_server, to_client}
+use Rattle.lsp_pair.specs.Events.{Setting, EventData, calls, to_server, to_client}
 use Rattle.lsp_pair.specs.Pair.{PairData}
+use Rattle.lsp_pair.specs.laws.World.{ClientMessage, commands, lifecycle, World}
 
 -- The server answers `initialize` and `shutdown` with their results, ignores `initialized`, accepts
 -- each document command, and ends at `exit` with status 0.
