@@ -38,5 +38,7 @@ pub mod DocumentsLemmas
 pub mod DocumentsLawLemmas
 pub mod TableLemmas
 pub mod MemberLemmas
+pub mod NoteLemmas
+pub mod ExplainLemmas
 pub mod TraceLemmas
 pub mod TraceLawLemmas

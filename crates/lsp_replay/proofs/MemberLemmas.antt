@@ -35,32 +35,34 @@ first_is number head m uri old one two three four a b c d =
 
 -- ---- the others
 
-last_parts : (old a w q r l v c t b e : List ℕ) → old ++ a ++ w ++ q ++ r ++ l ++ v ++ c ++ t ++ b ++ e ≡ old ++ (a ++ w ++ q ++ r ++ l ++ v ++ c ++ t ++ b ++ e)
-last_parts old a w q r l v c t b e = simp append_assoc
+last_parts : (old a w q r l n v c t b e : List ℕ) → old ++ a ++ w ++ q ++ r ++ l ++ n ++ v ++ c ++ t ++ b ++ e ≡ old ++ (a ++ w ++ q ++ r ++ l ++ n ++ v ++ c ++ t ++ b ++ e)
+last_parts old a w q r l n v c t b e = simp append_assoc
 
-pub last_is : (word : List ℕ) (reason last version canonical shown body : Option (List ℕ)) (old one two three four five six seven eight : List ℕ)
+pub last_is : (word : List ℕ) (reason last notes version canonical shown body : Option (List ℕ)) (old one two three four five six seven eight nine : List ℕ)
     → one ≡ old ++ codes ",\"word\":\"" ++ word ++ codes "\""
     → two ≡ one ++ member (codes ",\"reason\":") reason
     → three ≡ two ++ member (codes ",\"last\":") last
-    → four ≡ three ++ member (codes ",\"version\":") version
-    → five ≡ four ++ member (codes ",\"canonical\":") canonical
-    → six ≡ five ++ member (codes ",\"text\":") shown
-    → seven ≡ six ++ member (codes ",\"body\":") body
-    → eight ≡ seven ++ codes "}\n"
-    → eight ≡ old ++ last_members word reason last version canonical shown body
-last_is word reason last version canonical shown body old one two three four five six seven eight a b c d e f g h =
+    → four ≡ three ++ member (codes ",\"notes\":") notes
+    → five ≡ four ++ member (codes ",\"version\":") version
+    → six ≡ five ++ member (codes ",\"canonical\":") canonical
+    → seven ≡ six ++ member (codes ",\"text\":") shown
+    → eight ≡ seven ++ member (codes ",\"body\":") body
+    → nine ≡ eight ++ codes "}\n"
+    → nine ≡ old ++ last_members word reason last notes version canonical shown body
+last_is word reason last notes version canonical shown body old one two three four five six seven eight nine a b c d e f g h i =
     let r = member (codes ",\"reason\":") reason in
     let l = member (codes ",\"last\":") last in
+    let n = member (codes ",\"notes\":") notes in
     let v = member (codes ",\"version\":") version in
     let k = member (codes ",\"canonical\":") canonical in
     let t = member (codes ",\"text\":") shown in
     let o = member (codes ",\"body\":") body in
-    h ∙ ap (λ (bs : List ℕ). bs ++ codes "}\n")
-    (g ∙ ap (λ (bs : List ℕ). bs ++ o) (f ∙ ap (λ (bs : List ℕ). bs ++ t) (e ∙ ap (λ (bs : List ℕ). bs ++ k) (d ∙ ap (λ (bs : List ℕ). bs ++ v) (c ∙ ap (λ (bs : List ℕ). bs ++ l) (b ∙ ap (λ (bs : List ℕ). bs ++ r) a))))))
-    ∙ last_parts old (codes ",\"word\":\"") word (codes "\"") r l v k t o (codes "}\n")
+    i ∙ ap (λ (bs : List ℕ). bs ++ codes "}\n")
+    (h ∙ ap (λ (bs : List ℕ). bs ++ o) (g ∙ ap (λ (bs : List ℕ). bs ++ t) (f ∙ ap (λ (bs : List ℕ). bs ++ k) (e ∙ ap (λ (bs : List ℕ). bs ++ v) (d ∙ ap (λ (bs : List ℕ). bs ++ n) (c ∙ ap (λ (bs : List ℕ). bs ++ l) (b ∙ ap (λ (bs : List ℕ). bs ++ r) a)))))))
+    ∙ last_parts old (codes ",\"word\":\"") word (codes "\"") r l n v k t o (codes "}\n")
 
 -- ---- a whole line: the members between those that other commands have too
 
-pub line_parts : (a d o p f s q m i u w k z r l v c t b e : List ℕ)
-    → (a ++ d ++ o ++ p ++ f ++ s ++ q ++ m ++ i ++ u) ++ (w ++ k ++ z ++ r ++ l ++ v ++ c ++ t ++ b ++ e) ≡ a ++ d ++ (o ++ p ++ f ++ s ++ q ++ m ++ i) ++ u ++ w ++ k ++ z ++ (r ++ l ++ v ++ c) ++ t ++ (b ++ e)
-line_parts a d o p f s q m i u w k z r l v c t b e = simp append_assoc
+pub line_parts : (a d o p f s q m i u w k z r l n v c t b e : List ℕ)
+    → (a ++ d ++ o ++ p ++ f ++ s ++ q ++ m ++ i ++ u) ++ (w ++ k ++ z ++ r ++ l ++ n ++ v ++ c ++ t ++ b ++ e) ≡ a ++ d ++ (o ++ p ++ f ++ s ++ q ++ m ++ i) ++ u ++ w ++ k ++ z ++ (r ++ l ++ n ++ v ++ c) ++ t ++ (b ++ e)
+line_parts a d o p f s q m i u w k z r l n v c t b e = simp append_assoc

@@ -25,6 +25,7 @@ use Rattle.lsp_replay.specs.RunOutput.{written_first}
 use Rattle.lsp_replay.specs.Engines.{RecordOutput, canonical_of_record, continue_with, writes}
 use Rattle.lsp_replay.specs.Session.{Session, Verdict, bad, Judged, judged, judge, judge_from, judge_incoming, handled, hear_for, heard, settle_by, settle_in, result_for, is_ended, is_early}
 use Rattle.lsp_replay.specs.Mentions.{Mention}
+use Rattle.lsp_replay.specs.Notes.{ranged_after}
 use Rattle.lsp_replay.specs.Run.{IsEngineRun}
 use Rattle.lsp_replay.specs.Trace.{first_members, is_json, mentions_after, trace_line, trace_output, traced_in, within}
 use Rattle.lsp_replay.specs.inside.Engine.{IsLoopRun}
@@ -77,26 +78,30 @@ canonical_is max_body (Some body) None new is = absurd is
 canonical_is max_body (Some body) (Some Body) new is = rw (le-ltb max_body (length body) is.1, is.0) refl
 canonical_is max_body (Some body) (Some TooLong) new is = rw (lt-ltb max_body (length body) is) refl
 
-module _ (details : Details) (mentions : List Mention) (s : Session) (r : Record) (t : Session) (session : t ≡ (judge s r).session) where
+module _ (details : Details) (ranged : Bool) (mentions : List Mention) (s : Session) (r : Record) (t : Session) (session : t ≡ (judge s r).session) where
   abbrev m : IncomingData
   m = incoming_of (reading r.body)
 
   abbrev line : List ℕ
-  line = trace_line details mentions s r (judge s r) m
+  line = trace_line details ranged mentions s r (judge s r) m
+
+  abbrev after : Bool
+  after = ranged_after ranged s r.head.side r.body
 
   abbrev next : List Mention
   next = mentions_after mentions r (judge s r) m
 
-  pub line_first : (judge s r).verdict ≢ bad → (bytes : List ℕ) → bytes ≡ line → (kept : List Mention) → kept ≡ next → (more : List Record)
-      → traced_in details mentions s (r ∷ more) ≡ written_first bytes (traced_in details kept t more)
-  line_first not_bad bytes is kept kept_is more =
-      ap (λ (given : RecordOutput). continue_with given.out given.end (traced_in details next (judge s r).session more)) (unless_not r (judge s r).verdict (writes line) not_bad)
-      ∙ ap (λ (u : Session). written_first line (traced_in details next u more)) (sym session)
-      ∙ ap (λ (k : List Mention). written_first line (traced_in details k t more)) (sym kept_is)
-      ∙ ap (λ (b : List ℕ). written_first b (traced_in details kept t more)) (sym is)
+  pub line_first : (judge s r).verdict ≢ bad → (bytes : List ℕ) → bytes ≡ line → (asked : Bool) → asked ≡ after → (kept : List Mention) → kept ≡ next → (more : List Record)
+      → traced_in details ranged mentions s (r ∷ more) ≡ written_first bytes (traced_in details asked kept t more)
+  line_first not_bad bytes is asked asked_is kept kept_is more =
+      ap (λ (given : RecordOutput). continue_with given.out given.end (traced_in details after next (judge s r).session more)) (unless_not r (judge s r).verdict (writes line) not_bad)
+      ∙ ap (λ (u : Session). written_first line (traced_in details after next u more)) (sym session)
+      ∙ ap (λ (k : List Mention). written_first line (traced_in details after k t more)) (sym kept_is)
+      ∙ ap (λ (a : Bool). written_first line (traced_in details a kept t more)) (sym asked_is)
+      ∙ ap (λ (b : List ℕ). written_first b (traced_in details asked kept t more)) (sym is)
 
   -- the line by its two halves, as they are written one after the other
-  module _ (traced : Traced) (before new : List ℕ) (cleared : before ≡ []) (is : IsTraced s r.head r.body before new traced) where
+  module _ (traced : Traced) (before new : List ℕ) (cleared : before ≡ []) (is : IsTraced s ranged r.head r.body before new traced) where
     abbrev max_body : ℕ
     max_body = s.server.config.limits.max_body
 
@@ -116,28 +121,30 @@ module _ (details : Details) (mentions : List Mention) (s : Session) (r : Record
         bytes_is
         ∙ ap (λ (bs : List ℕ). bs ++ members_by details mentions t m traced new r.body) (first_is ∙ ap (λ (bs : List ℕ). bs ++ first_members (one_more s.records) r.head m) empty ∙ ap (λ (n : ℕ). first_members n r.head m) (sym (one_more_record s r)))
         ∙ ap (λ (bs : List ℕ). first_members (judge s r).session.records r.head m ++ bs) members_are
-        ∙ rw (is.verdict, is.uri, is.is_json, canonical_is max_body canonical traced.canonical new (subst (λ (b : List ℕ). IsAppended max_body canonical traced.canonical b new) cleared is.canonical)) refl
+        ∙ rw (is.verdict, is.uri, is.is_json, is.notes, canonical_is max_body canonical traced.canonical new (subst (λ (b : List ℕ). IsAppended max_body canonical traced.canonical b new) cleared is.canonical)) refl
 
 -- ---- all records
 
-trace_settled : (details : Details) (mentions : List Mention) (s : Session) (rs more : List Record) (answer : Result Outcome EngineFault) → (traced_in details mentions s rs).stop ≡ Some answer → traced_in details mentions s (rs ++ more) ≡ traced_in details mentions s rs
-trace_settled details mentions s [] more answer e = absurd (let wrong : None ≡ Some answer = e in cc)
-trace_settled details mentions s (r ∷ rs) more answer e =
-    let given = trace_output details mentions s r (judge s r) in
+trace_settled : (details : Details) (ranged : Bool) (mentions : List Mention) (s : Session) (rs more : List Record) (answer : Result Outcome EngineFault) → (traced_in details ranged mentions s rs).stop ≡ Some answer → traced_in details ranged mentions s (rs ++ more) ≡ traced_in details ranged mentions s rs
+trace_settled details ranged mentions s [] more answer e = absurd (let wrong : None ≡ Some answer = e in cc)
+trace_settled details ranged mentions s (r ∷ rs) more answer e =
+    let given = trace_output details ranged mentions s r (judge s r) in
+    let after = ranged_after ranged s r.head.side r.body in
     let next = mentions_after mentions r (judge s r) (incoming_of (reading r.body)) in
-    settled_on given.out given.end (traced_in details next (judge s r).session rs) (traced_in details next (judge s r).session (rs ++ more)) answer e
-    (trace_settled details next (judge s r).session rs more answer)
+    settled_on given.out given.end (traced_in details after next (judge s r).session rs) (traced_in details after next (judge s r).session (rs ++ more)) answer e
+    (trace_settled details after next (judge s r).session rs more answer)
 
-trace_grows : (details : Details) (mentions : List Mention) (s : Session) (rs more : List Record) → Grows (traced_in details mentions s rs) (traced_in details mentions s (rs ++ more))
+trace_grows : (details : Details) (ranged : Bool) (mentions : List Mention) (s : Session) (rs more : List Record) → Grows (traced_in details ranged mentions s rs) (traced_in details ranged mentions s (rs ++ more))
 unfolding Grows
-trace_grows details mentions s [] more = ((traced_in details mentions s more).out, refl)
-trace_grows details mentions s (r ∷ rs) more =
-    let given = trace_output details mentions s r (judge s r) in
+trace_grows details ranged mentions s [] more = ((traced_in details ranged mentions s more).out, refl)
+trace_grows details ranged mentions s (r ∷ rs) more =
+    let given = trace_output details ranged mentions s r (judge s r) in
+    let after = ranged_after ranged s r.head.side r.body in
     let next = mentions_after mentions r (judge s r) (incoming_of (reading r.body)) in
-    grows_on given.out given.end _ _ (trace_grows details next (judge s r).session rs more)
+    grows_on given.out given.end _ _ (trace_grows details after next (judge s r).session rs more)
 
-pub run_of_trace : FirstLaw → VersionLaw → (details : Details) (mentions : List Mention) (s : Session) {reading : LogRules} {max_turns : ℕ} {before after : Ports} {result : Result Outcome EngineFault}
-    → IsLoopRun reading (traced_in details mentions s) false max_turns before after result → NoneCut false reading (traced_in details mentions s) before after result
-    → IsEngineRun (record { reading = reading; run_output = traced_in details mentions s; flushes = false; in_parts = false }) max_turns before after result
-run_of_trace first version details mentions s run whole =
-    run_of_course first version (traced_in details mentions s) (trace_settled details mentions s) (trace_grows details mentions s) false run whole
+pub run_of_trace : FirstLaw → VersionLaw → (details : Details) (ranged : Bool) (mentions : List Mention) (s : Session) {reading : LogRules} {max_turns : ℕ} {before after : Ports} {result : Result Outcome EngineFault}
+    → IsLoopRun reading (traced_in details ranged mentions s) false max_turns before after result → NoneCut false reading (traced_in details ranged mentions s) before after result
+    → IsEngineRun (record { reading = reading; run_output = traced_in details ranged mentions s; flushes = false; in_parts = false }) max_turns before after result
+run_of_trace first version details ranged mentions s run whole =
+    run_of_course first version (traced_in details ranged mentions s) (trace_settled details ranged mentions s) (trace_grows details ranged mentions s) false run whole

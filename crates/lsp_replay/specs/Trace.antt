@@ -16,9 +16,11 @@ use Rattle.lsp_log.specs.declared.record.Side.TheVariants.{Client, Server}
 use Rattle.lsp_log.specs.Log.{Record}
 use Rattle.lsp_replay.specs.declared.engines.Settings.{Settings}
 use Rattle.lsp_replay.specs.declared.engines.traced.Details.{Details}
+use Rattle.lsp_replay.specs.declared.notes.Note.{Note}
 use Rattle.lsp_replay.specs.RunOutput.{RunOutput}
 use Rattle.lsp_replay.specs.Engines.{RecordOutput, as_log, canonical_of_record, change_in, continue_with, log_config, report, report_from, unless_bad, verdict_word, verdicts, writes}
 use Rattle.lsp_replay.specs.Mentions.{Mention, last_record, newest_first}
+use Rattle.lsp_replay.specs.Notes.{notes_of, notes_words, ranged_after}
 use Rattle.lsp_replay.specs.Reasons.{reason_words}
 use Rattle.lsp_replay.specs.Run.{Engine}
 use Rattle.lsp_replay.specs.Session.{Session, Judged, Verdict, answered, is_change, is_refused, judge, opened, outcome_of}
@@ -91,6 +93,12 @@ reason_json limits m (answered answer) = if is_refused answer then
     Some (codes "\"" ++ reason_words limits (change_in m) answer ++ codes "\"") else None
 reason_json limits m verdict = None
 
+-- The notes of an accepted record, as strings in an array. Without notes there is none.
+abbrev pub notes_json : List Note → Option (List ℕ)
+notes_json [] = None
+notes_json (note ∷ notes) =
+    Some (codes "[\"" ++ notes_words (codes "\",\"") (note ∷ notes) ++ codes "\"]")
+
 -- A canonical message, unless it is over the limit.
 abbrev pub within : ℕ → Option (List ℕ) → Option (List ℕ)
 within max_body None = None
@@ -131,11 +139,12 @@ body_json is_asked body = if is_asked then Some (one_line body) else None
 
 -- The other members of a line: what is answered, and the document afterwards.
 abbrev pub last_members : List ℕ → Option (List ℕ) → Option (List ℕ) → Option (List ℕ)
-    → Option (List ℕ) → Option (List ℕ) → Option (List ℕ) → List ℕ
-last_members word reason last version canonical shown body =
+    → Option (List ℕ) → Option (List ℕ) → Option (List ℕ) → Option (List ℕ) → List ℕ
+last_members word reason last notes version canonical shown body =
     codes ",\"word\":\"" ++ word ++ codes "\""
     ++ member (codes ",\"reason\":") reason
     ++ member (codes ",\"last\":") last
+    ++ member (codes ",\"notes\":") notes
     ++ member (codes ",\"version\":") version
     ++ member (codes ",\"canonical\":") canonical
     ++ member (codes ",\"text\":") shown
@@ -170,12 +179,14 @@ mentions_after mentions r j m =
 
 -- A line of `trace`, from the session before the record and the judgement of it. `m` is what the
 -- record's body asks.
-abbrev pub trace_line : Details → List Mention → Session → Record → Judged → IncomingData → List ℕ
-trace_line details mentions s r j m =
+abbrev pub trace_line : Details → Bool → List Mention → Session → Record → Judged → IncomingData
+    → List ℕ
+trace_line details ranged mentions s r j m =
     first_members j.session.records r.head m
     ++ last_members (verdict_word j.verdict)
     (reason_json j.session.server.config.limits m j.verdict)
     (last_json mentions (uri_of r.head.side m) j.verdict)
+    (notes_json (notes_of s ranged r.body j.verdict))
     (version_json (document_after j.session.server.table (uri_of r.head.side m)))
     (within s.server.config.limits.max_body (canonical_of_record s r.body j.verdict))
     (text_json (details.texts && is_changed j.verdict)
@@ -183,23 +194,24 @@ trace_line details mentions s r j m =
     (body_json (details.bodies && is_json m) r.body)
 
 -- The output for a record: its line.
-abbrev pub trace_output : Details → List Mention → Session → Record → Judged → RecordOutput
-trace_output details mentions s r j = unless_bad r j.verdict
-    (writes (trace_line details mentions s r j (incoming_of (reading r.body))))
+abbrev pub trace_output : Details → Bool → List Mention → Session → Record → Judged → RecordOutput
+trace_output details ranged mentions s r j = unless_bad r j.verdict
+    (writes (trace_line details ranged mentions s r j (incoming_of (reading r.body))))
 
 -- The output for records that a session judges one after another. At the end nothing is written.
-abbrev pub traced_in : Details → List Mention → Session → List Record → RunOutput
-traced_in details mentions s []
+-- `ranged`: were ranges asked for?
+abbrev pub traced_in : Details → Bool → List Mention → Session → List Record → RunOutput
+traced_in details ranged mentions s []
     = record { out = []; stop = None; last = λ line_due. []; outcome = outcome_of s }
-traced_in details mentions s (r ∷ rs) =
-    continue_with (trace_output details mentions s r (judge s r)).out
-    (trace_output details mentions s r (judge s r)).end
-    (traced_in details (mentions_after mentions r (judge s r) (incoming_of (reading r.body)))
-    (judge s r).session rs)
+traced_in details ranged mentions s (r ∷ rs) =
+    continue_with (trace_output details ranged mentions s r (judge s r)).out
+    (trace_output details ranged mentions s r (judge s r)).end
+    (traced_in details (ranged_after ranged s r.head.side r.body)
+    (mentions_after mentions r (judge s r) (incoming_of (reading r.body))) (judge s r).session rs)
 
 -- The output of `trace`.
 abbrev pub traced : Settings → Details → List Record → RunOutput
-traced settings details = traced_in details [] (opened (log_config settings))
+traced settings details = traced_in details false [] (opened (log_config settings))
 
 abbrev pub trace_engine : Settings → Details → Engine
 trace_engine settings details

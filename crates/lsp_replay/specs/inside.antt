@@ -4,6 +4,7 @@ pub mod Joining
 pub mod Explained
 pub mod Kept
 pub mod Mentions
+pub mod Noting
 pub mod Parts
 pub mod Progress
 pub mod Verdicts

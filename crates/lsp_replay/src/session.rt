@@ -7,6 +7,7 @@
 //! - `results`: the result of `initialize`.
 //! - `counting`: what counts as refused.
 //! - `keeping`: the text of a document, kept when it is closed.
+//! - `noting`: what is suspicious of a message.
 //! - `tracing`: what a record is, whatever is answered.
 
 ghost use Rattle.std.specs.Prelude.{◌≡◌, ◌≢◌, ◌⊎◌, IfErr, IfOk, OnErr, OnOk, MatchOption, Some, None};
@@ -19,8 +20,9 @@ ghost use Rattle.lsp_replay.specs.inside.Verdicts.{verdict_view};
 pub(crate) mod counting;
 pub(crate) mod joining;
 mod keeping;
+pub(crate) mod noting;
 pub(crate) mod planning;
-mod results;
+pub(crate) mod results;
 pub(crate) mod selecting;
 pub(crate) mod tracing;
 pub(crate) mod writing;

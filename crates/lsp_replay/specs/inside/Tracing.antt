@@ -1,5 +1,5 @@
 -- What a session returns of a record that it judged, for the record's line of `trace`.
-use Rattle.std.specs.Prelude.{ℕ, ◌≡◌, ◌&&◌, ◌++◌, List, Option, Some, None, codes, decimal, option_map}
+use Rattle.std.specs.Prelude.{ℕ, ◌≡◌, Bool, ◌&&◌, ◌++◌, List, Option, Some, None, codes, decimal, option_map}
 use Rattle.std.specs.String.{string_bytes}
 use Rattle.lsp_log.specs.declared.record.Head.{Head}
 use Rattle.lsp_message.specs.Message.{reading}
@@ -10,20 +10,23 @@ use Rattle.lsp_replay.specs.declared.session.writing.Appended.{Appended}
 use Rattle.lsp_replay.specs.declared.session.writing.Appended.TheVariants.{Body}
 use Rattle.lsp_replay.specs.Engines.{canonical_of_record, verdict_word}
 use Rattle.lsp_replay.specs.Mentions.{Mention}
+use Rattle.lsp_replay.specs.Notes.{notes_of}
 use Rattle.lsp_replay.specs.Session.{Session, is_change, judge_at}
-use Rattle.lsp_replay.specs.Trace.{body_json, document_after, id_json, id_of, is_changed, is_json, is_mention, json_string, last_json, last_members, member, mentioned, method_of, reason_json, side_word, text_json, uri_of, version_json}
+use Rattle.lsp_replay.specs.Trace.{body_json, document_after, id_json, id_of, is_changed, is_json, is_mention, json_string, last_json, last_members, member, mentioned, method_of, notes_json, reason_json, side_word, text_json, uri_of, version_json}
 use Rattle.lsp_replay.specs.inside.Verdicts.{IsAppended, verdict_view}
 
 -- Of a record with this head and body, before which the session was `s`. `old` and `new` are the
 -- bytes that its canonical message is appended to.
-pub record IsTraced (s : Session) (head : Head) (body old new : List ℕ) (traced : Traced) :
-    Type 0 where
+pub record IsTraced (s : Session) (ranged : Bool) (head : Head) (body old new : List ℕ)
+    (traced : Traced) : Type 0 where
   pub verdict : verdict_view traced.verdict ≡ (judge_at s head body).verdict
   pub canonical : IsAppended s.server.config.limits.max_body
       (canonical_of_record s body (judge_at s head body).verdict) traced.canonical old new
   pub uri : option_map string_bytes traced.uri ≡ uri_of head.side (incoming_of (reading body))
   pub is_json : traced.is_json ≡ is_json (incoming_of (reading body))
   pub is_change : traced.is_change ≡ is_change (incoming_of (reading body))
+  pub notes : traced.notes.items
+      ≡ notes_of s ranged body (judge_at s head body).verdict
 
 -- The first members of a record's line, with the URI of the document that it is about.
 abbrev pub first_by : ℕ → Head → IncomingData → Option (List ℕ) → List ℕ
@@ -46,6 +49,7 @@ members_by details mentions t m traced canonical body =
     last_members (verdict_word (verdict_view traced.verdict))
     (reason_json t.server.config.limits m (verdict_view traced.verdict))
     (last_json mentions (option_map string_bytes traced.uri) (verdict_view traced.verdict))
+    (notes_json traced.notes.items)
     (version_json (document_after t.server.table (option_map string_bytes traced.uri)))
     (canonical_json traced.canonical canonical)
     (text_json (details.texts && is_changed (verdict_view traced.verdict))

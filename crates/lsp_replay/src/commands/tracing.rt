@@ -8,17 +8,19 @@ ghost use Rattle.lsp_server.specs.Incoming.{incoming_of};
 ghost use Rattle.lsp_server.specs.Seen.{incoming_view};
 ghost use Rattle.lsp_replay.specs.Session.{opened};
 ghost use Rattle.lsp_replay.specs.Engines.{change_in, verdict_word};
-ghost use Rattle.lsp_replay.specs.Trace.{body_json, document_after, is_changed, is_mention, last_json, member, one_line, reason_json, text_json, traced_in};
+ghost use Rattle.lsp_replay.specs.Trace.{body_json, document_after, is_changed, is_mention, last_json, member, notes_json, one_line, reason_json, text_json, traced_in};
 ghost use Rattle.lsp_replay.specs.Trace.{version_json};
 ghost use Rattle.lsp_replay.specs.inside.Tracing.{canonical_json, members_by, mentions_by};
 ghost use Rattle.lsp_replay.specs.inside.Verdicts.{verdict_view};
 
 use crate::commands::checking::push_verdict;
+use crate::commands::noted::push_notes;
 use crate::commands::reasons::push_reason;
 use crate::engines::Details;
 use crate::handler::{Given, Handler, Output};
 use crate::members::{push_json_string, push_number, push_signed, push_words};
 use crate::mentions::Mentions;
+use crate::notes::Note;
 use crate::outcome::Outcome;
 use crate::session::counting::is_refused;
 use crate::session::tracing::Traced;
@@ -38,6 +40,8 @@ pub struct Trace {
     pub alloc: Global,
     pub details: Details,
     pub mentions: Mentions,
+    /// Did the server ask for ranges?
+    pub ranged: bool,
     /// The canonical message of the last record, if it was an accepted change.
     pub canonical: Vec<u8>,
 }
@@ -45,8 +49,8 @@ pub struct Trace {
 impl Trace {
     /// Starts before the first record, over a new server.
     pub fn new(alloc: Global, config: Config, details: Details) -> Trace
-        ensures { traced_in result.details result.mentions.newest.items result.session
-            ≡ traced_in details [] (opened config) }
+        ensures { traced_in result.details result.ranged result.mentions.newest.items
+            result.session ≡ traced_in details false [] (opened config) }
     {
         let session = Session::new(alloc, config);
         Trace {
@@ -54,6 +58,7 @@ impl Trace {
             alloc,
             details,
             mentions: Mentions::new(alloc),
+            ranged: false,
             canonical: Vec::new(alloc),
         }
     }
@@ -75,6 +80,7 @@ impl Trace {
         push_word(buffer, &traced.verdict)?;
         self.push_why(buffer, body, &traced.verdict)?;
         self.push_mention(buffer, &traced.uri, &traced.verdict)?;
+        push_noted(buffer, &traced.notes)?;
         push_version(buffer, &document)?;
         push_canonical(buffer, traced.canonical, &self.canonical)?;
         push_text(self.alloc, buffer, has_text, &document)?;
@@ -161,7 +167,7 @@ impl Trace {
 
 impl Handler for Trace {
     ghost run_output = { λ trace.
-        traced_in trace.details trace.mentions.newest.items trace.session };
+        traced_in trace.details trace.ranged trace.mentions.newest.items trace.session };
 
     ghost FLUSHES = { false };
 
@@ -181,12 +187,14 @@ impl Handler for Trace {
         buffer: &mut Vec<u8>,
     ) -> Result<Given, EngineFault> {
         self.canonical.clear();
+        let ranged = self.session.ranged_after(self.ranged, head, body)?;
         let traced = self
             .session
-            .accept_and_trace(head, body, buffer, &mut self.canonical)?;
+            .accept_and_trace(self.ranged, head, body, buffer, &mut self.canonical)?;
         self.push_last(buffer, body, &traced)?;
         let number = self.session.records();
         mention(&mut self.mentions, number, &traced)?;
+        self.ranged = ranged;
         Ok(Given::more(Output::Bytes))
     }
 
@@ -249,6 +257,20 @@ fn push_word(buffer: &mut Vec<u8>, verdict: &Verdict) -> Result<(), AllocError>
     buffer.extend_from_slice(b",\"word\":\"")?;
     push_verdict(buffer, verdict)?;
     buffer.extend_from_slice(b"\"")
+}
+
+/// Writes what is suspicious of an accepted record, if there is something.
+fn push_noted(buffer: &mut Vec<u8>, notes: &[Note]) -> Result<(), AllocError>
+    ensures { OnOk result (buffer.new.items ≡ buffer.old.items
+        ++ member (codes ",\"notes\":") (notes_json notes.now)) }
+{
+    if notes.is_empty() {
+        return Ok(());
+    }
+    buffer.extend_from_slice(b",\"notes\":")?;
+    buffer.extend_from_slice(b"[\"")?;
+    push_notes(buffer, "\",\"", notes)?;
+    buffer.extend_from_slice(b"\"]")
 }
 
 /// Writes the version of an open document.

@@ -15,7 +15,9 @@ ghost use Rattle.lsp_replay.specs.inside.Tracing.{IsTraced, first_by};
 ghost use Rattle.lsp_replay.specs.inside.Verdicts.{verdict_view};
 
 use crate::members::{push_json_string, push_number, push_signed, push_text};
+use crate::notes::Note;
 use crate::session::counting::one_more;
+use crate::session::noting::notes_if;
 use crate::session::writing::Appended;
 use crate::session::{RecordBody, Session, Verdict, in_log};
 use lsp_log::{Head, Side};
@@ -36,19 +38,23 @@ pub struct Traced {
     pub is_json: bool,
     /// Is it a `didChange`?
     pub is_change: bool,
+    /// What is suspicious of it, if it was accepted.
+    pub notes: Vec<Note>,
 }
 
 impl Session {
     /// Judges a record as [`Session::accept`] does. Before it writes the first members of its line,
-    /// and appends the body of an accepted change's canonical message to another buffer.
+    /// and appends the body of an accepted change's canonical message to another buffer. `ranged`:
+    /// did the server ask for ranges?
     pub fn accept_and_trace(
         &mut self,
+        ranged: bool,
         head: Head,
         body: &[u8],
         buffer: &mut Vec<u8>,
         canonical: &mut Vec<u8>,
     ) -> Result<Traced, EngineFault>
-        ensures traced { IfOk result (IsTraced self.old head body.now canonical.old.items
+        ensures traced { IfOk result (IsTraced self.old ranged head body.now canonical.old.items
             canonical.new.items) }
         ensures in_log { IfOk result (λ traced. verdict_view traced.verdict ≢ bad) }
         ensures session { OnOk result (self.new ≡ (judge_at self.old head body.now).session) }
@@ -59,7 +65,7 @@ impl Session {
             ⊎ ((fault ≡ EngineFault.BadLog head.place)
             × ((judge_at self.old head body.now).verdict ≡ bad))) }
     {
-        let traced = self.judge_and_trace(head, body, buffer, canonical)?;
+        let traced = self.judge_and_trace(ranged, head, body, buffer, canonical)?;
         in_log(&traced.verdict, head.place)?;
         Ok(traced)
     }
@@ -68,12 +74,13 @@ impl Session {
     /// does.
     fn judge_and_trace(
         &mut self,
+        ranged: bool,
         head: Head,
         body: &[u8],
         buffer: &mut Vec<u8>,
         canonical: &mut Vec<u8>,
     ) -> Result<Traced, AllocError>
-        ensures traced { IfOk result (IsTraced self.old head body.now canonical.old.items
+        ensures traced { IfOk result (IsTraced self.old ranged head body.now canonical.old.items
             canonical.new.items) }
         ensures session { OnOk result (self.new ≡ (judge_at self.old head body.now).session) }
         ensures members { OnOk result (buffer.new.items ≡ buffer.old.items
@@ -87,14 +94,17 @@ impl Session {
         let uri = copied_text(self.alloc, uri)?;
         let is_json = is_json(&incoming);
         let is_change = is_change(&incoming);
+        let notes = self.notes_on(ranged, body, &incoming)?;
         let read = record_body(head, body, incoming);
         let (verdict, canonical) = self.judge_and_write(read, canonical)?;
+        let notes = notes_if(notes, &verdict);
         Ok(Traced {
             verdict,
             canonical,
             uri,
             is_json,
             is_change,
+            notes,
         })
     }
 
