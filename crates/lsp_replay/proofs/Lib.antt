@@ -39,6 +39,7 @@ pub mod DocumentsLawLemmas
 pub mod TableLemmas
 pub mod MemberLemmas
 pub mod NoteLemmas
+pub mod KnownLemmas
 pub mod ExplainLemmas
 pub mod TraceLemmas
 pub mod TraceLawLemmas

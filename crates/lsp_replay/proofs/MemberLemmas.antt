@@ -3,8 +3,8 @@ use Rattle.std.proofs.Common.{◌≡◌, ◌++◌, ℕ, List, Option, ap, ◌∙
 use Rattle.std.specs.Prelude.{Result, Ok, Err, OnOk, codes, decimal, option_map}
 use Rattle.lsp_server.specs.Incoming.{IncomingData}
 use Rattle.lsp_log.specs.declared.record.Head.{Head}
-use Rattle.lsp_replay.specs.Trace.{id_json, id_of, json_string, last_members, member, method_of, side_word}
-use Rattle.lsp_replay.specs.inside.Tracing.{first_by}
+use Rattle.lsp_replay.specs.Lines.{uri_of}
+use Rattle.lsp_replay.specs.Trace.{first_members, id_json, id_of, json_string, last_members, member, method_of, side_word}
 
 pub on_ok : {A E P Q : Type 0} (r : Result A E) → (P → Q) → OnOk r P → OnOk r Q
 on_ok (Ok a) then p = then p
@@ -20,16 +20,16 @@ one_member (Err e) new old front value is = tt
 first_parts : (old a d b p c s q m i u : List ℕ) → old ++ a ++ d ++ b ++ p ++ c ++ s ++ q ++ m ++ i ++ u ≡ old ++ (a ++ d ++ b ++ p ++ c ++ s ++ q ++ m ++ i ++ u)
 first_parts old a d b p c s q m i u = simp append_assoc
 
-pub first_is : (number : ℕ) (head : Head) (m : IncomingData) (uri : Option (List ℕ)) (old one two three four : List ℕ)
+pub first_is : (number : ℕ) (head : Head) (m : IncomingData) (old one two three four : List ℕ)
     → one ≡ old ++ codes "{\"number\":" ++ decimal number ++ codes ",\"offset\":" ++ decimal head.place ++ codes ",\"from\":\"" ++ side_word head.side ++ codes "\""
     → two ≡ one ++ member (codes ",\"method\":") (option_map json_string (method_of m))
     → three ≡ two ++ member (codes ",\"id\":") (option_map id_json (id_of m))
-    → four ≡ three ++ member (codes ",\"uri\":") (option_map json_string uri)
-    → four ≡ old ++ first_by number head m uri
-first_is number head m uri old one two three four a b c d =
+    → four ≡ three ++ member (codes ",\"uri\":") (option_map json_string (uri_of head.side m))
+    → four ≡ old ++ first_members number head m
+first_is number head m old one two three four a b c d =
     let method = member (codes ",\"method\":") (option_map json_string (method_of m)) in
     let id = member (codes ",\"id\":") (option_map id_json (id_of m)) in
-    let document = member (codes ",\"uri\":") (option_map json_string uri) in
+    let document = member (codes ",\"uri\":") (option_map json_string (uri_of head.side m)) in
     d ∙ ap (λ (bs : List ℕ). bs ++ document) (c ∙ ap (λ (bs : List ℕ). bs ++ id) (b ∙ ap (λ (bs : List ℕ). bs ++ method) a))
     ∙ first_parts old (codes "{\"number\":") (decimal number) (codes ",\"offset\":") (decimal head.place) (codes ",\"from\":\"") (side_word head.side) (codes "\"") method id document
 

@@ -1,6 +1,6 @@
 -- What is noted of a message.
-use Rattle.std.proofs.Common.{◌≡◌, ℕ, suc, ◌+◌, ◌≤◌, Bool, true, false, List, [], ◌∷◌, ◌++◌, length, map, Option, Some, None, refl, sym, ap, ap₂, ◌∙◌, arith, append_assoc, append-nil, option_map, encode_utf8_all, le-leb, inl, inr}
-use Rattle.std.specs.Prelude.{◌⊎◌, Result, Ok, Err, flat_map, slice_range}
+use Rattle.std.proofs.Common.{◌≡◌, ℕ, suc, ◌+◌, ◌≤◌, Bool, true, false, List, [], ◌∷◌, ◌++◌, length, map, Option, Some, None, refl, sym, ap, ap₂, ◌∙◌, arith, append_assoc, append-nil, option_map, encode_utf8_all, le-leb}
+use Rattle.std.specs.Prelude.{Result, Ok, Err, flat_map, slice_range}
 use Rattle.std.specs.Str.{IsUtf8, bytes_eq, chars}
 use Rattle.std.proofs.lemmas.Slice.Eq.{bytes_eq-Decides}
 use Rattle.std.proofs.lemmas.Str.{encodes-chars}
@@ -16,20 +16,10 @@ use Rattle.lsp_edit.specs.Edited.{edit_of}
 use Rattle.lsp_edit.specs.Faults.{ends_of, places_at}
 use Rattle.lsp_edit.specs.declared.fault.EditFault.{EditFault}
 use Rattle.lsp_edit.proofs.AppliedLemmas.{ends_told}
-use Rattle.lsp_message.specs.Message.{reading}
 use Rattle.lsp_message.specs.Seen.{edit_view}
-use Rattle.lsp_server.specs.Incoming.{IncomingData, incoming_of}
 use Rattle.lsp_server.specs.Step.{edit_from_data}
-use Rattle.lsp_log.specs.declared.record.Head.{Head}
-use Rattle.lsp_log.specs.declared.record.Side.{Side}
-use Rattle.lsp_log.specs.declared.record.Side.TheVariants.{Client, Server}
-use Rattle.lsp_log.specs.declared.record.Version.{Version}
 use Rattle.lsp_replay.specs.declared.notes.Note.{Note}
-use Rattle.lsp_replay.specs.Notes.{Terms, change_notes, left_by, note_words, notes_after, notes_from, notes_if, notes_of, notes_on, replaced_by, taken_as}
-use Rattle.lsp_replay.specs.Session.{Session, Verdict, recorded, bad, judge_at, judge_from, hear_for}
-use Rattle.lsp_replay.specs.inside.Bodies.{BodyData, body_read}
-use Rattle.lsp_replay.specs.inside.Noting.{notes_on_read}
-use Rattle.lsp_replay.proofs.CanonicalLogLemmas.{heard_for}
+use Rattle.lsp_replay.specs.Notes.{Terms, change_notes, left_by, note_words, notes_after, notes_from, replaced_by, taken_as}
 
 -- ---- a position
 
@@ -136,31 +126,6 @@ module _ (terms : Terms) (all : List Note) (index : ℕ) (change : Change) (rest
 
 pub noting_done : (terms : Terms) (all : List Note) (index : ℕ) (rest : List Change) (left : List ℕ) (notes : List Note) → rest ≡ [] → Noting terms all index rest left notes → notes ≡ all
 noting_done terms all index rest left notes none noting = sym (append-nil notes) ∙ (rw none at noting.noted)
-
--- ---- a record
-
--- The notes by what a session read, and by the bytes of the body.
-pub notes_are : (s t : Session) (ranged : Bool) (body : List ℕ) (m : IncomingData) (verdict wanted : Verdict) (notes found : List Note) → t ≡ s → m ≡ incoming_of (reading body) → verdict ≡ wanted
-    → notes ≡ notes_on t.server ranged (reading body) m → found ≡ notes_if notes verdict → found ≡ notes_of s ranged body wanted
-notes_are s t ranged body m verdict wanted notes found same read judged are is =
-    is ∙ ap₂ notes_if (are ∙ ap (λ (u : Session). notes_on u.server ranged (reading body) m) same ∙ ap (notes_on s.server ranged (reading body)) read) judged
-
-module _ (s : Session) (ranged : Bool) (body : List ℕ) where
-  no_notes : (notes : List Note) (verdict : Verdict) → (verdict ≡ recorded) ⊎ (verdict ≡ bad) → notes_if notes verdict ≡ []
-  no_notes notes verdict (inl e) = rw e refl
-  no_notes notes verdict (inr e) = rw e refl
-
-  by_side : (version : Version) (side : Side) → notes_if (notes_on_read s.server ranged (reading body) (body_read version side body)) (judge_from s version side body).verdict ≡ notes_of s ranged body (judge_from s version side body).verdict
-  by_side version Client = refl
-  by_side version Server =
-      let heard = heard_for s s.expected body in
-      no_notes [] (hear_for s s.expected body).verdict heard ∙ sym (no_notes (notes_on s.server ranged (reading body) (incoming_of (reading body))) (hear_for s s.expected body).verdict heard)
-
-  pub notes_read : (head : Head) (t : Session) (read : BodyData) (verdict : Verdict) (notes found : List Note) → t ≡ s → read ≡ body_read head.version head.side body → verdict ≡ (judge_at s head body).verdict
-      → notes ≡ notes_on_read t.server ranged (reading body) read → found ≡ notes_if notes verdict → found ≡ notes_of s ranged body (judge_at s head body).verdict
-  notes_read head t read verdict notes found same is_read judged are is =
-      is ∙ ap₂ notes_if (are ∙ ap (λ (u : Session). notes_on_read u.server ranged (reading body) read) same ∙ ap (notes_on_read s.server ranged (reading body)) is_read) judged
-      ∙ by_side head.version head.side
 
 -- ---- in words
 

@@ -8,6 +8,7 @@
 //! - `counting`: what counts as refused.
 //! - `keeping`: the text of a document, kept when it is closed.
 //! - `noting`: what is suspicious of a message.
+//! - `known`: what is known of the records before one.
 //! - `tracing`: what a record is, whatever is answered.
 
 ghost use Rattle.std.specs.Prelude.{◌≡◌, ◌≢◌, ◌⊎◌, IfErr, IfOk, OnErr, OnOk, MatchOption, Some, None};
@@ -20,6 +21,7 @@ ghost use Rattle.lsp_replay.specs.inside.Verdicts.{verdict_view};
 pub(crate) mod counting;
 pub(crate) mod joining;
 mod keeping;
+pub(crate) mod known;
 pub(crate) mod noting;
 pub(crate) mod planning;
 pub(crate) mod results;

@@ -1,11 +1,12 @@
 //! `check` with reasons: what a server answers to each record of a log, why it was refused, and
 //! what is suspicious of it.
 
-ghost use Rattle.std.specs.Prelude.{◌≡◌, ◌++◌, refl, OnOk, false, option_map};
+ghost use Rattle.std.specs.Prelude.{◌≡◌, ◌++◌, refl, OnOk, false, option_map, string_bytes};
 ghost use Rattle.lsp_message.specs.Message.{reading};
 ghost use Rattle.lsp_server.specs.Incoming.{incoming_of};
-ghost use Rattle.lsp_replay.specs.Explained.{advice, advice_if_strict, document_words, explained_in, explanation};
-ghost use Rattle.lsp_replay.specs.Explained.{first_advice, found_with, has_notes, is_strict, nothing_found, remark};
+ghost use Rattle.lsp_replay.specs.Engines.{change_in};
+ghost use Rattle.lsp_replay.specs.Explained.{advice, advice_if_strict, document_words, explaining, explanation, first_advice, remark, see_words};
+ghost use Rattle.lsp_replay.specs.Lines.{lines_in, nothing_known};
 ghost use Rattle.lsp_replay.specs.Session.{opened};
 ghost use Rattle.lsp_replay.specs.inside.Explained.{line_by};
 ghost use Rattle.lsp_replay.specs.inside.Verdicts.{verdict_view};
@@ -16,91 +17,47 @@ use crate::commands::reasons::push_reason;
 use crate::commands::tracing::change_in;
 use crate::handler::{Given, Handler, Output};
 use crate::members::{push_json_string, push_number, push_words};
-use crate::notes::Note;
 use crate::outcome::Outcome;
 use crate::session::counting::is_refused;
-use crate::session::tracing::uri_of;
+use crate::session::known::{Known, Noted};
 use crate::session::{Session, Verdict};
-use lsp_log::{Head, Side};
-use lsp_server::{Answer, Config, Incoming, Refusal};
-use lsp_store::StoreFault;
+use lsp_log::Head;
+use lsp_server::{Config, Incoming};
 use lsp_stream::EngineFault;
 use std::alloc::{AllocError, Global};
-
-/// What was found in the records so far.
-#[derive(Clone, Copy, Debug, PartialEq, Eq)]
-pub struct Found {
-    /// One has notes.
-    pub suspicious: bool,
-    /// One is refused with S1 or S5, which lenient limits never do.
-    pub strict: bool,
-}
-
-impl Found {
-    /// Nothing, before the first record.
-    fn nothing() -> Self
-        ensures { result ≡ nothing_found }
-    {
-        Found {
-            suspicious: false,
-            strict: false,
-        }
-    }
-
-    /// What is found with a record more.
-    fn after(self, notes: &[Note], verdict: &Verdict) -> Self
-        ensures { result ≡ found_with self notes.now (verdict_view verdict.now) }
-    {
-        Found {
-            suspicious: self.suspicious || has_notes(notes),
-            strict: self.strict || is_strict(verdict),
-        }
-    }
-}
 
 /// Writes a line for each record, and at the end what to do next.
 #[derive(Drop)]
 pub struct Explain {
     pub session: Session,
-    pub found: Found,
-    /// Did the server ask for ranges?
-    pub ranged: bool,
+    pub known: Known,
     pub alloc: Global,
 }
 
 impl Explain {
     /// Starts before the first record, over a new server.
     pub fn new(alloc: Global, config: Config) -> Explain
-        ensures { explained_in result.found result.ranged result.session
-            ≡ explained_in nothing_found false (opened config) }
+        ensures { lines_in explaining result.known result.session
+            ≡ lines_in explaining nothing_known (opened config) }
     {
         let session = Session::new(alloc, config);
         Explain {
             session,
-            found: Found::nothing(),
-            ranged: false,
+            known: Known::nothing(alloc),
             alloc,
         }
     }
 
     /// Writes the line of the last record.
-    fn push_last(
-        &self,
-        buffer: &mut Vec<u8>,
-        side: Side,
-        body: &[u8],
-        verdict: &Verdict,
-        notes: &[Note],
-    ) -> Result<(), AllocError>
+    fn push_last(&self, buffer: &mut Vec<u8>, body: &[u8], noted: &Noted) -> Result<(), AllocError>
         ensures { OnOk result (buffer.new.items ≡ buffer.old.items
-            ++ line_by self.now.session side (incoming_of (reading body.now))
-            (verdict_view verdict.now) notes.now) }
+            ++ line_by self.now.session (incoming_of (reading body.now)) noted.now) }
     {
         push_number(buffer, self.session.records())?;
         buffer.extend_from_slice(b" ")?;
-        push_verdict(buffer, verdict)?;
-        self.push_explanation(buffer, side, body, verdict)?;
-        self.push_remark(buffer, side, body, notes)?;
+        push_verdict(buffer, &noted.verdict)?;
+        self.push_explanation(buffer, body, noted)?;
+        push_remark(self.alloc, buffer, noted)?;
         buffer.extend_from_slice(b"\n")
     }
 
@@ -108,15 +65,15 @@ impl Explain {
     fn push_explanation(
         &self,
         buffer: &mut Vec<u8>,
-        side: Side,
         body: &[u8],
-        verdict: &Verdict,
+        noted: &Noted,
     ) -> Result<(), AllocError>
         ensures { OnOk result (buffer.new.items ≡ buffer.old.items
-            ++ explanation self.now.session.server.config.limits side
-            (incoming_of (reading body.now)) (verdict_view verdict.now)) }
+            ++ explanation self.now.session.server.config.limits
+            (option_map string_bytes noted.now.uri) (change_in (incoming_of (reading body.now)))
+            noted.now.last (verdict_view noted.now.verdict)) }
     {
-        let Verdict::Answered(answer) = verdict else {
+        let Verdict::Answered(answer) = &noted.verdict else {
             return Ok(());
         };
         if !is_refused(answer) {
@@ -124,35 +81,15 @@ impl Explain {
         }
         let incoming = Incoming::read(self.alloc, body)?;
         let limits = self.session.server().store().limits();
-        push_document(self.alloc, buffer, uri_of(side, &incoming))?;
+        push_document(self.alloc, buffer, &noted.uri)?;
         buffer.extend_from_slice(b": ")?;
-        push_reason(buffer, limits, change_in(&incoming), answer)
-    }
-
-    /// Writes what is suspicious of the last record, if something is. Then its body is read once
-    /// more.
-    fn push_remark(
-        &self,
-        buffer: &mut Vec<u8>,
-        side: Side,
-        body: &[u8],
-        notes: &[Note],
-    ) -> Result<(), AllocError>
-        ensures { OnOk result (buffer.new.items ≡ buffer.old.items
-            ++ remark side (incoming_of (reading body.now)) notes.now) }
-    {
-        if notes.is_empty() {
-            return Ok(());
-        }
-        let incoming = Incoming::read(self.alloc, body)?;
-        push_document(self.alloc, buffer, uri_of(side, &incoming))?;
-        buffer.extend_from_slice(b": ")?;
-        push_notes(buffer, "; ", notes)
+        push_reason(buffer, limits, change_in(&incoming), answer)?;
+        push_see(buffer, noted.last)
     }
 }
 
 impl Handler for Explain {
-    ghost run_output = { λ explain. explained_in explain.found explain.ranged explain.session };
+    ghost run_output = { λ explain. lines_in explaining explain.known explain.session };
 
     ghost FLUSHES = { false };
 
@@ -171,11 +108,8 @@ impl Handler for Explain {
         body: &[u8],
         buffer: &mut Vec<u8>,
     ) -> Result<Given, EngineFault> {
-        let ranged = self.session.ranged_after(self.ranged, head, body)?;
-        let (verdict, notes) = self.session.accept_and_note(self.ranged, head, body)?;
-        self.push_last(buffer, head.side, body, &verdict, &notes)?;
-        self.found = self.found.after(&notes, &verdict);
-        self.ranged = ranged;
+        let noted = self.session.accept_and_note(&mut self.known, head, body)?;
+        self.push_last(buffer, body, &noted)?;
         Ok(Given::more(Output::Bytes))
     }
 
@@ -184,49 +118,57 @@ impl Handler for Explain {
         _line_due: bool,
         buffer: &mut Vec<u8>,
     ) -> Result<Option<Outcome>, EngineFault> {
-        push_advice(buffer, self.session.refusals(), self.found)?;
+        push_advice(buffer, self.session.refusals(), &self.known)?;
         Ok(Some(self.session.outcome()))
     }
 }
 
-/// Writes the document that a record is about.
-fn push_document(alloc: Global, buffer: &mut Vec<u8>, uri: Option<&str>) -> Result<(), AllocError>
+/// Writes what is suspicious of a record, if something is.
+fn push_remark(alloc: Global, buffer: &mut Vec<u8>, noted: &Noted) -> Result<(), AllocError>
     ensures { OnOk result (buffer.new.items ≡ buffer.old.items
-        ++ document_words (option_map (λ uri. uri.now) uri.entry)) }
+        ++ remark (option_map string_bytes noted.now.uri) noted.now.notes.items) }
+{
+    if noted.notes.is_empty() {
+        return Ok(());
+    }
+    push_document(alloc, buffer, &noted.uri)?;
+    buffer.extend_from_slice(b": ")?;
+    push_notes(buffer, "; ", &noted.notes)
+}
+
+/// Writes the document that a record is about.
+fn push_document(
+    alloc: Global,
+    buffer: &mut Vec<u8>,
+    uri: &Option<String>,
+) -> Result<(), AllocError>
+    ensures { OnOk result (buffer.new.items ≡ buffer.old.items
+        ++ document_words (option_map string_bytes uri.now)) }
 {
     let Some(uri) = uri else {
         return Ok(());
     };
     buffer.extend_from_slice(b" of ")?;
-    push_json_string(alloc, buffer, uri)
+    push_json_string(alloc, buffer, uri.as_str())
 }
 
-/// Is there a note?
-fn has_notes(notes: &[Note]) -> bool
-    ensures { result ≡ has_notes notes.now }
+/// Writes which record to look at, if there is one.
+fn push_see(buffer: &mut Vec<u8>, last: Option<u64>) -> Result<(), AllocError>
+    ensures { OnOk result (buffer.new.items ≡ buffer.old.items ++ see_words last) }
 {
-    !notes.is_empty()
-}
-
-/// Is a record refused with S1 or S5?
-fn is_strict(verdict: &Verdict) -> bool
-    ensures { result ≡ is_strict (verdict_view verdict.now) }
-{
-    matches!(
-        verdict,
-        Verdict::Answered(Answer::Refused(Refusal::Store(
-            StoreFault::AlreadyOpen | StoreFault::StaleVersion { .. }
-        )))
-    )
+    let Some(number) = last else {
+        return Ok(());
+    };
+    buffer.extend_from_slice(b"; see message ")?;
+    push_number(buffer, number)
 }
 
 /// Writes what to do next, after so many refusals.
-fn push_advice(buffer: &mut Vec<u8>, refusals: u64, found: Found) -> Result<(), AllocError>
-    ensures { OnOk result
-        (buffer.new.items ≡ buffer.old.items ++ advice refusals found) }
+fn push_advice(buffer: &mut Vec<u8>, refusals: u64, known: &Known) -> Result<(), AllocError>
+    ensures { OnOk result (buffer.new.items ≡ buffer.old.items ++ advice refusals known.now) }
 {
-    push_words(buffer, first_advice(refusals, found.suspicious))?;
-    push_words(buffer, advice_if_strict(found.strict))
+    push_words(buffer, first_advice(refusals, known.is_suspicious()))?;
+    push_words(buffer, advice_if_strict(known.is_strict()))
 }
 
 /// What to do first, after so many refusals.

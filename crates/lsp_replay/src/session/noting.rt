@@ -5,17 +5,20 @@ ghost use Rattle.lsp_message.specs.Message.{reading};
 ghost use Rattle.lsp_message.specs.Seen.{change_view};
 ghost use Rattle.lsp_server.specs.Seen.{incoming_view};
 ghost use Rattle.lsp_store.specs.Table.{entry_at};
-ghost use Rattle.lsp_replay.specs.Notes.{changing_notes, notes_if, notes_of, notes_on, opening_notes, terms_in, version_notes};
+ghost use Rattle.lsp_replay.specs.Lines.{known_after};
+ghost use Rattle.lsp_replay.specs.Notes.{changing_notes, notes_if, notes_on, opening_notes, terms_in, version_notes};
 ghost use Rattle.lsp_replay.specs.Session.{bad, judge_at};
 ghost use Rattle.lsp_replay.specs.inside.Bodies.{body_view};
-ghost use Rattle.lsp_replay.specs.inside.Noting.{notes_on_read};
+ghost use Rattle.lsp_replay.specs.inside.Known.{IsAbout, IsNoted};
 ghost use Rattle.lsp_replay.specs.inside.Verdicts.{verdict_view};
 
 use crate::notes::Note;
 use crate::notes::changes::{Terms, push_batch_notes};
 use crate::notes::lengths::range_lengths;
+use crate::session::known::{About, Known, Noted};
+use crate::session::tracing::{copied_text, is_change, uri_of};
 use crate::session::{RecordBody, Session, Verdict, in_log};
-use lsp_log::Head;
+use lsp_log::{Head, Side};
 use lsp_message::{ChangeParams, OpenParams};
 use lsp_server::{Answer, Incoming};
 use lsp_stream::EngineFault;
@@ -23,68 +26,75 @@ use lsp_text::Encoding;
 use std::alloc::AllocError;
 
 impl Session {
-    /// Judges a record as [`Session::accept`] does, and returns what is suspicious of it if it was
-    /// accepted. `ranged`: did the server ask for ranges?
+    /// Judges a record as [`Session::accept`] does, and returns what is noted of it, by what is
+    /// known of the records before.
     pub fn accept_and_note(
         &mut self,
-        ranged: bool,
+        known: &mut Known,
         head: Head,
         body: &[u8],
-    ) -> Result<(Verdict, Vec<Note>), EngineFault>
-        ensures verdict { IfOk result
-            (λ noted. verdict_view noted.0 ≡ (judge_at self.old head body.now).verdict) }
-        ensures notes { IfOk result (λ noted. noted.1.items
-            ≡ notes_of self.old ranged body.now (judge_at self.old head body.now).verdict) }
-        ensures in_log { IfOk result (λ noted. verdict_view noted.0 ≢ bad) }
+    ) -> Result<Noted, EngineFault>
+        ensures noted { IfOk result (IsNoted known.old self.old head body.now) }
+        ensures in_log { IfOk result (λ noted. verdict_view noted.verdict ≢ bad) }
         ensures session { OnOk result (self.new ≡ (judge_at self.old head body.now).session) }
+        ensures known { OnOk result (known.new ≡ known_after known.old self.old head body.now
+            (judge_at self.old head body.now)) }
         ensures error { IfErr result (λ fault. (fault ≡ EngineFault.NoMemory)
             ⊎ ((fault ≡ EngineFault.BadLog head.place)
             × ((judge_at self.old head body.now).verdict ≡ bad))) }
     {
-        let (verdict, notes) = self.judge_and_note(ranged, head, body)?;
-        in_log(&verdict, head.place)?;
-        Ok((verdict, notes))
+        let noted = self.judge_and_note(known, head, body)?;
+        in_log(&noted.verdict, head.place)?;
+        Ok(noted)
     }
 
-    /// Judges a record as [`Session::judge`] does, and returns its notes.
+    /// Judges a record as [`Session::judge`] does, and returns what is noted of it.
     fn judge_and_note(
         &mut self,
-        ranged: bool,
+        known: &mut Known,
         head: Head,
         body: &[u8],
-    ) -> Result<(Verdict, Vec<Note>), AllocError>
-        ensures verdict { IfOk result
-            (λ noted. verdict_view noted.0 ≡ (judge_at self.old head body.now).verdict) }
-        ensures notes { IfOk result (λ noted. noted.1.items
-            ≡ notes_of self.old ranged body.now (judge_at self.old head body.now).verdict) }
+    ) -> Result<Noted, AllocError>
+        ensures noted { IfOk result (IsNoted known.old self.old head body.now) }
         ensures session { OnOk result (self.new ≡ (judge_at self.old head body.now).session) }
+        ensures known { OnOk result (known.new ≡ known_after known.old self.old head body.now
+            (judge_at self.old head body.now)) }
     {
+        let was_ranged = known.is_ranged();
+        let ranged = self.ranged_after(was_ranged, head, body)?;
         let read = self.read(head, body)?;
-        let notes = self.notes_on_read(ranged, body, &read)?;
+        let about = self.about(was_ranged, body, &read)?;
         let verdict = self.take(read)?;
-        let notes = notes_if(notes, &verdict);
-        Ok((verdict, notes))
+        known.learn(ranged, self.records, about, verdict)
     }
 
-    /// Returns what there is to note of a record, if it is accepted.
-    fn notes_on_read(
+    /// Returns what a record is about that was read. A server's record is about no document.
+    pub(super) fn about(
         &self,
         ranged: bool,
         body: &[u8],
         read: &RecordBody<'_>,
-    ) -> Result<Vec<Note>, AllocError>
-        ensures { IfOk result (λ notes. notes.items
-            ≡ notes_on_read self.now.server ranged (reading body.now) (body_view read.now)) }
+    ) -> Result<About, AllocError>
+        ensures { IfOk result
+            (IsAbout self.now.server ranged (reading body.now) (body_view read.now)) }
     {
-        match read {
-            RecordBody::Client(_, incoming) => self.notes_on(ranged, body, incoming),
-            RecordBody::Server(_) => Ok(Vec::new(self.alloc)),
-        }
+        let RecordBody::Client(_, incoming) = read else {
+            return Ok(About {
+                uri: None,
+                is_change: false,
+                notes: Vec::new(self.alloc),
+            });
+        };
+        Ok(About {
+            uri: copied_text(self.alloc, uri_of(Side::Client, incoming))?,
+            is_change: is_change(incoming),
+            notes: self.notes_on(ranged, body, incoming)?,
+        })
     }
 
     /// Returns what there is to note of a message, if it is accepted. The body of a change is read
     /// once more.
-    pub fn notes_on(
+    fn notes_on(
         &self,
         ranged: bool,
         body: &[u8],

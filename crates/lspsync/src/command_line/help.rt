@@ -236,8 +236,8 @@ static CHECK_EXAMPLE: &str =
 `dropped`, `ignored` or `refused CAUSE` for a notification, `exit 0` or `exit 1`, and `server` for
 what the server sent. The status is 1 where an error (other than -32601) or a refusal is among them.
 
-With `--explain` a line of an error, a refusal or `exit 1` also has the document and the reason, one of
-a suspicious message notes, and a last line says what to do next.
+With `--explain` a line of an error, a refusal or `exit 1` also has the document, the reason and the
+message to see, one of a suspicious message notes, and a last line says what to do next.
 
 Example, a session with two changes that a server must refuse:
   ./lspsync check < examples/stale-version.log

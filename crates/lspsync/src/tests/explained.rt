@@ -44,7 +44,7 @@ static ROWS: [Row; 5] = [
     Row(
         &[INITIALIZE, OPEN, OPEN],
         1,
-        "1 reply\n2 changed\n3 refused S1 of \"file:///a\": the document is open already\n",
+        "1 reply\n2 changed\n3 refused S1 of \"file:///a\": the document is open already; see message 2\n",
         TRY,
     ),
     Row(
