@@ -1,7 +1,7 @@
 //! What is suspicious of the changes of a message, each on the text that the one before it leaves.
 
 ghost use Rattle.std.specs.Prelude.{◌≡◌, ◌≤◌, ◌++◌, IfNone, IfOk, IfSome, OnOk, None, Ok, Some, if◌then◌else◌, length, map, option_map};
-ghost use Rattle.std.specs.Str.{IsCharBoundary, chars};
+ghost use Rattle.std.specs.Str.{IsCharBoundary, bytes_eq, chars};
 ghost use Rattle.lsp_text.specs.LineStarts.{Indexes};
 ghost use Rattle.lsp_text.specs.Units.{units_in};
 ghost use Rattle.lsp_edit.specs.Edited.{edit_of};
@@ -280,7 +280,6 @@ fn replaced_by<'a>(
 }
 
 /// Notes a text that is what it replaces.
-#[tactic(auto, using(crate::proofs::NoteLemmas::same_chars))]
 fn push_same_note(
     notes: &mut Vec<Note>,
     index: usize,
@@ -293,8 +292,16 @@ fn push_same_note(
     let Some(replaced) = replaced else {
         return Ok(());
     };
-    if new == replaced {
+    if is_same_text(new, replaced) {
         notes.push(Note::SameText { change: index })?;
     }
     Ok(())
+}
+
+/// Are two texts equal?
+#[tactic(auto, using(crate::proofs::NoteLemmas::same_chars))]
+fn is_same_text(text: &str, other: &str) -> bool
+    ensures { result ≡ bytes_eq (chars text.now) (chars other.now) }
+{
+    text == other
 }

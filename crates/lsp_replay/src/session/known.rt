@@ -116,8 +116,8 @@ impl Known {
             notes,
         } = about;
         let last = last_for(&self.mentions, &uri, &verdict);
-        let is_mention = is_mention(is_change, &verdict);
-        self.mentions.keep(is_mention, &uri, number)?;
+        let counts = is_mention(is_change, &verdict);
+        self.mentions.keep(counts, &uri, number)?;
         let notes = notes_if(notes, &verdict);
         self.ranged = ranged;
         self.suspicious = self.suspicious || has_notes(notes.as_slice());

@@ -202,10 +202,10 @@ static EXPLAINED: Wanted = Wanted {
     parts: &[
         "1 reply\n",
         "2 changed\n",
-        "3 refused S1 of \"file:///a\": the document is open already\n",
+        "3 refused S1 of \"file:///a\": the document is open already; see message 2\n",
         "Refused messages change nothing. `lspsync replay --at N`: the texts after message N.\nMany servers don't refuse what is S1 or S5 here. `--lenient` doesn't either.\n",
     ],
-    lengths: &[8, 18, 76, 238],
+    lengths: &[8, 18, 91, 253],
     end: Ended(1, 3, 1),
 };
 
