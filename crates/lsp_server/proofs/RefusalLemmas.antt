@@ -1,5 +1,5 @@
 -- A message that isn't obeyed changes nothing.
-use Rattle.std.proofs.Common.{◌≡◌, None, IsSome, Result, Ok, Err, IfOk, OnOk, subst, ◌∙◌}
+use Rattle.std.proofs.Common.{◌≡◌, refl, None, IsSome, Ok, subst, ◌∙◌}
 use Rattle.std.specs.Prelude.{⊤}
 use Rattle.lsp_message.specs.declared.outgoing.ErrorCode.{ErrorCode}
 use Rattle.lsp_message.specs.Outgoing as outgoing
@@ -9,6 +9,7 @@ use Rattle.lsp_server.specs.declared.answer.Answer.{Answer}
 use Rattle.lsp_server.specs.declared.answer.Answer.TheVariants.{Reply, Changed, Dropped, Ignored, Refused}
 use Rattle.lsp_server.specs.declared.answer.Answer.TheVariants as variants
 use Rattle.lsp_server.specs.Answer.{AnswerData, Sent, reply, changed, dropped, ignored, already_ended, refused, exits, as_sent}
+use Rattle.lsp_server.specs.Calls.{IsRowOf}
 use Rattle.lsp_server.specs.Laws.{IsRefusal}
 use Rattle.lsp_server.specs.Seen.{answer_view, IsRefusing}
 use Rattle.lsp_server.specs.Step.{State, step_on}
@@ -51,8 +52,6 @@ as_answered (refused why) h = tt
 as_answered (exits status) h = h
 
 -- After a call that took a step and was refused the server is as before.
-pub refused_stays : {E : Type 0} (s new : State) (m : IncomingData) (result : Result Answer E) → IfOk result (λ a. answer_view a ≡ as_sent (step_on s m).answer) → OnOk result (new ≡ (step_on s m).state)
-    → IfOk result (λ a. IsRefusing a → new ≡ s)
-refused_stays s new m (Ok a) answer state =
-    λ refusing. state ∙ (kept s.phase s m refl).refusal (as_answered (step_on s m).answer (subst IsRefusingSent answer (as_viewed a refusing)))
-refused_stays s new m (Err e) answer state = tt
+pub refused_stays : {E : Type 0} (s new : State) (m : IncomingData) (a : Answer) → IsRowOf {E = E} (step_on s m) (Ok a) s new → IsRefusing a → new ≡ s
+refused_stays s new m a row refusing =
+    row.taken.state ∙ (kept s.phase s m refl).refusal (as_answered (step_on s m).answer (subst IsRefusingSent row.taken.answer (as_viewed a refusing)))

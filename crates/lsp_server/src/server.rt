@@ -140,7 +140,6 @@ impl Server {
     ///
     /// Costs one parse of the body, whose texts are moved into the store; then what the command
     /// costs there, or the reply's bytes.
-    #[tactic(auto, using(crate::proofs::RefusalLemmas::refused_stays))]
     pub fn handle(&mut self, body: &[u8]) -> Result<Answer, ServerFault>
         ensures answer { IfOk result
             (λ a. answer_view a ≡ as_sent (step self.old (reading body.now)).answer) }
@@ -177,7 +176,6 @@ impl Server {
     /// Returns what [`handle`](Server::handle) returns for that body, with the same faults. It
     /// consumes what was read, so after [`ServerFault::NoMemory`] the body has to be read again.
     /// Nothing is parsed: costs a reply's bytes, or what the command costs in the store.
-    #[tactic(auto, using(crate::proofs::RefusalLemmas::refused_stays))]
     pub fn handle_incoming(&mut self, incoming: Incoming) -> Result<Answer, ServerFault>
         ensures answer { IfOk result
             (λ a. answer_view a ≡ as_sent (step_on self.old (incoming_view incoming)).answer) }
