@@ -1,9 +1,11 @@
 -- What is noted of a message.
-use Rattle.std.proofs.Common.{◌≡◌, ℕ, suc, ◌+◌, ◌≤◌, Bool, true, false, List, [], ◌∷◌, ◌++◌, length, map, Option, Some, None, refl, sym, ap, ap₂, ◌∙◌, arith, append_assoc, append-nil, option_map, encode_utf8_all, le-leb}
+use Rattle.std.proofs.Common.{◌≡◌, ℕ, suc, ◌+◌, ◌<◌, ◌≤◌, Bool, true, false, List, [], ◌∷◌, ◌++◌, length, map, Option, Some, None, refl, sym, ap, ap₂, ◌∙◌, arith, append_assoc, append-nil, option_map, encode_utf8_all, le-leb, nat_lt, string_bytes, string_len}
 use Rattle.std.specs.Prelude.{Result, Ok, Err, flat_map, slice_range}
+use Rattle.std.specs.Result.{result_ok}
 use Rattle.std.specs.Str.{IsUtf8, bytes_eq, chars}
+use Rattle.std.proofs.lemmas.Bool.{le-ltb, lt-ltb}
 use Rattle.std.proofs.lemmas.Slice.Eq.{bytes_eq-Decides}
-use Rattle.std.proofs.lemmas.Str.{encodes-chars}
+use Rattle.std.proofs.lemmas.Str.{IsUtf8-string_bytes, encodes-chars}
 use Rattle.lsp_text.specs.Positions.{denoted, exact_position}
 use Rattle.lsp_text.specs.Text.{place_of}
 use Rattle.lsp_text.specs.declared.position.Position.{Position}
@@ -11,10 +13,12 @@ use Rattle.lsp_text.specs.declared.position.Range.{Range}
 use Rattle.lsp_text.proofs.PositionLemmas.{denoted_whole}
 use Rattle.lsp_text.proofs.ResolveLemmas.{chars_part}
 use Rattle.lsp_edit.specs.declared.change.Change.{Change}
-use Rattle.lsp_edit.specs.Batch.{Edit, Fault}
+use Rattle.lsp_edit.specs.Batch.{Edit, Fault, meaning}
 use Rattle.lsp_edit.specs.Edited.{edit_of}
 use Rattle.lsp_edit.specs.Faults.{ends_of, places_at}
+use Rattle.lsp_edit.specs.Indexed.{text_within}
 use Rattle.lsp_edit.specs.declared.fault.EditFault.{EditFault}
+use Rattle.lsp_edit.specs.declared.indexed.TextFault.{TextFault}
 use Rattle.lsp_edit.proofs.AppliedLemmas.{ends_told}
 use Rattle.lsp_message.specs.Seen.{edit_view}
 use Rattle.lsp_server.specs.Step.{edit_from_data}
@@ -82,9 +86,20 @@ same_chars a b utf8_a utf8_b = by (bytes_eq (chars a) (chars b)) (bytes_eq a b) 
 
 -- ---- the changes of a message
 
--- A text has the bytes of its characters.
-pub long_text : (bytes : List ℕ) → IsUtf8 bytes → length (encode_utf8_all (chars bytes)) ≡ length bytes
-long_text bytes utf8 = ap length (encodes-chars bytes utf8)
+-- The text of a change has the bytes of its characters.
+long_text : (change : Change) → length (encode_utf8_all (chars (string_bytes change.text))) ≡ string_len change.text
+long_text change = ap length (encodes-chars (string_bytes change.text) (IsUtf8-string_bytes change.text)) ∙ sym change.text.bytes.ok.0
+
+module _ (units : ℕ → ℕ) (text : List ℕ) (change : Change) where
+  pub nothing_left : 1073741824 < string_len change.text → left_by units text (edit_of change) ≡ None
+  nothing_left long =
+      let e : nat_lt 1073741824 (length (encode_utf8_all (chars (string_bytes change.text)))) ≡ true = lt-ltb 1073741824 (length (encode_utf8_all (chars (string_bytes change.text)))) (omega (arith, long, long_text change)) in
+      rw e refl
+
+  pub text_left : (left : List ℕ) → string_len change.text ≤ 1073741824 → text_within 1073741824 text (meaning units (chars text) (edit_of change ∷ [])) ≡ Ok left → left_by units text (edit_of change) ≡ Some left
+  text_left left fits is =
+      let e : nat_lt 1073741824 (length (encode_utf8_all (chars (string_bytes change.text)))) ≡ false = le-ltb 1073741824 (length (encode_utf8_all (chars (string_bytes change.text)))) (omega (arith, fits, long_text change)) in
+      rw e (ap (λ (r : Result (List ℕ) TextFault). result_ok r) is)
 
 -- A change, by what the reader returns of it.
 pub edits_read : (changes : List Change) → map edit_from_data (map edit_view changes) ≡ map edit_of changes

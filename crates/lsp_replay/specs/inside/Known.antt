@@ -36,13 +36,13 @@ pub record IsAbout (s : State) (ranged : Bool) (body : Reading) (read : BodyData
 -- ---- after it
 
 -- By what the record is about, and the verdict.
-pub record IsLearned (known : Known) (about : About) (verdict : declared.Verdict) (noted : Noted) :
+pub record IsLearned (known : Known) (about : About) (judged : declared.Verdict) (noted : Noted) :
     Type 0 where
-  pub verdict : noted.verdict ≡ verdict
+  pub verdict : noted.verdict ≡ judged
   pub uri : noted.uri ≡ about.uri
   pub last : noted.last
-      ≡ last_for known.mentions (option_map string_bytes about.uri) (verdict_view verdict)
-  pub notes : noted.notes.items ≡ notes_if about.notes.items (verdict_view verdict)
+      ≡ last_for known.mentions (option_map string_bytes about.uri) (verdict_view judged)
+  pub notes : noted.notes.items ≡ notes_if about.notes.items (verdict_view judged)
 
 -- What is known after a record with this number.
 abbrev pub known_by : Known → Bool → ℕ → About → declared.Verdict → Known

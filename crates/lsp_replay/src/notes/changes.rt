@@ -87,7 +87,6 @@ fn push_several(
 }
 
 /// Applies a change to a text. Returns false, and changes nothing, where nothing is left by it.
-#[tactic(auto, using(crate::proofs::NoteLemmas::long_text))]
 fn leave(text: &mut IndexedText, encoding: Encoding, change: &Change) -> Result<bool, AllocError>
     requires { length text.old ≤ 1073741824 }
     ensures left { IfOk result (λ is_left. left_by (units_in encoding) text.old (edit_of change.now)
@@ -268,7 +267,7 @@ fn replaced_by<'a>(
     encoding: Encoding,
     range: Option<Range>,
 ) -> Option<&'a str>
-    requires { Indexes lines.now text.entry.now }
+    requires { Indexes lines.now text.now }
     ensures { option_map (λ part. chars part.now) result
         ≡ replaced_by (units_in encoding) (chars text.entry.now) range }
 {
