@@ -1,5 +1,5 @@
 -- What is noted of a message.
-use Rattle.std.proofs.Common.{◌≡◌, ℕ, suc, ◌+◌, ◌<◌, ◌≤◌, Bool, true, false, List, [], ◌∷◌, ◌++◌, length, map, Option, Some, None, refl, sym, ap, ap₂, ◌∙◌, arith, append_assoc, append-nil, option_map, encode_utf8_all, le-leb, nat_lt, string_bytes, string_len}
+use Rattle.std.proofs.Common.{◌≡◌, ℕ, suc, ◌+◌, ◌<◌, ◌≤◌, Bool, true, false, List, [], ◌∷◌, ◌++◌, length, map, Option, Some, None, refl, sym, ap, ap₂, ◌∙◌, arith, append_assoc, append-nil, option_map, encode_utf8_all, get_or, le-leb, nat_lt, string_bytes, string_len}
 use Rattle.std.specs.Prelude.{Result, Ok, Err, flat_map, slice_range}
 use Rattle.std.specs.Result.{result_ok}
 use Rattle.std.specs.Str.{IsUtf8, bytes_eq, chars}
@@ -23,7 +23,7 @@ use Rattle.lsp_edit.proofs.AppliedLemmas.{ends_told}
 use Rattle.lsp_message.specs.Seen.{edit_view}
 use Rattle.lsp_server.specs.Step.{edit_from_data}
 use Rattle.lsp_replay.specs.declared.notes.Note.{Note}
-use Rattle.lsp_replay.specs.Notes.{Terms, change_notes, left_by, note_words, notes_after, notes_from, replaced_by, taken_as}
+use Rattle.lsp_replay.specs.Notes.{Terms, batch_notes, change_notes, left_by, note_words, notes_after, notes_from, replaced_by, taken_as}
 
 -- ---- a position
 
@@ -110,10 +110,15 @@ nothing_after : (left : Option (List ℕ)) → notes_after (λ (next : List ℕ)
 nothing_after None = refl
 nothing_after (Some next) = refl
 
-pub one_change : (terms : Terms) (text : List ℕ) (change : Edit) → notes_from terms 0 text (change ∷ []) ≡ change_notes terms (chars text) 0 change
+one_change : (terms : Terms) (text : List ℕ) (change : Edit) → notes_from terms 0 text (change ∷ []) ≡ change_notes terms (chars text) 0 change
 one_change terms text change =
     ap (λ (notes : List Note). change_notes terms (chars text) 0 change ++ notes) (nothing_after (left_by terms.units text change))
     ∙ append-nil (change_notes terms (chars text) 0 change)
+
+pub one_noted : (terms : Terms) (text : List ℕ) (changes : List Change) (change : Change) → length changes ≡ 1 → change ≡ get_or changes 0 change → batch_notes terms text (map edit_of changes) ≡ change_notes terms (chars text) 0 (edit_of change)
+one_noted terms text [] change one is = absurd (omega (arith, one))
+one_noted terms text (first ∷ []) change one is = one_change terms text (edit_of first) ∙ ap (λ (c : Change). change_notes terms (chars text) 0 (edit_of c)) (sym is)
+one_noted terms text (first ∷ second ∷ more) change one is = absurd (omega (arith, one))
 
 -- How far changes were noted: what there is to note of the rest leads to all.
 pub record Noting (terms : Terms) (all : List Note) (index : ℕ) (rest : List Change) (left : List ℕ) (notes : List Note) : Type 0 where

@@ -40,7 +40,6 @@ impl Terms<'_> {
 }
 
 /// Notes what is suspicious of a batch on a text. Several changes cost a copy of the text.
-#[tactic(auto, using(crate::proofs::NoteLemmas::one_change))]
 pub fn push_batch_notes(
     alloc: Global,
     notes: &mut Vec<Note>,

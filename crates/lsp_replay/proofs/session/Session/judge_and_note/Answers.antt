@@ -1,4 +1,4 @@
-use Rattle.std.proofs.Common.{ap}
+use Rattle.std.proofs.Common.{ap, ◌∙◌}
 use Rattle.lsp_replay.specs.Session.{Session}
 use Rattle.lsp_replay.specs.inside.Bodies.{body_view}
 use Rattle.lsp_replay.proofs.BodyLemmas.{judged_at}
@@ -25,5 +25,5 @@ returns-clause-known c =
     on_ok c.learn.result
     (known_is c.args.known.now c.args.self.now c.args.head c.args.body.now c.read.new.self (body_view c.in_ok-read.read) c.read.ensures.unchanged c.in_ok-read.ensures.body
     _ (rw c.is_ranged-was_ranged.ensures at c.in_ok-about.ensures) _ (rw at at c.in_ok-verdict.ensures.verdict)
-    _ _ _ (rw c.is_ranged-was_ranged.ensures at c.in_ok-ranged.ensures) (ap (λ (u : Session). u.records) (rw at at c.in_ok-verdict.ensures.session)))
+    _ _ _ (rw c.is_ranged-was_ranged.ensures at c.in_ok-ranged.ensures) (ap (λ (u : Session). u.records) (c.self.view_is ∙ (rw at at c.in_ok-verdict.ensures.session))))
     c.learn.ensures.known

@@ -28,4 +28,4 @@ returns-clause-known c =
     let written = rw c.read_incoming.ensures.unchanged at (c.in_ok-verdict.ensures.judged c.args.head c.args.body.now is_read) in
     known_is c.args.known.now c.args.self.now c.args.head c.args.body.now c.read_incoming.new.self (body_view c.record_body-read.result) c.read_incoming.ensures.unchanged is_read
     _ (rw c.is_ranged-was_ranged.ensures at c.in_ok-about.ensures) _ written.judged
-    _ _ _ (rw c.is_ranged-was_ranged.ensures at c.in_ok-ranged.ensures) (ap (λ (u : Session). u.records) written.session) c.in_ok-learn.ensures.known
+    _ _ _ (rw c.is_ranged-was_ranged.ensures at c.in_ok-ranged.ensures) (ap (λ (u : Session). u.records) (c.self-2.view_is ∙ written.session)) c.in_ok-learn.ensures.known
