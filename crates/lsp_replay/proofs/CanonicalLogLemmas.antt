@@ -51,7 +51,7 @@ was_heard : (s : Session) (result : Option Data) → ((heard s result).verdict �
 was_heard s None = inl refl
 was_heard s (Some result) = settled_by s (announced_of result)
 
-heard_for : (s : Session) (expected : Option IdData) (body : List ℕ) → ((hear_for s expected body).verdict ≡ recorded) ⊎ ((hear_for s expected body).verdict ≡ bad)
+pub heard_for : (s : Session) (expected : Option IdData) (body : List ℕ) → ((hear_for s expected body).verdict ≡ recorded) ⊎ ((hear_for s expected body).verdict ≡ bad)
 heard_for s None body = inl refl
 heard_for s (Some id) body = was_heard s (result_for id (reading body))
 

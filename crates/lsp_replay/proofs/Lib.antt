@@ -38,5 +38,8 @@ pub mod DocumentsLemmas
 pub mod DocumentsLawLemmas
 pub mod TableLemmas
 pub mod MemberLemmas
+pub mod NoteLemmas
+pub mod KnownLemmas
+pub mod ExplainLemmas
 pub mod TraceLemmas
 pub mod TraceLawLemmas

@@ -3,8 +3,8 @@ use Rattle.std.proofs.Common.{◌≡◌, ◌++◌, ℕ, List, Option, ap, ◌∙
 use Rattle.std.specs.Prelude.{Result, Ok, Err, OnOk, codes, decimal, option_map}
 use Rattle.lsp_server.specs.Incoming.{IncomingData}
 use Rattle.lsp_log.specs.declared.record.Head.{Head}
-use Rattle.lsp_replay.specs.Trace.{id_json, id_of, json_string, last_members, member, method_of, side_word}
-use Rattle.lsp_replay.specs.inside.Tracing.{first_by}
+use Rattle.lsp_replay.specs.Lines.{uri_of}
+use Rattle.lsp_replay.specs.Trace.{first_members, id_json, id_of, json_string, last_members, member, method_of, side_word}
 
 pub on_ok : {A E P Q : Type 0} (r : Result A E) → (P → Q) → OnOk r P → OnOk r Q
 on_ok (Ok a) then p = then p
@@ -20,47 +20,49 @@ one_member (Err e) new old front value is = tt
 first_parts : (old a d b p c s q m i u : List ℕ) → old ++ a ++ d ++ b ++ p ++ c ++ s ++ q ++ m ++ i ++ u ≡ old ++ (a ++ d ++ b ++ p ++ c ++ s ++ q ++ m ++ i ++ u)
 first_parts old a d b p c s q m i u = simp append_assoc
 
-pub first_is : (number : ℕ) (head : Head) (m : IncomingData) (uri : Option (List ℕ)) (old one two three four : List ℕ)
+pub first_is : (number : ℕ) (head : Head) (m : IncomingData) (old one two three four : List ℕ)
     → one ≡ old ++ codes "{\"number\":" ++ decimal number ++ codes ",\"offset\":" ++ decimal head.place ++ codes ",\"from\":\"" ++ side_word head.side ++ codes "\""
     → two ≡ one ++ member (codes ",\"method\":") (option_map json_string (method_of m))
     → three ≡ two ++ member (codes ",\"id\":") (option_map id_json (id_of m))
-    → four ≡ three ++ member (codes ",\"uri\":") (option_map json_string uri)
-    → four ≡ old ++ first_by number head m uri
-first_is number head m uri old one two three four a b c d =
+    → four ≡ three ++ member (codes ",\"uri\":") (option_map json_string (uri_of head.side m))
+    → four ≡ old ++ first_members number head m
+first_is number head m old one two three four a b c d =
     let method = member (codes ",\"method\":") (option_map json_string (method_of m)) in
     let id = member (codes ",\"id\":") (option_map id_json (id_of m)) in
-    let document = member (codes ",\"uri\":") (option_map json_string uri) in
+    let document = member (codes ",\"uri\":") (option_map json_string (uri_of head.side m)) in
     d ∙ ap (λ (bs : List ℕ). bs ++ document) (c ∙ ap (λ (bs : List ℕ). bs ++ id) (b ∙ ap (λ (bs : List ℕ). bs ++ method) a))
     ∙ first_parts old (codes "{\"number\":") (decimal number) (codes ",\"offset\":") (decimal head.place) (codes ",\"from\":\"") (side_word head.side) (codes "\"") method id document
 
 -- ---- the others
 
-last_parts : (old a w q r l v c t b e : List ℕ) → old ++ a ++ w ++ q ++ r ++ l ++ v ++ c ++ t ++ b ++ e ≡ old ++ (a ++ w ++ q ++ r ++ l ++ v ++ c ++ t ++ b ++ e)
-last_parts old a w q r l v c t b e = simp append_assoc
+last_parts : (old a w q r l n v c t b e : List ℕ) → old ++ a ++ w ++ q ++ r ++ l ++ n ++ v ++ c ++ t ++ b ++ e ≡ old ++ (a ++ w ++ q ++ r ++ l ++ n ++ v ++ c ++ t ++ b ++ e)
+last_parts old a w q r l n v c t b e = simp append_assoc
 
-pub last_is : (word : List ℕ) (reason last version canonical shown body : Option (List ℕ)) (old one two three four five six seven eight : List ℕ)
+pub last_is : (word : List ℕ) (reason last notes version canonical shown body : Option (List ℕ)) (old one two three four five six seven eight nine : List ℕ)
     → one ≡ old ++ codes ",\"word\":\"" ++ word ++ codes "\""
     → two ≡ one ++ member (codes ",\"reason\":") reason
     → three ≡ two ++ member (codes ",\"last\":") last
-    → four ≡ three ++ member (codes ",\"version\":") version
-    → five ≡ four ++ member (codes ",\"canonical\":") canonical
-    → six ≡ five ++ member (codes ",\"text\":") shown
-    → seven ≡ six ++ member (codes ",\"body\":") body
-    → eight ≡ seven ++ codes "}\n"
-    → eight ≡ old ++ last_members word reason last version canonical shown body
-last_is word reason last version canonical shown body old one two three four five six seven eight a b c d e f g h =
+    → four ≡ three ++ member (codes ",\"notes\":") notes
+    → five ≡ four ++ member (codes ",\"version\":") version
+    → six ≡ five ++ member (codes ",\"canonical\":") canonical
+    → seven ≡ six ++ member (codes ",\"text\":") shown
+    → eight ≡ seven ++ member (codes ",\"body\":") body
+    → nine ≡ eight ++ codes "}\n"
+    → nine ≡ old ++ last_members word reason last notes version canonical shown body
+last_is word reason last notes version canonical shown body old one two three four five six seven eight nine a b c d e f g h i =
     let r = member (codes ",\"reason\":") reason in
     let l = member (codes ",\"last\":") last in
+    let n = member (codes ",\"notes\":") notes in
     let v = member (codes ",\"version\":") version in
     let k = member (codes ",\"canonical\":") canonical in
     let t = member (codes ",\"text\":") shown in
     let o = member (codes ",\"body\":") body in
-    h ∙ ap (λ (bs : List ℕ). bs ++ codes "}\n")
-    (g ∙ ap (λ (bs : List ℕ). bs ++ o) (f ∙ ap (λ (bs : List ℕ). bs ++ t) (e ∙ ap (λ (bs : List ℕ). bs ++ k) (d ∙ ap (λ (bs : List ℕ). bs ++ v) (c ∙ ap (λ (bs : List ℕ). bs ++ l) (b ∙ ap (λ (bs : List ℕ). bs ++ r) a))))))
-    ∙ last_parts old (codes ",\"word\":\"") word (codes "\"") r l v k t o (codes "}\n")
+    i ∙ ap (λ (bs : List ℕ). bs ++ codes "}\n")
+    (h ∙ ap (λ (bs : List ℕ). bs ++ o) (g ∙ ap (λ (bs : List ℕ). bs ++ t) (f ∙ ap (λ (bs : List ℕ). bs ++ k) (e ∙ ap (λ (bs : List ℕ). bs ++ v) (d ∙ ap (λ (bs : List ℕ). bs ++ n) (c ∙ ap (λ (bs : List ℕ). bs ++ l) (b ∙ ap (λ (bs : List ℕ). bs ++ r) a)))))))
+    ∙ last_parts old (codes ",\"word\":\"") word (codes "\"") r l n v k t o (codes "}\n")
 
 -- ---- a whole line: the members between those that other commands have too
 
-pub line_parts : (a d o p f s q m i u w k z r l v c t b e : List ℕ)
-    → (a ++ d ++ o ++ p ++ f ++ s ++ q ++ m ++ i ++ u) ++ (w ++ k ++ z ++ r ++ l ++ v ++ c ++ t ++ b ++ e) ≡ a ++ d ++ (o ++ p ++ f ++ s ++ q ++ m ++ i) ++ u ++ w ++ k ++ z ++ (r ++ l ++ v ++ c) ++ t ++ (b ++ e)
-line_parts a d o p f s q m i u w k z r l v c t b e = simp append_assoc
+pub line_parts : (a d o p f s q m i u w k z r l n v c t b e : List ℕ)
+    → (a ++ d ++ o ++ p ++ f ++ s ++ q ++ m ++ i ++ u) ++ (w ++ k ++ z ++ r ++ l ++ n ++ v ++ c ++ t ++ b ++ e) ≡ a ++ d ++ (o ++ p ++ f ++ s ++ q ++ m ++ i) ++ u ++ w ++ k ++ z ++ (r ++ l ++ n ++ v ++ c) ++ t ++ (b ++ e)
+line_parts a d o p f s q m i u w k z r l n v c t b e = simp append_assoc

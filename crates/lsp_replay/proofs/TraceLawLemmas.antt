@@ -16,8 +16,10 @@ use Rattle.lsp_replay.specs.declared.engines.traced.Details.{Details}
 use Rattle.lsp_replay.specs.RunOutput.{RunOutput, written_first}
 use Rattle.lsp_replay.specs.Engines.{canonical_of_record, check_line, checking, code_word, continue_with, log_config, replaying, report_from, run_output_in, unless_bad, verdict_word, writes}
 use Rattle.lsp_replay.specs.Session.{Session, Verdict, answered, recorded, bad, opened, Judged, judge}
-use Rattle.lsp_replay.specs.Mentions.{Mention}
-use Rattle.lsp_replay.specs.Trace.{Line, TraceLaw, body_json, checked_line, document_after, first_members, id_json, id_of, is_changed, is_document, is_json, json_string, last_json, last_members, member, mentions_after, method_of, reason_json, side_word, text_json, trace_line, traced_in, traced_line, uri_of, version_json, within, written_text}
+use Rattle.lsp_replay.specs.Lines.{Known, known_after, lines_in, nothing_known, uri_of}
+use Rattle.lsp_replay.specs.Mentions.{last_for}
+use Rattle.lsp_replay.specs.Notes.{notes_of}
+use Rattle.lsp_replay.specs.Trace.{Line, TraceLaw, body_json, checked_line, document_after, first_members, id_json, id_of, is_changed, is_document, is_json, json_string, last_members, member, method_of, notes_json, reason_json, side_word, text_json, trace_line, traced_line, tracing, version_json, within, written_text}
 use Rattle.lsp_replay.proofs.MemberLemmas.{line_parts}
 use Rattle.lsp_replay.proofs.TableLemmas.{record_keeps}
 
@@ -31,7 +33,7 @@ text_member true (Some entry) = refl
 text_member true None = refl
 text_member false document = refl
 
-module _ (details : Details) (mentions : List Mention) (s : Session) (r : Record) (m : IncomingData) where
+module _ (details : Details) (known : Known) (s : Session) (r : Record) (m : IncomingData) where
   abbrev j : Judged
   j = judge s r
 
@@ -51,8 +53,8 @@ module _ (details : Details) (mentions : List Mention) (s : Session) (r : Record
 
   abbrev between : List ℕ
   between =
-      member (codes ",\"reason\":") (reason_json j.session.server.config.limits m j.verdict) ++ member (codes ",\"last\":") (last_json mentions uri j.verdict)
-      ++ member (codes ",\"version\":") (version_json document) ++ member (codes ",\"canonical\":") (within s.server.config.limits.max_body (canonical_of_record s r.body j.verdict))
+      member (codes ",\"reason\":") (reason_json j.session.server.config.limits m j.verdict) ++ member (codes ",\"last\":") (option_map decimal (last_for known.mentions uri j.verdict))
+      ++ member (codes ",\"notes\":") (notes_json (notes_of s known.ranged r.body j.verdict)) ++ member (codes ",\"version\":") (version_json document) ++ member (codes ",\"canonical\":") (within s.server.config.limits.max_body (canonical_of_record s r.body j.verdict))
 
   abbrev after : List ℕ
   after = member (codes ",\"body\":") (body_json (details.bodies && is_json m) r.body) ++ codes "}\n"
@@ -60,14 +62,14 @@ module _ (details : Details) (mentions : List Mention) (s : Session) (r : Record
   abbrev line_of : Line
   line_of = record { number = j.session.records; word = verdict_word j.verdict; uri = uri; text = text; before = before; between = between; after = after }
 
-  line_of_trace : trace_line details mentions s r j m ≡ traced_line line_of
+  line_of_trace : trace_line details known s r j m ≡ traced_line line_of
   line_of_trace =
-      ap (λ (t : Option (List ℕ)). first_members j.session.records r.head m ++ last_members (verdict_word j.verdict) (reason_json j.session.server.config.limits m j.verdict) (last_json mentions uri j.verdict)
+      ap (λ (t : Option (List ℕ)). first_members j.session.records r.head m ++ last_members (verdict_word j.verdict) (reason_json j.session.server.config.limits m j.verdict) (option_map decimal (last_for known.mentions uri j.verdict)) (notes_json (notes_of s known.ranged r.body j.verdict))
       (version_json document) (within s.server.config.limits.max_body (canonical_of_record s r.body j.verdict)) t (body_json (details.bodies && is_json m) r.body)) (text_member (details.texts && is_changed j.verdict) document)
       ∙ line_parts (codes "{\"number\":") (decimal j.session.records) (codes ",\"offset\":") (decimal r.head.place) (codes ",\"from\":\"") (side_word r.head.side) (codes "\"")
       (member (codes ",\"method\":") (option_map json_string (method_of m))) (member (codes ",\"id\":") (option_map id_json (id_of m))) (member (codes ",\"uri\":") (option_map json_string uri))
-      (codes ",\"word\":\"") (verdict_word j.verdict) (codes "\"") (member (codes ",\"reason\":") (reason_json j.session.server.config.limits m j.verdict)) (member (codes ",\"last\":") (last_json mentions uri j.verdict))
-      (member (codes ",\"version\":") (version_json document)) (member (codes ",\"canonical\":") (within s.server.config.limits.max_body (canonical_of_record s r.body j.verdict)))
+      (codes ",\"word\":\"") (verdict_word j.verdict) (codes "\"") (member (codes ",\"reason\":") (reason_json j.session.server.config.limits m j.verdict)) (member (codes ",\"last\":") (option_map decimal (last_for known.mentions uri j.verdict)))
+      (member (codes ",\"notes\":") (notes_json (notes_of s known.ranged r.body j.verdict))) (member (codes ",\"version\":") (version_json document)) (member (codes ",\"canonical\":") (within s.server.config.limits.max_body (canonical_of_record s r.body j.verdict)))
       (member (codes ",\"text\":") (option_map json_string text)) (member (codes ",\"body\":") (body_json (details.bodies && is_json m) r.body)) (codes "}\n")
 
 -- ---- the text after a record
@@ -103,9 +105,9 @@ text_there asked true table uri (Some other) is both =
     ap (λ (b : Bool). text_if (b && true) (entry_at table other)) is
     ∙ ap (λ (u : List ℕ). text_in table u) (sym ((bytes_eq-Decides uri other).0 both))
 
-module _ (details : Details) (mentions : List Mention) (s : Session) (r : Record) (uri : List ℕ) (asked : details.texts ≡ true) where
+module _ (details : Details) (known : Known) (s : Session) (r : Record) (uri : List ℕ) (asked : details.texts ≡ true) where
   abbrev l : Line
-  l = line_of details mentions s r (incoming_of (reading r.body))
+  l = line_of details known s r (incoming_of (reading r.body))
 
   abbrev table_after : List DocumentItem
   table_after = (judge s r).session.server.table
@@ -139,42 +141,42 @@ record Beside (details : Details) (s : Session) (trace check report : RunOutput)
 abbrev given_by : Record → Verdict → List ℕ → RunOutput → RunOutput
 given_by r verdict out c = continue_with (unless_bad r verdict (writes out)).out (unless_bad r verdict (writes out)).end c
 
-module _ (details : Details) (mentions : List Mention) (s : Session) (r : Record) where
+module _ (details : Details) (known : Known) (s : Session) (r : Record) where
   abbrev what : IncomingData
   what = incoming_of (reading r.body)
 
   abbrev this : Line
-  this = line_of details mentions s r what
+  this = line_of details known s r what
 
-  goes : (c d e : RunOutput) → Beside details (judge s r).session c d e → Beside details s (written_first (trace_line details mentions s r (judge s r) what) c) (written_first (check_line (judge s r).session.records (judge s r).verdict) d) (written_first [] e)
+  goes : (c d e : RunOutput) → Beside details (judge s r).session c d e → Beside details s (written_first (trace_line details known s r (judge s r) what) c) (written_first (check_line (judge s r).session.records (judge s r).verdict) d) (written_first [] e)
   goes c d e is = record {
     stop = is.stop;
     outcome = is.outcome;
     lines = this ∷ is.lines;
-    traced = ap (λ (bs : List ℕ). bs ++ c.out) (line_of_trace details mentions s r what) ∙ ap (λ (bs : List ℕ). traced_line this ++ bs) is.traced;
+    traced = ap (λ (bs : List ℕ). bs ++ c.out) (line_of_trace details known s r what) ∙ ap (λ (bs : List ℕ). traced_line this ++ bs) is.traced;
     checked = ap (λ (bs : List ℕ). checked_line this ++ bs) is.checked;
     texts = λ asked none.
         let after = is.texts asked none in
-        record { table = after.table; reported = after.reported; texts = λ uri old old_is. after.texts uri _ (text_after details mentions s r uri asked old old_is) };
+        record { table = after.table; reported = after.reported; texts = λ uri old old_is. after.texts uri _ (text_after details known s r uri asked old old_is) };
   }
 
   by_verdict : (verdict : Verdict) → (judge s r).verdict ≡ verdict → (c d e : RunOutput) → Beside details (judge s r).session c d e
-      → Beside details s (given_by r verdict (trace_line details mentions s r (judge s r) what) c) (given_by r verdict (check_line (judge s r).session.records (judge s r).verdict) d) (given_by r verdict [] e)
+      → Beside details s (given_by r verdict (trace_line details known s r (judge s r) what) c) (given_by r verdict (check_line (judge s r).session.records (judge s r).verdict) d) (given_by r verdict [] e)
   by_verdict bad is c d e beside = record { stop = refl; outcome = refl; lines = []; traced = refl; checked = refl; texts = λ asked none. absurd (let wrong : Some (Err (BadLog r.head.place)) ≡ None = none in cc) }
   by_verdict recorded is c d e beside = goes c d e beside
   by_verdict (answered answer) is c d e beside = goes c d e beside
 
-trace_beside : (details : Details) (mentions : List Mention) (s : Session) (rs : List Record) → Beside details s (traced_in details mentions s rs) (run_output_in checking s rs) (run_output_in replaying s rs)
-trace_beside details mentions s [] =
+trace_beside : (details : Details) (known : Known) (s : Session) (rs : List Record) → Beside details s (lines_in (tracing details) known s rs) (run_output_in checking s rs) (run_output_in replaying s rs)
+trace_beside details known s [] =
     record { stop = refl; outcome = refl; lines = []; traced = refl; checked = refl; texts = λ asked none. record { table = s.server.table; reported = λ line_due. refl; texts = λ uri old is. is } }
-trace_beside details mentions s (r ∷ rs) =
-    let next = mentions_after mentions r (judge s r) (incoming_of (reading r.body)) in
-    by_verdict details mentions s r (judge s r).verdict refl (traced_in details next (judge s r).session rs) (run_output_in checking (judge s r).session rs) (run_output_in replaying (judge s r).session rs)
+trace_beside details known s (r ∷ rs) =
+    let next = known_after known s r.head r.body (judge s r) in
+    by_verdict details known s r (judge s r).verdict refl (lines_in (tracing details) next (judge s r).session rs) (run_output_in checking (judge s r).session rs) (run_output_in replaying (judge s r).session rs)
     (trace_beside details next (judge s r).session rs)
 
 pub trace_law : TraceLaw
 trace_law settings details records =
-    let is = trace_beside details [] (opened (log_config settings)) records in
+    let is = trace_beside details nothing_known (opened (log_config settings)) records in
     record {
       stop = is.stop;
       outcome = is.outcome;

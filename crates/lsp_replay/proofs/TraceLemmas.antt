@@ -1,6 +1,6 @@
--- A line of `trace`, and the output from it on.
-use Rattle.std.proofs.Common.{◌≡◌, ◌≢◌, ℕ, Bool, true, false, List, [], ◌∷◌, ◌++◌, length, le-ltb, lt-ltb, Option, Some, None, refl, sym, ap, ◌∙◌, subst}
-use Rattle.std.specs.Prelude.{Result, if◌then◌else◌}
+-- A line of `trace`, as it is written.
+use Rattle.std.proofs.Common.{◌≡◌, ℕ, Bool, true, false, List, [], ◌++◌, length, le-ltb, lt-ltb, Option, Some, None, refl, sym, ap, ◌∙◌, subst}
+use Rattle.std.specs.Prelude.{if◌then◌else◌}
 use Rattle.serde_json.specs.Data.{Data}
 use Rattle.lsp_text.specs.declared.encoding.Encoding.{Encoding}
 use Rattle.lsp_message.specs.declared.agreement.Announced.{Announced}
@@ -9,29 +9,21 @@ use Rattle.lsp_message.specs.Message.{IdData, reading}
 use Rattle.lsp_server.specs.Answer.{as_sent}
 use Rattle.lsp_server.specs.Incoming.{IncomingData, incoming_of}
 use Rattle.lsp_server.specs.Step.{step_on}
-use Rattle.lsp_stream.specs.declared.fault.EngineFault.{EngineFault}
-use Rattle.lsp_stream.specs.Ports.{Ports, one_more}
+use Rattle.lsp_stream.specs.Ports.{one_more}
 use Rattle.lsp_log.specs.declared.record.Version.{Version}
 use Rattle.lsp_log.specs.declared.record.Side.{Side}
 use Rattle.lsp_log.specs.declared.record.Side.TheVariants.{Client, Server}
-use Rattle.lsp_log.specs.Laws.{FirstLaw, VersionLaw}
-use Rattle.lsp_log.specs.Log.{LogRules, Record}
-use Rattle.lsp_replay.specs.declared.outcome.Outcome.{Outcome}
+use Rattle.lsp_log.specs.Log.{Record}
 use Rattle.lsp_replay.specs.declared.engines.traced.Details.{Details}
 use Rattle.lsp_replay.specs.declared.session.tracing.Traced.{Traced}
 use Rattle.lsp_replay.specs.declared.session.writing.Appended.{Appended}
 use Rattle.lsp_replay.specs.declared.session.writing.Appended.TheVariants.{Body, TooLong}
-use Rattle.lsp_replay.specs.RunOutput.{written_first}
-use Rattle.lsp_replay.specs.Engines.{RecordOutput, canonical_of_record, continue_with, writes}
-use Rattle.lsp_replay.specs.Session.{Session, Verdict, bad, Judged, judged, judge, judge_from, judge_incoming, handled, hear_for, heard, settle_by, settle_in, result_for, is_ended, is_early}
-use Rattle.lsp_replay.specs.Mentions.{Mention}
-use Rattle.lsp_replay.specs.Run.{IsEngineRun}
-use Rattle.lsp_replay.specs.Trace.{first_members, is_json, mentions_after, trace_line, trace_output, traced_in, within}
-use Rattle.lsp_replay.specs.inside.Engine.{IsLoopRun}
-use Rattle.lsp_replay.specs.inside.Tracing.{IsTraced, canonical_json, members_by, mentions_by}
+use Rattle.lsp_replay.specs.Engines.{canonical_of_record}
+use Rattle.lsp_replay.specs.Lines.{Known}
+use Rattle.lsp_replay.specs.Session.{Session, bad, Judged, judged, judge, judge_from, judge_incoming, handled, hear_for, heard, settle_by, settle_in, result_for, is_ended, is_early}
+use Rattle.lsp_replay.specs.Trace.{first_members, trace_line, within}
+use Rattle.lsp_replay.specs.inside.Tracing.{IsTraced, canonical_json, members_by}
 use Rattle.lsp_replay.specs.inside.Verdicts.{IsAppended}
-use Rattle.lsp_replay.proofs.PartLemmas.{unless_not}
-use Rattle.lsp_replay.proofs.RunReportLemmas.{Grows, NoneCut, grows_on, run_of_course, settled_on}
 
 -- ---- one record more was judged
 
@@ -68,7 +60,7 @@ of_body s version Server body = of_heard s s.expected body
 pub one_more_record : (s : Session) (r : Record) → (judge s r).session.records ≡ one_more s.records
 one_more_record s r = ap one_more (of_body s r.head.version r.head.side r.body)
 
--- ---- a line, and the output after it
+-- ---- a line
 
 pub canonical_is : (max_body : ℕ) (body : Option (List ℕ)) (a : Option Appended) (new : List ℕ) → IsAppended max_body body a [] new → canonical_json a new ≡ within max_body body
 canonical_is max_body None None new is = refl
@@ -77,67 +69,21 @@ canonical_is max_body (Some body) None new is = absurd is
 canonical_is max_body (Some body) (Some Body) new is = rw (le-ltb max_body (length body) is.1, is.0) refl
 canonical_is max_body (Some body) (Some TooLong) new is = rw (lt-ltb max_body (length body) is) refl
 
-module _ (details : Details) (mentions : List Mention) (s : Session) (r : Record) (t : Session) (session : t ≡ (judge s r).session) where
+-- A line by its two halves, as they are written one after the other.
+module _ (details : Details) (known : Known) (s : Session) (r : Record) (t : Session) (session : t ≡ (judge s r).session) (traced : Traced) (before new : List ℕ) (cleared : before ≡ []) (is : IsTraced known s r.head r.body before new traced) where
   abbrev m : IncomingData
   m = incoming_of (reading r.body)
 
-  abbrev line : List ℕ
-  line = trace_line details mentions s r (judge s r) m
+  abbrev max_body : ℕ
+  max_body = s.server.config.limits.max_body
 
-  abbrev next : List Mention
-  next = mentions_after mentions r (judge s r) m
+  abbrev canonical : Option (List ℕ)
+  canonical = canonical_of_record s r.body (judge s r).verdict
 
-  pub line_first : (judge s r).verdict ≢ bad → (bytes : List ℕ) → bytes ≡ line → (kept : List Mention) → kept ≡ next → (more : List Record)
-      → traced_in details mentions s (r ∷ more) ≡ written_first bytes (traced_in details kept t more)
-  line_first not_bad bytes is kept kept_is more =
-      ap (λ (given : RecordOutput). continue_with given.out given.end (traced_in details next (judge s r).session more)) (unless_not r (judge s r).verdict (writes line) not_bad)
-      ∙ ap (λ (u : Session). written_first line (traced_in details next u more)) (sym session)
-      ∙ ap (λ (k : List Mention). written_first line (traced_in details k t more)) (sym kept_is)
-      ∙ ap (λ (b : List ℕ). written_first b (traced_in details kept t more)) (sym is)
-
-  -- the line by its two halves, as they are written one after the other
-  module _ (traced : Traced) (before new : List ℕ) (cleared : before ≡ []) (is : IsTraced s r.head r.body before new traced) where
-    abbrev max_body : ℕ
-    max_body = s.server.config.limits.max_body
-
-    abbrev canonical : Option (List ℕ)
-    canonical = canonical_of_record s r.body (judge s r).verdict
-
-    pub mentions_are : mentions_by mentions t.records traced ≡ next
-    mentions_are =
-        ap (λ (u : Session). mentions_by mentions u.records traced) session
-        ∙ rw (is.verdict, is.uri, is.is_change) refl
-
-    members_are : members_by details mentions t m traced new r.body ≡ members_by details mentions (judge s r).session m traced new r.body
-    members_are = ap (λ (u : Session). members_by details mentions u m traced new r.body) session
-
-    pub line_is : (old first bytes : List ℕ) → old ≡ [] → first ≡ old ++ first_members (one_more s.records) r.head m → bytes ≡ first ++ members_by details mentions t m traced new r.body → bytes ≡ line
-    line_is old first bytes empty first_is bytes_is =
-        bytes_is
-        ∙ ap (λ (bs : List ℕ). bs ++ members_by details mentions t m traced new r.body) (first_is ∙ ap (λ (bs : List ℕ). bs ++ first_members (one_more s.records) r.head m) empty ∙ ap (λ (n : ℕ). first_members n r.head m) (sym (one_more_record s r)))
-        ∙ ap (λ (bs : List ℕ). first_members (judge s r).session.records r.head m ++ bs) members_are
-        ∙ rw (is.verdict, is.uri, is.is_json, canonical_is max_body canonical traced.canonical new (subst (λ (b : List ℕ). IsAppended max_body canonical traced.canonical b new) cleared is.canonical)) refl
-
--- ---- all records
-
-trace_settled : (details : Details) (mentions : List Mention) (s : Session) (rs more : List Record) (answer : Result Outcome EngineFault) → (traced_in details mentions s rs).stop ≡ Some answer → traced_in details mentions s (rs ++ more) ≡ traced_in details mentions s rs
-trace_settled details mentions s [] more answer e = absurd (let wrong : None ≡ Some answer = e in cc)
-trace_settled details mentions s (r ∷ rs) more answer e =
-    let given = trace_output details mentions s r (judge s r) in
-    let next = mentions_after mentions r (judge s r) (incoming_of (reading r.body)) in
-    settled_on given.out given.end (traced_in details next (judge s r).session rs) (traced_in details next (judge s r).session (rs ++ more)) answer e
-    (trace_settled details next (judge s r).session rs more answer)
-
-trace_grows : (details : Details) (mentions : List Mention) (s : Session) (rs more : List Record) → Grows (traced_in details mentions s rs) (traced_in details mentions s (rs ++ more))
-unfolding Grows
-trace_grows details mentions s [] more = ((traced_in details mentions s more).out, refl)
-trace_grows details mentions s (r ∷ rs) more =
-    let given = trace_output details mentions s r (judge s r) in
-    let next = mentions_after mentions r (judge s r) (incoming_of (reading r.body)) in
-    grows_on given.out given.end _ _ (trace_grows details next (judge s r).session rs more)
-
-pub run_of_trace : FirstLaw → VersionLaw → (details : Details) (mentions : List Mention) (s : Session) {reading : LogRules} {max_turns : ℕ} {before after : Ports} {result : Result Outcome EngineFault}
-    → IsLoopRun reading (traced_in details mentions s) false max_turns before after result → NoneCut false reading (traced_in details mentions s) before after result
-    → IsEngineRun (record { reading = reading; run_output = traced_in details mentions s; flushes = false; in_parts = false }) max_turns before after result
-run_of_trace first version details mentions s run whole =
-    run_of_course first version (traced_in details mentions s) (trace_settled details mentions s) (trace_grows details mentions s) false run whole
+  pub line_is : (old first bytes : List ℕ) → old ≡ [] → first ≡ old ++ first_members (one_more s.records) r.head m → bytes ≡ first ++ members_by details t m traced new r.body
+      → bytes ≡ trace_line details known s r (judge s r) m
+  line_is old first bytes empty first_is bytes_is =
+      bytes_is
+      ∙ ap (λ (bs : List ℕ). bs ++ members_by details t m traced new r.body) (first_is ∙ ap (λ (bs : List ℕ). bs ++ first_members (one_more s.records) r.head m) empty ∙ ap (λ (n : ℕ). first_members n r.head m) (sym (one_more_record s r)))
+      ∙ ap (λ (u : Session). first_members (judge s r).session.records r.head m ++ members_by details u m traced new r.body) session
+      ∙ rw (is.noted.verdict, is.noted.uri, is.noted.last, is.is_json, is.noted.notes, canonical_is max_body canonical traced.canonical new (subst (λ (b : List ℕ). IsAppended max_body canonical traced.canonical b new) cleared is.canonical)) refl

@@ -1,53 +1,86 @@
--- `check --explain`: a line of `check` for each record, with the reason where it was refused, and at
--- the end what to do next.
-use Rattle.std.specs.Prelude.{ℕ, ◌==◌, ◌++◌, if◌then◌else◌, false, List, [], Option, Some, None, codes, decimal}
+-- `check --explain`: a line of `check` for each record, with the reason where it was refused and
+-- the notes where it is suspicious, and at the end what to do next.
+use Rattle.std.specs.Prelude.{ℕ, Bool, false, ◌==◌, ◌∷◌, ◌++◌, if◌then◌else◌, List, [], Option, Some, None, codes, decimal}
 use Rattle.lsp_frame.specs.Limits.{Bounds}
 use Rattle.lsp_message.specs.Message.{reading}
+use Rattle.lsp_message.specs.Params.{ChangeData}
 use Rattle.lsp_server.specs.Incoming.{IncomingData, incoming_of}
-use Rattle.lsp_log.specs.declared.record.Side.{Side}
 use Rattle.lsp_log.specs.Log.{Record}
 use Rattle.lsp_replay.specs.declared.engines.Settings.{Settings}
+use Rattle.lsp_replay.specs.declared.notes.Note.{Note}
 use Rattle.lsp_replay.specs.RunOutput.{RunOutput}
-use Rattle.lsp_replay.specs.Engines.{View, as_log, change_in, log_config, run_output_in, unless_bad, verdict_word, writes}
+use Rattle.lsp_replay.specs.Engines.{as_log, change_in, log_config, verdict_word}
+use Rattle.lsp_replay.specs.Lines.{Known, LineView, lines_in, nothing_known, uri_of}
+use Rattle.lsp_replay.specs.Mentions.{last_for}
+use Rattle.lsp_replay.specs.Notes.{notes_of, notes_words}
 use Rattle.lsp_replay.specs.Reasons.{reason_words}
 use Rattle.lsp_replay.specs.Run.{Engine}
-use Rattle.lsp_replay.specs.Session.{Judged, Verdict, answered, is_refused, opened, outcome_of}
-use Rattle.lsp_replay.specs.Trace.{json_string, uri_of}
+use Rattle.lsp_replay.specs.Session.{Session, Judged, Verdict, answered, is_refused, opened}
+use Rattle.lsp_replay.specs.Trace.{json_string}
 
 -- The document that a record is about, as a JSON string.
 abbrev pub document_words : Option (List ℕ) → List ℕ
 document_words None = []
 document_words (Some uri) = codes " of " ++ json_string uri
 
--- What comes after the word of a record that counts as refused. `m` is what its body asks.
-abbrev pub explanation : Bounds → Side → IncomingData → Verdict → List ℕ
-explanation limits side m (answered answer) = if is_refused answer then
-    document_words (uri_of side m) ++ codes ": " ++ reason_words limits (change_in m) answer else []
-explanation limits side m verdict = []
+-- Which record to look at.
+abbrev pub see_words : Option ℕ → List ℕ
+see_words None = []
+see_words (Some number) = codes "; see message " ++ decimal number
 
--- A line of `check --explain`.
-abbrev pub explained_line : Record → Judged → IncomingData → List ℕ
-explained_line r j m =
+-- What comes after the word of a record that counts as refused, by its document, the change that it
+-- asks for, and the record to look at.
+abbrev pub explanation : Bounds → Option (List ℕ) → Option ChangeData → Option ℕ → Verdict
+    → List ℕ
+explanation limits uri change last (answered answer) = if is_refused answer then
+    document_words uri ++ codes ": " ++ reason_words limits change answer ++ see_words last else []
+explanation limits uri change last verdict = []
+
+-- What comes after the word of a record that has notes.
+abbrev pub remark : Option (List ℕ) → List Note → List ℕ
+remark uri [] = []
+remark uri (note ∷ notes) =
+    document_words uri ++ codes ": " ++ notes_words (codes "; ") (note ∷ notes)
+
+-- A line of `check --explain`, from what is known of the records before, the session before the
+-- record and the judgement of it. `m` is what the record's body asks.
+abbrev pub explained_line : Known → Session → Record → Judged → IncomingData → List ℕ
+explained_line known s r j m =
     decimal j.session.records ++ codes " " ++ verdict_word j.verdict
-    ++ explanation j.session.server.config.limits r.head.side m j.verdict ++ codes "\n"
+    ++ explanation j.session.server.config.limits (uri_of r.head.side m) (change_in m)
+    (last_for known.mentions (uri_of r.head.side m) j.verdict) j.verdict
+    ++ remark (uri_of r.head.side m) (notes_of s known.ranged r.body j.verdict) ++ codes "\n"
 
--- What to do next, after so many refusals.
-abbrev pub advice : ℕ → List ℕ
-advice refusals = if refusals == 0 then
-    codes "Nothing was refused. Compare `lspsync replay --uri URI` with the editor's text.\n" else
+-- ---- what to do next, after so many refusals
+
+abbrev pub first_advice : ℕ → Bool → List ℕ
+first_advice refusals suspicious =
+    if refusals == 0 then (if suspicious then
+    codes "Nothing was refused; see the notes. `lspsync replay --at N`: the texts after message N.\n"
+    else codes "Nothing was refused. Compare `lspsync replay --uri URI` with the editor's text.\n") else
     codes "Refused messages change nothing. `lspsync replay --at N`: the texts after message N.\n"
 
-abbrev pub explaining : View
+abbrev pub advice_if_strict : Bool → List ℕ
+advice_if_strict strict = if strict then
+    codes "Many servers don't refuse what is S1 or S5 here. `--lenient` doesn't either.\n"
+    else []
+
+-- By what is known of all records.
+abbrev pub advice : ℕ → Known → List ℕ
+advice refusals known = first_advice refusals known.suspicious ++ advice_if_strict known.strict
+
+-- ---- the engine
+
+-- `check --explain` writes a line for each record, and at the end the advice.
+abbrev pub explaining : LineView
 explaining = record {
-  record_output = λ s r j. unless_bad r j.verdict
-      (writes (explained_line r j (incoming_of (reading r.body))));
-  end_output = λ s line_due. advice s.refusals;
-  outcome = outcome_of;
+  line = λ known s r j. explained_line known s r j (incoming_of (reading r.body));
+  end_lines = λ known s. advice s.refusals known;
 }
 
 -- The output of `check --explain`.
 abbrev pub explained : Settings → List Record → RunOutput
-explained settings = run_output_in explaining (opened (log_config settings))
+explained settings = lines_in explaining nothing_known (opened (log_config settings))
 
 abbrev pub explain_engine : Settings → Engine
 explain_engine settings

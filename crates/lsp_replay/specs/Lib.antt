@@ -10,6 +10,8 @@ pub mod Parts
 pub mod Documents
 pub mod Mentions
 pub mod Reasons
+pub mod Notes
+pub mod Lines
 pub mod Trace
 pub mod Explained
 pub mod inside

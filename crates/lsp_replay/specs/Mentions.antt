@@ -1,7 +1,9 @@
 -- Which record opened, closed or refused a document last.
-use Rattle.std.specs.Prelude.{ℕ, if◌then◌else◌, take, List, [], ◌∷◌, Option, Some, None}
+use Rattle.std.specs.Prelude.{ℕ, Bool, true, false, not, if◌then◌else◌, take, List, [], ◌∷◌, Option, Some, None, option_and_then}
 use Rattle.std.specs.Str.{bytes_eq}
+use Rattle.lsp_server.specs.Answer.{changed, refused}
 use Rattle.lsp_replay.specs.declared.mentions.TheConstants.{MENTIONS}
+use Rattle.lsp_replay.specs.Session.{Verdict, answered}
 
 -- A document, and the number of the record that opened, closed or refused it last.
 pub record Mention : Type 0 where
@@ -24,3 +26,20 @@ without uri (mention ∷ mentions) =
 abbrev pub newest_first : List ℕ → ℕ → List Mention → List Mention
 newest_first uri number mentions =
     take MENTIONS (record { uri = uri; number = number } ∷ without uri mentions)
+
+-- The record to look at, by the document of one that the documents refuse.
+abbrev pub last_for : List Mention → Option (List ℕ) → Verdict → Option ℕ
+last_for mentions uri (answered (refused refusal))
+    = option_and_then (λ uri. last_record uri mentions) uri
+last_for mentions uri verdict = None
+
+-- Does an answer open, close or refuse a document? `change` says whether it is to a `didChange`.
+abbrev pub is_mention : Bool → Verdict → Bool
+is_mention change (answered changed) = not change
+is_mention change (answered (refused refusal)) = true
+is_mention change verdict = false
+
+-- The documents that were opened, closed or refused last, after a record with this number.
+abbrev pub mentioned : Bool → Option (List ℕ) → ℕ → List Mention → List Mention
+mentioned true (Some uri) number mentions = newest_first uri number mentions
+mentioned is_mention uri number mentions = mentions

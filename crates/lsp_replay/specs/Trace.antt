@@ -1,5 +1,5 @@
 -- `trace`: a line of JSON for each record of a log, with what a server answers to it and why.
-use Rattle.std.specs.Prelude.{ℕ, ◌≡◌, Bool, true, false, not, ◌&&◌, ◌||◌, ◌==◌, ◌∷◌, ◌++◌, if◌then◌else◌, nat_lt, length, List, [], Option, Some, None, option_and_then, option_map, codes, decimal, flat_map}
+use Rattle.std.specs.Prelude.{ℕ, ◌≡◌, Bool, true, false, ◌&&◌, ◌||◌, ◌==◌, ◌∷◌, ◌++◌, if◌then◌else◌, nat_lt, length, List, [], Option, Some, None, option_and_then, option_map, codes, decimal, flat_map}
 use Rattle.std.specs.Fmt.{signed_decimal}
 use Rattle.std.specs.Str.{bytes_eq}
 use Rattle.serde_json.specs.Data.{string}
@@ -9,19 +9,22 @@ use Rattle.lsp_message.specs.Message.{IdData, whole, text, reading}
 use Rattle.lsp_message.specs.Params.{DocumentItem}
 use Rattle.lsp_store.specs.Table.{entry_at}
 use Rattle.lsp_server.specs.Incoming.{IncomingData, not_json, not_a_message, response, initialize, shutdown, other_request, exit, did_open, did_change, did_close, other_notification, incoming_of}
-use Rattle.lsp_server.specs.Answer.{changed, refused}
+use Rattle.lsp_server.specs.Answer.{changed}
 use Rattle.lsp_log.specs.declared.record.Head.{Head}
 use Rattle.lsp_log.specs.declared.record.Side.{Side}
 use Rattle.lsp_log.specs.declared.record.Side.TheVariants.{Client, Server}
 use Rattle.lsp_log.specs.Log.{Record}
 use Rattle.lsp_replay.specs.declared.engines.Settings.{Settings}
 use Rattle.lsp_replay.specs.declared.engines.traced.Details.{Details}
+use Rattle.lsp_replay.specs.declared.notes.Note.{Note}
 use Rattle.lsp_replay.specs.RunOutput.{RunOutput}
-use Rattle.lsp_replay.specs.Engines.{RecordOutput, as_log, canonical_of_record, change_in, continue_with, log_config, report, report_from, unless_bad, verdict_word, verdicts, writes}
-use Rattle.lsp_replay.specs.Mentions.{Mention, last_record, newest_first}
+use Rattle.lsp_replay.specs.Engines.{as_log, canonical_of_record, change_in, log_config, report, report_from, verdict_word, verdicts}
+use Rattle.lsp_replay.specs.Lines.{Known, LineView, lines_in, nothing_known, uri_of}
+use Rattle.lsp_replay.specs.Mentions.{last_for}
+use Rattle.lsp_replay.specs.Notes.{notes_of, notes_words}
 use Rattle.lsp_replay.specs.Reasons.{reason_words}
 use Rattle.lsp_replay.specs.Run.{Engine}
-use Rattle.lsp_replay.specs.Session.{Session, Judged, Verdict, answered, is_change, is_refused, judge, opened, outcome_of}
+use Rattle.lsp_replay.specs.Session.{Session, Judged, Verdict, answered, is_refused, opened}
 
 -- ---- members of a line
 
@@ -66,14 +69,6 @@ id_of (shutdown id) = Some id
 id_of (other_request id method) = Some id
 id_of m = None
 
--- The document that a record of one side is about: the URI in valid parameters of an editor's
--- message.
-abbrev pub uri_of : Side → IncomingData → Option (List ℕ)
-uri_of Client (did_open (Some p)) = Some p.uri
-uri_of Client (did_change (Some p)) = Some p.uri
-uri_of Client (did_close (Some p)) = Some p.uri
-uri_of side m = None
-
 -- The first members of a line, by the record's number, its head and what its body asks.
 abbrev pub first_members : ℕ → Head → IncomingData → List ℕ
 first_members number head m =
@@ -90,6 +85,12 @@ abbrev pub reason_json : Bounds → IncomingData → Verdict → Option (List �
 reason_json limits m (answered answer) = if is_refused answer then
     Some (codes "\"" ++ reason_words limits (change_in m) answer ++ codes "\"") else None
 reason_json limits m verdict = None
+
+-- The notes of an accepted record, as strings in an array. Without notes there is none.
+abbrev pub notes_json : List Note → Option (List ℕ)
+notes_json [] = None
+notes_json (note ∷ notes) =
+    Some (codes "[\"" ++ notes_words (codes "\",\"") (note ∷ notes) ++ codes "\"]")
 
 -- A canonical message, unless it is over the limit.
 abbrev pub within : ℕ → Option (List ℕ) → Option (List ℕ)
@@ -131,75 +132,45 @@ body_json is_asked body = if is_asked then Some (one_line body) else None
 
 -- The other members of a line: what is answered, and the document afterwards.
 abbrev pub last_members : List ℕ → Option (List ℕ) → Option (List ℕ) → Option (List ℕ)
-    → Option (List ℕ) → Option (List ℕ) → Option (List ℕ) → List ℕ
-last_members word reason last version canonical shown body =
+    → Option (List ℕ) → Option (List ℕ) → Option (List ℕ) → Option (List ℕ) → List ℕ
+last_members word reason last notes version canonical shown body =
     codes ",\"word\":\"" ++ word ++ codes "\""
     ++ member (codes ",\"reason\":") reason
     ++ member (codes ",\"last\":") last
+    ++ member (codes ",\"notes\":") notes
     ++ member (codes ",\"version\":") version
     ++ member (codes ",\"canonical\":") canonical
     ++ member (codes ",\"text\":") shown
     ++ member (codes ",\"body\":") body
     ++ codes "}\n"
 
--- ---- which record opened, closed or refused the document last
-
--- A command that the documents refuse has the number of that record before it.
-abbrev pub last_json : List Mention → Option (List ℕ) → Verdict → Option (List ℕ)
-last_json mentions uri (answered (refused refusal)) =
-    option_map decimal (option_and_then (λ uri. last_record uri mentions) uri)
-last_json mentions uri verdict = None
-
--- Does an answer open, close or refuse a document? `change` says whether it is to a `didChange`.
-abbrev pub is_mention : Bool → Verdict → Bool
-is_mention change (answered changed) = not change
-is_mention change (answered (refused refusal)) = true
-is_mention change verdict = false
-
--- The documents that were opened, closed or refused last, after a record with this number.
-abbrev pub mentioned : Bool → Option (List ℕ) → ℕ → List Mention → List Mention
-mentioned true (Some uri) number mentions = newest_first uri number mentions
-mentioned is_mention uri number mentions = mentions
-
--- The same by the judgement of a record. `m` is what its body asks.
-abbrev pub mentions_after : List Mention → Record → Judged → IncomingData → List Mention
-mentions_after mentions r j m =
-    mentioned (is_mention (is_change m) j.verdict) (uri_of r.head.side m) j.session.records mentions
-
 -- ---- the engine
 
--- A line of `trace`, from the session before the record and the judgement of it. `m` is what the
--- record's body asks.
-abbrev pub trace_line : Details → List Mention → Session → Record → Judged → IncomingData → List ℕ
-trace_line details mentions s r j m =
+-- A line of `trace`, from what is known of the records before, the session before the record and
+-- the judgement of it. `m` is what the record's body asks.
+abbrev pub trace_line : Details → Known → Session → Record → Judged → IncomingData → List ℕ
+trace_line details known s r j m =
     first_members j.session.records r.head m
     ++ last_members (verdict_word j.verdict)
     (reason_json j.session.server.config.limits m j.verdict)
-    (last_json mentions (uri_of r.head.side m) j.verdict)
+    (option_map decimal (last_for known.mentions (uri_of r.head.side m) j.verdict))
+    (notes_json (notes_of s known.ranged r.body j.verdict))
     (version_json (document_after j.session.server.table (uri_of r.head.side m)))
     (within s.server.config.limits.max_body (canonical_of_record s r.body j.verdict))
     (text_json (details.texts && is_changed j.verdict)
     (document_after j.session.server.table (uri_of r.head.side m)))
     (body_json (details.bodies && is_json m) r.body)
 
--- The output for a record: its line.
-abbrev pub trace_output : Details → List Mention → Session → Record → Judged → RecordOutput
-trace_output details mentions s r j = unless_bad r j.verdict
-    (writes (trace_line details mentions s r j (incoming_of (reading r.body))))
-
--- The output for records that a session judges one after another. At the end nothing is written.
-abbrev pub traced_in : Details → List Mention → Session → List Record → RunOutput
-traced_in details mentions s []
-    = record { out = []; stop = None; last = λ line_due. []; outcome = outcome_of s }
-traced_in details mentions s (r ∷ rs) =
-    continue_with (trace_output details mentions s r (judge s r)).out
-    (trace_output details mentions s r (judge s r)).end
-    (traced_in details (mentions_after mentions r (judge s r) (incoming_of (reading r.body)))
-    (judge s r).session rs)
+-- `trace` writes such a line for each record, and nothing at the end.
+abbrev pub tracing : Details → LineView
+tracing details = record {
+  line = λ known s r j. trace_line details known s r j (incoming_of (reading r.body));
+  end_lines = λ known s. [];
+}
 
 -- The output of `trace`.
 abbrev pub traced : Settings → Details → List Record → RunOutput
-traced settings details = traced_in details [] (opened (log_config settings))
+traced settings details = lines_in (tracing details) nothing_known (opened (log_config settings))
 
 abbrev pub trace_engine : Settings → Details → Engine
 trace_engine settings details

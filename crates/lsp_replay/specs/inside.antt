@@ -3,7 +3,9 @@ pub mod Bodies
 pub mod Joining
 pub mod Explained
 pub mod Kept
+pub mod Known
 pub mod Mentions
+pub mod Noting
 pub mod Parts
 pub mod Progress
 pub mod Verdicts

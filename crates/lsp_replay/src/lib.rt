@@ -11,6 +11,7 @@
 //!   `converting`.
 //! - `members`: what a line of JSON is put together from.
 //! - `mentions`: which record opened, closed or refused a document last.
+//! - `notes`: what of an accepted message is suspicious.
 //! - `outcome`: the status and the counts at the end of a run, and what a part of a log lacks.
 //! - `laws`: what holds of the logs that are written.
 #![tactic(auto)]
@@ -22,6 +23,7 @@ mod handler;
 mod laws;
 mod members;
 mod mentions;
+mod notes;
 mod outcome;
 mod session;
 

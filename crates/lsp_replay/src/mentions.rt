@@ -1,8 +1,8 @@
 //! Which record opened, closed or refused a document last.
 
-ghost use Rattle.std.specs.Prelude.{◌≡◌, [], IfOk, OnOk};
+ghost use Rattle.std.specs.Prelude.{◌≡◌, [], IfOk, OnOk, option_map, string_bytes};
 ghost use Rattle.std.specs.Str.{bytes_eq};
-ghost use Rattle.lsp_replay.specs.Mentions.{last_record, newest_first, without};
+ghost use Rattle.lsp_replay.specs.Mentions.{last_record, mentioned, newest_first, without};
 ghost use Rattle.lsp_replay.specs.inside.Mentions.{IsFoundAt};
 
 use std::alloc::{AllocError, Global};
@@ -91,6 +91,25 @@ impl Mentions {
         self.newest.insert(0, mention)?;
         self.newest.truncate(MENTIONS);
         Ok(())
+    }
+
+    /// The same with the document of a record, if the record opened, closed or refused one.
+    pub fn keep(
+        &mut self,
+        is_mention: bool,
+        uri: &Option<String>,
+        number: u64,
+    ) -> Result<(), AllocError>
+        ensures { OnOk result (self.new.newest.items ≡ mentioned is_mention
+            (option_map string_bytes uri.now) number self.old.newest.items) }
+    {
+        if !is_mention {
+            return Ok(());
+        }
+        let Some(uri) = uri else {
+            return Ok(());
+        };
+        self.mention(uri.as_str(), number)
     }
 }
 

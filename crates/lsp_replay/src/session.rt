@@ -7,6 +7,8 @@
 //! - `results`: the result of `initialize`.
 //! - `counting`: what counts as refused.
 //! - `keeping`: the text of a document, kept when it is closed.
+//! - `noting`: what is suspicious of a message.
+//! - `known`: what is known of the records before one.
 //! - `tracing`: what a record is, whatever is answered.
 
 ghost use Rattle.std.specs.Prelude.{◌≡◌, ◌≢◌, ◌⊎◌, IfErr, IfOk, OnErr, OnOk, MatchOption, Some, None};
@@ -19,8 +21,10 @@ ghost use Rattle.lsp_replay.specs.inside.Verdicts.{verdict_view};
 pub(crate) mod counting;
 pub(crate) mod joining;
 mod keeping;
+pub(crate) mod known;
+pub(crate) mod noting;
 pub(crate) mod planning;
-mod results;
+pub(crate) mod results;
 pub(crate) mod selecting;
 pub(crate) mod tracing;
 pub(crate) mod writing;

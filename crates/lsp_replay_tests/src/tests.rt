@@ -6,6 +6,7 @@ mod failures;
 mod in_time;
 mod left_out;
 mod mentions;
+mod notes;
 mod pieces;
 mod refused;
 mod sessions;

@@ -1,12 +1,16 @@
--- A line of `check --explain`, by the session after the record.
-use Rattle.std.specs.Prelude.{ℕ, ◌++◌, List, codes, decimal}
-use Rattle.lsp_log.specs.declared.record.Side.{Side}
+-- A line of `check --explain`, by the session after the record and what was returned of the record.
+use Rattle.std.specs.Prelude.{ℕ, ◌++◌, List, codes, decimal, option_map}
+use Rattle.std.specs.String.{string_bytes}
 use Rattle.lsp_server.specs.Incoming.{IncomingData}
-use Rattle.lsp_replay.specs.Engines.{verdict_word}
-use Rattle.lsp_replay.specs.Explained.{explanation}
-use Rattle.lsp_replay.specs.Session.{Session, Verdict}
+use Rattle.lsp_replay.specs.declared.session.known.Noted.{Noted}
+use Rattle.lsp_replay.specs.Engines.{change_in, verdict_word}
+use Rattle.lsp_replay.specs.Explained.{explanation, remark}
+use Rattle.lsp_replay.specs.Session.{Session}
+use Rattle.lsp_replay.specs.inside.Verdicts.{verdict_view}
 
-abbrev pub line_by : Session → Side → IncomingData → Verdict → List ℕ
-line_by t side m verdict =
-    decimal t.records ++ codes " " ++ verdict_word verdict
-    ++ explanation t.server.config.limits side m verdict ++ codes "\n"
+abbrev pub line_by : Session → IncomingData → Noted → List ℕ
+line_by t m noted =
+    decimal t.records ++ codes " " ++ verdict_word (verdict_view noted.verdict)
+    ++ explanation t.server.config.limits (option_map string_bytes noted.uri) (change_in m)
+    noted.last (verdict_view noted.verdict)
+    ++ remark (option_map string_bytes noted.uri) noted.notes.items ++ codes "\n"

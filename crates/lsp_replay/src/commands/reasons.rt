@@ -198,7 +198,7 @@ fn push_reversed(buffer: &mut Vec<u8>, index: usize, range: Option<Range>) -> Re
 }
 
 /// Writes the number of a change, from 1.
-fn push_change(buffer: &mut Vec<u8>, index: usize) -> Result<(), AllocError>
+pub fn push_change(buffer: &mut Vec<u8>, index: usize) -> Result<(), AllocError>
     ensures { OnOk result (buffer.new.items ≡ buffer.old.items ++ codes "change "
         ++ decimal (ports.one_more index)) }
 {
@@ -225,7 +225,8 @@ fn push_side(buffer: &mut Vec<u8>, side: Side, range: Option<Range>) -> Result<(
     }
 }
 
-fn push_position(buffer: &mut Vec<u8>, position: Position) -> Result<(), AllocError>
+/// Writes where a position is.
+pub fn push_position(buffer: &mut Vec<u8>, position: Position) -> Result<(), AllocError>
     ensures { OnOk result (buffer.new.items ≡ buffer.old.items ++ position_words position) }
 {
     buffer.extend_from_slice(b"line ")?;

@@ -1,6 +1,6 @@
 //! `trace`: a line of JSON for each record of a log.
 
-ghost use Rattle.std.specs.Prelude.{◌≡◌, ◌&&◌, ◌++◌, [], refl, OnOk, codes, false, option_map, string_bytes};
+ghost use Rattle.std.specs.Prelude.{◌≡◌, ◌&&◌, ◌++◌, refl, OnOk, codes, decimal, false, option_map, string_bytes};
 ghost use Rattle.std.specs.Fmt.{signed_decimal};
 ghost use Rattle.lsp_message.specs.Message.{reading};
 ghost use Rattle.lsp_message.specs.Seen.{change_view};
@@ -8,19 +8,22 @@ ghost use Rattle.lsp_server.specs.Incoming.{incoming_of};
 ghost use Rattle.lsp_server.specs.Seen.{incoming_view};
 ghost use Rattle.lsp_replay.specs.Session.{opened};
 ghost use Rattle.lsp_replay.specs.Engines.{change_in, verdict_word};
-ghost use Rattle.lsp_replay.specs.Trace.{body_json, document_after, is_changed, is_mention, last_json, member, one_line, reason_json, text_json, traced_in};
+ghost use Rattle.lsp_replay.specs.Lines.{lines_in, nothing_known};
+ghost use Rattle.lsp_replay.specs.Trace.{body_json, document_after, is_changed, member, notes_json, one_line, reason_json, text_json, tracing};
 ghost use Rattle.lsp_replay.specs.Trace.{version_json};
-ghost use Rattle.lsp_replay.specs.inside.Tracing.{canonical_json, members_by, mentions_by};
+ghost use Rattle.lsp_replay.specs.inside.Tracing.{canonical_json, members_by};
 ghost use Rattle.lsp_replay.specs.inside.Verdicts.{verdict_view};
 
 use crate::commands::checking::push_verdict;
+use crate::commands::noted::push_notes;
 use crate::commands::reasons::push_reason;
 use crate::engines::Details;
 use crate::handler::{Given, Handler, Output};
 use crate::members::{push_json_string, push_number, push_signed, push_words};
-use crate::mentions::Mentions;
+use crate::notes::Note;
 use crate::outcome::Outcome;
 use crate::session::counting::is_refused;
+use crate::session::known::Known;
 use crate::session::tracing::Traced;
 use crate::session::writing::Appended;
 use crate::session::{Session, Verdict};
@@ -37,7 +40,7 @@ pub struct Trace {
     pub session: Session,
     pub alloc: Global,
     pub details: Details,
-    pub mentions: Mentions,
+    pub known: Known,
     /// The canonical message of the last record, if it was an accepted change.
     pub canonical: Vec<u8>,
 }
@@ -45,15 +48,15 @@ pub struct Trace {
 impl Trace {
     /// Starts before the first record, over a new server.
     pub fn new(alloc: Global, config: Config, details: Details) -> Trace
-        ensures { traced_in result.details result.mentions.newest.items result.session
-            ≡ traced_in details [] (opened config) }
+        ensures { lines_in (tracing result.details) result.known result.session
+            ≡ lines_in (tracing details) nothing_known (opened config) }
     {
         let session = Session::new(alloc, config);
         Trace {
             session,
             alloc,
             details,
-            mentions: Mentions::new(alloc),
+            known: Known::nothing(alloc),
             canonical: Vec::new(alloc),
         }
     }
@@ -66,15 +69,17 @@ impl Trace {
         traced: &Traced,
     ) -> Result<(), AllocError>
         ensures { OnOk result (buffer.new.items ≡ buffer.old.items
-            ++ members_by self.now.details self.now.mentions.newest.items self.now.session
-            (incoming_of (reading body.now)) traced.now self.now.canonical.items body.now) }
+            ++ members_by self.now.details self.now.session (incoming_of (reading body.now))
+            traced.now self.now.canonical.items body.now) }
     {
-        let document = self.document_after(&traced.uri);
-        let has_text = self.has_text(&traced.verdict);
+        let noted = &traced.noted;
+        let document = self.document_after(&noted.uri);
+        let has_text = self.has_text(&noted.verdict);
         let has_body = self.has_body(traced.is_json);
-        push_word(buffer, &traced.verdict)?;
-        self.push_why(buffer, body, &traced.verdict)?;
-        self.push_mention(buffer, &traced.uri, &traced.verdict)?;
+        push_word(buffer, &noted.verdict)?;
+        self.push_why(buffer, body, &noted.verdict)?;
+        push_mention(buffer, noted.last)?;
+        push_noted(buffer, &noted.notes)?;
         push_version(buffer, &document)?;
         push_canonical(buffer, traced.canonical, &self.canonical)?;
         push_text(self.alloc, buffer, has_text, &document)?;
@@ -107,31 +112,6 @@ impl Trace {
         buffer.extend_from_slice(b"\"")
     }
 
-    /// Writes which record opened, closed or refused the document of the last record before it, if
-    /// the documents refused that.
-    fn push_mention(
-        &self,
-        buffer: &mut Vec<u8>,
-        uri: &Option<String>,
-        verdict: &Verdict,
-    ) -> Result<(), AllocError>
-        ensures { OnOk result (buffer.new.items ≡ buffer.old.items
-            ++ member (codes ",\"last\":") (last_json self.now.mentions.newest.items
-            (option_map string_bytes uri.now) (verdict_view verdict.now))) }
-    {
-        let Verdict::Answered(Answer::Refused(_)) = verdict else {
-            return Ok(());
-        };
-        let Some(uri) = uri else {
-            return Ok(());
-        };
-        let Some(number) = self.mentions.last(uri.as_str()) else {
-            return Ok(());
-        };
-        buffer.extend_from_slice(b",\"last\":")?;
-        push_number(buffer, number)
-    }
-
     /// Has the last record's line the document's text, if the document is open?
     fn has_text(&self, verdict: &Verdict) -> bool
         ensures { result
@@ -160,8 +140,7 @@ impl Trace {
 }
 
 impl Handler for Trace {
-    ghost run_output = { λ trace.
-        traced_in trace.details trace.mentions.newest.items trace.session };
+    ghost run_output = { λ trace. lines_in (tracing trace.details) trace.known trace.session };
 
     ghost FLUSHES = { false };
 
@@ -183,10 +162,8 @@ impl Handler for Trace {
         self.canonical.clear();
         let traced = self
             .session
-            .accept_and_trace(head, body, buffer, &mut self.canonical)?;
+            .accept_and_trace(&mut self.known, head, body, buffer, &mut self.canonical)?;
         self.push_last(buffer, body, &traced)?;
-        let number = self.session.records();
-        mention(&mut self.mentions, number, &traced)?;
         Ok(Given::more(Output::Bytes))
     }
 
@@ -204,31 +181,6 @@ fn is_changed(verdict: &Verdict) -> bool
     ensures { result ≡ is_changed (verdict_view verdict.now) }
 {
     matches!(verdict, Verdict::Answered(Answer::Changed))
-}
-
-/// Keeps that a record with this number opened, closed or refused its document, if it did.
-fn mention(mentions: &mut Mentions, number: u64, traced: &Traced) -> Result<(), AllocError>
-    ensures { OnOk result (mentions.new.newest.items
-        ≡ mentions_by mentions.old.newest.items number traced.now) }
-{
-    if !is_mention(traced.is_change, &traced.verdict) {
-        return Ok(());
-    }
-    let Some(uri) = &traced.uri else {
-        return Ok(());
-    };
-    mentions.mention(uri.as_str(), number)
-}
-
-/// Does an answer open, close or refuse a document?
-fn is_mention(is_change: bool, verdict: &Verdict) -> bool
-    ensures { result ≡ is_mention is_change (verdict_view verdict.now) }
-{
-    match verdict {
-        Verdict::Answered(Answer::Changed) => !is_change,
-        Verdict::Answered(Answer::Refused(_)) => true,
-        _ => false,
-    }
 }
 
 /// The parameters of a `didChange`, if they are valid.
@@ -249,6 +201,33 @@ fn push_word(buffer: &mut Vec<u8>, verdict: &Verdict) -> Result<(), AllocError>
     buffer.extend_from_slice(b",\"word\":\"")?;
     push_verdict(buffer, verdict)?;
     buffer.extend_from_slice(b"\"")
+}
+
+/// Writes which record opened, closed or refused the document last before, if there is one to look
+/// at.
+fn push_mention(buffer: &mut Vec<u8>, last: Option<u64>) -> Result<(), AllocError>
+    ensures { OnOk result (buffer.new.items ≡ buffer.old.items
+        ++ member (codes ",\"last\":") (option_map decimal last)) }
+{
+    let Some(number) = last else {
+        return Ok(());
+    };
+    buffer.extend_from_slice(b",\"last\":")?;
+    push_number(buffer, number)
+}
+
+/// Writes what is suspicious of an accepted record, if there is something.
+fn push_noted(buffer: &mut Vec<u8>, notes: &[Note]) -> Result<(), AllocError>
+    ensures { OnOk result (buffer.new.items ≡ buffer.old.items
+        ++ member (codes ",\"notes\":") (notes_json notes.now)) }
+{
+    if notes.is_empty() {
+        return Ok(());
+    }
+    buffer.extend_from_slice(b",\"notes\":")?;
+    buffer.extend_from_slice(b"[\"")?;
+    push_notes(buffer, "\",\"", notes)?;
+    buffer.extend_from_slice(b"\"]")
 }
 
 /// Writes the version of an open document.

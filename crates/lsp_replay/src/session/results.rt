@@ -1,15 +1,18 @@
-//! The result of `initialize` among a server's records, which says the encoding of the changes.
+//! The result of `initialize` among a server's records, which says the encoding of the changes and
+//! whether ranges are asked for.
 
 ghost use Rattle.std.specs.Prelude.{◌≡◌, ◌≢◌, Err, IfErr, IfOk, None, Ok, OnErr, OnOk, Some, option_map};
 ghost use Rattle.serde_json.specs.View.{view};
 ghost use Rattle.lsp_message.specs.Agreement.{announced_of};
 ghost use Rattle.lsp_message.specs.Message.{reading};
 ghost use Rattle.lsp_message.specs.Seen.{id_view, message_view};
+ghost use Rattle.lsp_replay.specs.Notes.{ranged_after, ranged_by};
 ghost use Rattle.lsp_replay.specs.Session.{hear_for, settle_by, result_for, result_in, same_id};
 ghost use Rattle.lsp_replay.specs.inside.Verdicts.{verdict_view};
 
 use crate::session::{Session, Verdict};
-use lsp_message::{Id, Message, Outcome, ReadFault, read, result_initialize};
+use lsp_log::{Head, Side};
+use lsp_message::{Id, Message, Outcome, ReadFault, SyncKind, read, result_initialize};
 use serde_json::Value;
 use std::alloc::{AllocError, Global};
 
@@ -47,6 +50,34 @@ impl Session {
         self.expected = None;
         Verdict::Recorded
     }
+
+    /// Returns whether ranges are asked for after a record. `ranged`: were they before? Only the
+    /// result of `initialize` is read.
+    pub fn ranged_after(&self, ranged: bool, head: Head, body: &[u8]) -> Result<bool, AllocError>
+        ensures { IfOk result
+            (λ after. after ≡ ranged_after ranged self.now head.side body.now) }
+    {
+        match (head.side, &self.expected) {
+            (Side::Server, Some(id)) => {
+                let result = result_for(self.alloc, id, body)?;
+                Ok(ranged_by(self.alloc, ranged, result))
+            }
+            _ => Ok(ranged),
+        }
+    }
+}
+
+/// Returns whether ranges are asked for, by a result of `initialize` if there is one.
+fn ranged_by(alloc: Global, ranged: bool, found: Option<Value>) -> bool
+    ensures { result ≡ ranged_by ranged (option_map view found) }
+{
+    let Some(found) = found else {
+        return ranged;
+    };
+    match result_initialize(alloc, found) {
+        Ok(announced) => matches!(announced.kind, SyncKind::Incremental),
+        Err(_) => false,
+    }
 }
 
 /// Returns a copy of an id.
@@ -83,7 +114,7 @@ fn result_for(alloc: Global, id: &Id, body: &[u8]) -> Result<Option<Value>, Allo
 
 /// Returns the message that was read of a body, if it has one. Out of memory only where reading it
 /// was.
-pub(super) fn message_of(outcome: Result<Message, ReadFault>) -> Result<Option<Message>, AllocError>
+pub fn message_of(outcome: Result<Message, ReadFault>) -> Result<Option<Message>, AllocError>
     ensures read { IfOk outcome (λ message. result ≡ Ok (Some message)) }
     ensures none { IfErr outcome (λ fault.
         IfOk result (λ message. (fault ≢ ReadFault.NoMemory) × (message ≡ None))) }

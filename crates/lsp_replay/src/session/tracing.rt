@@ -8,16 +8,17 @@ ghost use Rattle.lsp_server.specs.Incoming.{incoming_of};
 ghost use Rattle.lsp_server.specs.Seen.{incoming_view};
 ghost use Rattle.lsp_stream.specs.Ports as ports;
 ghost use Rattle.lsp_replay.specs.Session.{bad, is_change, judge_at};
-ghost use Rattle.lsp_replay.specs.Trace.{first_members, id_json, id_of, is_json, member, method_of};
-ghost use Rattle.lsp_replay.specs.Trace.{side_word, uri_of};
+ghost use Rattle.lsp_replay.specs.Lines.{known_after, uri_of};
+ghost use Rattle.lsp_replay.specs.Trace.{first_members, id_json, id_of, is_json, member, method_of, side_word};
 ghost use Rattle.lsp_replay.specs.inside.Bodies.{body_read, body_view};
-ghost use Rattle.lsp_replay.specs.inside.Tracing.{IsTraced, first_by};
+ghost use Rattle.lsp_replay.specs.inside.Tracing.{IsTraced};
 ghost use Rattle.lsp_replay.specs.inside.Verdicts.{verdict_view};
 
 use crate::members::{push_json_string, push_number, push_signed, push_text};
 use crate::session::counting::one_more;
+use crate::session::known::{Known, Noted};
 use crate::session::writing::Appended;
-use crate::session::{RecordBody, Session, Verdict, in_log};
+use crate::session::{RecordBody, Session, in_log};
 use lsp_log::{Head, Side};
 use lsp_message::Id;
 use lsp_server::Incoming;
@@ -27,31 +28,30 @@ use std::alloc::{AllocError, Global};
 /// What of a record isn't in its line yet.
 #[derive(Drop)]
 pub struct Traced {
-    pub verdict: Verdict,
+    pub noted: Noted,
     /// What was appended of the canonical message of an accepted change.
     pub canonical: Option<Appended>,
-    /// The URI of the document that it is about.
-    pub uri: Option<String>,
     /// Is its body JSON?
     pub is_json: bool,
-    /// Is it a `didChange`?
-    pub is_change: bool,
 }
 
 impl Session {
-    /// Judges a record as [`Session::accept`] does. Before it writes the first members of its line,
-    /// and appends the body of an accepted change's canonical message to another buffer.
+    /// Judges a record as [`Session::accept_and_note`] does. Before it writes the first members of
+    /// its line, and appends the body of an accepted change's canonical message to another buffer.
     pub fn accept_and_trace(
         &mut self,
+        known: &mut Known,
         head: Head,
         body: &[u8],
         buffer: &mut Vec<u8>,
         canonical: &mut Vec<u8>,
     ) -> Result<Traced, EngineFault>
-        ensures traced { IfOk result (IsTraced self.old head body.now canonical.old.items
+        ensures traced { IfOk result (IsTraced known.old self.old head body.now canonical.old.items
             canonical.new.items) }
-        ensures in_log { IfOk result (λ traced. verdict_view traced.verdict ≢ bad) }
+        ensures in_log { IfOk result (λ traced. verdict_view traced.noted.verdict ≢ bad) }
         ensures session { OnOk result (self.new ≡ (judge_at self.old head body.now).session) }
+        ensures known { OnOk result (known.new ≡ known_after known.old self.old head body.now
+            (judge_at self.old head body.now)) }
         ensures members { OnOk result (buffer.new.items ≡ buffer.old.items
             ++ first_members (ports.one_more self.old.records) head
             (incoming_of (reading body.now))) }
@@ -59,8 +59,8 @@ impl Session {
             ⊎ ((fault ≡ EngineFault.BadLog head.place)
             × ((judge_at self.old head body.now).verdict ≡ bad))) }
     {
-        let traced = self.judge_and_trace(head, body, buffer, canonical)?;
-        in_log(&traced.verdict, head.place)?;
+        let traced = self.judge_and_trace(known, head, body, buffer, canonical)?;
+        in_log(&traced.noted.verdict, head.place)?;
         Ok(traced)
     }
 
@@ -68,33 +68,33 @@ impl Session {
     /// does.
     fn judge_and_trace(
         &mut self,
+        known: &mut Known,
         head: Head,
         body: &[u8],
         buffer: &mut Vec<u8>,
         canonical: &mut Vec<u8>,
     ) -> Result<Traced, AllocError>
-        ensures traced { IfOk result (IsTraced self.old head body.now canonical.old.items
+        ensures traced { IfOk result (IsTraced known.old self.old head body.now canonical.old.items
             canonical.new.items) }
         ensures session { OnOk result (self.new ≡ (judge_at self.old head body.now).session) }
+        ensures known { OnOk result (known.new ≡ known_after known.old self.old head body.now
+            (judge_at self.old head body.now)) }
         ensures members { OnOk result (buffer.new.items ≡ buffer.old.items
             ++ first_members (ports.one_more self.old.records) head
             (incoming_of (reading body.now))) }
     {
+        let was_ranged = known.is_ranged();
+        let ranged = self.ranged_after(was_ranged, head, body)?;
         let incoming = self.read_incoming(body)?;
-        let number = one_more(self.records);
-        let uri = uri_of(head.side, &incoming);
-        push_first(self.alloc, buffer, number, head, &incoming, uri)?;
-        let uri = copied_text(self.alloc, uri)?;
+        push_first(self.alloc, buffer, one_more(self.records), head, &incoming)?;
         let is_json = is_json(&incoming);
-        let is_change = is_change(&incoming);
         let read = record_body(head, body, incoming);
+        let about = self.about(was_ranged, body, &read)?;
         let (verdict, canonical) = self.judge_and_write(read, canonical)?;
         Ok(Traced {
-            verdict,
+            noted: known.learn(ranged, self.records, about, verdict)?,
             canonical,
-            uri,
             is_json,
-            is_change,
         })
     }
 
@@ -120,7 +120,7 @@ fn record_body<'a>(head: Head, body: &'a [u8], incoming: Incoming) -> RecordBody
 }
 
 /// Returns a copy of a text, if there is one.
-fn copied_text(alloc: Global, text: Option<&str>) -> Result<Option<String>, AllocError>
+pub fn copied_text(alloc: Global, text: Option<&str>) -> Result<Option<String>, AllocError>
     ensures { IfOk result
         (λ copy. option_map string_bytes copy ≡ option_map (λ text. text.now) text.entry) }
 {
@@ -130,23 +130,21 @@ fn copied_text(alloc: Global, text: Option<&str>) -> Result<Option<String>, Allo
     }
 }
 
-/// Writes the first members of a record's line. `uri` is that of the document that it is about.
+/// Writes the first members of a record's line.
 fn push_first(
     alloc: Global,
     buffer: &mut Vec<u8>,
     number: u64,
     head: Head,
     incoming: &Incoming,
-    uri: Option<&str>,
 ) -> Result<(), AllocError>
     ensures { OnOk result (buffer.new.items ≡ buffer.old.items
-        ++ first_by number head (incoming_view incoming.now)
-        (option_map (λ uri. uri.now) uri.entry)) }
+        ++ first_members number head (incoming_view incoming.now)) }
 {
     push_head(buffer, number, head)?;
     push_text(alloc, buffer, ",\"method\":", method_of(incoming))?;
     push_id(alloc, buffer, id_of(incoming))?;
-    push_text(alloc, buffer, ",\"uri\":", uri)
+    push_text(alloc, buffer, ",\"uri\":", uri_of(head.side, incoming))
 }
 
 /// Writes a record's number, its offset and its side.
@@ -181,7 +179,7 @@ fn is_json(incoming: &Incoming) -> bool
 }
 
 /// Does a body ask for a change?
-fn is_change(incoming: &Incoming) -> bool
+pub fn is_change(incoming: &Incoming) -> bool
     ensures { result ≡ is_change (incoming_view incoming.now) }
 {
     matches!(incoming, Incoming::DidChange(_))

@@ -202,16 +202,42 @@ static EXPLAINED: Wanted = Wanted {
     parts: &[
         "1 reply\n",
         "2 changed\n",
-        "3 refused S1 of \"file:///a\": the document is open already\n",
-        "Refused messages change nothing. `lspsync replay --at N`: the texts after message N.\n",
+        "3 refused S1 of \"file:///a\": the document is open already; see message 2\n",
+        "Refused messages change nothing. `lspsync replay --at N`: the texts after message N.\nMany servers don't refuse what is S1 or S5 here. `--lenient` doesn't either.\n",
     ],
-    lengths: &[8, 18, 76, 161],
+    lengths: &[8, 18, 91, 253],
     end: Ended(1, 3, 1),
 };
 
 #[test]
 fn refused_explain(rt: HostRuntime) -> Result<(), Fail> {
     let refused = EXPLAINED.runs_again(rt.alloc())?;
+    assert!(rt; refused.is_some());
+    println!(rt; "refused {}", refused.unwrap_or(0))?;
+    Ok(())
+}
+
+/// Two changes, each with a note.
+const TWO_CHANGES: &str =
+    r#"{"jsonrpc":"2.0","method":"textDocument/didChange","params":{"contentChanges":[{"text":"abc"},{"range":{"start":{"line":1,"character":0},"end":{"line":1,"character":0}},"text":"d"}],"textDocument":{"uri":"file:///a","version":2}}}"#;
+
+/// Several changes are noted on a copy of the text.
+static NOTED: Wanted = Wanted {
+    command: Command::Explain,
+    input: Bytes::Frames(&[SHORT, OPEN, TWO_CHANGES]),
+    parts: &[
+        "1 reply\n",
+        "2 changed\n",
+        "3 changed of \"file:///a\": change 1 changes nothing; change 2 starts at line 1, character 0, past the last line (taken as line 0, character 3)\n",
+        "Nothing was refused; see the notes. `lspsync replay --at N`: the texts after message N.\n",
+    ],
+    lengths: &[8, 18, 160, 248],
+    end: Ended(0, 3, 0),
+};
+
+#[test]
+fn refused_notes(rt: HostRuntime) -> Result<(), Fail> {
+    let refused = NOTED.runs_again(rt.alloc())?;
     assert!(rt; refused.is_some());
     println!(rt; "refused {}", refused.unwrap_or(0))?;
     Ok(())

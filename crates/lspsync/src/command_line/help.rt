@@ -237,8 +237,8 @@ static CHECK_EXAMPLE: &str =
 what the server sent. A record counts as refused where its word is `refused CAUSE`, `exit 1`, or an
 `error` other than -32601. Then the status is 1.
 
-With `--explain` a line of an error, a refusal or `exit 1` also has the document and the reason, and a
-last line says what to do next.
+With `--explain` a line of an error, a refusal or `exit 1` also has the document, the reason and the
+message to see, one of a suspicious message notes, and a last line says what to do next.
 
 Example, a session with two changes that a server must refuse:
   ./lspsync check < examples/stale-version.log
@@ -250,8 +250,8 @@ static TRACE: &str =
 static TRACE_EXAMPLE: &str =
     "A line has the record's `number` and `offset`, who it is `from`, its `method` and `id`, the document's
 `uri`, the `word` of `check`, the `reason` if it was refused and the `last` record that opened, closed
-or refused the document, the document's `version` after it, and the `canonical` message of an accepted
-change. The status is that of `check`.
+or refused the document, `notes` on what is suspicious of an accepted one, the document's `version` after
+it, and the `canonical` message of an accepted change. The status is that of `check`.
 
 Example, and the refused messages alone where `jq` is there:
   ./lspsync trace < examples/stale-version.log
@@ -325,7 +325,8 @@ static AT: &str = "Replay up to the Nth record alone, from 1";
 
 static URI: &str = "Print this document's last text alone, as it is, also if it was closed";
 
-static EXPLAIN: &str = "Print why a message was refused too, and at the end what to do next";
+static EXPLAIN: &str =
+    "Print why a message was refused or what is suspicious too, and at the end what to do next";
 
 static TEXTS: &str = "Print the document's text too, where a message opened or changed it";
 

@@ -5,17 +5,29 @@ use lsp_samples::bodies::{INITIALIZE, OPEN, WHOLE};
 use lsp_samples::logs::log;
 use std::test::Fail;
 
-/// The line at the end, where nothing was refused and where something was.
+/// A change of no changes.
+const EMPTY: &str =
+    r#"{"jsonrpc":"2.0","method":"textDocument/didChange","params":{"contentChanges":[],"textDocument":{"uri":"file:///a","version":2}}}"#;
+
+/// The line at the end, where nothing was refused, where something was noted, and where something was
+/// refused.
 const COMPARE: &str =
     "Nothing was refused. Compare `lspsync replay --uri URI` with the editor's text.\n";
+
+const SEE: &str =
+    "Nothing was refused; see the notes. `lspsync replay --at N`: the texts after message N.\n";
 
 const LOOK: &str =
     "Refused messages change nothing. `lspsync replay --at N`: the texts after message N.\n";
 
+/// The same, where lenient limits would accept it.
+const TRY: &str =
+    "Refused messages change nothing. `lspsync replay --at N`: the texts after message N.\nMany servers don't refuse what is S1 or S5 here. `--lenient` doesn't either.\n";
+
 /// The messages of a log, the status, the lines of them and the line at the end.
 struct Row(&'static [&'static str], u8, &'static str, &'static str);
 
-static ROWS: [Row; 4] = [
+static ROWS: [Row; 5] = [
     Row(&[], 0, "", COMPARE),
     Row(
         &[INITIALIZE, OPEN, WHOLE],
@@ -24,10 +36,16 @@ static ROWS: [Row; 4] = [
         COMPARE,
     ),
     Row(
+        &[INITIALIZE, OPEN, EMPTY],
+        0,
+        "1 reply\n2 changed\n3 changed of \"file:///a\": it has no changes\n",
+        SEE,
+    ),
+    Row(
         &[INITIALIZE, OPEN, OPEN],
         1,
-        "1 reply\n2 changed\n3 refused S1 of \"file:///a\": the document is open already\n",
-        LOOK,
+        "1 reply\n2 changed\n3 refused S1 of \"file:///a\": the document is open already; see message 2\n",
+        TRY,
     ),
     Row(
         &["[", r#"{"jsonrpc":"2.0","method":"exit"}"#],

@@ -1,0 +1,92 @@
+-- The commands that write a line for each record by what is known of the records before it: `trace`
+-- and `check --explain`.
+use Rattle.std.specs.Prelude.{ℕ, Bool, true, false, ◌||◌, List, [], ◌∷◌, Option, Some, None}
+use Rattle.lsp_message.specs.Message.{reading}
+use Rattle.lsp_store.specs.declared.fault.StoreFault.TheVariants.{AlreadyOpen, StaleVersion}
+use Rattle.lsp_server.specs.Answer.{refused}
+use Rattle.lsp_server.specs.Incoming.{IncomingData, did_open, did_change, did_close, incoming_of}
+use Rattle.lsp_server.specs.declared.answer.Refusal.TheVariants.{Store}
+use Rattle.lsp_log.specs.declared.record.Head.{Head}
+use Rattle.lsp_log.specs.declared.record.Side.{Side}
+use Rattle.lsp_log.specs.declared.record.Side.TheVariants.{Client}
+use Rattle.lsp_log.specs.Log.{Record}
+use Rattle.lsp_replay.specs.declared.notes.Note.{Note}
+use Rattle.lsp_replay.specs.RunOutput.{RunOutput}
+use Rattle.lsp_replay.specs.Engines.{RecordOutput, continue_with, unless_bad, writes}
+use Rattle.lsp_replay.specs.Mentions.{Mention, is_mention, mentioned}
+use Rattle.lsp_replay.specs.Notes.{notes_of, ranged_after}
+use Rattle.lsp_replay.specs.Session.{Session, Judged, Verdict, answered, is_change, judge, outcome_of}
+
+-- The document that a record of one side is about: the URI in valid parameters of an editor's
+-- message.
+abbrev pub uri_of : Side → IncomingData → Option (List ℕ)
+uri_of Client (did_open (Some p)) = Some p.uri
+uri_of Client (did_change (Some p)) = Some p.uri
+uri_of Client (did_close (Some p)) = Some p.uri
+uri_of side m = None
+
+-- ---- what is known of the records before one
+
+pub record Known : Type 0 where
+  -- the documents that were opened, closed or refused last
+  pub mentions : List Mention
+  -- did the server ask for ranges?
+  pub ranged : Bool
+  -- has a record notes?
+  pub suspicious : Bool
+  -- is one refused with S1 or S5, which lenient limits never do?
+  pub strict : Bool
+
+-- Before the first record.
+abbrev pub nothing_known : Known
+nothing_known = record { mentions = []; ranged = false; suspicious = false; strict = false }
+
+abbrev pub has_notes : List Note → Bool
+has_notes [] = false
+has_notes (note ∷ notes) = true
+
+-- Is it refused with S1 or S5?
+abbrev pub is_strict : Verdict → Bool
+is_strict (answered (refused (Store AlreadyOpen))) = true
+is_strict (answered (refused (Store (StaleVersion current)))) = true
+is_strict verdict = false
+
+-- The documents that were opened, closed or refused last, after a record of one side that asks `m`.
+abbrev pub mentions_after : List Mention → Side → IncomingData → Judged → List Mention
+mentions_after mentions side m j =
+    mentioned (is_mention (is_change m) j.verdict) (uri_of side m) j.session.records mentions
+
+-- What is known after a record with this head and body, by the session before it.
+abbrev pub known_after : Known → Session → Head → List ℕ → Judged → Known
+known_after known s head body j = record {
+  mentions = mentions_after known.mentions head.side (incoming_of (reading body)) j;
+  ranged = ranged_after known.ranged s head.side body;
+  suspicious = known.suspicious || has_notes (notes_of s known.ranged body j.verdict);
+  strict = known.strict || is_strict j.verdict;
+}
+
+-- ---- the output
+
+-- What such a command writes: the line of a record, from the session before it and the judgement of
+-- it, and the lines at the end.
+pub record LineView : Type 0 where
+  pub line : Known → Session → Record → Judged → List ℕ
+  pub end_lines : Known → Session → List ℕ
+
+-- The output for a record: its line.
+abbrev pub line_output : LineView → Known → Session → Record → Judged → RecordOutput
+line_output view known s r j = unless_bad r j.verdict (writes (view.line known s r j))
+
+-- The output for records that a session judges one after another.
+abbrev pub lines_in : LineView → Known → Session → List Record → RunOutput
+lines_in view known s []
+    = record {
+      out = [];
+      stop = None;
+      last = λ line_due. view.end_lines known s;
+      outcome = outcome_of s;
+    }
+lines_in view known s (r ∷ rs) =
+    continue_with (line_output view known s r (judge s r)).out
+    (line_output view known s r (judge s r)).end
+    (lines_in view (known_after known s r.head r.body (judge s r)) (judge s r).session rs)

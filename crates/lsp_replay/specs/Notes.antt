@@ -1,0 +1,267 @@
+-- What of an accepted message is suspicious, though it has a meaning: its notes, and their words.
+-- These are ASCII, with no quotation mark and no backslash.
+use Rattle.std.specs.Prelude.{ℕ, ℤ, suc, Bool, true, false, ◌&&◌, ◌||◌, ◌==◌, ◌++◌, if◌then◌else◌, nat_lt, int_le, length, map, slice_get, slice_range, sum_by, encode_utf8_all, List, [], ◌∷◌, Option, Some, None, option_and_then, option_map, Result, Ok, Err, codes, decimal, flat_map}
+use Rattle.std.specs.Fmt.{signed_decimal}
+use Rattle.std.specs.Result.{result_ok}
+use Rattle.std.specs.Str.{bytes_eq, chars}
+use Rattle.serde_json.specs.Data.{Data, Items, no_items, item}
+use Rattle.lsp_text.specs.Positions.{denoted, exact_position}
+use Rattle.lsp_text.specs.Units.{units_in}
+use Rattle.lsp_text.specs.declared.encoding.Encoding.TheVariants.{Utf16}
+use Rattle.lsp_text.specs.declared.position.Position.{Position}
+use Rattle.lsp_text.specs.declared.position.Range.{Range}
+use Rattle.lsp_edit.specs.Batch.{Edit, Fault, meaning}
+use Rattle.lsp_edit.specs.Faults.{ends_of}
+use Rattle.lsp_edit.specs.Indexed.{text_within}
+use Rattle.lsp_edit.specs.declared.fault.Side.{Side}
+use Rattle.lsp_edit.specs.declared.fault.Side.TheVariants.{Start, Stop}
+use Rattle.lsp_message.specs.Agreement.{announced_of}
+use Rattle.lsp_message.specs.Message.{IdData, Reading, message, notification, reading}
+use Rattle.lsp_message.specs.Params.{DocumentItem, ChangeData}
+use Rattle.lsp_message.specs.Values.{items_in, member_at, natural_in}
+use Rattle.lsp_message.specs.declared.agreement.Announced.{Announced}
+use Rattle.lsp_message.specs.declared.agreement.SyncKind.{SyncKind}
+use Rattle.lsp_message.specs.declared.agreement.SyncKind.TheVariants.{Incremental}
+use Rattle.lsp_store.specs.Table.{entry_at, greatest_batch}
+use Rattle.lsp_server.specs.Answer.{changed}
+use Rattle.lsp_server.specs.Incoming.{IncomingData, did_open, did_change, incoming_of}
+use Rattle.lsp_server.specs.Step.{State, edit_from_data, session_encoding}
+use Rattle.lsp_stream.specs.Ports.{one_more}
+use Rattle.lsp_log.specs.declared.record.Side.{Side as Sender}
+use Rattle.lsp_log.specs.declared.record.Side.TheVariants.{Client, Server}
+use Rattle.lsp_replay.specs.declared.notes.Note.{Note}
+use Rattle.lsp_replay.specs.declared.notes.Note.TheVariants.{OpenAlready, OldVersion, NoChanges, WholeText, PastEnd, WrongLength, SameText}
+use Rattle.lsp_replay.specs.Reasons.{position_words}
+use Rattle.lsp_replay.specs.Session.{Session, Verdict, answered, result_for}
+
+-- ---- the `rangeLength` of the changes of a body (LSP 3.17, TextDocumentContentChangeEvent)
+
+-- That of each item of `contentChanges`, if it has one.
+abbrev pub lengths_in : Items → List (Option ℕ)
+lengths_in no_items = []
+lengths_in (item d ds) = natural_in (member_at (codes "rangeLength") (Some d)) ∷ lengths_in ds
+
+-- The same, where there may be no such items.
+abbrev pub lengths_found : Option Items → List (Option ℕ)
+lengths_found None = []
+lengths_found (Some items) = lengths_in items
+
+-- Those of the params of a notification.
+abbrev pub lengths_of : Reading → List (Option ℕ)
+lengths_of (message (notification method params))
+    = lengths_found (items_in (member_at (codes "contentChanges") params))
+lengths_of body = []
+
+-- ---- one change on the text before it (LSP 3.17, TextDocumentContentChangeEvent); a character `c`
+-- has `units c` units, and `index` is the change's index in its message
+
+-- What the notes of changes go by beside the text: the units of a character, the `rangeLength` of
+-- each change, and whether the server asked for ranges.
+pub record Terms : Type 0 where
+  pub units : ℕ → ℕ
+  pub lengths : List (Option ℕ)
+  pub ranged : Bool
+
+-- The note of a whole text where ranges were asked for.
+abbrev pub whole_notes : Bool → ℕ → Option Range → List Note
+whole_notes true index None = WholeText index ∷ []
+whole_notes ranged index range = []
+
+-- The exact position of what a position denotes. It is another one exactly where the position is
+-- past its line's end or past the last line.
+abbrev pub taken_as : (ℕ → ℕ) → List ℕ → Position → Option Position
+taken_as units text p = option_map (exact_position units text) (denoted units text p)
+
+-- Are two positions equal?
+abbrev pub is_same : Position → Position → Bool
+is_same p q = p.line == q.line && p.character == q.character
+
+-- The note of an end of a range, by the position that it is taken as.
+abbrev pub end_notes : ℕ → Side → Position → Option Position → List Note
+end_notes index side p None = []
+end_notes index side p (Some taken) = if is_same p taken then [] else
+    PastEnd index side p taken ∷ []
+
+-- The notes of the ends of a range. An empty range is noted once.
+abbrev pub range_notes : (ℕ → ℕ) → List ℕ → ℕ → Option Range → List Note
+range_notes units text index None = []
+range_notes units text index (Some range) =
+    end_notes index Start range.start (taken_as units text range.start)
+    ++ (if is_same range.start range.stop then [] else
+    end_notes index Stop range.stop (taken_as units text range.stop))
+
+-- The characters between two indexes, if there are two.
+abbrev pub part_between : List ℕ → Result (ℕ × ℕ) Fault → Option (List ℕ)
+part_between text (Ok ends) = Some (slice_range text ends.0 ends.1)
+part_between text (Err fault) = None
+
+-- The characters that a change replaces: those of its range, or all. It has none if it has no
+-- result.
+abbrev pub replaced_by : (ℕ → ℕ) → List ℕ → Option Range → Option (List ℕ)
+replaced_by units text None = Some text
+replaced_by units text (Some range) = part_between text (ends_of units text range)
+
+-- The `rangeLength` of a change.
+abbrev pub length_at : List (Option ℕ) → ℕ → Option ℕ
+length_at lengths index = option_and_then (λ length. length) (slice_get lengths index)
+
+-- The UTF-16 units of some characters.
+abbrev pub utf16_units : List ℕ → ℕ
+utf16_units characters = sum_by (units_in Utf16) characters
+
+-- The note of a `rangeLength` that is neither the units of what the change replaces nor its UTF-16
+-- units.
+abbrev pub length_notes : (ℕ → ℕ) → ℕ → Option ℕ → Option (List ℕ) → List Note
+length_notes units index (Some sent) (Some replaced) =
+    if sent == utf16_units replaced || sent == sum_by units replaced then [] else
+    WrongLength index sent (utf16_units replaced) ∷ []
+length_notes units index sent replaced = []
+
+-- The note that a change's text is what it replaces.
+abbrev pub same_notes : ℕ → List ℕ → Option (List ℕ) → List Note
+same_notes index new None = []
+same_notes index new (Some replaced) = if bytes_eq new replaced then SameText index ∷ [] else []
+
+-- The notes of a change.
+abbrev pub change_notes : Terms → List ℕ → ℕ → Edit → List Note
+change_notes terms text index change =
+    whole_notes terms.ranged index change.range
+    ++ range_notes terms.units text index change.range
+    ++ length_notes terms.units index (length_at terms.lengths index)
+    (replaced_by terms.units text change.range)
+    ++ same_notes index change.text (replaced_by terms.units text change.range)
+
+-- ---- a batch of changes
+
+-- The bytes that a change leaves of a text. There are none if it has no result, or if these bytes
+-- or those of its own text are more than a batch may have.
+abbrev pub left_by : (ℕ → ℕ) → List ℕ → Edit → Option (List ℕ)
+left_by units text change =
+    if nat_lt greatest_batch (length (encode_utf8_all change.text)) then None
+    else result_ok (text_within greatest_batch text (meaning units (chars text) (change ∷ [])))
+
+-- The notes of what comes after a change, if the change leaves a text.
+abbrev pub notes_after : (List ℕ → List Note) → Option (List ℕ) → List Note
+notes_after rest None = []
+notes_after rest (Some text) = rest text
+
+-- The notes of changes from an index on, each on the text that the one before it leaves.
+abbrev pub notes_from : Terms → ℕ → List ℕ → List Edit → List Note
+notes_from terms index text [] = []
+notes_from terms index text (change ∷ changes) =
+    change_notes terms (chars text) index change
+    ++ notes_after (λ next. notes_from terms (suc index) next changes)
+    (left_by terms.units text change)
+
+-- The notes of a batch on a text.
+abbrev pub batch_notes : Terms → List ℕ → List Edit → List Note
+batch_notes terms text [] = NoChanges ∷ []
+batch_notes terms text (change ∷ changes) = notes_from terms 0 text (change ∷ changes)
+
+-- ---- a message
+
+-- The note of a version that isn't greater than the current one, which lenient limits accept.
+abbrev pub version_notes : ℤ → ℤ → List Note
+version_notes sent current = if int_le sent current then OldVersion sent current ∷ [] else []
+
+-- The notes of a change of a document that may be open.
+abbrev pub changing_notes : Terms → ChangeData → Option DocumentItem → List Note
+changing_notes terms p None = []
+changing_notes terms p (Some entry) =
+    version_notes p.version entry.version
+    ++ batch_notes terms entry.text (map edit_from_data p.changes)
+
+-- The note of the opening of a document that is open, which lenient limits accept.
+abbrev pub opening_notes : Option DocumentItem → List Note
+opening_notes None = []
+opening_notes (Some entry) = OpenAlready ∷ []
+
+-- What the notes of the changes of a body go by, in the encoding of the session.
+abbrev pub terms_in : State → Bool → Reading → Terms
+terms_in s ranged body = record {
+  units = units_in (session_encoding s);
+  lengths = lengths_of body;
+  ranged = ranged;
+}
+
+-- What there is to note of a message on the documents before it, if it is accepted. `ranged`: did
+-- the server ask for ranges?
+abbrev pub notes_on : State → Bool → Reading → IncomingData → List Note
+notes_on s ranged body (did_open (Some p)) = opening_notes (entry_at s.table p.uri)
+notes_on s ranged body (did_change (Some p))
+    = changing_notes (terms_in s ranged body) p (entry_at s.table p.uri)
+notes_on s ranged body m = []
+
+-- Notes, if a message is accepted. A refused one has its reason.
+abbrev pub notes_if : List Note → Verdict → List Note
+notes_if notes (answered changed) = notes
+notes_if notes verdict = []
+
+-- The notes of a record, by the session before it, its body and its judgement.
+abbrev pub notes_of : Session → Bool → List ℕ → Verdict → List Note
+notes_of s ranged body verdict =
+    notes_if (notes_on s.server ranged (reading body) (incoming_of (reading body))) verdict
+
+-- ---- whether the server asked for ranges, which a log of version 2 says
+
+abbrev pub is_incremental : SyncKind → Bool
+is_incremental Incremental = true
+is_incremental kind = false
+
+-- Does a result of `initialize` ask for ranges?
+abbrev pub asks_ranges : Option Announced → Bool
+asks_ranges None = false
+asks_ranges (Some announced) = is_incremental announced.kind
+
+-- Were ranges asked for, by a result of `initialize` if there is one?
+abbrev pub ranged_by : Bool → Option Data → Bool
+ranged_by ranged None = ranged
+ranged_by ranged (Some result) = asks_ranges (announced_of result)
+
+-- The same by a server's body, which may be the result that is waited for.
+abbrev pub ranged_for : Bool → Option IdData → List ℕ → Bool
+ranged_for ranged None body = ranged
+ranged_for ranged (Some id) body = ranged_by ranged (result_for id (reading body))
+
+-- Were ranges asked for, after a record?
+abbrev pub ranged_after : Bool → Session → Sender → List ℕ → Bool
+ranged_after ranged s Client body = ranged
+ranged_after ranged s Server body = ranged_for ranged s.expected body
+
+-- ---- in words
+
+-- A change, by its number from 1.
+abbrev pub change_words : ℕ → List ℕ
+change_words index = codes "change " ++ decimal (one_more index)
+
+abbrev pub side_words : Side → List ℕ
+side_words Start = codes " starts at "
+side_words Stop = codes " ends at "
+
+-- Past which end a position is, by the position that it is taken as.
+abbrev pub past_words : Position → Position → List ℕ
+past_words sent taken =
+    if sent.line == taken.line then codes ", past the line's end (taken as "
+    else codes ", past the last line (taken as "
+
+abbrev pub note_words : Note → List ℕ
+note_words OpenAlready = codes "the document was open already"
+note_words (OldVersion sent current) =
+    codes "version " ++ signed_decimal sent ++ codes " was sent, and the current one was "
+    ++ signed_decimal current
+note_words NoChanges = codes "it has no changes"
+note_words (WholeText index) =
+    change_words index ++ codes " is the whole text, and the server asked for ranges"
+note_words (PastEnd index side sent taken) =
+    change_words index ++ side_words side ++ position_words sent ++ past_words sent taken
+    ++ position_words taken ++ codes ")"
+note_words (WrongLength index sent replaced) =
+    change_words index ++ codes " has the rangeLength " ++ decimal sent ++ codes ", and replaces "
+    ++ decimal replaced ++ codes " UTF-16 units"
+note_words (SameText index) = change_words index ++ codes " changes nothing"
+
+-- Some notes in words, with `between` between two of them.
+abbrev pub notes_words : List ℕ → List Note → List ℕ
+notes_words between [] = []
+notes_words between (note ∷ notes) =
+    note_words note ++ flat_map (λ note. between ++ note_words note) notes

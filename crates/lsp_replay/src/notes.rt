@@ -1,0 +1,44 @@
+//! What of an accepted message is suspicious, though it has a meaning.
+
+pub(crate) mod changes;
+pub(crate) mod lengths;
+
+use lsp_edit::Side;
+use lsp_text::Position;
+
+/// Something suspicious of an accepted message. A change has its index in the message.
+#[derive(Clone, Copy, Debug, PartialEq, Eq)]
+pub enum Note {
+    /// It opens a document that is open.
+    OpenAlready,
+    /// Its version isn't greater than the current one.
+    OldVersion {
+        sent: i32,
+        current: i32,
+    },
+    /// It is a `didChange` without changes.
+    NoChanges,
+    /// A change is the whole text, and the server asked for ranges.
+    WholeText {
+        change: usize,
+    },
+    /// An end of a change's range is past its line's end or past the last line, and is taken as
+    /// another position.
+    PastEnd {
+        change: usize,
+        side: Side,
+        sent: Position,
+        taken: Position,
+    },
+    /// A change's `rangeLength` is neither the units of what it replaces nor its UTF-16 units, of
+    /// which there are so many.
+    WrongLength {
+        change: usize,
+        sent: u64,
+        replaced: usize,
+    },
+    /// A change's text is what it replaces.
+    SameText {
+        change: usize,
+    },
+}

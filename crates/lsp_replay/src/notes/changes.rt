@@ -1,0 +1,305 @@
+//! What is suspicious of the changes of a message, each on the text that the one before it leaves.
+
+ghost use Rattle.std.specs.Prelude.{◌≡◌, ◌≤◌, ◌++◌, IfNone, IfOk, IfSome, OnOk, None, Ok, Some, if◌then◌else◌, length, map, option_map};
+ghost use Rattle.std.specs.Str.{IsCharBoundary, bytes_eq, chars};
+ghost use Rattle.lsp_text.specs.LineStarts.{Indexes};
+ghost use Rattle.lsp_text.specs.Units.{units_in};
+ghost use Rattle.lsp_edit.specs.Edited.{edit_of};
+ghost use Rattle.lsp_edit.specs.Faults.{ends_of, places_at};
+ghost use Rattle.lsp_replay.specs.Notes.{batch_notes, change_notes, end_notes, is_same, left_by, length_at, length_notes};
+ghost use Rattle.lsp_replay.specs.Notes.{notes_from, range_notes, replaced_by, same_notes, taken_as, whole_notes};
+ghost use Rattle.lsp_replay.specs.inside.Noting.{terms_view};
+
+use crate::notes::Note;
+use crate::notes::lengths::units_of;
+use lsp_edit::{Change, IndexedText, MAX_NEW_TEXT, MAX_OLD_TEXT, Side, TextFault};
+use lsp_text::{Encoding, Lines, Position, Range};
+use std::alloc::{AllocError, Global};
+use std::slice;
+
+/// What the notes of changes go by beside the text.
+#[derive(Clone, Copy)]
+pub struct Terms<'a> {
+    pub encoding: Encoding,
+    /// The `rangeLength` of each change.
+    pub lengths: &'a [Option<u64>],
+    /// Did the server ask for ranges?
+    pub ranged: bool,
+}
+
+impl Terms<'_> {
+    /// The `rangeLength` of a change, by its index.
+    fn length(&self, index: usize) -> Option<u64>
+        ensures { result ≡ length_at (terms_view self.now).lengths index }
+    {
+        match self.lengths.get(index) {
+            Some(length) => *length,
+            None => None,
+        }
+    }
+}
+
+/// Notes what is suspicious of a batch on a text. Several changes cost a copy of the text.
+pub fn push_batch_notes(
+    alloc: Global,
+    notes: &mut Vec<Note>,
+    text: &str,
+    lines: &Lines,
+    terms: &Terms<'_>,
+    changes: &[Change],
+) -> Result<(), AllocError>
+    requires indexed { Indexes lines.now text.now }
+    requires size { length text.now ≤ 1073741824 }
+    ensures { OnOk result (notes.new.items ≡ notes.old.items
+        ++ batch_notes (terms_view terms.now) text.now (map edit_of changes.now)) }
+{
+    match changes {
+        [] => {
+            notes.push(Note::NoChanges)?;
+            Ok(())
+        }
+        [change] => push_change_notes(notes, text, lines, terms, 0, change),
+        _ => push_several(alloc, notes, text, terms, changes),
+    }
+}
+
+/// Notes what is suspicious of changes, each on the text that the one before it leaves.
+fn push_several(
+    alloc: Global,
+    notes: &mut Vec<Note>,
+    text: &str,
+    terms: &Terms<'_>,
+    changes: &[Change],
+) -> Result<(), AllocError>
+    requires size { length text.now ≤ 1073741824 }
+    ensures { OnOk result (notes.new.items ≡ notes.old.items
+        ++ notes_from (terms_view terms.now) 0 text.now (map edit_of changes.now)) }
+{
+    let mut left = IndexedText::new(alloc, String::from_str(alloc, text)?)?;
+    for (index, change) in changes.iter().enumerate() {
+        push_change_notes(notes, left.text(), left.lines(), terms, index, change)?;
+        if !leave(&mut left, terms.encoding, change)? {
+            return Ok(());
+        }
+    }
+    Ok(())
+}
+
+/// Applies a change to a text. Returns false, and changes nothing, where nothing is left by it.
+fn leave(text: &mut IndexedText, encoding: Encoding, change: &Change) -> Result<bool, AllocError>
+    requires { length text.old ≤ 1073741824 }
+    ensures left { IfOk result (λ is_left. left_by (units_in encoding) text.old (edit_of change.now)
+        ≡ (if is_left then Some text.new else None)) }
+    ensures size { OnOk result (length text.new ≤ 1073741824) }
+{
+    if change.text.len() > MAX_NEW_TEXT {
+        return Ok(false);
+    }
+    match text.change(encoding, slice::from_ref(change), MAX_OLD_TEXT) {
+        Ok(()) => Ok(true),
+        Err(TextFault::NoMemory) => Err(AllocError),
+        Err(_) => Ok(false),
+    }
+}
+
+/// Notes what is suspicious of a change on a text.
+fn push_change_notes(
+    notes: &mut Vec<Note>,
+    text: &str,
+    lines: &Lines,
+    terms: &Terms<'_>,
+    index: usize,
+    change: &Change,
+) -> Result<(), AllocError>
+    requires { Indexes lines.now text.now }
+    ensures { OnOk result (notes.new.items ≡ notes.old.items
+        ++ change_notes (terms_view terms.now) (chars text.now) index (edit_of change.now)) }
+{
+    let encoding = terms.encoding;
+    let replaced = replaced_by(text, lines, encoding, change.range);
+    push_whole_note(notes, terms.ranged, index, change.range)?;
+    push_range_notes(notes, text, lines, encoding, index, change.range)?;
+    push_length_note(notes, encoding, index, terms.length(index), replaced)?;
+    push_same_note(notes, index, &change.text, replaced)
+}
+
+/// Notes a whole text where ranges were asked for.
+fn push_whole_note(
+    notes: &mut Vec<Note>,
+    ranged: bool,
+    index: usize,
+    range: Option<Range>,
+) -> Result<(), AllocError>
+    ensures { OnOk result
+        (notes.new.items ≡ notes.old.items ++ whole_notes ranged index range) }
+{
+    if ranged && range.is_none() {
+        notes.push(Note::WholeText { change: index })?;
+    }
+    Ok(())
+}
+
+/// Notes a `rangeLength` that is neither the units of what is replaced nor its UTF-16 units.
+fn push_length_note(
+    notes: &mut Vec<Note>,
+    encoding: Encoding,
+    index: usize,
+    sent: Option<u64>,
+    replaced: Option<&str>,
+) -> Result<(), AllocError>
+    ensures { OnOk result (notes.new.items ≡ notes.old.items ++ length_notes (units_in encoding)
+        index sent (option_map (λ part. chars part.now) replaced.entry)) }
+{
+    let Some(sent) = sent else {
+        return Ok(());
+    };
+    let Some(replaced) = replaced else {
+        return Ok(());
+    };
+    let units = units_of(Encoding::Utf16, replaced);
+    if sent != units as u64 && sent != units_of(encoding, replaced) as u64 {
+        notes.push(Note::WrongLength {
+            change: index,
+            sent,
+            replaced: units,
+        })?;
+    }
+    Ok(())
+}
+
+/// Notes the ends of a range that are past an end. An empty range is noted once.
+fn push_range_notes(
+    notes: &mut Vec<Note>,
+    text: &str,
+    lines: &Lines,
+    encoding: Encoding,
+    index: usize,
+    range: Option<Range>,
+) -> Result<(), AllocError>
+    requires { Indexes lines.now text.now }
+    ensures { OnOk result (notes.new.items ≡ notes.old.items
+        ++ range_notes (units_in encoding) (chars text.now) index range) }
+{
+    let Some(Range { start, stop }) = range else {
+        return Ok(());
+    };
+    let taken = taken_as(text, lines, encoding, start);
+    push_end_note(notes, index, Side::Start, start, taken)?;
+    if is_same(start, stop) {
+        return Ok(());
+    }
+    let taken = taken_as(text, lines, encoding, stop);
+    push_end_note(notes, index, Side::Stop, stop, taken)
+}
+
+/// Notes an end of a range that is taken as another position.
+fn push_end_note(
+    notes: &mut Vec<Note>,
+    index: usize,
+    side: Side,
+    sent: Position,
+    taken: Option<Position>,
+) -> Result<(), AllocError>
+    ensures { OnOk result
+        (notes.new.items ≡ notes.old.items ++ end_notes index side sent taken) }
+{
+    let Some(taken) = taken else {
+        return Ok(());
+    };
+    if !is_same(sent, taken) {
+        notes.push(Note::PastEnd {
+            change: index,
+            side,
+            sent,
+            taken,
+        })?;
+    }
+    Ok(())
+}
+
+/// Are two positions equal?
+fn is_same(position: Position, other: Position) -> bool
+    ensures { result ≡ is_same position other }
+{
+    position.line == other.line && position.character == other.character
+}
+
+/// Returns the exact position of what a position denotes in a text.
+fn taken_as(text: &str, lines: &Lines, encoding: Encoding, position: Position) -> Option<Position>
+    requires { Indexes lines.now text.now }
+    ensures { result ≡ taken_as (units_in encoding) (chars text.now) position }
+{
+    match lines.resolve(text, encoding, position) {
+        Ok(offset) => Some(lines.position(text, encoding, offset)),
+        Err(_) => None,
+    }
+}
+
+/// Returns the byte offsets of a range's ends in a text, if they denote some, and in order.
+fn ends(text: &str, lines: &Lines, encoding: Encoding, range: Range) -> Option<(usize, usize)>
+    requires { Indexes lines.now text.now }
+    ensures ends { IfSome result (λ ends. Ok ends
+        ≡ places_at 0 (chars text.now) (ends_of (units_in encoding) (chars text.now) range)) }
+    ensures order { IfSome result (λ ends. ends.0 ≤ ends.1) }
+    ensures start { IfSome result (λ ends. IsCharBoundary text.now ends.0) }
+    ensures stop { IfSome result (λ ends. IsCharBoundary text.now ends.1) }
+    ensures none { IfNone result (replaced_by (units_in encoding) (chars text.now) (Some range)
+        ≡ None) }
+{
+    let Ok(start) = lines.resolve(text, encoding, range.start) else {
+        return None;
+    };
+    let Ok(stop) = lines.resolve(text, encoding, range.stop) else {
+        return None;
+    };
+    if start > stop {
+        return None;
+    }
+    Some((start, stop))
+}
+
+/// Returns the part of a text that a change of this range replaces, if it has a result.
+#[tactic(auto, using(crate::proofs::NoteLemmas::part_is))]
+fn replaced_by<'a>(
+    text: &'a str,
+    lines: &Lines,
+    encoding: Encoding,
+    range: Option<Range>,
+) -> Option<&'a str>
+    requires { Indexes lines.now text.now }
+    ensures { option_map (λ part. chars part.now) result
+        ≡ replaced_by (units_in encoding) (chars text.entry.now) range }
+{
+    let Some(range) = range else {
+        return Some(text);
+    };
+    let (start, stop) = ends(text, lines, encoding, range)?;
+    Some(&text[start..stop])
+}
+
+/// Notes a text that is what it replaces.
+fn push_same_note(
+    notes: &mut Vec<Note>,
+    index: usize,
+    new: &str,
+    replaced: Option<&str>,
+) -> Result<(), AllocError>
+    ensures { OnOk result (notes.new.items ≡ notes.old.items
+        ++ same_notes index (chars new.now) (option_map (λ part. chars part.now) replaced.entry)) }
+{
+    let Some(replaced) = replaced else {
+        return Ok(());
+    };
+    if is_same_text(new, replaced) {
+        notes.push(Note::SameText { change: index })?;
+    }
+    Ok(())
+}
+
+/// Are two texts equal?
+#[tactic(auto, using(crate::proofs::NoteLemmas::same_chars))]
+fn is_same_text(text: &str, other: &str) -> bool
+    ensures { result ≡ bytes_eq (chars text.now) (chars other.now) }
+{
+    text == other
+}
