@@ -6,6 +6,7 @@ ghost use Rattle.laspidru.specs.Codes.{IsAnswer};
 ghost use Rattle.laspidru.specs.Objects.{IsCopy, rest_asked};
 
 use crate::codes::{OK, OUT_OF_RANGE};
+use lsp_buffer::TextBuffer;
 
 /// Returns the text of bytes that are UTF-8.
 pub(crate) fn utf8_text(bytes: &[u8]) -> Option<&str>
@@ -37,5 +38,19 @@ pub(crate) fn copy_from(bytes: &[u8], start: usize, out: &mut [u8], copied: &mut
         return OUT_OF_RANGE;
     };
     *copied = copy_bytes(rest, out);
+    OK
+}
+
+/// Copies the bytes of a text from `start` on, as many as `out` has room for. Writes how many to
+/// `copied`.
+pub(crate) fn copy_text(text: &TextBuffer, start: usize, out: &mut [u8], copied: &mut usize) -> u32
+    ensures answer { IsAnswer (rest_asked start (Ok text.now)) result
+        (IsCopy out.old out.new copied.new) }
+    ensures unchanged { result ≢ OK → (out.new ≡ out.old) × (copied.new ≡ copied.old) }
+{
+    if start > text.len() {
+        return OUT_OF_RANGE;
+    }
+    *copied = text.copy_to(start, out);
     OK
 }

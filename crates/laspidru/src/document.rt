@@ -3,9 +3,7 @@
 ghost use Rattle.std.specs.Prelude.{◌≡◌, ◌≢◌, ◌<◌, ◌≤◌, List, None, Ok, Some, IfErr, IfNone, IfOk};
 ghost use Rattle.std.specs.Prelude.{IfSome, OnSome, length, ℕ};
 ghost use Rattle.std.specs.Str.{chars};
-ghost use Rattle.lsp_text.specs.LineStarts.{Indexes};
-ghost use Rattle.lsp_text.specs.Text.{place_of};
-ghost use Rattle.lsp_text.specs.TextLines.{line_ends, line_start, line_stop};
+ghost use Rattle.lsp_text.specs.TextLines.{line_ends};
 ghost use Rattle.laspidru.specs.declared.object.Object.TheVariants.{Document};
 ghost use Rattle.laspidru.specs.Batches.{IsLeft, batch_asked, fitting, left_by, refused_edit};
 ghost use Rattle.laspidru.specs.Codes.{IsAnswer, IsAnswerOrNoMemory, IsRefusedOr, both, unless};
@@ -13,7 +11,7 @@ ghost use Rattle.laspidru.specs.Objects.{IsCopy, IsLine, IsPositionAt, IsSize, d
 ghost use Rattle.laspidru.specs.Objects.{document_of, encoding_at, in_use, line_asked};
 ghost use Rattle.laspidru.specs.Objects.{offset_asked, position_at, rest_asked, text_asked};
 
-use crate::bytes::{copy_bytes, utf8_text};
+use crate::bytes::{copy_text, utf8_text};
 use crate::changes::{changes_of, encoding_of, fits, position_of, refusal_of, report};
 use crate::codes::{
     BAD_ENCODING, EMPTY, IN_USE, INSIDE_CHARACTER, NOT_UTF8, OK, OTHER_KIND, OUT_OF_MEMORY,
@@ -22,8 +20,9 @@ use crate::codes::{
 use crate::handle::Handle;
 use crate::object::Object;
 use crate::place::{Edit, Fault, Line, Place, Size};
+use lsp_buffer::TextBuffer;
 use lsp_edit::{IndexedText, MAX_OLD_TEXT};
-use lsp_text::{Encoding, Lines, Position, Starts, line_laws, position_laws};
+use lsp_text::Encoding;
 use std::alloc::{AllocError, Global};
 
 /// Returns the text to be opened, or the code for why it can't be.
@@ -161,7 +160,7 @@ fn object_size(object: &Object, out: &mut Size) -> u32
     };
     *out = Size {
         bytes: document.text().len(),
-        lines: document.lines().count(),
+        lines: document.text().line_count(),
     };
     OK
 }
@@ -182,46 +181,16 @@ pub extern "C" fn laspidru_document_size(alloc: Global, handle: &mut Handle, out
     code
 }
 
-/// The byte offset at which a line starts.
-fn line_start_of(lines: &Lines, line: usize) -> usize
-    requires { line < length lines.now }
-    ensures { (text : List ℕ) → Indexes lines.now text → line ≤ line_ends (chars text)
-        → result ≡ place_of (chars text) (line_start (chars text) line) }
-{
-    line_laws();
-    lines.looks().at(line)
-}
-
-/// The byte offset at which the content of a line ends.
-fn line_stop_of(text: &str, lines: &Lines, line: u32) -> usize
-    requires indexed { Indexes lines.now text.now }
-    requires line { line ≤ line_ends (chars text.now) }
-    ensures { result ≡ place_of (chars text.now) (line_stop (chars text.now) line) }
-{
-    // No line has so many bytes.
-    let past_line = Position {
-        line,
-        character: u32::MAX,
-    };
-    position_laws();
-    lines
-        .resolve(text, Encoding::Utf8, past_line)
-        .unwrap_or(text.len())
-}
-
 /// The byte offsets at which a line starts and ends, if the text has the line.
-fn line_of(text: &str, lines: &Lines, line: u32) -> Option<Line>
-    requires { Indexes lines.now text.now }
+fn line_of(text: &TextBuffer, line: u32) -> Option<Line>
     ensures some { IfSome result (λ found. IsLine line found text.now) }
     ensures there { OnSome result (line ≤ line_ends (chars text.now)) }
     ensures none { IfNone result (line_ends (chars text.now) < line) }
 {
-    if line as usize >= lines.count() {
-        return None;
-    }
+    let found = text.line(line)?;
     Some(Line {
-        start: line_start_of(lines, line as usize),
-        end: line_stop_of(text, lines, line),
+        start: found.start,
+        end: found.end,
     })
 }
 
@@ -234,15 +203,15 @@ fn object_line(object: &Object, line: u32, out: &mut Line) -> u32
     let Object::Document(document) = object else {
         return OTHER_KIND;
     };
-    let Some(found) = line_of(document.text(), document.lines(), line) else {
+    let Some(found) = line_of(document.text(), line) else {
         return OUT_OF_RANGE;
     };
     *out = found;
     OK
 }
 
-/// Returns the byte offsets at which a line starts, and at which it ends without its line end, in
-/// constant time. Codes, in this order: EMPTY, OTHER_KIND, OUT_OF_RANGE.
+/// Returns the byte offsets at which a line starts, and at which it ends without its line end.
+/// Codes, in this order: EMPTY, OTHER_KIND, OUT_OF_RANGE. Costs two binary searches.
 #[unsafe(no_mangle)]
 pub extern "C" fn laspidru_document_line(
     alloc: Global,
@@ -272,11 +241,7 @@ fn object_copy(object: &Object, start: usize, out: &mut [u8], copied: &mut usize
     let Object::Document(document) = object else {
         return OTHER_KIND;
     };
-    let Some((_, rest)) = document.text().as_bytes().split_at_checked(start) else {
-        return OUT_OF_RANGE;
-    };
-    *copied = copy_bytes(rest, out);
-    OK
+    copy_text(document.text(), start, out, copied)
 }
 
 /// Copies the bytes of the text from `start` on, as many as `out` has room for, and returns how
@@ -312,10 +277,7 @@ fn object_offset(object: &Object, encoding: Encoding, position: Place, out: &mut
     let Object::Document(document) = object else {
         return OTHER_KIND;
     };
-    match document
-        .lines()
-        .resolve(document.text(), encoding, position_of(position))
-    {
+    match document.text().resolve(encoding, position_of(position)) {
         Ok(offset) => {
             *out = offset;
             OK
@@ -362,11 +324,11 @@ fn object_position(object: &Object, encoding: Encoding, offset: usize, out: &mut
     let Object::Document(document) = object else {
         return OTHER_KIND;
     };
-    let (text, lines) = (document.text(), document.lines());
-    if !lines.is_place(text, offset) {
+    let text = document.text();
+    if !text.is_place(offset) {
         return INSIDE_CHARACTER;
     }
-    let found = lines.position(text, encoding, offset);
+    let found = text.position(encoding, offset);
     *out = Place {
         line: found.line,
         character: found.character,

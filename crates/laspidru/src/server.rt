@@ -15,7 +15,7 @@ mod message;
 mod stream;
 
 use crate::answers::{Answer, Opened, Settings, answer_of, config_of};
-use crate::bytes::{copy_from, utf8_text};
+use crate::bytes::{copy_from, copy_text, utf8_text};
 use crate::codes::{EMPTY, ENDED, IN_USE, NOT_OPEN, NOT_UTF8, OK, OTHER_KIND, OUT_OF_MEMORY};
 use crate::handle::Handle;
 use crate::object::Object;
@@ -269,7 +269,7 @@ fn object_text(object: &Object, uri: &str, start: usize, out: &mut [u8], copied:
     let Some(document) = session.server.store().get(uri) else {
         return NOT_OPEN;
     };
-    copy_from(document.text().as_bytes(), start, out, copied)
+    copy_text(document.text(), start, out, copied)
 }
 
 /// Copies the bytes of an open document's text from `start` on, as many as `out` has room for, and

@@ -2,7 +2,7 @@
 
 use crate::text::{Plain, keystrokes, lines_of, made_text};
 use crate::timing::{Row, Work, done, time};
-use lsp_edit::{Change, IndexedText, MAX_OLD_TEXT, MAX_TEXT, compose_over, fits};
+use lsp_edit::{Change, IndexedText, MAX_OLD_TEXT, MAX_TEXT, compose_buffer, fits};
 use lsp_text::Encoding;
 use std::alloc::Global;
 use std::io;
@@ -62,7 +62,7 @@ fn time_calls<R: Runtime + AllocGlobal>(
         let what = format!(in rt.alloc(); "{words} {} changes, bytes", batch.count)?;
         let row = Row {
             what: &what,
-            size: batch.text.text().len(),
+            size: batch.text.len(),
             repeats,
         };
         batch.call = *call;
@@ -110,7 +110,7 @@ impl Work for Batch<'_> {
 
 /// How many changes the canonical batch has.
 fn canonical_len(text: &IndexedText, changes: &[Change]) -> Option<usize> {
-    if text.text().len() > MAX_OLD_TEXT || !fits(changes) {
+    if text.len() > MAX_OLD_TEXT || !fits(changes) {
         return None;
     }
     let Ok(batch) = text.canonical(Encoding::Utf16, changes, MAX_OLD_TEXT) else {
@@ -121,10 +121,10 @@ fn canonical_len(text: &IndexedText, changes: &[Change]) -> Option<usize> {
 
 /// How many bytes and lines the text has that the batch leaves.
 fn text_len(alloc: Global, text: &IndexedText, changes: &[Change]) -> Option<usize> {
-    if text.text().len() > MAX_OLD_TEXT || !fits(changes) {
+    if text.len() > MAX_OLD_TEXT || !fits(changes) {
         return None;
     }
-    let pieces = compose_over(alloc, text.text(), text.lines(), Encoding::Utf16, changes).ok()?;
+    let pieces = compose_buffer(alloc, text.text(), Encoding::Utf16, changes).ok()?;
     let (after, lines) = pieces.into_text().ok()?;
     Some(after.len().wrapping_add(lines.count()))
 }

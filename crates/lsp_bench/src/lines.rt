@@ -190,11 +190,11 @@ impl Work for Looking<'_> {
     /// The place, or the character of its position.
     fn once(&mut self) -> Option<usize> {
         let position = self.next();
-        let (text, lines) = (self.text.text(), self.text.lines());
-        let place = lines.resolve(text, self.encoding, position).ok()?;
-        if !self.returns || !lines.is_place(text, place) {
+        let text = self.text.text();
+        let place = text.resolve(self.encoding, position).ok()?;
+        if !self.returns || !text.is_place(place) {
             return Some(place);
         }
-        Some(lines.position(text, self.encoding, place).character as usize)
+        Some(text.position(self.encoding, place).character as usize)
     }
 }

@@ -244,14 +244,25 @@ module _ (bytes front block rest : List ℕ) where
     pub part : chunk ≡ take (length chunk) (drop place bytes)
     pub some : place < length bytes → 0 < length chunk
 
-  pub chunk_is : (place from : ℕ) (text chunk : List ℕ) → text ≡ block → chunk ≡ drop (place - from) text → IsPlaceFound bytes front block rest place from → IsCharBoundary bytes place → IsChunk place chunk
-  chunk_is place from text chunk same is found at =
+  bytes_length : (place from : ℕ) → IsPlaceFound bytes front block rest place from → length bytes ≡ length front + (length block + length rest)
+  bytes_length place from found = ap length found.parts.whole ∙ (length-append front (block ++ rest) ∙ ap (λ m. length front + m) (length-append block rest))
+
+  -- A byte offset in the text is one in the block.
+  pub found_within : (place from : ℕ) → IsPlaceFound bytes front block rest place from → place ≤ length bytes → place - length front ≤ length block
+  found_within place from found within =
+      ⊎_elim
+      (λ (e : rest ≡ []). omega (arith, bytes_length place from found, within, found.low, ap length e))
+      (λ (g : place - length front < length block). omega (arith, g))
+      found.inside
+
+  pub chunk_is : (place from : ℕ) (text chunk : List ℕ) → text ≡ block → chunk ≡ drop (place - from) text → IsPlaceFound bytes front block rest place from → place ≤ length bytes → IsChunk place chunk
+  chunk_is place from text chunk same is found within =
       let n = place - length front in
-      let inside : n ≤ length block = (boundary_in bytes front block rest found.parts place found.low found.inside at).0 in
+      let inside : n ≤ length block = found_within place from found within in
       let chunk_same : chunk ≡ drop n block = is ∙ (ap (λ m. drop (place - m) text) found.from_is ∙ ap (drop n) same) in
       let back : drop place bytes ≡ drop n block ++ rest = ap (λ m. drop m bytes) (let e : place ≡ length front + n = omega (arith, found.low) in e) ∙ drop_three bytes front block rest found.parts n inside in
       let size : length chunk ≡ length block - n = ap length chunk_same ∙ length-drop n block in
-      let all : length bytes ≡ length front + (length block + length rest) = ap length found.parts.whole ∙ (length-append front (block ++ rest) ∙ ap (λ m. length front + m) (length-append block rest)) in
+      let all = bytes_length place from found in
       record {
         part = chunk_same ∙ sym (ap (take (length chunk)) back ∙ take_at (drop n block) rest (length chunk) (ap length (sym chunk_same)));
         some = λ h.

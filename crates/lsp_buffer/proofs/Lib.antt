@@ -17,3 +17,4 @@ pub mod AgainLemmas
 pub mod ReadLemmas
 pub mod ContentsLemmas
 pub mod JoinLemmas
+pub mod CopyLemmas

@@ -1,6 +1,6 @@
 //! `TextBuffer`, a text in blocks.
 ghost use Rattle.std.specs.Prelude.{◌≡◌, ◌+◌, ◌-◌, ◌≤◌, ◌<◌, ◌↔◌, ◌++◌, ℕ, List, Some, IsTrue, IfOk, IfSome};
-ghost use Rattle.std.specs.Prelude.{IfNone, OnOk, OnErr, OnSome, length, take, drop, option_map, string_bytes, string_len};
+ghost use Rattle.std.specs.Prelude.{IfNone, OnOk, OnErr, OnSome, length, take, drop, min, option_map, string_bytes, string_len};
 ghost use Rattle.std.specs.List.{concat, replace_range, slice_range};
 ghost use Rattle.std.specs.Result.{result_ok};
 ghost use Rattle.std.specs.Str.{IsCharBoundary, IsUtf8, chars};
@@ -98,7 +98,8 @@ impl TextBuffer {
     /// Returns a copy. Fails only if it is out of memory. Linear in the text, but no line is
     /// searched for again.
     pub fn clone_in(&self, alloc: Global) -> Result<Self, AllocError>
-        ensures { IfOk result (λ copy. copy ≡ self.now) }
+        ensures copy { IfOk result (λ copy. copy ≡ self.now) }
+        ensures utf8 { OnOk result (IsUtf8 self.now) }
     {
         let blocks = copied_blocks(alloc, &self.blocks)?;
         let starts = Vec::from_slice(alloc, &self.starts)?;
@@ -110,6 +111,11 @@ impl TextBuffer {
             lines,
             heads,
         })
+    }
+
+    /// Returns what the text takes its memory of.
+    pub fn allocator(&self) -> &Global {
+        self.blocks.allocator()
     }
 
     /// Returns how many bytes the text has. In constant time.
@@ -126,7 +132,8 @@ impl TextBuffer {
     /// Returns how many lines there are: one more than line ends, so at least one. In constant
     /// time.
     pub fn line_count(&self) -> usize
-        ensures { result ≡ line_ends (chars self.now) + 1 }
+        ensures count { result ≡ line_ends (chars self.now) + 1 }
+        ensures few { result ≤ 2147483649 }
     {
         let last = self.blocks.len() - 1;
         let block = &self.blocks[last];
@@ -174,7 +181,8 @@ impl TextBuffer {
     /// Returns whether a character begins at this byte offset, or the text ends there. Costs a
     /// binary search over the blocks.
     pub fn is_char_boundary(&self, offset: usize) -> bool
-        ensures { IsTrue result ↔ IsCharBoundary self.now offset }
+        ensures boundary { IsTrue result ↔ IsCharBoundary self.now offset }
+        ensures utf8 { IsUtf8 self.now }
     {
         let index = block_of(&self.starts, offset);
         let block = &self.blocks[index];
@@ -245,7 +253,7 @@ impl TextBuffer {
     }
 
     /// Returns the part of the text from `offset` to `end`, or to the end of the chunk before it.
-    fn chunk_to(&self, offset: usize, end: usize) -> &str
+    pub fn chunk_to(&self, offset: usize, end: usize) -> &str
         requires order { offset ≤ end }
         requires at_offset { IsCharBoundary self.now offset }
         requires at_end { IsCharBoundary self.now end }
@@ -311,6 +319,36 @@ impl TextBuffer {
         are_text(&self.blocks, text.as_bytes())
     }
 
+    /// Returns the bytes from an offset on, up to the end of their block. There are none only at the
+    /// end of the text. Costs a binary search over the blocks.
+    fn bytes_from(&self, offset: usize) -> &[u8]
+        requires { offset ≤ length self.now }
+        ensures part { result.now ≡ take (length result.now) (drop offset self.now) }
+        ensures some { offset < length self.now → 0 < length result.now }
+    {
+        let index = block_of(&self.starts, offset);
+        let block = &self.blocks[index];
+        let bytes = block.text().as_bytes();
+        let (_, rest) = bytes.split_at(offset - self.starts[index] as usize);
+        rest
+    }
+
+    /// Copies the bytes from `start` on, as many as `out` has room for, and returns how many. Costs
+    /// a binary search for each block of these bytes, and the copy.
+    pub fn copy_to(&self, start: usize, out: &mut [u8]) -> usize
+        requires { start ≤ length self.now }
+        ensures count { result ≡ min (length (drop start self.now)) (length out.old) }
+        ensures bytes { out.new ≡ take result (drop start self.now) ++ drop result out.old }
+    {
+        let end = out.len().min(self.len() - start);
+        let mut copied = 0;
+        while copied < end {
+            let bytes = self.bytes_from(start + copied);
+            copied += copy_front(bytes, &mut out[copied..end]);
+        }
+        copied
+    }
+
     /// Copies the text into one string. Fails only if it is out of memory. Linear in the text.
     pub fn to_string(&self, alloc: Global) -> Result<String, AllocError>
         ensures { IfOk result (λ text. string_bytes text ≡ self.now) }
@@ -347,6 +385,16 @@ impl TextBuffer {
             replace_across(blocks, starts, lines, heads, first, last, start, end, new)
         }
     }
+}
+
+/// Copies the first bytes, as many as `out` has room for, and returns how many.
+fn copy_front(bytes: &[u8], out: &mut [u8]) -> usize
+    ensures count { result ≡ min (length bytes.now) (length out.old) }
+    ensures bytes { out.new ≡ take result bytes.now ++ drop result out.old }
+{
+    let count = out.len().min(bytes.len());
+    out[..count].copy_from_slice(&bytes[..count]);
+    count
 }
 
 impl fmt::Display for TextBuffer {

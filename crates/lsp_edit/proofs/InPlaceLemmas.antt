@@ -1,14 +1,11 @@
 -- What a change of a range makes of the bytes of a text, and of its lines.
-use Rattle.std.proofs.Common.{ℕ, ◌≡◌, ◌+◌, ◌-◌, ◌<◌, ◌≤◌, ◌⊎◌, true, List, ◌++◌, length, map, take, drop, refl, sym, ap, ap₂, ◌∙◌, subst, arith, encode_utf8_all, ⊎_elim, inl, inr, le-leb, Some, Result, Ok, Err, OnOk, OnErr, is_err}
+use Rattle.std.proofs.Common.{ℕ, ◌≡◌, ◌+◌, ◌-◌, ◌<◌, ◌≤◌, ◌⊎◌, List, ◌++◌, length, map, take, drop, refl, sym, ap, ap₂, ◌∙◌, subst, arith, encode_utf8_all, ⊎_elim, inl, inr, le-leb, Some, Result, Ok, Err}
 use Rattle.std.proofs.lemmas.Bool.{lt-ltb, le-ltb}
-use Rattle.std.proofs.lemmas.List.{length-append, length-drop, length-take, length-take-le, map-append, take-map, drop-map, append_assoc, take_at, drop_at, drop-drop, take-append-drop}
-use Rattle.std.proofs.lemmas.Str.{encodes-append, encodes-chars, IsCharBoundary-at_seam, IsUtf8-append, IsUtf8-drop}
-use Rattle.std.specs.List.{slice_range, replace_range}
-use Rattle.std.specs.String.Boundary.{IsSplitPoint}
+use Rattle.std.proofs.lemmas.List.{length-append, length-drop, length-take-le, map-append, take-map, drop-map, append_assoc}
+use Rattle.std.proofs.lemmas.Str.{encodes-append, encodes-chars}
+use Rattle.std.specs.List.{replace_range}
 use Rattle.std.specs.Str.{IsCharBoundary, IsUtf8, chars}
 use Rattle.lsp_text.specs.declared.position.Range.{Range}
-use Rattle.lsp_text.specs.LineStarts.{Indexes}
-use Rattle.lsp_text.specs.Splice.{IsSpliced}
 use Rattle.lsp_text.specs.Text.{place_of}
 use Rattle.lsp_text.proofs.PlaceLemmas.{take_place, drop_place, place_boundary, place_rises}
 use Rattle.lsp_edit.specs.declared.fault.EditFault.{EditFault}
@@ -116,83 +113,17 @@ module _ (units : ℕ → ℕ) (before : List ℕ) (utf8 : IsUtf8 before) (range
       (fault_told units (chars before) (plain (chars before)) (chars new) range 0 fault
       (inr (subst (λ (t : List ℕ). ◌≡◌ {A = Result (ℕ × ℕ) EditFault} (Err fault) (places_at 0 t (ends_of units t range))) (sym (plain_text (chars before))) error)))
 
--- ---- the bytes and the lines after it
-
-split : (bytes : List ℕ) (place : ℕ) → IsCharBoundary bytes place → IsSplitPoint bytes place
-split bytes place b = (b.0, λ _. b.1)
+-- ---- the bytes after it
 
 module _ (old : List ℕ) (utf8 : IsUtf8 old) (start stop : ℕ) (new : List ℕ) (new_utf8 : IsUtf8 new) (order : start ≤ stop) (at_start : IsCharBoundary old start) (at_stop : IsCharBoundary old stop) where
   front_len : length (take start old) ≡ start
   front_len = length-take-le start old at_start.0
 
-  front_at : take start (replace_range old start stop new) ≡ take start old
-  front_at = ap (take start) (assoc (take start old) new (drop stop old)) ∙ take_at (take start old) (new ++ drop stop old) start front_len
-
   both_len : length (take start old ++ new) ≡ start + length new
   both_len = omega (arith, length-append (take start old) new, front_len)
 
-  back_at : drop (start + length new) (replace_range old start stop new) ≡ drop stop old
-  back_at = drop_at (take start old ++ new) (drop stop old) (start + length new) both_len
-
   pub replaced_len : length (replace_range old start stop new) ≡ start + length new + (length old - stop)
   replaced_len = omega (arith, length-append (take start old ++ new) (drop stop old), both_len, length-drop stop old)
-
-  pub start_split : IsSplitPoint old start
-  start_split = split old start at_start
-
-  pub stop_split : IsSplitPoint old stop
-  stop_split = split old stop at_stop
-
-  rest_utf8 : IsUtf8 (drop stop old)
-  rest_utf8 = IsUtf8-drop old stop utf8 at_stop
-
-  pub start_again : IsSplitPoint (replace_range old start stop new) start
-  start_again =
-      split (replace_range old start stop new) start
-      (subst (IsCharBoundary (replace_range old start stop new)) front_len
-      (IsCharBoundary-at_seam (replace_range old start stop new) (take start old) (new ++ drop stop old) (assoc (take start old) new (drop stop old)) (IsUtf8-append new (drop stop old) new_utf8 rest_utf8)))
-
-  pub end_again : IsSplitPoint (replace_range old start stop new) (start + length new)
-  end_again =
-      split (replace_range old start stop new) (start + length new)
-      (subst (IsCharBoundary (replace_range old start stop new)) both_len (IsCharBoundary-at_seam (replace_range old start stop new) (take start old ++ new) (drop stop old) refl rest_utf8))
-
-  pub is_spliced : (lines : List ℕ) → Indexes lines old → IsSpliced lines (replace_range old start stop new) start stop (length new)
-  is_spliced lines indexed = record {
-    old = old;
-    utf8 = utf8;
-    indexed = indexed;
-    replaced = record {
-      order = order;
-      within = at_stop.0;
-      inserted = omega (arith, replaced_len);
-      front = front_at;
-      back = back_at;
-    };
-  }
-
-  pub undone : replace_range (replace_range old start stop new) start (start + length new) (slice_range old start stop) ≡ old
-  undone =
-      ap₂ (λ (x y : List ℕ). x ++ slice_range old start stop ++ y) front_at back_at
-      ∙ (assoc (take start old) (slice_range old start stop) (drop stop old)
-      ∙ (ap (λ (x : List ℕ). take start old ++ (slice_range old start stop ++ x)) rest_after
-      ∙ (ap (λ (x : List ℕ). take start old ++ x) (take-append-drop (stop - start) (drop start old)) ∙ take-append-drop start old)))
-    where
-      rest_after : drop stop old ≡ drop (stop - start) (drop start old)
-      rest_after = let n : stop ≡ start + (stop - start) = omega (arith, order) in ap (λ (k : ℕ). drop k old) n ∙ sym (drop-drop (stop - start) start old)
-
--- What was removed fits where it was.
-pub put_back : {A E : Type 0} (r : Result A E) (now wanted : List ℕ) (capacity needed : ℕ) → OnOk r (now ≡ wanted) → OnErr r (capacity < needed) → needed ≤ capacity → now ≡ wanted
-put_back (Ok a) now wanted capacity needed ok err room = ok
-put_back (Err e) now wanted capacity needed ok err room = absurd (omega (arith, err, room))
-
-pub removed_len : (old : List ℕ) (start stop : ℕ) → length (slice_range old start stop) ≤ stop - start
-removed_len old start stop = omega (arith, length-take (stop - start) (drop start old))
-
--- what holds where there is an error
-pub at_err : {A E : Type 0} (P : Type 0) (r : Result A E) → is_err r ≡ true → OnErr r P → P
-at_err P (Ok a) is p = absurd (cc)
-at_err P (Err e) is p = p
 
 -- what was told of the places in a text, told of its bytes
 pub places_of_bytes : (units : ℕ → ℕ) (range : Range) (r : Result (ℕ × ℕ) EditFault) (seen bytes : List ℕ) → seen ≡ bytes → r ≡ places_at 0 (chars seen) (ends_of units (chars seen) range) → r ≡ places_at 0 (chars bytes) (ends_of units (chars bytes) range)

@@ -13,7 +13,6 @@ ghost use Rattle.lsp_edit.specs.Once.{IsOn, IsPut, bytes_after, encoding_of, mea
 
 use crate::change::Change;
 use crate::indexed::IndexedText;
-use crate::indexed::in_place::replaced;
 use crate::joined::delta::Delta as Layer;
 use crate::pieces::canonical::canonical_of;
 use crate::pieces::spans::Spans;
@@ -83,7 +82,7 @@ impl<'a> Delta<'a> {
             string_bytes left ≡ replace_range text.now start stop new.now) }
     {
         let before = text.as_old();
-        replaced(alloc, &before, start, stop, new)
+        before.replaced(alloc, start, stop, new)
     }
 
     /// Returns the text that it leaves of the text that it was made of.
@@ -100,7 +99,7 @@ impl<'a> Delta<'a> {
                 stop,
                 new,
             } => Self::put_text(alloc, text, *encoding, *start, *stop, new),
-            Delta::Left { left, .. } => String::from_str(alloc, left.text()),
+            Delta::Left { left, .. } => left.text().to_string(alloc),
         }
     }
 

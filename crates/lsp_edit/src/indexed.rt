@@ -14,23 +14,21 @@ ghost use Rattle.lsp_edit.specs.Edited.{Means, edit_of, edited_bytes};
 ghost use Rattle.lsp_edit.specs.Indexed.{IsCanonicalBatch, alone, text_fault_of, text_within};
 ghost use Rattle.lsp_edit.specs.TextEdits.{IsBatchOfEdits, IsEditsFault};
 
-pub(crate) mod draft;
-pub(crate) mod in_place;
+mod draft;
 
 use crate::change::{Change, MAX_NEW_TEXT};
 use crate::composed::{MAX_OLD_TEXT, compose_old};
 use crate::delta::Delta;
 use crate::ends::ends;
 use crate::fault::EditFault;
-use crate::indexed::draft::Draft;
-use crate::indexed::in_place::put_in_place;
 use crate::joined::delta::Delta as Layer;
 use crate::joined::{Joined, RUN};
 use crate::old_text::OldText;
 use crate::pieces::canonical::canonical_of;
 use crate::pieces::{MAX_TEXT, Pieces};
 use crate::text_edits::{TextEdit, TextEditFault, spans_of_edits};
-use lsp_text::{Encoding, Lines, Range};
+use lsp_buffer::TextBuffer;
+use lsp_text::{Encoding, Range};
 use std::alloc::{AllocError, Global};
 use std::marker::Model;
 use thiserror::Error;
@@ -69,23 +67,19 @@ impl From<AllocError> for TextFault {
     }
 }
 
-/// A text with its lines, so that a change needs no search for them. Clauses see the bytes of the
+/// A text in blocks with their lines, so that a change costs its block. Clauses see the bytes of the
 /// text.
 #[derive(Debug, Drop)]
 pub struct IndexedText {
-    text: String,
-    lines: Lines,
+    text: TextBuffer,
 }
 
 impl Model for IndexedText {
-    ghost use Rattle.std.specs.Prelude.{ℕ, List, string_bytes};
-    ghost use Rattle.lsp_text.specs.LineStarts.{Indexes};
+    ghost use Rattle.std.specs.Prelude.{ℕ, List};
 
     ghost Value = { List ℕ };
 
-    ghost view = { λ kept. string_bytes kept.text };
-
-    ghost invariant = { λ kept. Indexes kept.lines (string_bytes kept.text) };
+    ghost view = { λ kept. kept.text };
 }
 
 impl IndexedText {
@@ -95,22 +89,15 @@ impl IndexedText {
         requires { string_len text ≤ MAX_TEXT }
         ensures { IfOk result (λ kept. kept ≡ string_bytes text) }
     {
-        let lines = Lines::new(alloc, &text)?;
-        Ok(IndexedText { text, lines })
+        let text = TextBuffer::new(alloc, text)?;
+        Ok(IndexedText { text })
     }
 
     /// Returns the text.
-    pub fn text(&self) -> &str
+    pub fn text(&self) -> &TextBuffer
         ensures { result.now ≡ self.now }
     {
         &self.text
-    }
-
-    /// Returns the lines of the text.
-    pub fn lines(&self) -> &Lines
-        ensures { Indexes result.now self.now }
-    {
-        &self.lines
     }
 
     /// Returns how many bytes the text has. In constant time.
@@ -121,11 +108,16 @@ impl IndexedText {
         self.text.len()
     }
 
+    /// Returns what the text takes its memory of.
+    fn allocator(&self) -> &Global {
+        self.text.allocator()
+    }
+
     /// Returns the text as the one before any change.
     pub(crate) fn as_old(&self) -> OldText<'_>
         ensures { result ≡ self.now }
     {
-        OldText::with_lines(&self.text, &self.lines)
+        OldText::in_blocks(&self.text)
     }
 
     /// Copies the text and its lines. Fails only if it is out of memory. Costs the copies, and no
@@ -134,9 +126,8 @@ impl IndexedText {
         ensures copy { IfOk result (λ copy. copy ≡ self.now) }
         ensures utf8 { OnOk result (IsUtf8 self.now) }
     {
-        let text = String::from_str(alloc, &self.text)?;
-        let lines = self.lines.clone_in(alloc)?;
-        Ok(IndexedText { text, lines })
+        let text = self.text.clone_in(alloc)?;
+        Ok(IndexedText { text })
     }
 
     /// Applies a batch to the text as pieces, if the result has at most `max_len` bytes.
@@ -159,7 +150,7 @@ impl IndexedText {
             ⊎ (text_within max_len self.now
             (meaning (units_in encoding) (chars self.now) (map edit_of changes.now)) ≡ Err fault)) }
     {
-        let alloc = *self.text.allocator();
+        let alloc = *self.allocator();
         let pieces = compose_old(alloc, self.as_old(), encoding, changes)?;
         may_have_len(&pieces, max_len)?;
         Ok(pieces)
@@ -172,10 +163,9 @@ impl IndexedText {
         encoding: Encoding,
         changes: &[Change],
         max_len: usize,
-    ) -> Result<Draft, TextFault>
+    ) -> Result<Self, TextFault>
         requires size { length self.now ≤ MAX_OLD_TEXT }
         requires fits { sum_by (λ change. string_len change.text) changes.now ≤ MAX_NEW_TEXT }
-        ensures utf8 { OnOk result (IsUtf8 self.now) }
         ensures ok { IfOk result
             (λ left. text_within max_len self.now
             (meaning (units_in encoding) (chars self.now) (map edit_of changes.now)) ≡ Ok left) }
@@ -183,8 +173,7 @@ impl IndexedText {
             ⊎ (text_within max_len self.now
             (meaning (units_in encoding) (chars self.now) (map edit_of changes.now)) ≡ Err fault)) }
     {
-        let alloc = *self.text.allocator();
-        let draft = Draft::left_by(alloc, &self.text, &self.lines, encoding, changes)?;
+        let draft = self.left_by(encoding, changes)?;
         may_be_left(&draft, max_len)?;
         Ok(draft)
     }
@@ -195,10 +184,9 @@ impl IndexedText {
     /// An error reports the first change that has no result, a result that is too long, or out of
     /// memory. The text is unchanged then.
     ///
-    /// One change with a range costs its two positions, one move of the text after it, and one pass
-    /// over the later line starts. Any other batch costs a copy of the text and its line starts, if
-    /// its first change doesn't replace all. It also costs for each change its two positions, its
-    /// text, and what lies between it and the change before.
+    /// One change with a range costs its two positions, its block, and an addition for each later
+    /// block. Any other batch costs that for each change, and a copy of the text if its first change
+    /// doesn't replace all.
     pub fn change(
         &mut self,
         encoding: Encoding,
@@ -276,8 +264,8 @@ impl IndexedText {
             ⊎ (text_within max_len self.now
             (meaning (units_in encoding) (chars self.now) (map edit_of changes.now)) ≡ Err fault)) }
     {
-        let (text, lines) = self.draft(encoding, changes, max_len)?.into_text()?;
-        let left = IndexedText { text, lines };
+        let _ = self.len();
+        let left = self.draft(encoding, changes, max_len)?;
         Ok(Delta::Left {
             encoding,
             changes,
@@ -315,8 +303,8 @@ impl IndexedText {
     /// Applies a delta that was made of this text. Fails only if it is out of memory, and then
     /// changes nothing.
     ///
-    /// A range costs one move of the text after it, and one pass over the later line starts; any
-    /// other batch constant time.
+    /// A range costs its block, and an addition for each later block; any other batch constant
+    /// time.
     pub fn apply(&mut self, delta: Delta<'_>) -> Result<(), AllocError>
         requires on { IsOn self.old delta }
         ensures changed { OnOk result (self.new ≡ bytes_after self.old delta.entry) }
@@ -328,7 +316,7 @@ impl IndexedText {
                 stop,
                 new,
                 ..
-            } => put_in_place(&mut self.text, &mut self.lines, start, stop, new),
+            } => self.text.replace_range(start, stop, new),
             Delta::Left { left, .. } => {
                 *self = left;
                 Ok(())
@@ -359,7 +347,7 @@ impl IndexedText {
             (meaning (units_in encoding) (chars self.now) (map edit_of changes.now)) ≡ Err fault)) }
     {
         if changes.len() >= 2 * RUN {
-            let alloc = *self.text.allocator();
+            let alloc = *self.allocator();
             if let Ok(joined) = Joined::of_batch(alloc, encoding, self, changes, max_len) {
                 return Ok(joined.canonical(encoding)?);
             }
@@ -384,7 +372,7 @@ impl IndexedText {
         ensures error { IfErr result (λ fault.
             IsEditsFault (units_in encoding) (chars self.now) edits.now fault) }
     {
-        let alloc = *self.text.allocator();
+        let alloc = *self.allocator();
         let text = self.as_old();
         let spans = spans_of_edits(alloc, &text, encoding, edits)?;
         Ok(canonical_of(alloc, &text, &spans, encoding)?)
@@ -409,7 +397,7 @@ impl IndexedText {
             ⊎ (text_within max_len self.now
             (meaning (units_in encoding) (chars self.now) (map edit_of changes.now)) ≡ Err fault)) }
     {
-        let alloc = *self.text.allocator();
+        let alloc = *self.allocator();
         let pieces = self.composed(encoding, changes, max_len)?;
         Ok(Layer::of_spans(alloc, 0, pieces.spans())?)
     }
@@ -447,7 +435,7 @@ fn may_have_len(pieces: &Pieces<'_>, max_len: usize) -> Result<(), TextFault>
 }
 
 /// Fails if the text that a batch leaves has more than `max_len` bytes. Takes no memory.
-fn may_be_left(draft: &Draft, max_len: usize) -> Result<(), TextFault>
+fn may_be_left(draft: &IndexedText, max_len: usize) -> Result<(), TextFault>
     ensures ok { OnOk result (length draft.now ≤ max_len) }
     ensures utf8 { IsUtf8 draft.now }
     ensures error { IfErr result (λ fault. (fault ≡ TooLong) × (max_len < length draft.now)) }

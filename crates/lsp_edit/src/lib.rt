@@ -1,9 +1,8 @@
 //! Changes of a text: what the batch of a `didChange` means, and its one canonical batch (LSP 3.17,
 //! DidChangeTextDocumentParams).
 //!
-//! - `indexed`: `IndexedText`, a text with its lines, which a server changes batch by batch. Its
-//!   parts are `draft` (a text under the changes of a batch) and `in_place` (one change alone).
-//!   `ends` has the byte offsets of a range.
+//! - `indexed`: `IndexedText`, a text in blocks, which a server changes batch by batch. `draft`
+//!   applies a batch to a copy. `ends` has the byte offsets of a range.
 //! - `old_text`: `OldText`, the text before any change, as one string or in blocks.
 //! - `pieces`: `Pieces`, what became of an old text, in spans of it and of the changes' texts. Its
 //!   parts are `spans`, `span`, `row`, `replace`, `through` and `current` (the text that later

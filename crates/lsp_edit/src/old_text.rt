@@ -1,7 +1,7 @@
 //! `OldText`, the text before any change, as one string or in blocks.
 
 ghost use Rattle.std.specs.Prelude.{◌≡◌, ◌++◌, ◌≤◌, ℕ, IfOk, OnOk, Some, length, option_map, string_bytes};
-ghost use Rattle.std.specs.List.{slice_range};
+ghost use Rattle.std.specs.List.{replace_range, slice_range};
 ghost use Rattle.std.specs.Result.{result_ok};
 ghost use Rattle.std.specs.Str.{IsCharBoundary, IsUtf8, chars};
 ghost use Rattle.lsp_text.specs.LineStarts.{Indexes, IsPlace};
@@ -114,6 +114,29 @@ impl<'a> OldText<'a> {
             Form::Str(text) => text.position(encoding, offset),
             Form::Buffer(buffer) => buffer.position(encoding, offset),
         }
+    }
+
+    /// Returns the text with the bytes from `start` to `end` replaced. Fails only if it is out of
+    /// memory. Costs one copy of the result.
+    pub fn replaced(
+        &self,
+        alloc: Global,
+        start: usize,
+        end: usize,
+        new: &str,
+    ) -> Result<String, AllocError>
+        requires order { start ≤ end }
+        requires at_start { IsCharBoundary self.now start }
+        requires at_end { IsCharBoundary self.now end }
+        ensures { IfOk result (λ text.
+            string_bytes text ≡ replace_range self.now start end new.now) }
+    {
+        let len = self.len();
+        let mut text = String::with_capacity(alloc, len - (end - start) + new.len())?;
+        self.push_range(&mut text, 0, start)?;
+        text.push_str(new)?;
+        self.push_range(&mut text, end, len)?;
+        Ok(text)
     }
 
     /// Appends the bytes from `start` to `end` to a string. Fails only if it is out of memory.

@@ -277,7 +277,7 @@ pub(super) fn applied(
     changes: &[Change],
     max_len: usize,
 ) -> Result<(), TextFault> {
-    if kept.text().len() > MAX_OLD_TEXT || !fits(changes) {
+    if kept.len() > MAX_OLD_TEXT || !fits(changes) {
         return Err(TextFault::TooLong);
     }
     kept.change(Encoding::Utf16, changes, max_len)
@@ -289,7 +289,7 @@ pub(super) fn canonical_of(
     changes: &[Change],
     max_len: usize,
 ) -> Result<Vec<Change>, TextFault> {
-    if kept.text().len() > MAX_OLD_TEXT || !fits(changes) {
+    if kept.len() > MAX_OLD_TEXT || !fits(changes) {
         return Err(TextFault::TooLong);
     }
     kept.canonical(Encoding::Utf16, changes, max_len)

@@ -8,7 +8,6 @@ use Rattle.lsp_text.specs.declared.encoding.Encoding.{Encoding}
 use Rattle.lsp_text.specs.declared.position.Position.{Position}
 use Rattle.lsp_text.specs.declared.position.Range.{Range}
 use Rattle.lsp_text.specs.TextLines.{line_at, line_ends, line_start, line_stop, numbers_from}
-use Rattle.lsp_text.specs.LineStarts.{Indexes}
 use Rattle.lsp_text.specs.Units.{units_in, units_between}
 use Rattle.lsp_text.specs.Positions.{exact_position, denoted}
 use Rattle.lsp_text.proofs.LineLemmas.{in_content_line, line_has_stop}
@@ -17,12 +16,12 @@ use Rattle.lsp_text.proofs.PlainLemmas.{units_total}
 use Rattle.lsp_long_lines.specs.LongLines.{is_long, line_end}
 
 -- The greatest character denotes the end of each line.
-pub denoted-past_end : (encoding : Encoding) (bytes lines : List ℕ) (line : ℕ) → IsUtf8 bytes → Indexes lines bytes → line ≤ line_ends (chars bytes) →
+pub denoted-past_end : (encoding : Encoding) (bytes : List ℕ) (line : ℕ) → IsUtf8 bytes → length bytes ≤ 2147483648 → line ≤ line_ends (chars bytes) →
     denoted (units_in encoding) (chars bytes) (record { line = line; character = 4294967295 }) ≡ Some (line_stop (chars bytes) line)
-denoted-past_end encoding bytes lines line utf8 indexes there =
+denoted-past_end encoding bytes line utf8 size there =
     let text = chars bytes in
     past_line (units_in encoding) text (record { line = line; character = 4294967295 }) there
-    (omega (arith, units_total encoding text (line_start text line) (line_stop text line), ap length (encodes-chars bytes utf8), indexes.size))
+    (omega (arith, units_total encoding text (line_start text line) (line_stop text line), ap length (encodes-chars bytes utf8), size))
 
 -- The character of a line's end: the units of its content.
 pub line_end-character : (units : ℕ → ℕ) (text : List ℕ) (line : ℕ) → line ≤ line_ends text →

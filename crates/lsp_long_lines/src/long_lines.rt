@@ -2,13 +2,13 @@
 
 ghost use Rattle.std.specs.Prelude.{◌≡◌, ◌≤◌, IfOk, IfSome, is_some, map};
 ghost use Rattle.std.specs.Str.{chars};
-ghost use Rattle.lsp_text.specs.LineStarts.{Indexes};
 ghost use Rattle.lsp_text.specs.TextLines.{line_ends};
 ghost use Rattle.lsp_text.specs.Units.{units_in};
 ghost use Rattle.lsp_long_lines.specs.LongLines.{is_long, line_end, long_lines as long_lines_of};
 
+use lsp_buffer::TextBuffer;
 use lsp_store::Document;
-use lsp_text::{Encoding, Lines, Position, Range};
+use lsp_text::{Encoding, Position, Range};
 use std::alloc::{AllocError, Global};
 
 /// How many units of the session's encoding a line may have.
@@ -26,10 +26,10 @@ pub fn long_lines(
         IfOk result (λ ranges. map (λ range. range.stop) ranges.items
         ≡ map (line_end units text) (long_lines_of units text)) }
 {
-    let (text, lines) = (document.text(), document.lines());
+    let text = document.text();
     let mut ranges = Vec::new(alloc);
-    for line in 0..lines.count() as u32 {
-        if let Some(range) = excess(lines, text, encoding, line) {
+    for line in 0..text.line_count() as u32 {
+        if let Some(range) = excess(text, encoding, line) {
             ranges.push(range)?;
         }
     }
@@ -37,14 +37,13 @@ pub fn long_lines(
 }
 
 /// The range of a line that is over the limit, up to the line's end; `None` if the line isn't long.
-fn excess(lines: &Lines, text: &str, encoding: Encoding, line: u32) -> Option<Range>
-    requires indexed { Indexes lines.now text.now }
-    requires line { line ≤ line_ends (chars text.now) }
+fn excess(text: &TextBuffer, encoding: Encoding, line: u32) -> Option<Range>
+    requires { line ≤ line_ends (chars text.now) }
     ensures long { is_some result ≡ is_long (units_in encoding) (chars text.now) line }
     ensures stop { IfSome result (λ range.
         range.stop ≡ line_end (units_in encoding) (chars text.now) line) }
 {
-    let stop = end_of_line(lines, text, encoding, line);
+    let stop = end_of_line(text, encoding, line);
     if stop.character <= LIMIT {
         return None;
     }
@@ -52,19 +51,19 @@ fn excess(lines: &Lines, text: &str, encoding: Encoding, line: u32) -> Option<Ra
     let start = (0..=LIMIT)
         .rev()
         .map(|character| Position { line, character })
-        .find(|start| lines.resolve(text, encoding, *start).is_ok())
+        .find(|start| text.resolve(encoding, *start).is_ok())
         .unwrap_or(stop);
     Some(Range { start, stop })
 }
 
 /// The exact position of the end of a line's content.
-fn end_of_line(lines: &Lines, text: &str, encoding: Encoding, line: u32) -> Position
-    requires indexed { Indexes lines.now text.now }
-    requires line { line ≤ line_ends (chars text.now) }
+fn end_of_line(text: &TextBuffer, encoding: Encoding, line: u32) -> Position
+    requires { line ≤ line_ends (chars text.now) }
     ensures { result ≡ line_end (units_in encoding) (chars text.now) line }
 {
     let character = u32::MAX;
     let past_end = Position { line, character };
-    let end = lines.resolve(text, encoding, past_end).unwrap();
-    lines.position(text, encoding, end)
+    let len = text.len();
+    let end = text.resolve(encoding, past_end).unwrap_or(len);
+    text.position(encoding, end)
 }

@@ -85,7 +85,7 @@ fn has(store: &Store, wanted: Open) -> bool {
     match (store.get(URI), wanted) {
         (None, None) => store.len() == 0,
         (Some(document), Some((version, text))) => {
-            store.len() == 1 && document.version() == version && document.text() == text
+            store.len() == 1 && document.version() == version && document.text().is_text(text)
         }
         _ => false,
     }

@@ -103,7 +103,7 @@ pub(super) fn has_document(server: &Server, wanted: Open) -> bool {
     match (server.store().get("file:///a"), wanted) {
         (None, None) => true,
         (Some(document), Some((version, text))) => {
-            document.version() == version && document.text() == text
+            document.version() == version && document.text().is_text(text)
         }
         _ => false,
     }

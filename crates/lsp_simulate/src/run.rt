@@ -136,13 +136,8 @@ fn write_documents<W: Write>(
 fn document_line(alloc: Global, document: &Document<'_>) -> Result<Vec<u8>, AllocError> {
     let mut line = Vec::new(alloc);
     let (uri, language) = (document.uri(), document.language());
-    push_document(
-        &mut line,
-        uri,
-        language,
-        document.version(),
-        document.text(),
-    )?;
+    let text = document.text().to_string(alloc)?;
+    push_document(&mut line, uri, language, document.version(), &text)?;
     Ok(line)
 }
 

@@ -12,3 +12,4 @@ pub mod LawLemmas
 pub mod SquashLemmas
 pub mod LineContentLemmas
 pub mod UnitsBeforeLemmas
+pub mod UnitsPassedLemmas

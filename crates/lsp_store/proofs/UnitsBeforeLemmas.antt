@@ -16,6 +16,7 @@ use Rattle.lsp_text.proofs.PlainLemmas.{units_total}
 use Rattle.lsp_text.proofs.PlaceLemmas.{index_at, place_boundary, place_one, take_place}
 use Rattle.lsp_text.proofs.UnitLemmas.{units_more, units_rise, units_same}
 use Rattle.lsp_store.specs.UnitsBefore.{HasUnitsBefore}
+use Rattle.lsp_store.specs.inside.UnitsPassed.{HasPassed, IsPassed, IsTooFew}
 
 -- A character has at least one unit.
 pub some_units : (encoding : Encoding) (c : ℕ) → 1 ≤ units_in encoding c
@@ -99,13 +100,6 @@ none_before units text offset utf8 outside count has =
     outside (subst (IsCharBoundary text) has.offset_is (place_boundary text has.index utf8 has.within))
 
 -- ---- from a count to its offset
-
--- A loop over a text has passed some characters, with their bytes and units.
-pub record HasPassed (units : ℕ → ℕ) (text rest : List ℕ) (offset left count : ℕ) : Type 0 where
-  pub passed : List ℕ
-  pub text_is : text ≡ passed ++ rest
-  pub offset_is : length (encode_utf8_all passed) ≡ offset
-  pub count_is : sum_by units passed + left ≡ count
 
 pub passed_none : (units : ℕ → ℕ) (text : List ℕ) (count : ℕ) → HasPassed units text text 0 count count
 passed_none units text count = record { passed = []; text_is = refl; offset_is = refl; count_is = omega arith }
@@ -199,3 +193,11 @@ module _ (units : ℕ → ℕ) (some : (c : ℕ) → 1 ≤ units c) (text : List
       rw (eq-eqb left 0 e) (only_offset units some text offset count all found))
       (λ (e : left ≡ 0 → ⊥). rw (ne_eqb left 0 e) (none_is (λ (o : ℕ). HasUnitsBefore units text o count) (none (omega (arith, e))) found))
       (cases_eq left 0)
+
+  too_few_none : (rest : List ℕ) (offset left count : ℕ) → HasPassed units text rest offset left count → IsTooFew units rest left → 1 ≤ left → (other : ℕ) → HasUnitsBefore units text other count → ⊥
+  too_few_none [] offset left count h few more other has = none_fewer offset left count more h other has
+  too_few_none (c ∷ rest) offset left count h few more other has = none_inside rest c offset left count more few h other has
+
+  -- Where as many characters are passed as can be, the offset is found if no units are left.
+  pub passed_found : (offset left count : ℕ) → IsPassed units text count offset left → (found : ℕ) → (then_some (left == 0) offset ≡ Some found) ↔ HasUnitsBefore units text found count
+  passed_found offset left count is = stopped is.rest offset left count is.passed (too_few_none is.rest offset left count is.passed is.few)

@@ -6,4 +6,5 @@ pub mod Laws
 pub mod Squash
 pub mod LineContent
 pub mod UnitsBefore
+pub mod inside
 pub mod Plan

@@ -2,8 +2,7 @@
 //! Document Synchronization).
 //!
 //! - `store`: the documents in order of opening, and the calls that open, change and close them.
-//! - `document`: an open document as a caller reads it. `content` finds the content of a line,
-//!   `units` counts units of the whole text.
+//! - `document`: an open document as a caller reads it. `units` counts units of its whole text.
 //! - `documents`: the open documents, one after another.
 //! - `canonical`: the canonical message of an accepted batch of changes.
 //! - `squash`: many batches on one document as one message.

@@ -90,7 +90,7 @@ pub(super) fn is_current(store: &Store, wanted: Option<(i32, &str)>) -> bool {
     match (store.get(URI), wanted) {
         (None, None) => true,
         (Some(document), Some((version, text))) => {
-            document.version() == version && document.text() == text
+            document.version() == version && document.text().is_text(text)
         }
         _ => false,
     }

@@ -58,7 +58,7 @@ pub fn left_by_kept_text(
     let delta = kept.delta(encoding, changes, usize::MAX)?;
     let canonical = delta.canonical(alloc, &kept)?;
     kept.apply(delta)?;
-    let text = String::from_str(alloc, kept.text())?;
+    let text = kept.text().to_string(alloc)?;
     Ok(Left { text, canonical })
 }
 
@@ -80,7 +80,7 @@ pub fn left_by_joining(
     joined.change(encoding, &mut reached, first, MAX_OLD_TEXT)?;
     joined.change(encoding, &mut reached, second, MAX_OLD_TEXT)?;
     let canonical = joined.canonical(encoding)?;
-    let text = String::from_str(alloc, reached.text())?;
+    let text = reached.text().to_string(alloc)?;
     Ok(Left { text, canonical })
 }
 

@@ -103,7 +103,7 @@ fn documents_value(alloc: Global, store: &Store) -> Result<Value> {
 
 fn document_value(alloc: Global, document: Document<'_>) -> Result<Value> {
     let uri = String::from_str(alloc, document.uri())?;
-    let text = String::from_str(alloc, document.text())?;
+    let text = document.text().to_string(alloc)?;
     let version = document.version();
     Ok(json!(in alloc; {"uri": uri, "version": version, "text": text})?)
 }

@@ -7,7 +7,7 @@ ghost use Rattle.laspidru.specs.Objects.{IsCopy, rest_asked};
 ghost use Rattle.laspidru.specs.Servers.{IsOpened, text_of};
 
 use crate::answers::Opened;
-use crate::bytes::{copy_from, utf8_text};
+use crate::bytes::{copy_text, utf8_text};
 use crate::codes::{EMPTY, NOT_OPEN, NOT_UTF8, OK, OTHER_KIND};
 use crate::handle::Handle;
 use crate::object::Object;
@@ -78,7 +78,7 @@ fn object_client_text(
     let Some(document) = editor.client.store().get(uri) else {
         return NOT_OPEN;
     };
-    copy_from(document.text().as_bytes(), start, out, copied)
+    copy_text(document.text(), start, out, copied)
 }
 
 /// Copies the bytes of an open document's text from `start` on, as many as `out` has room for, and

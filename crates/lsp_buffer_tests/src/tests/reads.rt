@@ -85,6 +85,29 @@ fn a_text_is_read_in_one_piece(rt: HostRuntime) -> Result<(), Fail> {
     Ok(())
 }
 
+/// Where copies of a part of the text of `seamed` begin.
+static STARTS: [usize; 6] = [0, 4_090, 4_096, 12_001, 15_999, 16_000];
+
+/// Returns whether the bytes from `start` on are copied, as far as there is room.
+fn is_copied(both: &Pair, start: usize) -> bool {
+    let mut out = [0; 6_000];
+    if start > both.buffer.len() {
+        return false;
+    }
+    let count = both.buffer.copy_to(start, &mut out);
+    let end = both.plain.len().min(start.saturating_add(6_000));
+    both.plain.as_bytes().get(start..end) == out.get(..count)
+}
+
+#[test]
+fn a_part_of_a_text_is_copied(rt: HostRuntime) -> Result<(), Fail> {
+    let both = both_of(rt.alloc(), &seamed(rt.alloc())?)?;
+    for start in &STARTS {
+        assert!(rt; is_copied(&both, *start), "{start}");
+    }
+    Ok(())
+}
+
 /// Moves a text in, and returns whether it is in one piece until its first change.
 fn is_moved_in(alloc: Global, text: String) -> Result<bool, AllocError> {
     if text.len() > MOST {

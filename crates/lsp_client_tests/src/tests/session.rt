@@ -262,7 +262,7 @@ impl Ends {
 
     fn server_text(&self) -> &str {
         match self.server.store().get(URI) {
-            Some(document) => document.text(),
+            Some(document) => document.text().as_str().unwrap_or("in blocks"),
             None => "",
         }
     }

@@ -1,12 +1,16 @@
-//! The current text of spans, in one copy.
+//! The current text of spans, in one copy, and the ends of a range in it.
 
 ghost use Rattle.std.specs.Prelude.{◌≡◌, ◌≤◌, IfOk, MatchOption, length, string_bytes};
+ghost use Rattle.std.specs.Str.{IsUtf8, chars};
 ghost use Rattle.lsp_text.specs.LineStarts.{Indexes};
+ghost use Rattle.lsp_text.specs.Units.{units_in};
+ghost use Rattle.lsp_edit.specs.Faults.{ends_of, places_at};
 ghost use Rattle.lsp_edit.specs.Parts.{AreParts, bytes_of, parts_of};
 
+use crate::fault::{EditFault, Side};
 use crate::old_text::OldText;
 use crate::pieces::span::Span;
-use lsp_text::{GapText, Lines};
+use lsp_text::{Encoding, GapText, Lines, Range};
 use std::alloc::{AllocError, Global};
 
 /// The room, in bytes, that a text with a gap has for new text before it grows.
@@ -67,4 +71,35 @@ pub fn text_of_spans(
         span.push_to(before, &mut text)?;
     }
     Ok(text)
+}
+
+/// Returns the byte offsets of a range's two ends in a text with a gap. `change` is the number of
+/// the change that a fault reports.
+pub fn ends_in(
+    text: &mut GapText,
+    encoding: Encoding,
+    range: Range,
+    change: usize,
+) -> Result<(usize, usize), EditFault>
+    ensures utf8 { IsUtf8 text.old }
+    ensures unchanged { text.new ≡ text.old }
+    ensures value { result
+        ≡ places_at change (chars text.old) (ends_of (units_in encoding) (chars text.old) range) }
+{
+    let Ok(start) = text.resolve(encoding, range.start) else {
+        return Err(EditFault::InsideCharacter {
+            change,
+            side: Side::Start,
+        });
+    };
+    let Ok(stop) = text.resolve(encoding, range.stop) else {
+        return Err(EditFault::InsideCharacter {
+            change,
+            side: Side::Stop,
+        });
+    };
+    if start > stop {
+        return Err(EditFault::ReversedRange { change });
+    }
+    Ok((start, stop))
 }

@@ -54,7 +54,7 @@ fn change(
     requires { IsReached joined.old reached.old }
     ensures { OnOk result (IsReached joined.new reached.new) }
 {
-    if reached.text().len() > MAX_OLD_TEXT || !fits(changes) {
+    if reached.len() > MAX_OLD_TEXT || !fits(changes) {
         return Err(TextFault::TooLong);
     }
     joined.change(Encoding::Utf16, reached, changes, 9)
@@ -64,7 +64,7 @@ fn change(
 fn add(joined: &mut Joined, reached: &IndexedText, changes: &[Change]) -> Result<(), TextFault>
     requires { IsReached joined.old reached.now }
 {
-    if reached.text().len() > MAX_OLD_TEXT || !fits(changes) {
+    if reached.len() > MAX_OLD_TEXT || !fits(changes) {
         return Err(TextFault::TooLong);
     }
     joined.add(Encoding::Utf16, reached, changes, 9)
@@ -150,7 +150,7 @@ fn add_delta(
     requires { IsReached joined.old reached.now }
     ensures { OnErr result (joined.new ≡ joined.old) }
 {
-    if reached.text().len() > MAX_OLD_TEXT || !fits(changes) {
+    if reached.len() > MAX_OLD_TEXT || !fits(changes) {
         return Err(TextFault::TooLong);
     }
     let delta = reached.delta(Encoding::Utf16, changes, 9)?;

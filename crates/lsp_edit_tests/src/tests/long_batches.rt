@@ -87,17 +87,18 @@ const MAX_LEN: usize = 14;
 
 /// Returns whether the stored lines are those of the text, by the offset where each starts.
 fn has_its_lines(alloc: Global, text: &IndexedText) -> Result<bool, AllocError> {
-    if text.text().len() > MAX_TEXT {
+    if text.len() > MAX_TEXT {
         return Err(AllocError);
     }
-    let lines = Lines::new(alloc, text.text())?;
-    if lines.count() != text.lines().count() {
+    let joined = text.text().to_string(alloc)?;
+    let lines = Lines::new(alloc, &joined)?;
+    if lines.count() != text.text().line_count() {
         return Ok(false);
     }
     for line in 0..9 {
         let start = Position { line, character: 0 };
-        let kept = text.lines().resolve(text.text(), Encoding::Utf8, start);
-        if kept != lines.resolve(text.text(), Encoding::Utf8, start) {
+        let kept = text.text().resolve(Encoding::Utf8, start);
+        if kept != lines.resolve(&joined, Encoding::Utf8, start) {
             return Ok(false);
         }
     }
@@ -109,7 +110,7 @@ fn leaves(alloc: Global, row: &Row) -> Result<bool, AllocError> {
     let changes = batch(alloc, edits)?;
     let mut text = kept(alloc, before)?;
     let is_applied = applied(&mut text, &changes, MAX_OLD_TEXT).is_ok();
-    Ok(is_applied && text.text() == after && has_its_lines(alloc, &text)?)
+    Ok(is_applied && text.text().is_text(after) && has_its_lines(alloc, &text)?)
 }
 
 #[test]
@@ -125,7 +126,7 @@ fn fails(alloc: Global, row: &Faulty) -> Result<bool, AllocError> {
     let changes = batch(alloc, edits)?;
     let mut text = kept(alloc, before)?;
     let answer = applied(&mut text, &changes, MAX_LEN);
-    Ok(answer == Err(fault) && text.text() == before && has_its_lines(alloc, &text)?)
+    Ok(answer == Err(fault) && text.text().is_text(before) && has_its_lines(alloc, &text)?)
 }
 
 #[test]
@@ -152,7 +153,7 @@ fn is_applied(text: &mut IndexedText, changes: &[Change], refused: &mut usize) -
         return answer == Ok(());
     }
     *refused = refused.saturating_add(1);
-    text.text() == THREE_LINES && applied(text, changes, MAX_LEN + 10) == Ok(())
+    text.text().is_text(THREE_LINES) && applied(text, changes, MAX_LEN + 10) == Ok(())
 }
 
 /// Whether the batch leaves these lines of the three.
@@ -161,8 +162,8 @@ fn leaves_lines(alloc: Global, refused: &mut usize) -> Result<bool, AllocError> 
     let mut text = kept_again(alloc, THREE_LINES, refused)?;
     Ok(
         is_applied(&mut text, &changes, refused)
-            && text.text() == "A\nB\nBB\nBBB\nxc\n"
-            && text.lines().count() == 6,
+            && text.text().is_text("A\nB\nBB\nBBB\nxc\n")
+            && text.text().line_count() == 6,
     )
 }
 

@@ -3,7 +3,7 @@
 
 use super::{applied, are_applied, canonical_again, kept_again, plain, start_again};
 use lsp_edit::{
-    Change, EditFault, IndexedText, MAX_OLD_TEXT, Pieces, TextFault, compose_over, fits,
+    Change, EditFault, IndexedText, MAX_OLD_TEXT, Pieces, TextFault, compose_buffer, fits,
 };
 use lsp_samples::edits::{Edit, batch_again};
 use lsp_text::Encoding;
@@ -52,10 +52,10 @@ fn is_left_over_lines(
     changes: &[Change],
     wanted: &[Change],
 ) -> Result<bool, EditFault> {
-    if kept.text().len() > MAX_OLD_TEXT || !fits(changes) {
+    if kept.len() > MAX_OLD_TEXT || !fits(changes) {
         return Ok(false);
     }
-    let pieces = compose_over(alloc, kept.text(), kept.lines(), UTF16, changes)?;
+    let pieces = compose_buffer(alloc, kept.text(), UTF16, changes)?;
     Ok(are_left(&pieces, wanted)?)
 }
 
@@ -77,7 +77,7 @@ fn is_left_again(
 }
 
 #[test]
-fn refused_compose_over(rt: HostRuntime) -> Result<(), Fail> {
+fn refused_compose_buffer(rt: HostRuntime) -> Result<(), Fail> {
     let mut refused: usize = 0;
     let given = batch_again(rt.alloc(), &EDITS, &mut refused)?;
     let wanted = batch_again(rt.alloc(), &CANONICAL, &mut refused)?;
@@ -169,12 +169,12 @@ fn is_changed(
 ) -> Result<bool, TextFault> {
     if let Err(fault) = applied(kept, changes, 100) {
         *refused = refused.saturating_add(1);
-        if fault != TextFault::NoMemory || kept.text() != texts.0 {
+        if fault != TextFault::NoMemory || !kept.text().is_text(texts.0) {
             return Ok(false);
         }
         applied(kept, changes, 100)?;
     }
-    Ok(kept.text() == texts.1)
+    Ok(kept.text().is_text(texts.1))
 }
 
 fn is_changed_by(
@@ -205,7 +205,7 @@ fn is_changed_by_each(
 /// Returns whether the lines of the first text come and go with the changes.
 fn has_its_lines(alloc: Global, refused: &mut usize) -> Result<bool, TextFault> {
     let mut kept = kept_again(alloc, BEFORE, refused)?;
-    Ok(is_changed_by_each(alloc, &mut kept, refused)? && kept.lines().count() == 2)
+    Ok(is_changed_by_each(alloc, &mut kept, refused)? && kept.text().line_count() == 2)
 }
 
 #[test]
@@ -239,7 +239,7 @@ fn is_canonical(
 ) -> Result<bool, TextFault> {
     let kept = kept_again(alloc, BEFORE, refused)?;
     let canonical = canonical_again(&kept, changes, 100, refused)?;
-    Ok(canonical.as_slice() == wanted && kept.text() == BEFORE)
+    Ok(canonical.as_slice() == wanted && kept.text().is_text(BEFORE))
 }
 
 #[test]

@@ -2,7 +2,7 @@
 //! same fault.
 
 use super::{canonical_again, canonical_of, kept, kept_again};
-use lsp_edit::{Change, EditFault, IndexedText, MAX_OLD_TEXT, TextFault, compose_over, fits};
+use lsp_edit::{Change, EditFault, IndexedText, MAX_OLD_TEXT, TextFault, compose_buffer, fits};
 use lsp_text::{Encoding, Position, Range};
 use std::alloc::{AllocError, Global};
 use std::test::Fail;
@@ -40,10 +40,10 @@ fn at_once(
     text: &IndexedText,
     changes: &[Change],
 ) -> Result<Vec<Change>, TextFault> {
-    if text.text().len() > MAX_OLD_TEXT || !fits(changes) {
+    if text.len() > MAX_OLD_TEXT || !fits(changes) {
         return Err(TextFault::TooLong);
     }
-    let pieces = compose_over(alloc, text.text(), text.lines(), Encoding::Utf16, changes)?;
+    let pieces = compose_buffer(alloc, text.text(), Encoding::Utf16, changes)?;
     Ok(pieces.canonical(Encoding::Utf16)?)
 }
 
@@ -146,7 +146,7 @@ fn deletes_the_first_line(text: &IndexedText, answer: &[Change]) -> bool {
     };
     match answer {
         [change] => {
-            text.text() == LINES
+            text.text().is_text(LINES)
                 && change.text.is_empty()
                 && change.range == Some(Range { start, stop })
         }

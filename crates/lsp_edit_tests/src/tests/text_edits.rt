@@ -183,7 +183,7 @@ fn as_batch(alloc: Global, text: &str, edits: &[TextEdit]) -> Result<Vec<Change>
 fn left(alloc: Global, text: &str, changes: &[Change]) -> Result<String, TextFault> {
     let mut kept = kept(alloc, text)?;
     applied(&mut kept, changes, MAX_OLD_TEXT)?;
-    Ok(String::from_str(alloc, kept.text())?)
+    Ok(kept.text().to_string(alloc)?)
 }
 
 fn is_edited(alloc: Global, row: &Edited) -> Result<bool, AllocError> {

@@ -54,15 +54,18 @@ impl ReplayPart {
         }
     }
 
-    /// Returns the last text of the document with this URI.
-    fn last_text(&self, uri: &str) -> Option<&str>
-        ensures { option_map (λ text. text.now) result
+    /// Returns the last text of the document with this URI, in a copy.
+    fn last_text(&self, alloc: Global, uri: &str) -> Result<Option<String>, AllocError>
+        ensures { IfOk result (λ found. option_map string_bytes found
             ≡ last_text (option_map string_bytes self.now.kept)
-            (entry_at self.now.session.server.table uri.now) }
+            (entry_at self.now.session.server.table uri.now)) }
     {
-        match self.session.server().store().get(uri) {
-            Some(document) => Some(document.text()),
-            None => self.kept.as_deref(),
+        if let Some(document) = self.session.server().store().get(uri) {
+            return Ok(Some(document.text().to_string(alloc)?));
+        }
+        match &self.kept {
+            Some(kept) => Ok(Some(String::from_str(alloc, kept)?)),
+            None => Ok(None),
         }
     }
 
@@ -80,7 +83,7 @@ impl ReplayPart {
             push_documents(buffer, self.session.server().store())?;
             return Ok(outcome);
         };
-        let Some(text) = self.last_text(uri) else {
+        let Some(text) = self.last_text(*buffer.allocator(), uri)? else {
             return Ok(Outcome {
                 status: 1,
                 missing: Some(Missing::Document),

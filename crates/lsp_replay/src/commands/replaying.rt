@@ -76,19 +76,20 @@ impl Handler for Replay {
     }
 }
 
-/// Appends a document's line. Its texts are copied only once, into the line.
+/// Appends a document's line. Its text is joined first.
 pub(super) fn push_document_line(
     buffer: &mut Vec<u8>,
     document: &Document<'_>,
 ) -> Result<(), AllocError>
     ensures { OnOk result (buffer.new.items ≡ buffer.old.items ++ document_line document.now) }
 {
+    let text = document.text().to_string(*buffer.allocator())?;
     push_document(
         buffer,
         document.uri(),
         document.language(),
         document.version(),
-        document.text(),
+        &text,
     )?;
     buffer.extend_from_slice(b"\n")?;
     Ok(())

@@ -290,8 +290,9 @@ fn push_text(
     let Some(document) = document else {
         return Ok(());
     };
+    let text = document.text().to_string(alloc)?;
     buffer.extend_from_slice(b",\"text\":")?;
-    push_json_string(alloc, buffer, document.text())
+    push_json_string(alloc, buffer, &text)
 }
 
 /// Writes a body, if it is asked for.

@@ -1,8 +1,7 @@
 //! What is suspicious of the changes of a message, each on the text that the one before it leaves.
 
-ghost use Rattle.std.specs.Prelude.{◌≡◌, ◌≤◌, ◌++◌, IfNone, IfOk, IfSome, OnOk, None, Ok, Some, if◌then◌else◌, length, map, option_map};
+ghost use Rattle.std.specs.Prelude.{◌≡◌, ◌≤◌, ◌++◌, IfNone, IfOk, IfSome, OnOk, None, Ok, Some, if◌then◌else◌, length, map, option_map, string_bytes};
 ghost use Rattle.std.specs.Str.{IsCharBoundary, bytes_eq, chars};
-ghost use Rattle.lsp_text.specs.LineStarts.{Indexes};
 ghost use Rattle.lsp_text.specs.Units.{units_in};
 ghost use Rattle.lsp_edit.specs.Edited.{edit_of};
 ghost use Rattle.lsp_edit.specs.Faults.{ends_of, places_at};
@@ -12,8 +11,9 @@ ghost use Rattle.lsp_replay.specs.inside.Noting.{terms_view};
 
 use crate::notes::Note;
 use crate::notes::lengths::units_of;
+use lsp_buffer::TextBuffer;
 use lsp_edit::{Change, IndexedText, MAX_NEW_TEXT, MAX_OLD_TEXT, Side, TextFault};
-use lsp_text::{Encoding, Lines, Position, Range};
+use lsp_text::{Encoding, Position, Range};
 use std::alloc::{AllocError, Global};
 use std::slice;
 
@@ -43,13 +43,11 @@ impl Terms<'_> {
 pub fn push_batch_notes(
     alloc: Global,
     notes: &mut Vec<Note>,
-    text: &str,
-    lines: &Lines,
+    text: &TextBuffer,
     terms: &Terms<'_>,
     changes: &[Change],
 ) -> Result<(), AllocError>
-    requires indexed { Indexes lines.now text.now }
-    requires size { length text.now ≤ 1073741824 }
+    requires { length text.now ≤ 1073741824 }
     ensures { OnOk result (notes.new.items ≡ notes.old.items
         ++ batch_notes (terms_view terms.now) text.now (map edit_of changes.now)) }
 {
@@ -58,7 +56,7 @@ pub fn push_batch_notes(
             notes.push(Note::NoChanges)?;
             Ok(())
         }
-        [change] => push_change_notes(notes, text, lines, terms, 0, change),
+        [change] => push_change_notes(alloc, notes, text, terms, 0, change),
         _ => push_several(alloc, notes, text, terms, changes),
     }
 }
@@ -67,17 +65,17 @@ pub fn push_batch_notes(
 fn push_several(
     alloc: Global,
     notes: &mut Vec<Note>,
-    text: &str,
+    text: &TextBuffer,
     terms: &Terms<'_>,
     changes: &[Change],
 ) -> Result<(), AllocError>
-    requires size { length text.now ≤ 1073741824 }
+    requires { length text.now ≤ 1073741824 }
     ensures { OnOk result (notes.new.items ≡ notes.old.items
         ++ notes_from (terms_view terms.now) 0 text.now (map edit_of changes.now)) }
 {
-    let mut left = IndexedText::new(alloc, String::from_str(alloc, text)?)?;
+    let mut left = IndexedText::new(alloc, text.to_string(alloc)?)?;
     for (index, change) in changes.iter().enumerate() {
-        push_change_notes(notes, left.text(), left.lines(), terms, index, change)?;
+        push_change_notes(alloc, notes, left.text(), terms, index, change)?;
         if !leave(&mut left, terms.encoding, change)? {
             return Ok(());
         }
@@ -104,21 +102,21 @@ fn leave(text: &mut IndexedText, encoding: Encoding, change: &Change) -> Result<
 
 /// Notes what is suspicious of a change on a text.
 fn push_change_notes(
+    alloc: Global,
     notes: &mut Vec<Note>,
-    text: &str,
-    lines: &Lines,
+    text: &TextBuffer,
     terms: &Terms<'_>,
     index: usize,
     change: &Change,
 ) -> Result<(), AllocError>
-    requires { Indexes lines.now text.now }
     ensures { OnOk result (notes.new.items ≡ notes.old.items
         ++ change_notes (terms_view terms.now) (chars text.now) index (edit_of change.now)) }
 {
     let encoding = terms.encoding;
-    let replaced = replaced_by(text, lines, encoding, change.range);
+    let replaced = replaced_by(alloc, text, encoding, change.range)?;
+    let replaced = replaced.as_deref();
     push_whole_note(notes, terms.ranged, index, change.range)?;
-    push_range_notes(notes, text, lines, encoding, index, change.range)?;
+    push_range_notes(notes, text, encoding, index, change.range)?;
     push_length_note(notes, encoding, index, terms.length(index), replaced)?;
     push_same_note(notes, index, &change.text, replaced)
 }
@@ -170,25 +168,23 @@ fn push_length_note(
 /// Notes the ends of a range that are past an end. An empty range is noted once.
 fn push_range_notes(
     notes: &mut Vec<Note>,
-    text: &str,
-    lines: &Lines,
+    text: &TextBuffer,
     encoding: Encoding,
     index: usize,
     range: Option<Range>,
 ) -> Result<(), AllocError>
-    requires { Indexes lines.now text.now }
     ensures { OnOk result (notes.new.items ≡ notes.old.items
         ++ range_notes (units_in encoding) (chars text.now) index range) }
 {
     let Some(Range { start, stop }) = range else {
         return Ok(());
     };
-    let taken = taken_as(text, lines, encoding, start);
+    let taken = taken_as(text, encoding, start);
     push_end_note(notes, index, Side::Start, start, taken)?;
     if is_same(start, stop) {
         return Ok(());
     }
-    let taken = taken_as(text, lines, encoding, stop);
+    let taken = taken_as(text, encoding, stop);
     push_end_note(notes, index, Side::Stop, stop, taken)
 }
 
@@ -225,19 +221,17 @@ fn is_same(position: Position, other: Position) -> bool
 }
 
 /// Returns the exact position of what a position denotes in a text.
-fn taken_as(text: &str, lines: &Lines, encoding: Encoding, position: Position) -> Option<Position>
-    requires { Indexes lines.now text.now }
+fn taken_as(text: &TextBuffer, encoding: Encoding, position: Position) -> Option<Position>
     ensures { result ≡ taken_as (units_in encoding) (chars text.now) position }
 {
-    match lines.resolve(text, encoding, position) {
-        Ok(offset) => Some(lines.position(text, encoding, offset)),
+    match text.resolve(encoding, position) {
+        Ok(offset) => Some(text.position(encoding, offset)),
         Err(_) => None,
     }
 }
 
 /// Returns the byte offsets of a range's ends in a text, if they denote some, and in order.
-fn ends(text: &str, lines: &Lines, encoding: Encoding, range: Range) -> Option<(usize, usize)>
-    requires { Indexes lines.now text.now }
+fn ends(text: &TextBuffer, encoding: Encoding, range: Range) -> Option<(usize, usize)>
     ensures ends { IfSome result (λ ends. Ok ends
         ≡ places_at 0 (chars text.now) (ends_of (units_in encoding) (chars text.now) range)) }
     ensures order { IfSome result (λ ends. ends.0 ≤ ends.1) }
@@ -246,10 +240,10 @@ fn ends(text: &str, lines: &Lines, encoding: Encoding, range: Range) -> Option<(
     ensures none { IfNone result (replaced_by (units_in encoding) (chars text.now) (Some range)
         ≡ None) }
 {
-    let Ok(start) = lines.resolve(text, encoding, range.start) else {
+    let Ok(start) = text.resolve(encoding, range.start) else {
         return None;
     };
-    let Ok(stop) = lines.resolve(text, encoding, range.stop) else {
+    let Ok(stop) = text.resolve(encoding, range.stop) else {
         return None;
     };
     if start > stop {
@@ -258,23 +252,25 @@ fn ends(text: &str, lines: &Lines, encoding: Encoding, range: Range) -> Option<(
     Some((start, stop))
 }
 
-/// Returns the part of a text that a change of this range replaces, if it has a result.
+/// Copies the part of a text that a change of this range replaces, if it has a result.
 #[tactic(auto, using(crate::proofs::NoteLemmas::part_is))]
-fn replaced_by<'a>(
-    text: &'a str,
-    lines: &Lines,
+fn replaced_by(
+    alloc: Global,
+    text: &TextBuffer,
     encoding: Encoding,
     range: Option<Range>,
-) -> Option<&'a str>
-    requires { Indexes lines.now text.now }
-    ensures { option_map (λ part. chars part.now) result
-        ≡ replaced_by (units_in encoding) (chars text.entry.now) range }
+) -> Result<Option<String>, AllocError>
+    ensures { IfOk result (λ replaced. option_map (λ part. chars (string_bytes part)) replaced
+        ≡ replaced_by (units_in encoding) (chars text.now) range) }
 {
     let Some(range) = range else {
-        return Some(text);
+        return Ok(Some(text.to_string(alloc)?));
     };
-    let (start, stop) = ends(text, lines, encoding, range)?;
-    Some(&text[start..stop])
+    let _ = text.len();
+    let Some((start, stop)) = ends(text, encoding, range) else {
+        return Ok(None);
+    };
+    Ok(Some(text.slice(alloc, start, stop)?))
 }
 
 /// Notes a text that is what it replaces.

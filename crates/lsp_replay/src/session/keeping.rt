@@ -95,7 +95,7 @@ impl Session {
             return Ok(None);
         }
         match self.server.store().get(uri.as_str()) {
-            Some(document) => Ok(Some(String::from_str(self.alloc, document.text())?)),
+            Some(document) => Ok(Some(document.text().to_string(self.alloc)?)),
             None => Ok(None),
         }
     }

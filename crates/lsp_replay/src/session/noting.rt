@@ -145,9 +145,14 @@ impl Session {
             lengths: lengths.as_slice(),
             ranged,
         };
-        let (text, lines) = (document.text(), document.lines());
         push_version_note(&mut notes, params.version, document.version())?;
-        push_batch_notes(self.alloc, &mut notes, text, lines, &terms, &params.changes)?;
+        push_batch_notes(
+            self.alloc,
+            &mut notes,
+            document.text(),
+            &terms,
+            &params.changes,
+        )?;
         Ok(notes)
     }
 }

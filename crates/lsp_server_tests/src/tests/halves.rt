@@ -205,7 +205,7 @@ fn params_of(alloc: Global, asked: Asked) -> Result<ChangeParams, AllocError> {
 fn is_open(server: &Server, wanted: Open) -> bool {
     let (uri, version, text) = wanted;
     match server.store().get(uri) {
-        Some(document) => document.version() == version && document.text() == text,
+        Some(document) => document.version() == version && document.text().is_text(text),
         None => false,
     }
 }

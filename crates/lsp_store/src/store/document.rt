@@ -1,9 +1,9 @@
 //! An open document as a caller reads it.
 
-ghost use Rattle.std.specs.Prelude.{◌≡◌, ◌↔◌, ◌<◌, ◌≤◌, ℕ, IfErr, IfNone, IfOk, IfSome, OnSome, Some, length, map, option_map};
+ghost use Rattle.std.specs.Prelude.{◌≡◌, ◌↔◌, ◌+◌, ◌<◌, ◌≤◌, ℕ, IfErr, IfNone, IfOk, IfSome, OnSome, Some, length, map, option_map};
 ghost use Rattle.std.specs.Result.{result_ok};
 ghost use Rattle.std.specs.Str.{IsCharBoundary, IsUtf8, chars};
-ghost use Rattle.lsp_text.specs.LineStarts.{Indexes, IsPlace};
+ghost use Rattle.lsp_text.specs.LineStarts.{IsPlace};
 ghost use Rattle.lsp_text.specs.Positions.{denoted, exact_position};
 ghost use Rattle.lsp_text.specs.Text.{place_of};
 ghost use Rattle.lsp_text.specs.TextLines.{line_ends};
@@ -14,14 +14,13 @@ ghost use Rattle.lsp_store.specs.UnitsBefore.{HasUnitsBefore};
 ghost use Rattle.lsp_store.specs.LineContent.{IsContent, IsSlice};
 ghost use Rattle.lsp_store.specs.Opened.{entry_under};
 
-mod content;
 mod units;
 
-use crate::store::document::content::content_of;
 use crate::store::document::units::{offset_after, units_before};
 use crate::store::stored::Stored;
+use lsp_buffer::TextBuffer;
 use lsp_edit::{Change, MAX_OLD_TEXT, TextEdit, TextEditFault};
-use lsp_text::{Encoding, InsideCharacter, Lines, Position};
+use lsp_text::{Encoding, InsideCharacter, Position};
 use std::marker::Model;
 use std::ops::Range;
 
@@ -70,33 +69,33 @@ impl<'a> Document<'a> {
         self.stored.version
     }
 
-    /// Returns the current text.
-    pub fn text(&self) -> &'a str
+    /// Returns the current text, which is in blocks.
+    pub fn text(&self) -> &'a TextBuffer
         ensures text { result.now ≡ self.now.text }
         ensures short { length result.now ≤ MAX_OLD_TEXT }
     {
         self.stored.text.text()
     }
 
-    /// Returns the lines of the text, which the store keeps up to date: for [`Lines::count`], and
-    /// for many look-ups at once. Costs one step.
-    pub fn lines(&self) -> &'a Lines
-        ensures { Indexes result.now self.now.text }
+    /// Returns how many lines there are: one more than line ends, so at least one. In constant
+    /// time.
+    pub fn line_count(&self) -> usize
+        ensures { result ≡ line_ends (chars self.now.text) + 1 }
     {
-        self.stored.text.lines()
+        self.text().line_count()
     }
 
     /// Returns the byte offsets of a line's content, without its line end (LSP 3.17, Position), as
     /// a range to slice [`Document::text`] with. Lines are counted from 0.
     ///
-    /// Returns `None` if the text has no such line. In constant time.
+    /// Returns `None` if the text has no such line. Costs two binary searches.
     pub fn line(&self, line: u32) -> Option<Range<usize>>
         ensures content { IfSome result (IsContent self.now.text line) }
         ensures slice { IfSome result (IsSlice self.now.text) }
         ensures some { OnSome result (line ≤ line_ends (chars self.now.text)) }
         ensures none { IfNone result (line_ends (chars self.now.text) < line) }
     {
-        content_of(self.text(), self.lines(), line)
+        self.text().line(line)
     }
 
     /// Returns the byte offset that a position denotes in the text (LSP 3.17, Position). It is the
@@ -111,10 +110,7 @@ impl<'a> Document<'a> {
         ensures place { IfOk result (IsPlace (chars self.now.text)) }
         ensures boundary { IfOk result (IsCharBoundary self.now.text) }
     {
-        self.stored
-            .text
-            .lines()
-            .resolve(self.text(), encoding, position)
+        self.text().resolve(encoding, position)
     }
 
     /// Returns the exact position of a byte offset of the text (LSP 3.17, Position). No offset past
@@ -130,10 +126,9 @@ impl<'a> Document<'a> {
             (denoted (units_in encoding) (chars self.now.text) position) ≡ Some offset) }
         ensures none { IfNone result (IsPlace (chars self.now.text) offset → ⊥) }
     {
-        let (text, lines) = (self.text(), self.lines());
-        lines
-            .is_place(text, offset)
-            .then(|| lines.position(text, encoding, offset))
+        let text = self.text();
+        text.is_place(offset)
+            .then(|| text.position(encoding, offset))
     }
 
     /// Returns how many units the whole text has before a byte offset (LSP 3.17, Position). It is
@@ -184,6 +179,6 @@ impl<'a> Document<'a> {
     pub(crate) fn show_utf8(&self)
         ensures { IsUtf8 self.now.text }
     {
-        let _text = self.text();
+        let _len = self.stored.text.len();
     }
 }

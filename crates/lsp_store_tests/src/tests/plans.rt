@@ -34,7 +34,8 @@ fn is_once(alloc: Global, before: &str, edits: &[Edit]) -> Result<bool, StoreFau
         return Ok(false);
     };
     let (message, read) = perform(&mut planned, &changes)?;
-    Ok(read && message == frame && is_current(&planned, Some((2, document.text()))))
+    let text = document.text().to_string(alloc)?;
+    Ok(read && message == frame && is_current(&planned, Some((2, &text))))
 }
 
 #[test]

@@ -32,7 +32,7 @@ fn edit(
 
 fn is_text(store: &Store, text: &str) -> bool {
     match store.get(URI) {
-        Some(document) => document.text() == text,
+        Some(document) => document.text().is_text(text),
         None => false,
     }
 }

@@ -71,7 +71,7 @@ static NO_TEXT: [Call; 6] = [
 
 fn content<'a>(document: &Document<'a>, line: u32) -> Option<&'a str> {
     let range = document.line(line)?;
-    document.text().get(range)
+    document.text().as_str()?.get(range)
 }
 
 fn is_right(document: &Document<'_>, call: &Call) -> bool {

@@ -1,23 +1,17 @@
-use Rattle.std.proofs.Common.{◌≡◌, ◌∙◌, ℕ, ◌+◌, ◌≤◌, List, [], ◌∷◌, ◌++◌, Vec, Global, sym, ap, subst, arith}
-use Rattle.std.specs.Str.{chars, IsUtf8}
+use Rattle.std.proofs.Common.{◌≡◌, ◌∙◌, ℕ, ◌+◌, List, [], ◌∷◌, ◌++◌, Vec, Global, ap, subst, arith}
+use Rattle.std.specs.Str.{chars}
 use Rattle.lsp_text.specs.declared.position.Range.{Range}
 use Rattle.lsp_text.specs.TextLines.{line_ends}
 use Rattle.lsp_text.specs.Units.{units_in}
-use Rattle.lsp_text.proofs.ExactLemmas.{indexes_few}
 use Rattle.lsp_long_lines.proofs.LineEndLemmas.{stops, ends_before, stops-long, stops-short}
 use Rattle.lsp_long_lines.proofs.long_lines.long_lines.Goals as goal
 use Rattle.lsp_long_lines.proofs.long_lines.long_lines.Goals.{in-Some+in_ok-push, in_default}
 
 pub overflow_cast-line-end : goal.overflow_cast-line-end
-overflow_cast-line-end c =
-    let utf8 : IsUtf8 c.args.document.now.text = subst (λ (b : List ℕ). IsUtf8 b) c.text-text.ensures.text c.text-text.utf8 in
-    omega (arith, c.count-line-end.ensures.count, indexes_few c.args.document.now.text c.lines-lines.result.now utf8 c.lines-lines.ensures)
+overflow_cast-line-end c = omega (arith, c.line_count-line-end.ensures.few)
 
-pub excess-requires-clause-line : goal.excess-requires-clause-line
-excess-requires-clause-line c =
-    let there : c.loop-line.line ≤ line_ends (chars c.args.document.now.text) =
-    omega (arith, c.count-line-end.ensures.line_ends c.args.document.now.text c.lines-lines.ensures) in
-    subst (λ (b : List ℕ). c.loop-line.line ≤ line_ends (chars b)) (sym c.text-text.ensures.text) there
+pub excess-requires : goal.excess-requires
+excess-requires c = omega (arith, c.line_count-line-end.ensures.count)
 
 pub loop-line-preserved : goal.loop-line-preserved
 loop-line-preserved c =
@@ -37,5 +31,5 @@ pub returns : goal.returns
 returns c =
     let text = chars c.args.document.now.text in
     let all : c.loop-line.line ≡ line_ends text + 1 =
-    omega (arith, c.count-line-end.ensures.line_ends c.args.document.now.text c.lines-lines.ensures) in
+    omega (arith, c.line_count-line-end.ensures.count, ap (λ (b : List ℕ). line_ends (chars b)) c.text-text.ensures.text) in
     subst (λ (n : ℕ). stops c.loop-line.ranges.items ≡ ends_before (units_in c.args.encoding) text n) all c.loop-line.invariant

@@ -25,14 +25,14 @@ returns-clause-part c =
     (chunk_is c.args.self.now (concat (take c.block_of-index.result c.self.inside.blocks.items)) c.index-block.result.now (concat (drop (c.block_of-index.result + 1) c.self.inside.blocks.items)) c.args.offset c.index.result.now c.text.result.now c.range_from.result.now c.text.ensures c.range_from.ensures.value
     (found_place c.self.inside.blocks.items c.self.inside.starts.items c.self.inside.lines.items c.args.self.now c.self.invariant.sums c.self.view_is c.block_of-index.result c.index-block.result.now c.index-block.ensures
     c.args.offset c.index.result.now c.deref.result.now c.deref.ensures.value c.block_of-index.ensures c.index.ensures)
-    c.requires).part
+    c.requires.0).part
 
 pub returns-clause-some : goal.returns-clause-some
 returns-clause-some c =
     (chunk_is c.args.self.now (concat (take c.block_of-index.result c.self.inside.blocks.items)) c.index-block.result.now (concat (drop (c.block_of-index.result + 1) c.self.inside.blocks.items)) c.args.offset c.index.result.now c.text.result.now c.range_from.result.now c.text.ensures c.range_from.ensures.value
     (found_place c.self.inside.blocks.items c.self.inside.starts.items c.self.inside.lines.items c.args.self.now c.self.invariant.sums c.self.view_is c.block_of-index.result c.index-block.result.now c.index-block.ensures
     c.args.offset c.index.result.now c.deref.result.now c.deref.ensures.value c.block_of-index.ensures c.index.ensures)
-    c.requires).some
+    c.requires.0).some
 
 pub returns-clause-next : goal.returns-clause-next
 returns-clause-next c =

@@ -1,13 +1,8 @@
-use Rattle.std.proofs.Common.{ℕ, ◌≡◌, ◌+◌, ◌-◌, ◌≤◌, ◌++◌, ◌∙◌, List, [], ◌∷◌, zero, suc, take, drop, length, string_bytes, append_assoc, arith, ap, sym, refl}
+use Rattle.std.proofs.Common.{ℕ, ◌≡◌, ◌+◌, ◌-◌, ◌≤◌, ◌++◌, ◌∙◌, List, take, drop, length, string_bytes, append_assoc, arith, ap, sym}
 use Rattle.std.specs.List.{slice_range}
 use Rattle.std.proofs.lemmas.List.{drop-drop}
+use Rattle.std.proofs.Math.Seq.{take-add}
 use Rattle.lsp_buffer.proofs.text_buffer.TextBuffer.push_range.Goals as goal
-
-take_sum : (a n : ℕ) (bytes : List ℕ) → take (a + n) bytes ≡ take a bytes ++ take n (drop a bytes)
-take_sum zero n bytes = let e : 0 + n ≡ n = omega arith in rw e refl
-take_sum (suc a) zero [] = let e : suc a + 0 ≡ suc a = omega arith in rw e refl
-take_sum (suc a) (suc n) [] = let e : suc a + suc n ≡ suc (a + suc n) = omega arith in rw e refl
-take_sum (suc a) n (x ∷ bytes) = let e : suc a + n ≡ suc (a + n) = omega arith in rw e (ap (λ (rest : List ℕ). x ∷ rest) (take_sum a n bytes))
 
 -- A range that is followed by some bytes is a longer range.
 range_more : (bytes : List ℕ) (start offset n : ℕ) → start ≤ offset → slice_range bytes start offset ++ take n (drop offset bytes) ≡ slice_range bytes start (offset + n)
@@ -15,7 +10,7 @@ range_more bytes start offset n order =
     let at : start + (offset - start) ≡ offset = omega arith in
     let rest : drop (offset - start) (drop start bytes) ≡ drop offset bytes = drop-drop (offset - start) start bytes ∙ ap (λ (k : ℕ). drop k bytes) at in
     let count : offset + n - start ≡ (offset - start) + n = omega arith in
-    sym (ap (λ (k : ℕ). take k (drop start bytes)) count ∙ (take_sum (offset - start) n (drop start bytes) ∙ ap (λ (bs : List ℕ). take (offset - start) (drop start bytes) ++ take n bs) rest))
+    sym (ap (λ (k : ℕ). take k (drop start bytes)) count ∙ (take-add (offset - start) n (drop start bytes) ∙ ap (λ (bs : List ℕ). take (offset - start) (drop start bytes) ++ take n bs) rest))
 
 pub loop-offset-preserved : goal.loop-offset-preserved
 loop-offset-preserved c =

@@ -1,4 +1,4 @@
-use Rattle.std.proofs.Common.{◌≡◌, ℕ, List, refl, Ok, sym, ap, ◌∙◌, map}
+use Rattle.std.proofs.Common.{◌≡◌, refl, Ok, map}
 use Rattle.std.specs.Str.{chars}
 use Rattle.lsp_text.specs.Units.{units_in}
 use Rattle.lsp_edit.specs.Batch.{meaning}
@@ -9,18 +9,18 @@ use Rattle.lsp_edit.proofs.indexed.IndexedText.left_delta.Goals as goal
 
 pub returns-clause-ok : goal.returns-clause-ok
 returns-clause-ok c =
-    let told : text_within c.args.max_len c.args.self.now (meaning (units_in c.args.encoding) (chars c.args.self.now) (map edit_of c.args.changes.now)) ≡ Ok c.in_ok-draft.field-0 = c.in_ok-draft.ensures.ok in
-    let w : IsWithin c.args.self.now (meaning (units_in c.args.encoding) (chars c.args.self.now) (map edit_of c.args.changes.now)) c.in_ok-draft.field-0 = within_told _ _ _ _ told in
+    let told : text_within c.args.max_len c.args.self.now (meaning (units_in c.args.encoding) (chars c.args.self.now) (map edit_of c.args.changes.now)) ≡ Ok c.in_ok-left.left = c.in_ok-left.ensures.ok in
+    let w : IsWithin c.args.self.now (meaning (units_in c.args.encoding) (chars c.args.self.now) (map edit_of c.args.changes.now)) c.in_ok-left.left = within_told _ _ _ _ told in
     record {
       on = record {
-        utf8 = c.in_ok-draft.ensures.utf8;
+        utf8 = c.len.ensures.utf8;
         size = c.requires.size;
         fits = c.requires.fits;
         items = w.items;
         means = w.means;
-        is = c.in_ok-text.ensures.0 ∙ w.is;
+        is = w.is;
       };
       units_are = refl;
       means = refl;
-      is = told ∙ ap (λ (left : List ℕ). Ok left) (sym c.in_ok-text.ensures.0);
+      is = told;
     }

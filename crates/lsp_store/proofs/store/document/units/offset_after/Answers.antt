@@ -1,48 +1,13 @@
-use Rattle.std.proofs.Common.{ℕ, ◌≡◌, ◌↔◌, [], Option, Some, subst, sym, arith}
-use Rattle.std.proofs.lemmas.Str.{IsUtf8-past_char}
+use Rattle.std.proofs.Common.{ℕ, ◌≡◌, ◌↔◌, Option, Some, subst, sym}
 use Rattle.std.specs.Str.{chars}
 use Rattle.lsp_text.specs.Units.{units_in}
 use Rattle.lsp_store.specs.UnitsBefore.{HasUnitsBefore}
-use Rattle.lsp_store.proofs.UnitsBeforeLemmas.{HasPassed, chars_none, none_fewer, none_inside, passed_few, passed_more, passed_next, some_units, stopped}
+use Rattle.lsp_store.proofs.UnitsBeforeLemmas.{passed_found, some_units}
 use Rattle.lsp_store.proofs.store.document.units.offset_after.Goals as goal
-
-pub returns-then-left-here : goal.returns-then-left-here
-returns-then-left-here c = λ offset.
-    let units = units_in c.args.encoding in
-    let text = chars c.args.text.now in
-    let l = c.loop-c in
-    let next = passed_next units text _ _ c.in-Some.c l.offset l.left c.args.count l.invariant.utf8 c.in-Some.ensures.steps.0 l.invariant.passed in
-    subst (λ (found : Option ℕ). (found ≡ Some offset) ↔ HasUnitsBefore units text offset c.args.count) (sym c.then_some.ensures)
-    (stopped units (some_units c.args.encoding) text _ l.offset l.left c.args.count next
-    (λ more. none_inside units (some_units c.args.encoding) text _ c.in-Some.c l.offset l.left c.args.count more (omega (arith, c.if-left-here.true, c.units-here.ensures)) next) offset)
-
-pub overflow_add-offset : goal.overflow_add-offset
-overflow_add-offset c =
-    let units = units_in c.args.encoding in
-    let text = chars c.args.text.now in
-    let l = c.loop-c in
-    let next = passed_next units text _ _ c.in-Some.c l.offset l.left c.args.count l.invariant.utf8 c.in-Some.ensures.steps.0 l.invariant.passed in
-    let more = passed_more units text _ c.in-Some.c _ _ l.offset l.left c.args.count c.len_utf8-offset.ensures.value c.units-here.ensures c.if-left-here.false next in
-    omega (arith, passed_few units c.args.text.now _ _ _ c.args.count c.utf8.text more)
-
-pub loop-c-preserved : goal.loop-c-preserved
-loop-c-preserved c =
-    let units = units_in c.args.encoding in
-    let text = chars c.args.text.now in
-    let l = c.loop-c in
-    let parts = c.in-Some.ensures.steps.0 in
-    let next = passed_next units text _ _ c.in-Some.c l.offset l.left c.args.count l.invariant.utf8 parts l.invariant.passed in
-    record {
-      utf8 = IsUtf8-past_char _ _ c.in-Some.c l.invariant.utf8 parts;
-      passed = passed_more units text _ c.in-Some.c _ _ l.offset l.left c.args.count c.len_utf8-offset.ensures.value c.units-here.ensures c.if-left-here.false next;
-    }
 
 pub returns : goal.returns
 returns c = λ offset.
     let units = units_in c.args.encoding in
     let text = chars c.args.text.now in
-    let l = c.loop-c in
-    let passed = subst (λ rest. HasPassed units text rest l.offset l.left c.args.count) (chars_none _ c.in-None.ensures.steps.0.0) l.invariant.passed in
-    subst (λ (found : Option ℕ). (found ≡ Some offset) ↔ HasUnitsBefore units text offset c.args.count) (sym c.then_some-2.ensures)
-    (stopped units (some_units c.args.encoding) text [] l.offset l.left c.args.count passed
-    (λ more. none_fewer units (some_units c.args.encoding) text l.offset l.left c.args.count more passed) offset)
+    subst (λ (found : Option ℕ). (found ≡ Some offset) ↔ HasUnitsBefore units text offset c.args.count) (sym c.then_some.ensures)
+    (passed_found units (some_units c.args.encoding) text c.passed_in-offset.result.0 c.passed_in-offset.result.1 c.args.count c.passed_in-offset.ensures offset)

@@ -1,4 +1,4 @@
-use Rattle.std.proofs.Common.{ℕ, ◌≡◌, ◌↔◌, Option, Some, refl, subst, sym}
+use Rattle.std.proofs.Common.{◌∙◌, refl, subst, sym, take}
 use Rattle.std.proofs.lemmas.Bool.{false≢true}
 use Rattle.std.specs.Str.{chars}
 use Rattle.lsp_text.specs.Units.{units_in}
@@ -6,17 +6,19 @@ use Rattle.lsp_store.specs.UnitsBefore.{HasUnitsBefore}
 use Rattle.lsp_store.proofs.UnitsBeforeLemmas.{before_has, none_before, none_is, only_count}
 use Rattle.lsp_store.proofs.store.document.units.units_before.Goals as goal
 
-pub returns-in_err-before : goal.returns-in_err-before
-returns-in_err-before c = λ count.
+pub returns-then-not-is_char_boundary : goal.returns-then-not-is_char_boundary
+returns-then-not-is_char_boundary c = λ count.
     let units = units_in c.args.encoding in
     let text = c.args.text.now in
-    let none = none_before units text c.args.offset c.utf8.text (λ boundary. false≢true (c.in_err-before.ensures.variant.1 boundary)) in
-    subst (λ (found : Option ℕ). (found ≡ Some count) ↔ HasUnitsBefore units (chars text) c.args.offset count) (sym c.from_residual.ensures)
-    (none_is (HasUnitsBefore units (chars text) c.args.offset) none count)
+    let none = none_before units text c.args.offset c.is_char_boundary.ensures.utf8 (λ at. false≢true (sym c.if-not-is_char_boundary.true ∙ c.is_char_boundary.ensures.boundary.1 at)) in
+    none_is (HasUnitsBefore units (chars text) c.args.offset) none count
+
+pub units_to-requires-clause-at_end : goal.units_to-requires-clause-at_end
+units_to-requires-clause-at_end c = c.is_char_boundary.ensures.boundary.0 c.if-not-is_char_boundary.false
 
 pub returns : goal.returns
 returns c = λ count.
     let units = units_in c.args.encoding in
     let text = c.args.text.now in
-    let has = before_has units text c.in_ok-before.before.now c.args.offset c.utf8.text (c.in_ok-before.ensures.variant.0 refl) c.in_ok-before.ensures.front in
-    only_count units (chars text) c.args.offset c.units_of.result (subst (HasUnitsBefore units (chars text) c.args.offset) (sym c.units_of.ensures) has) count
+    let has = before_has units text (take c.args.offset text) c.args.offset c.is_char_boundary.ensures.utf8 (c.is_char_boundary.ensures.boundary.0 c.if-not-is_char_boundary.false) refl in
+    only_count units (chars text) c.args.offset c.units_to.result (subst (HasUnitsBefore units (chars text) c.args.offset) (sym c.units_to.ensures) has) count

@@ -1,0 +1,41 @@
+use Rattle.std.proofs.Common.{arith}
+use Rattle.std.proofs.lemmas.Str.{IsCharBoundary-start}
+use Rattle.std.specs.Str.{chars}
+use Rattle.lsp_text.specs.Units.{units_in}
+use Rattle.lsp_store.proofs.UnitsBeforeLemmas.{passed_none}
+use Rattle.lsp_store.proofs.UnitsPassedLemmas.{chunk_few, chunk_next, chunk_passed, chunk_stops, chunk_whole, passed_end}
+use Rattle.lsp_store.proofs.store.document.units.passed_in.Goals as goal
+
+pub loop-offset-init : goal.loop-offset-init
+loop-offset-init c = record {
+  at = IsCharBoundary-start c.args.text.now c.len-len.ensures.utf8;
+  passed = passed_none (units_in c.args.encoding) (chars c.args.text.now) c.args.count;
+}
+
+pub overflow_add-offset : goal.overflow_add-offset
+overflow_add-offset c =
+    omega (arith, chunk_few (units_in c.args.encoding) c.args.text.now c.chunk_from-chunk.result.now c.loop-offset.offset c.loop-offset.left c.passed_by-passed.result.0 c.passed_by-passed.result.1 c.args.count c.len-len.ensures.utf8 c.loop-offset.invariant.at c.chunk_from-chunk.ensures.next c.chunk_from-chunk.ensures.part c.loop-offset.invariant.passed c.passed_by-passed.ensures, c.chunk_from-chunk.ensures.next.0, c.len-len.ensures.size)
+
+pub returns-then-passed-size : goal.returns-then-passed-size
+returns-then-passed-size c =
+    chunk_stops (units_in c.args.encoding) c.args.text.now c.chunk_from-chunk.result.now c.loop-offset.offset c.loop-offset.left c.passed_by-passed.result.0 c.passed_by-passed.result.1 c.args.count c.len-len.ensures.utf8 c.loop-offset.invariant.at c.chunk_from-chunk.ensures.next c.chunk_from-chunk.ensures.part c.loop-offset.invariant.passed c.passed_by-passed.ensures c.if-passed-size.true
+
+pub loop-offset-preserved : goal.loop-offset-preserved
+loop-offset-preserved c = record {
+  at = chunk_next (units_in c.args.encoding) c.args.text.now c.chunk_from-chunk.result.now c.loop-offset.offset c.loop-offset.left c.passed_by-passed.result.0 c.passed_by-passed.result.1 c.args.count c.len-len.ensures.utf8 c.loop-offset.invariant.at c.chunk_from-chunk.ensures.next c.chunk_from-chunk.ensures.part c.loop-offset.invariant.passed c.passed_by-passed.ensures c.if-passed-size.false;
+  passed = chunk_passed (units_in c.args.encoding) c.args.text.now c.chunk_from-chunk.result.now c.loop-offset.offset c.loop-offset.left c.passed_by-passed.result.0 c.passed_by-passed.result.1 c.args.count c.len-len.ensures.utf8 c.loop-offset.invariant.at c.chunk_from-chunk.ensures.next c.chunk_from-chunk.ensures.part c.loop-offset.invariant.passed c.passed_by-passed.ensures c.if-passed-size.false;
+}
+
+pub loop-offset-smaller : goal.loop-offset-smaller
+loop-offset-smaller c =
+    let some = c.chunk_from-chunk.ensures.some (omega (arith, c.loop-offset-test.true, c.len-len.ensures.len)) in
+    omega (
+      arith,
+      chunk_whole (units_in c.args.encoding) c.args.text.now c.chunk_from-chunk.result.now c.loop-offset.offset c.loop-offset.left c.passed_by-passed.result.0 c.passed_by-passed.result.1 c.args.count c.len-len.ensures.utf8 c.loop-offset.invariant.at c.chunk_from-chunk.ensures.next c.chunk_from-chunk.ensures.part c.loop-offset.invariant.passed c.passed_by-passed.ensures c.if-passed-size.false,
+      some,
+      c.loop-offset-test.true,
+    )
+
+pub returns : goal.returns
+returns c =
+    passed_end (units_in c.args.encoding) c.args.text.now c.loop-offset.offset c.loop-offset.left c.args.count (omega (arith, c.loop-offset-test.false, c.len-len.ensures.len)) c.loop-offset.invariant.passed
