@@ -1,0 +1,5 @@
+pub mod SlotLemmas
+pub mod CountLemmas
+pub mod FindLemmas
+pub mod PlaceLemmas
+pub mod PackLemmas
