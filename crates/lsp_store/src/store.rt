@@ -21,10 +21,10 @@ use crate::store::document::Document;
 use crate::store::documents::Documents;
 use crate::store::plan::Plan;
 use crate::store::stored::Stored;
-use indexmap::IndexMap;
 use lsp_edit::Change;
 use lsp_frame::Limits;
 use lsp_text::Encoding;
+use ordered_map::OrderedMap;
 use std::alloc::{AllocError, Global};
 use std::marker::Model;
 
@@ -33,7 +33,7 @@ use std::marker::Model;
 #[derive(Debug, Drop)]
 pub struct Store {
     pub(crate) limits: Limits,
-    pub(crate) documents: IndexMap<String, Stored>,
+    pub(crate) documents: OrderedMap<Stored>,
 }
 
 impl Model for Store {
@@ -55,7 +55,7 @@ impl Store {
     {
         Store {
             limits,
-            documents: IndexMap::new(alloc),
+            documents: OrderedMap::new(alloc),
         }
     }
 
@@ -196,8 +196,7 @@ impl Store {
     {
         self.may_open(&uri, &text)?;
         let stored = Stored::new(*self.documents.allocator(), language, version, text)?;
-        let (index, _replaced) = self.documents.insert_full(uri, stored)?;
-        self.documents.move_index(index, self.documents.len() - 1);
+        self.documents.insert_last(uri, stored)?;
         Ok(())
     }
 
@@ -311,7 +310,7 @@ impl Store {
         ensures error { IfErr result
             (λ fault. (fault ≡ NotOpen) × IsRefused self.old (closes uri.now) fault) }
     {
-        let Some(_) = self.documents.shift_remove(uri) else {
+        let Some(_) = self.documents.remove(uri) else {
             return Err(StoreFault::NotOpen);
         };
         Ok(())

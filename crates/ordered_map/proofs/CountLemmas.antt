@@ -43,26 +43,26 @@ module _ {X : Type 0} where
       record {
         enough = omega (arith, counted.enough, length-set items place None, length-set counts (place / 256) (slice_index counts (place / 256) - 1));
         each = λ block fits.
-          let fits_before : block < length counts = omega (arith, fits, length-set counts (place / 256) (slice_index counts (place / 256) - 1)) in
-          let was : live_to items (256 * (block + 1)) ≡ live_to items (256 * block) + slice_index counts block = counted.each block fits_before in
-          ⊎_elim
-          (λ (same : block ≡ place / 256).
-          let count : slice_index (set counts (place / 256) (slice_index counts (place / 256) - 1)) (place / 256) ≡ slice_index counts (place / 256) - 1
-          = get_or-set_same counts (place / 256) (slice_index counts (place / 256) - 1) 0 block_is in
-          let was_here : live_to items (256 * (place / 256 + 1)) ≡ live_to items (256 * (place / 256)) + slice_index counts (place / 256) = counted.each (place / 256) block_is in
-          rw same
-          (omega (arith, count, was_here, some, live_taken_after items place item (256 * (place / 256 + 1)) at (omega arith), live_taken_before items place (256 * (place / 256)) (omega arith))))
-          (λ (other : block ≡ place / 256 → ⊥).
-          let count : slice_index (set counts (place / 256) (slice_index counts (place / 256) - 1)) block ≡ slice_index counts block
-          = get_or-set_other counts (place / 256) block (slice_index counts (place / 256) - 1) 0 other in
-          ⊎_elim
-          (λ (before : block < place / 256).
-          omega (arith, count, was, live_taken_before items place (256 * (block + 1)) (omega (arith, before)), live_taken_before items place (256 * block) (omega (arith, before))))
-          (λ (after : place / 256 ≤ block).
-          let later : place / 256 < block = omega (arith, after, other) in
-          omega (arith, count, was, live_taken_after items place item (256 * (block + 1)) at (omega (arith, later)), live_taken_after items place item (256 * block) at (omega (arith, later))))
-          (cases_lt block (place / 256)))
-          (cases_eq block (place / 256));
+            let fits_before : block < length counts = omega (arith, fits, length-set counts (place / 256) (slice_index counts (place / 256) - 1)) in
+            let was : live_to items (256 * (block + 1)) ≡ live_to items (256 * block) + slice_index counts block = counted.each block fits_before in
+            ⊎_elim
+            (λ (same : block ≡ place / 256).
+            let count : slice_index (set counts (place / 256) (slice_index counts (place / 256) - 1)) (place / 256) ≡ slice_index counts (place / 256) - 1
+            = get_or-set_same counts (place / 256) (slice_index counts (place / 256) - 1) 0 block_is in
+            let was_here : live_to items (256 * (place / 256 + 1)) ≡ live_to items (256 * (place / 256)) + slice_index counts (place / 256) = counted.each (place / 256) block_is in
+            rw same
+            (omega (arith, count, was_here, some, live_taken_after items place item (256 * (place / 256 + 1)) at (omega arith), live_taken_before items place (256 * (place / 256)) (omega arith))))
+            (λ (other : block ≡ place / 256 → ⊥).
+            let count : slice_index (set counts (place / 256) (slice_index counts (place / 256) - 1)) block ≡ slice_index counts block
+            = get_or-set_other counts (place / 256) block (slice_index counts (place / 256) - 1) 0 other in
+            ⊎_elim
+            (λ (before : block < place / 256).
+            omega (arith, count, was, live_taken_before items place (256 * (block + 1)) (omega (arith, before)), live_taken_before items place (256 * block) (omega (arith, before))))
+            (λ (after : place / 256 ≤ block).
+            let later : place / 256 < block = omega (arith, after, other) in
+            omega (arith, count, was, live_taken_after items place item (256 * (block + 1)) at (omega (arith, later)), live_taken_after items place item (256 * block) at (omega (arith, later))))
+            (cases_lt block (place / 256)))
+            (cases_eq block (place / 256));
       }
 
   -- ---- an item is put in last
@@ -73,26 +73,26 @@ module _ {X : Type 0} where
       record {
         enough = omega (arith, block_is, length-append items (Some item ∷ []), length-set counts (length items / 256) (slice_index counts (length items / 256) + 1));
         each = λ block fits.
-          let fits_before : block < length counts = omega (arith, fits, length-set counts (length items / 256) (slice_index counts (length items / 256) + 1)) in
-          let was : live_to items (256 * (block + 1)) ≡ live_to items (256 * block) + slice_index counts block = counted.each block fits_before in
-          ⊎_elim
-          (λ (same : block ≡ length items / 256).
-          let count : slice_index (set counts (length items / 256) (slice_index counts (length items / 256) + 1)) (length items / 256) ≡ slice_index counts (length items / 256) + 1
-          = get_or-set_same counts (length items / 256) (slice_index counts (length items / 256) + 1) 0 block_is in
-          let was_here : live_to items (256 * (length items / 256 + 1)) ≡ live_to items (256 * (length items / 256)) + slice_index counts (length items / 256) = counted.each (length items / 256) block_is in
-          rw same
-          (omega (arith, count, was_here, live_put_after items item (256 * (length items / 256 + 1)) (omega arith), live_put_before items (Some item) (256 * (length items / 256)) (omega arith))))
-          (λ (other : block ≡ length items / 256 → ⊥).
-          let count : slice_index (set counts (length items / 256) (slice_index counts (length items / 256) + 1)) block ≡ slice_index counts block
-          = get_or-set_other counts (length items / 256) block (slice_index counts (length items / 256) + 1) 0 other in
-          ⊎_elim
-          (λ (before : block < length items / 256).
-          omega (arith, count, was, live_put_before items (Some item) (256 * (block + 1)) (omega (arith, before)), live_put_before items (Some item) (256 * block) (omega (arith, before))))
-          (λ (after : length items / 256 ≤ block).
-          let later : length items / 256 < block = omega (arith, after, other) in
-          omega (arith, count, was, live_put_after items item (256 * (block + 1)) (omega (arith, later)), live_put_after items item (256 * block) (omega (arith, later))))
-          (cases_lt block (length items / 256)))
-          (cases_eq block (length items / 256));
+            let fits_before : block < length counts = omega (arith, fits, length-set counts (length items / 256) (slice_index counts (length items / 256) + 1)) in
+            let was : live_to items (256 * (block + 1)) ≡ live_to items (256 * block) + slice_index counts block = counted.each block fits_before in
+            ⊎_elim
+            (λ (same : block ≡ length items / 256).
+            let count : slice_index (set counts (length items / 256) (slice_index counts (length items / 256) + 1)) (length items / 256) ≡ slice_index counts (length items / 256) + 1
+            = get_or-set_same counts (length items / 256) (slice_index counts (length items / 256) + 1) 0 block_is in
+            let was_here : live_to items (256 * (length items / 256 + 1)) ≡ live_to items (256 * (length items / 256)) + slice_index counts (length items / 256) = counted.each (length items / 256) block_is in
+            rw same
+            (omega (arith, count, was_here, live_put_after items item (256 * (length items / 256 + 1)) (omega arith), live_put_before items (Some item) (256 * (length items / 256)) (omega arith))))
+            (λ (other : block ≡ length items / 256 → ⊥).
+            let count : slice_index (set counts (length items / 256) (slice_index counts (length items / 256) + 1)) block ≡ slice_index counts block
+            = get_or-set_other counts (length items / 256) block (slice_index counts (length items / 256) + 1) 0 other in
+            ⊎_elim
+            (λ (before : block < length items / 256).
+            omega (arith, count, was, live_put_before items (Some item) (256 * (block + 1)) (omega (arith, before)), live_put_before items (Some item) (256 * block) (omega (arith, before))))
+            (λ (after : length items / 256 ≤ block).
+            let later : length items / 256 < block = omega (arith, after, other) in
+            omega (arith, count, was, live_put_after items item (256 * (block + 1)) (omega (arith, later)), live_put_after items item (256 * block) (omega (arith, later))))
+            (cases_lt block (length items / 256)))
+            (cases_eq block (length items / 256));
       }
 
   pub put_counted_new : (items : List (Option X)) (counts : List ℕ) (item : X) → AreCounted items counts → length counts ≤ length items / 256 → AreCounted (items ++ Some item ∷ []) (counts ++ 1 ∷ [])
@@ -101,17 +101,23 @@ module _ {X : Type 0} where
       record {
         enough = omega (arith, len, length-append items (Some item ∷ []), length-append counts (1 ∷ []));
         each = λ block fits.
-          ⊎_elim
-          (λ (before : block < length counts).
-          let count : slice_index (counts ++ 1 ∷ []) block ≡ slice_index counts block = get_or_append_left counts (1 ∷ []) 0 block before in
-          omega (arith, count, counted.each block before, live_put_before items (Some item) (256 * (block + 1)) (omega (arith, before, len)), live_put_before items (Some item) (256 * block) (omega (arith, before, len))))
-          (λ (after : length counts ≤ block).
-          let last : block ≡ length counts = omega (arith, after, fits, length-append counts (1 ∷ [])) in
-          let count : slice_index (counts ++ 1 ∷ []) (length counts) ≡ 1 = get_or_push counts 1 0 (length counts) refl in
-          rw last
-          (omega (arith, count, live_put_after items item (256 * (length counts + 1)) (omega (arith, len)), live_put_before items (Some item) (256 * length counts) (omega (arith, len)),
-          live_past items (256 * (length counts + 1)) (omega (arith, len)), live_past items (256 * length counts) (omega (arith, len)))))
-          (cases_lt block (length counts));
+            ⊎_elim
+            (λ (before : block < length counts).
+            let count : slice_index (counts ++ 1 ∷ []) block ≡ slice_index counts block = get_or_append_left counts (1 ∷ []) 0 block before in
+            omega (arith, count, counted.each block before, live_put_before items (Some item) (256 * (block + 1)) (omega (arith, before, len)), live_put_before items (Some item) (256 * block) (omega (arith, before, len))))
+            (λ (after : length counts ≤ block).
+            let last : block ≡ length counts = omega (arith, after, fits, length-append counts (1 ∷ [])) in
+            let count : slice_index (counts ++ 1 ∷ []) (length counts) ≡ 1 = get_or_push counts 1 0 (length counts) refl in
+            rw last
+            (omega (
+              arith,
+              count,
+              live_put_after items item (256 * (length counts + 1)) (omega (arith, len)),
+              live_put_before items (Some item) (256 * length counts) (omega (arith, len)),
+              live_past items (256 * (length counts + 1)) (omega (arith, len)),
+              live_past items (256 * length counts) (omega (arith, len)),
+            )))
+            (cases_lt block (length counts));
       }
 
   -- ---- each place has an item

@@ -76,13 +76,13 @@ module _ {V : Type 0} where
         record {
           found = found;
           there = λ bytes slot is.
-            let had : is_some (place bytes) ≡ true = sym (same bytes) ∙ ap is_some is in
-            let was = placed.there bytes (slot_in (place bytes) had) (slot_is (place bytes) had) in
-            let now = kept slots (slot_in (place bytes) had) was.key was.at in
-            let goes : next (string_bytes was.key) ≡ Some now.slot = found now.slot was.key now.at in
-            let both : Some now.slot ≡ Some slot = sym goes ∙ ap next was.same ∙ is in
-            let equal : now.slot ≡ slot = cc in
-            record { key = was.key; at = rw (← equal) now.at; same = was.same };
+              let had : is_some (place bytes) ≡ true = sym (same bytes) ∙ ap is_some is in
+              let was = placed.there bytes (slot_in (place bytes) had) (slot_is (place bytes) had) in
+              let now = kept slots (slot_in (place bytes) had) was.key was.at in
+              let goes : next (string_bytes was.key) ≡ Some now.slot = found now.slot was.key now.at in
+              let both : Some now.slot ≡ Some slot = sym goes ∙ ap next was.same ∙ is in
+              let equal : now.slot ≡ slot = cc in
+              record { key = was.key; at = rw (← equal) now.at; same = was.same };
         }
       where
         slot_in : (found : Option ℕ) → is_some found ≡ true → ℕ

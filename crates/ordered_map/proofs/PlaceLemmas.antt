@@ -54,20 +54,24 @@ key_of_entry (Live key value ∷ slots) (suc slot) entry at = key_of_entry slots
 
 module _ {V : Type 0} (slots : List (Slot V)) (place : List ℕ → Option ℕ) (placed : ArePlaced (keys_in slots) place) (bytes : List ℕ) where
   pub only_place : (slot : ℕ) → place bytes ≡ Some slot → IsOnly (is_key bytes) (map entry_of slots) slot
-  only_place slot is = record { only = λ other entry at passes.
-    let same : bytes ≡ string_bytes entry.0 = (bytes_eq-Decides bytes (string_bytes entry.0)).0 passes in
-    let there : place (string_bytes entry.0) ≡ Some other = placed.found other entry.0 (key_of_entry slots other entry at) in
-    let both : Some slot ≡ Some other = sym is ∙ ap place same ∙ there in
-    let equal : slot ≡ other = cc in
-    sym equal }
+  only_place slot is = record {
+    only = λ other entry at passes.
+        let same : bytes ≡ string_bytes entry.0 = (bytes_eq-Decides bytes (string_bytes entry.0)).0 passes in
+        let there : place (string_bytes entry.0) ≡ Some other = placed.found other entry.0 (key_of_entry slots other entry at) in
+        let both : Some slot ≡ Some other = sym is ∙ ap place same ∙ there in
+        let equal : slot ≡ other = cc in
+        sym equal;
+  }
 
   pub no_place : place bytes ≡ None → HasNone (is_key bytes) (map entry_of slots)
-  no_place none = record { fails = λ other entry at.
-    false_from_ne_true (bytes_eq bytes (string_bytes entry.0)) (λ passes.
-    let same : bytes ≡ string_bytes entry.0 = (bytes_eq-Decides bytes (string_bytes entry.0)).0 passes in
-    let there : place (string_bytes entry.0) ≡ Some other = placed.found other entry.0 (key_of_entry slots other entry at) in
-    let bad : None ≡ Some other = sym none ∙ ap place same ∙ there in
-    absurd (cc)) }
+  no_place none = record {
+    fails = λ other entry at.
+        false_from_ne_true (bytes_eq bytes (string_bytes entry.0)) (λ passes.
+        let same : bytes ≡ string_bytes entry.0 = (bytes_eq-Decides bytes (string_bytes entry.0)).0 passes in
+        let there : place (string_bytes entry.0) ≡ Some other = placed.found other entry.0 (key_of_entry slots other entry at) in
+        let bad : None ≡ Some other = sym none ∙ ap place same ∙ there in
+        absurd (cc));
+  }
 
 -- ---- keys that change
 
@@ -80,11 +84,13 @@ bytes_apart bytes others apart = false_from_ne_true (bytes_eq bytes others) (λ 
 module _ (keys : List (Option (String Global))) (place next : List ℕ → Option ℕ) (placed : ArePlaced keys place) where
   -- no two slots have one key
   pub are_unlike : AreUnlike keys
-  are_unlike = record { same = λ slot other key second at there equal.
-    let first : place (string_bytes key) ≡ Some slot = placed.found slot key at in
-    let later : place (string_bytes second) ≡ Some other = placed.found other second there in
-    let both : Some slot ≡ Some other = sym first ∙ ap place equal ∙ later in
-    cc }
+  are_unlike = record {
+    same = λ slot other key second at there equal.
+        let first : place (string_bytes key) ≡ Some slot = placed.found slot key at in
+        let later : place (string_bytes second) ≡ Some other = placed.found other second there in
+        let both : Some slot ≡ Some other = sym first ∙ ap place equal ∙ later in
+        cc;
+  }
 
   -- a key is taken out
   pub placed_taken : (bytes : List ℕ) (slot : ℕ) → place bytes ≡ Some slot → ((others : List ℕ) → next others ≡ update bytes_eq place bytes None others) → ArePlaced (set keys slot None) next
@@ -92,32 +98,32 @@ module _ (keys : List (Option (String Global))) (place next : List ℕ → Optio
       let there = placed.there bytes slot is in
       record {
         found = λ other key at.
-          ⊎_elim
-          (λ (same : other ≡ slot).
-          let gone : slice_get (set keys slot None) slot ≡ Some None = set_here keys slot None (Some there.key) there.at in
-          let bad : Some None ≡ Some (Some key) = sym gone ∙ ap (slice_get (set keys slot None)) (sym same) ∙ at in
-          absurd (cc))
-          (λ (apart : other ≡ slot → ⊥).
-          let was : slice_get keys other ≡ Some (Some key) = sym (set_there keys slot other None apart) ∙ at in
-          let stays : place (string_bytes key) ≡ Some other = placed.found other key was in
-          let differ : bytes_eq bytes (string_bytes key) ≡ false
-          = bytes_apart bytes (string_bytes key) (λ same. apart (let both : Some slot ≡ Some other = sym is ∙ ap place same ∙ stays in let equal : slot ≡ other = cc in sym equal)) in
-          updates (string_bytes key) ∙ rw differ stays)
-          (cases_eq other slot);
+            ⊎_elim
+            (λ (same : other ≡ slot).
+            let gone : slice_get (set keys slot None) slot ≡ Some None = set_here keys slot None (Some there.key) there.at in
+            let bad : Some None ≡ Some (Some key) = sym gone ∙ ap (slice_get (set keys slot None)) (sym same) ∙ at in
+            absurd (cc))
+            (λ (apart : other ≡ slot → ⊥).
+            let was : slice_get keys other ≡ Some (Some key) = sym (set_there keys slot other None apart) ∙ at in
+            let stays : place (string_bytes key) ≡ Some other = placed.found other key was in
+            let differ : bytes_eq bytes (string_bytes key) ≡ false
+            = bytes_apart bytes (string_bytes key) (λ same. apart (let both : Some slot ≡ Some other = sym is ∙ ap place same ∙ stays in let equal : slot ≡ other = cc in sym equal)) in
+            updates (string_bytes key) ∙ rw differ stays)
+            (cases_eq other slot);
         there = λ others other at.
-          ⊎_elim
-          (λ (same : bytes_eq bytes others ≡ true). let bad : None ≡ Some other = rw same at (sym (updates others) ∙ at) in absurd (cc))
-          (λ (differ : bytes_eq bytes others ≡ false).
-          let was : place others ≡ Some other = rw differ at (sym (updates others) ∙ at) in
-          let kept = placed.there others other was in
-          let apart : other ≡ slot → ⊥ = λ equal.
+            ⊎_elim
+            (λ (same : bytes_eq bytes others ≡ true). let bad : None ≡ Some other = rw same at (sym (updates others) ∙ at) in absurd (cc))
+            (λ (differ : bytes_eq bytes others ≡ false).
+            let was : place others ≡ Some other = rw differ at (sym (updates others) ∙ at) in
+            let kept = placed.there others other was in
+            let apart : other ≡ slot → ⊥ = λ equal.
             (let same_key : Some (Some there.key) ≡ Some (Some kept.key) = sym there.at ∙ ap (slice_get keys) (sym equal) ∙ kept.at in
             let equal_keys : there.key ≡ kept.key = cc in
             let equal_bytes : bytes ≡ others = sym there.same ∙ ap string_bytes equal_keys ∙ kept.same in
             let bad : true ≡ false = sym ((bytes_eq-Decides bytes others).1 equal_bytes) ∙ differ in
             absurd (cc)) in
-          record { key = kept.key; at = set_there keys slot other None apart ∙ kept.at; same = kept.same })
-          (cases_Bool (bytes_eq bytes others));
+            record { key = kept.key; at = set_there keys slot other None apart ∙ kept.at; same = kept.same })
+            (cases_Bool (bytes_eq bytes others));
       }
 
   -- a new key is put in last
@@ -126,29 +132,29 @@ module _ (keys : List (Option (String Global))) (place next : List ℕ → Optio
   placed_put key none updates =
       record {
         found = λ slot other at.
-          ⊎_elim
-          (λ (within : slot < length keys).
-          let was : place (string_bytes other) ≡ Some slot = placed.found slot other (sym (put_before keys (Some key) slot within) ∙ at) in
-          let differ : bytes_eq (string_bytes key) (string_bytes other) ≡ false
-          = bytes_apart (string_bytes key) (string_bytes other) (λ same. let bad : None ≡ Some slot = sym none ∙ ap place same ∙ was in absurd (cc)) in
-          updates (string_bytes other) ∙ rw differ was)
-          (λ (past : length keys ≤ slot).
-          let last = put_past keys (Some key) (Some other) slot at past in
-          let same : key ≡ other = (let both : Some key ≡ Some other = last.1 in cc) in
-          let there : next (string_bytes key) ≡ Some (length keys) = updates (string_bytes key) ∙ rw (bytes_same (string_bytes key)) refl in
-          rw (← same, last.0) there)
-          (cases_lt slot (length keys));
+            ⊎_elim
+            (λ (within : slot < length keys).
+            let was : place (string_bytes other) ≡ Some slot = placed.found slot other (sym (put_before keys (Some key) slot within) ∙ at) in
+            let differ : bytes_eq (string_bytes key) (string_bytes other) ≡ false
+            = bytes_apart (string_bytes key) (string_bytes other) (λ same. let bad : None ≡ Some slot = sym none ∙ ap place same ∙ was in absurd (cc)) in
+            updates (string_bytes other) ∙ rw differ was)
+            (λ (past : length keys ≤ slot).
+            let last = put_past keys (Some key) (Some other) slot at past in
+            let same : key ≡ other = (let both : Some key ≡ Some other = last.1 in cc) in
+            let there : next (string_bytes key) ≡ Some (length keys) = updates (string_bytes key) ∙ rw (bytes_same (string_bytes key)) refl in
+            rw (← same, last.0) there)
+            (cases_lt slot (length keys));
         there = λ others slot at.
-          ⊎_elim
-          (λ (same : bytes_eq (string_bytes key) others ≡ true).
-          let last : Some (length keys) ≡ Some slot = rw same at (sym (updates others) ∙ at) in
-          let last_is : length keys ≡ slot = cc in
-          record { key = key; at = rw (← last_is) (put_last keys (Some key)); same = (bytes_eq-Decides (string_bytes key) others).0 same })
-          (λ (differ : bytes_eq (string_bytes key) others ≡ false).
-          let was : place others ≡ Some slot = rw differ at (sym (updates others) ∙ at) in
-          let kept = placed.there others slot was in
-          record { key = kept.key; at = put_before keys (Some key) slot (slice_get_within keys slot (Some kept.key) kept.at) ∙ kept.at; same = kept.same })
-          (cases_Bool (bytes_eq (string_bytes key) others));
+            ⊎_elim
+            (λ (same : bytes_eq (string_bytes key) others ≡ true).
+            let last : Some (length keys) ≡ Some slot = rw same at (sym (updates others) ∙ at) in
+            let last_is : length keys ≡ slot = cc in
+            record { key = key; at = rw (← last_is) (put_last keys (Some key)); same = (bytes_eq-Decides (string_bytes key) others).0 same })
+            (λ (differ : bytes_eq (string_bytes key) others ≡ false).
+            let was : place others ≡ Some slot = rw differ at (sym (updates others) ∙ at) in
+            let kept = placed.there others slot was in
+            record { key = kept.key; at = put_before keys (Some key) slot (slice_get_within keys slot (Some kept.key) kept.at) ∙ kept.at; same = kept.same })
+            (cases_Bool (bytes_eq (string_bytes key) others));
       }
 
 -- a key is put in last, and taken out where it was
@@ -161,7 +167,7 @@ placed_moved keys place next placed key slot is updates =
     let taken : ArePlaced (set keys slot None) between = placed_taken keys place between placed (string_bytes key) slot is (λ others. refl) in
     let gone : between (string_bytes key) ≡ None = rw (bytes_same (string_bytes key)) refl in
     let put : ArePlaced (set keys slot None ++ Some key ∷ []) next = placed_put (set keys slot None) between next taken key gone (λ others.
-      updates others ∙ rw (length-set keys slot None) (twice (bytes_eq (string_bytes key) others) (Some (length keys)) None (place others))) in
+    updates others ∙ rw (length-set keys slot None) (twice (bytes_eq (string_bytes key) others) (Some (length keys)) None (place others))) in
     rw (set-append_left keys (Some key ∷ []) slot None within) put
   where
     twice : (b : Bool) (x y z : Option ℕ) → cond b x z ≡ cond b x (cond b y z)
