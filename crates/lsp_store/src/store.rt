@@ -91,7 +91,8 @@ impl Store {
     }
 
     /// Returns the document at an index, in order of opening from 0. There is none from
-    /// [`Store::len`] on. Costs one step.
+    /// [`Store::len`] on. Costs one step, and once documents were closed at most a step for each 256
+    /// documents and some 256 more ([`ordered_map::OrderedMap::get_index`]).
     pub fn at(&self, index: usize) -> Option<Document<'_>>
         ensures { result ≡ slice_get self.now.table index }
     {
@@ -99,7 +100,8 @@ impl Store {
         Some(Document::new(uri, stored))
     }
 
-    /// Returns the open documents in order of opening. Each costs one step.
+    /// Returns the open documents in order of opening. Each costs one step, and once documents were
+    /// closed a few more.
     pub fn iter(&self) -> Documents<'_>
         ensures { result ≡ self.now.table }
     {
@@ -160,9 +162,8 @@ impl Store {
     ///
     /// Refuses, in this order, with [`StoreFault::AlreadyOpen`], [`StoreFault::TooManyDocuments`]
     /// and, where the text has more than `max_text` bytes, [`StoreFault::TextTooLong`]; and with
-    /// [`StoreFault::NoMemory`]. The texts are moved in, not copied. Costs a few hash look-ups and a
-    /// search through the text for its lines. Where it replaces a document, each that was opened
-    /// later costs a step more.
+    /// [`StoreFault::NoMemory`]. The texts are moved in; the URI is copied once. Costs a few hash
+    /// look-ups and a search through the text for its lines.
     pub fn open(
         &mut self,
         uri: String,
@@ -302,8 +303,8 @@ impl Store {
 
     /// Closes an open document; the others keep their order (LSP 3.17, DidCloseTextDocument).
     ///
-    /// Refuses with [`StoreFault::NotOpen`]. Takes no memory. Costs a hash look-up, and one step
-    /// for each document that was opened later.
+    /// Refuses with [`StoreFault::NotOpen`]. Takes no memory. Costs a hash look-up and, whichever
+    /// document it is, a few steps more ([`ordered_map::OrderedMap::remove`]).
     pub fn close(&mut self, uri: &str) -> Result<(), StoreFault>
         ensures taken { OnOk result (Takes self.old (closes uri.now) self.new) }
         ensures unchanged { OnErr result (self.new ≡ self.old) }

@@ -3,11 +3,11 @@ use Rattle.std.proofs.Common.{◌≡◌, ◌<◌, ◌≤◌, ℕ, zero, suc, Boo
 use Rattle.std.specs.declared.alloc.Global.{Global}
 use Rattle.ordered_map.specs.declared.slot.Slot.{Slot}
 use Rattle.ordered_map.specs.declared.slot.Slot.TheVariants.{Vacant, Live}
-use Rattle.ordered_map.specs.inside.Slots.{ArePlaced, AreUnlike, IsKeyAt, entries_in, key_of, keys_in, somes}
+use Rattle.ordered_map.specs.inside.Slots.{ArePlaced, AreUnlike, IsKeyAt, entries_in, slot_key, keys_in, somes}
 
 module _ {V : Type 0} where
   abbrev pub packed : List (Slot V) → List (Slot V)
-  packed slots = filter (λ slot. is_some (key_of slot)) slots
+  packed slots = filter (λ slot. is_some (slot_key slot)) slots
 
   pub packed_entries : (slots : List (Slot V)) → entries_in (packed slots) ≡ entries_in slots
   packed_entries [] = refl

@@ -9,7 +9,7 @@ use Rattle.std.specs.declared.alloc.Global.{Global}
 use Rattle.ordered_map.specs.Entries.{is_key}
 use Rattle.ordered_map.specs.declared.slot.Slot.{Slot}
 use Rattle.ordered_map.specs.declared.slot.Slot.TheVariants.{Vacant, Live}
-use Rattle.ordered_map.specs.inside.Slots.{ArePlaced, AreUnlike, IsKeyAt, entry_of, keys_in, somes}
+use Rattle.ordered_map.specs.inside.Slots.{ArePlaced, AreUnlike, IsKeyAt, slot_entry, keys_in, somes}
 use Rattle.ordered_map.proofs.SlotLemmas.{key_at}
 use Rattle.ordered_map.proofs.FindLemmas.{IsOnly, HasNone}
 
@@ -45,7 +45,7 @@ module _ {X : Type 0} where
 
 -- ---- a key that is looked up
 
-key_of_entry : {V : Type 0} (slots : List (Slot V)) (slot : ℕ) (entry : String Global × V) → slice_get (map entry_of slots) slot ≡ Some (Some entry) → slice_get (keys_in slots) slot ≡ Some (Some entry.0)
+key_of_entry : {V : Type 0} (slots : List (Slot V)) (slot : ℕ) (entry : String Global × V) → slice_get (map slot_entry slots) slot ≡ Some (Some entry) → slice_get (keys_in slots) slot ≡ Some (Some entry.0)
 key_of_entry [] slot entry at = absurd (cc)
 key_of_entry (Vacant ∷ slots) zero entry at = absurd (cc)
 key_of_entry (Live key value ∷ slots) zero entry at = let same : (key, value) ≡ entry = cc in ap (λ (pair : String Global × _). Some (Some pair.0)) same
@@ -53,7 +53,7 @@ key_of_entry (Vacant ∷ slots) (suc slot) entry at = key_of_entry slots slot en
 key_of_entry (Live key value ∷ slots) (suc slot) entry at = key_of_entry slots slot entry at
 
 module _ {V : Type 0} (slots : List (Slot V)) (place : List ℕ → Option ℕ) (placed : ArePlaced (keys_in slots) place) (bytes : List ℕ) where
-  pub only_place : (slot : ℕ) → place bytes ≡ Some slot → IsOnly (is_key bytes) (map entry_of slots) slot
+  pub only_place : (slot : ℕ) → place bytes ≡ Some slot → IsOnly (is_key bytes) (map slot_entry slots) slot
   only_place slot is = record {
     only = λ other entry at passes.
         let same : bytes ≡ string_bytes entry.0 = (bytes_eq-Decides bytes (string_bytes entry.0)).0 passes in
@@ -63,7 +63,7 @@ module _ {V : Type 0} (slots : List (Slot V)) (place : List ℕ → Option ℕ) 
         sym equal;
   }
 
-  pub no_place : place bytes ≡ None → HasNone (is_key bytes) (map entry_of slots)
+  pub no_place : place bytes ≡ None → HasNone (is_key bytes) (map slot_entry slots)
   no_place none = record {
     fails = λ other entry at.
         false_from_ne_true (bytes_eq bytes (string_bytes entry.0)) (λ passes.

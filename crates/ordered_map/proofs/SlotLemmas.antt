@@ -3,7 +3,7 @@ use Rattle.std.proofs.Common.{◌≡◌, ◌≤◌, ◌<◌, ◌+◌, ℕ, zero,
 use Rattle.std.specs.declared.alloc.Global.{Global}
 use Rattle.ordered_map.specs.declared.slot.Slot.{Slot}
 use Rattle.ordered_map.specs.declared.slot.Slot.TheVariants.{Vacant, Live}
-use Rattle.ordered_map.specs.inside.Slots.{entry_of, key_of, somes, here, live_to, entries_in, keys_in}
+use Rattle.ordered_map.specs.inside.Slots.{slot_entry, slot_key, somes, here, live_to, entries_in, keys_in}
 
 module _ {X : Type 0} where
   -- ---- the items
@@ -126,7 +126,7 @@ module _ {V : Type 0} where
   key_at (first ∷ slots) zero key value at = let same : first ≡ Live key value = cc in rw same refl
   key_at (first ∷ slots) (suc slot) key value at = key_at slots slot key value at
 
-  pub entry_at : (slots : List (Slot V)) (slot : ℕ) (key : String Global) (value : V) → slice_get slots slot ≡ Some (Live key value) → slice_get (map entry_of slots) slot ≡ Some (Some (key, value))
+  pub entry_at : (slots : List (Slot V)) (slot : ℕ) (key : String Global) (value : V) → slice_get slots slot ≡ Some (Live key value) → slice_get (map slot_entry slots) slot ≡ Some (Some (key, value))
   entry_at [] slot key value at = absurd (cc)
   entry_at (first ∷ slots) zero key value at = let same : first ≡ Live key value = cc in rw same refl
   entry_at (first ∷ slots) (suc slot) key value at = entry_at slots slot key value at
@@ -152,7 +152,7 @@ module _ {V : Type 0} where
   count_keys (Vacant ∷ slots) = count_keys slots
   count_keys (Live key value ∷ slots) = ap suc (count_keys slots)
 
-  pub live_keys : (slots : List (Slot V)) (places : ℕ) → live_to (keys_in slots) places ≡ live_to (map entry_of slots) places
+  pub live_keys : (slots : List (Slot V)) (places : ℕ) → live_to (keys_in slots) places ≡ live_to (map slot_entry slots) places
   live_keys [] places = refl
   live_keys (first ∷ slots) zero = refl
   live_keys (Vacant ∷ slots) (suc places) = live_keys slots places

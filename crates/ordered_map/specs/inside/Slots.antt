@@ -7,14 +7,14 @@ use Rattle.ordered_map.specs.declared.slot.Slot.TheVariants.{Vacant, Live}
 
 module _ {V : Type 0} where
   -- The entry of a slot.
-  abbrev pub entry_of : Slot V → Option (String Global × V)
-  entry_of Vacant = None
-  entry_of (Live key value) = Some (key, value)
+  abbrev pub slot_entry : Slot V → Option (String Global × V)
+  slot_entry Vacant = None
+  slot_entry (Live key value) = Some (key, value)
 
   -- The key of a slot.
-  abbrev pub key_of : Slot V → Option (String Global)
-  key_of Vacant = None
-  key_of (Live key value) = Some key
+  abbrev pub slot_key : Slot V → Option (String Global)
+  slot_key Vacant = None
+  slot_key (Live key value) = Some key
 
   -- A slot with another value.
   abbrev pub with_value : Slot V → V → Slot V
@@ -53,11 +53,11 @@ module _ {X : Type 0} where
 
 -- The entries of slots, in their order.
 abbrev pub entries_in : {V : Type 0} → List (Slot V) → List (String Global × V)
-entries_in slots = somes (map entry_of slots)
+entries_in slots = somes (map slot_entry slots)
 
 -- The keys of slots, where they have one.
 abbrev pub keys_in : {V : Type 0} → List (Slot V) → List (Option (String Global))
-keys_in slots = map key_of slots
+keys_in slots = map slot_key slots
 
 -- No two slots have the same key.
 pub record AreUnlike (keys : List (Option (String Global))) : Type 0 where
