@@ -3,3 +3,4 @@ pub mod CountLemmas
 pub mod FindLemmas
 pub mod PlaceLemmas
 pub mod PackLemmas
+pub mod MapLemmas

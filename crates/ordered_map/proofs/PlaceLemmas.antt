@@ -6,10 +6,10 @@ use Rattle.std.proofs.lemmas.Option.{slice_get_within}
 use Rattle.std.proofs.lemmas.Slice.Eq.{bytes_eq-Decides}
 use Rattle.std.specs.Map.{update}
 use Rattle.std.specs.declared.alloc.Global.{Global}
-use Rattle.ordered_map.specs.Entries.{is_key}
+use Rattle.ordered_map.specs.Entries.{is_key, slot_entry}
 use Rattle.ordered_map.specs.declared.slot.Slot.{Slot}
 use Rattle.ordered_map.specs.declared.slot.Slot.TheVariants.{Vacant, Live}
-use Rattle.ordered_map.specs.inside.Slots.{ArePlaced, AreUnlike, IsKeyAt, slot_entry, keys_in, somes}
+use Rattle.ordered_map.specs.inside.Slots.{ArePlaced, AreUnlike, IsKeyAt, keys_in, somes}
 use Rattle.ordered_map.proofs.SlotLemmas.{key_at}
 use Rattle.ordered_map.proofs.FindLemmas.{IsOnly, HasNone}
 

@@ -3,7 +3,8 @@ use Rattle.std.proofs.Common.{◌≡◌, ◌≤◌, ◌<◌, ◌+◌, ℕ, zero,
 use Rattle.std.specs.declared.alloc.Global.{Global}
 use Rattle.ordered_map.specs.declared.slot.Slot.{Slot}
 use Rattle.ordered_map.specs.declared.slot.Slot.TheVariants.{Vacant, Live}
-use Rattle.ordered_map.specs.inside.Slots.{slot_entry, slot_key, somes, here, live_to, entries_in, keys_in}
+use Rattle.ordered_map.specs.Entries.{slot_entry}
+use Rattle.ordered_map.specs.inside.Slots.{slot_key, somes, here, live_to, entries_in, keys_in}
 
 module _ {X : Type 0} where
   -- ---- the items
@@ -146,6 +147,12 @@ module _ {V : Type 0} where
   pub length_keys : (slots : List (Slot V)) → length (keys_in slots) ≡ length slots
   length_keys [] = refl
   length_keys (first ∷ slots) = ap suc (length_keys slots)
+
+  -- the entries are the items of slots
+  pub entries_are : (slots : List (Slot V)) → entries_in slots ≡ somes (map slot_entry slots)
+  entries_are [] = refl
+  entries_are (Vacant ∷ slots) = entries_are slots
+  entries_are (Live key value ∷ slots) = ap (λ rest. (key, value) ∷ rest) (entries_are slots)
 
   pub count_keys : (slots : List (Slot V)) → length (somes (keys_in slots)) ≡ length (entries_in slots)
   count_keys [] = refl

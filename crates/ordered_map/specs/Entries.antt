@@ -1,11 +1,18 @@
 -- An ordered map as callers see it: the list of its entries.
-use Rattle.std.specs.Prelude.{ℕ, zero, suc, Bool, List, [], ◌∷◌, String, string_bytes}
+use Rattle.std.specs.Prelude.{ℕ, zero, suc, Bool, List, [], ◌∷◌, Option, Some, None, String, string_bytes}
 use Rattle.std.specs.Str.{bytes_eq}
 use Rattle.std.specs.declared.alloc.Global.{Global}
+use Rattle.ordered_map.specs.declared.slot.Slot.{Slot}
+use Rattle.ordered_map.specs.declared.slot.Slot.TheVariants.{Vacant, Live}
 
 -- The keys with their values, in order of insertion.
 pub record Entries (V : Type 0) : Type 0 where
   pub entries : List (String Global × V)
+
+-- The entry of a slot.
+abbrev pub slot_entry : {V : Type 0} → Slot V → Option (String Global × V)
+slot_entry Vacant = None
+slot_entry (Live key value) = Some (key, value)
 
 -- A key has these bytes.
 abbrev pub is_key : List ℕ → String Global → Bool

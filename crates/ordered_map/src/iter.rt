@@ -17,25 +17,26 @@ pub struct Iter<'a, V> {
 }
 
 impl<'a, V> Model for Iter<'a, V> {
-    ghost use Rattle.std.specs.Prelude.{◌≡◌, List, String, length};
+    ghost use Rattle.std.specs.Prelude.{◌≡◌, List, String, filter_map, length};
     ghost use Rattle.std.specs.declared.alloc.Global.{Global};
 
     ghost Value = { List (String Global × V) };
 
-    ghost use Rattle.ordered_map.specs.inside.Slots.{entries_in};
+    ghost use Rattle.ordered_map.specs.Entries.{slot_entry};
 
-    ghost view = { λ iter. entries_in iter.slots.now };
+    ghost view = { λ iter. filter_map slot_entry iter.slots.now };
 
-    ghost invariant = { λ iter. iter.left ≡ length (entries_in iter.slots.now) };
+    ghost invariant = { λ iter. iter.left ≡ length (filter_map slot_entry iter.slots.now) };
 }
 
 impl<'a, V> Iter<'a, V> {
-    ghost use Rattle.ordered_map.specs.inside.Slots.{entries_in};
+    ghost use Rattle.std.specs.Prelude.{filter_map};
+    ghost use Rattle.ordered_map.specs.Entries.{slot_entry};
 
     /// Returns the entries of slots, of which there are so many.
     pub(crate) fn new(slots: &'a [Slot<V>], left: usize) -> Self
-        requires { left ≡ length (entries_in slots.now) }
-        ensures { result ≡ entries_in slots.now }
+        requires { left ≡ length (filter_map slot_entry slots.now) }
+        ensures { result ≡ filter_map slot_entry slots.now }
     {
         Iter { slots, left }
     }

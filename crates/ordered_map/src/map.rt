@@ -35,14 +35,15 @@ pub struct OrderedMap<V> {
 }
 
 impl<V> Model for OrderedMap<V> {
+    ghost use Rattle.std.specs.Prelude.{filter_map};
     ghost use Rattle.std.specs.HashMap.{get_by_text};
-    ghost use Rattle.ordered_map.specs.Entries.{Entries};
+    ghost use Rattle.ordered_map.specs.Entries.{Entries, slot_entry};
 
     ghost Value = { Entries V };
 
-    ghost use Rattle.ordered_map.specs.inside.Slots.{IsOrderedMap, entries_in, keys_in};
+    ghost use Rattle.ordered_map.specs.inside.Slots.{IsOrderedMap, keys_in};
 
-    ghost view = { λ ordered. record { entries = entries_in ordered.slots.items } };
+    ghost view = { λ ordered. record { entries = filter_map slot_entry ordered.slots.items } };
 
     ghost invariant = { λ ordered. IsOrderedMap (keys_in ordered.slots.items) ordered.counts.items
         (get_by_text ordered.places) ordered.live };

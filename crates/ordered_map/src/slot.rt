@@ -3,7 +3,8 @@
 ghost use Rattle.std.specs.Prelude.{◌≡◌, IsSome, Some, is_some, option_map};
 ghost use Rattle.std.specs.Borrow.{Lends, sem};
 ghost use Rattle.std.specs.Map.Iter.{deref_pair};
-ghost use Rattle.ordered_map.specs.inside.Slots.{slot_entry, slot_key, with_value};
+ghost use Rattle.ordered_map.specs.Entries.{slot_entry};
+ghost use Rattle.ordered_map.specs.inside.Slots.{slot_key, with_value};
 
 /// An entry, or what is left where one was removed.
 #[derive(Debug, Drop)]

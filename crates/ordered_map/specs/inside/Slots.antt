@@ -1,16 +1,12 @@
 -- The slots of an ordered map, and what is kept beside them: the slot of each key, and how many
 -- slots of each block have an entry.
-use Rattle.std.specs.Prelude.{ℕ, ◌≡◌, ◌+◌, ◌*◌, ◌<◌, ◌≤◌, zero, suc, List, [], ◌∷◌, length, map, slice_get, slice_index, Option, Some, None, String, string_bytes}
+use Rattle.std.specs.Prelude.{ℕ, ◌≡◌, ◌+◌, ◌*◌, ◌<◌, ◌≤◌, zero, suc, List, [], ◌∷◌, length, map, filter_map, slice_get, slice_index, Option, Some, None, String, string_bytes}
 use Rattle.std.specs.declared.alloc.Global.{Global}
+use Rattle.ordered_map.specs.Entries.{slot_entry}
 use Rattle.ordered_map.specs.declared.slot.Slot.{Slot}
 use Rattle.ordered_map.specs.declared.slot.Slot.TheVariants.{Vacant, Live}
 
 module _ {V : Type 0} where
-  -- The entry of a slot.
-  abbrev pub slot_entry : Slot V → Option (String Global × V)
-  slot_entry Vacant = None
-  slot_entry (Live key value) = Some (key, value)
-
   -- The key of a slot.
   abbrev pub slot_key : Slot V → Option (String Global)
   slot_key Vacant = None
@@ -53,7 +49,7 @@ module _ {X : Type 0} where
 
 -- The entries of slots, in their order.
 abbrev pub entries_in : {V : Type 0} → List (Slot V) → List (String Global × V)
-entries_in slots = somes (map slot_entry slots)
+entries_in slots = filter_map slot_entry slots
 
 -- The keys of slots, where they have one.
 abbrev pub keys_in : {V : Type 0} → List (Slot V) → List (Option (String Global))
