@@ -8,7 +8,7 @@ use Rattle.std.specs.declared.alloc.Global.{Global}
 use Rattle.ordered_map.specs.Entries.{is_key, set_value_at, slot_entry}
 use Rattle.ordered_map.specs.declared.slot.Slot.{Slot}
 use Rattle.ordered_map.specs.declared.slot.Slot.TheVariants.{Vacant, Live}
-use Rattle.ordered_map.specs.inside.Slots.{ArePlaced, IsLive, IsOrderedMap, entries_in, keys_in, live_to, somes}
+use Rattle.ordered_map.specs.inside.Slots.{ArePlaced, IsLive, IsOrderedMap, entries_in, keys_in, live_to, slot_key, somes}
 use Rattle.ordered_map.proofs.SlotLemmas.{IsEntryAt, entries_are, entry_at, key_at, live_keys, slot_of_key, somes-append, somes_at}
 use Rattle.ordered_map.proofs.FindLemmas.{IsMissing, found, missing, position_found, position_missing}
 use Rattle.ordered_map.proofs.PlaceLemmas.{no_place, only_place}
@@ -22,11 +22,11 @@ module _ {V : Type 0} where
   pub keys_vacated : (slots : List (Slot V)) (slot : ℕ) → keys_in (set slots slot Vacant) ≡ set (keys_in slots) slot None
   keys_vacated [] slot = refl
   keys_vacated (first ∷ slots) zero = refl
-  keys_vacated (first ∷ slots) (suc slot) = ap (λ rest. _ ∷ rest) (keys_vacated slots slot)
+  keys_vacated (first ∷ slots) (suc slot) = ap (λ (rest : List (Option (String Global))). slot_key first ∷ rest) (keys_vacated slots slot)
 
   pub keys_put : (slots : List (Slot V)) (key : String Global) (value : V) → keys_in (slots ++ Live key value ∷ []) ≡ keys_in slots ++ Some key ∷ []
   keys_put [] key value = refl
-  keys_put (first ∷ slots) key value = ap (λ rest. _ ∷ rest) (keys_put slots key value)
+  keys_put (first ∷ slots) key value = ap (λ (rest : List (Option (String Global))). slot_key first ∷ rest) (keys_put slots key value)
 
   pub entries_put : (slots : List (Slot V)) (key : String Global) (value : V) → entries_in (slots ++ Live key value ∷ []) ≡ entries_in slots ++ (key, value) ∷ []
   entries_put [] key value = refl
@@ -43,7 +43,7 @@ module _ {V : Type 0} where
   pub keys_written : (slots : List (Slot V)) (slot : ℕ) (key : String Global) (old value : V) → slice_get slots slot ≡ Some (Live key old) → keys_in (set slots slot (Live key value)) ≡ keys_in slots
   keys_written [] slot key old value at = refl
   keys_written (first ∷ slots) zero key old value at = let same : first ≡ Live key old = cc in rw same refl
-  keys_written (first ∷ slots) (suc slot) key old value at = ap (λ rest. _ ∷ rest) (keys_written slots slot key old value at)
+  keys_written (first ∷ slots) (suc slot) key old value at = ap (λ (rest : List (Option (String Global))). slot_key first ∷ rest) (keys_written slots slot key old value at)
 
   -- ---- an entry at an index
 

@@ -45,12 +45,13 @@ module _ {X : Type 0} where
 
 -- ---- a key that is looked up
 
-key_of_entry : {V : Type 0} (slots : List (Slot V)) (slot : ℕ) (entry : String Global × V) → slice_get (map slot_entry slots) slot ≡ Some (Some entry) → slice_get (keys_in slots) slot ≡ Some (Some entry.0)
-key_of_entry [] slot entry at = absurd (cc)
-key_of_entry (Vacant ∷ slots) zero entry at = absurd (cc)
-key_of_entry (Live key value ∷ slots) zero entry at = let same : (key, value) ≡ entry = cc in ap (λ (pair : String Global × _). Some (Some pair.0)) same
-key_of_entry (Vacant ∷ slots) (suc slot) entry at = key_of_entry slots slot entry at
-key_of_entry (Live key value ∷ slots) (suc slot) entry at = key_of_entry slots slot entry at
+module _ {V : Type 0} where
+  key_of_entry : {V : Type 0} (slots : List (Slot V)) (slot : ℕ) (entry : String Global × V) → slice_get (map slot_entry slots) slot ≡ Some (Some entry) → slice_get (keys_in slots) slot ≡ Some (Some entry.0)
+  key_of_entry [] slot entry at = absurd (cc)
+  key_of_entry (Vacant ∷ slots) zero entry at = absurd (cc)
+  key_of_entry (Live key value ∷ slots) zero entry at = let same : (key, value) ≡ entry = cc in ap (λ (pair : String Global × V). Some (Some pair.0)) same
+  key_of_entry (Vacant ∷ slots) (suc slot) entry at = key_of_entry slots slot entry at
+  key_of_entry (Live key value ∷ slots) (suc slot) entry at = key_of_entry slots slot entry at
 
 module _ {V : Type 0} (slots : List (Slot V)) (place : List ℕ → Option ℕ) (placed : ArePlaced (keys_in slots) place) (bytes : List ℕ) where
   pub only_place : (slot : ℕ) → place bytes ≡ Some slot → IsOnly (is_key bytes) (map slot_entry slots) slot

@@ -22,7 +22,7 @@ fn live_before<V>(slots: &[Slot<V>], counts: &[usize], slot: usize) -> usize
     for block in 0..slot / BLOCK {
         live += counts[block];
     }
-    for before in slot / BLOCK * BLOCK..slot {
+    for before in BLOCK * (slot / BLOCK)..slot {
         if slots[before].is_live() {
             live += 1;
         }
@@ -60,7 +60,7 @@ fn live_at<V>(slots: &[Slot<V>], counts: &[usize], index: usize) -> Option<usize
     let mut left = index;
     for block in 0..counts.len() {
         if left < counts[block] {
-            return live_from(slots, block * BLOCK, left);
+            return live_from(slots, BLOCK * block, left);
         }
         left -= counts[block];
     }
