@@ -1,15 +1,20 @@
 -- Counts of blocks, as places change.
-use Rattle.std.proofs.Common.{◌≡◌, ◌≤◌, ◌<◌, ◌+◌, ◌-◌, ◌*◌, ◌/◌, ℕ, List, [], ◌∷◌, ◌++◌, length, set, min, get_or, slice_get, slice_index, Option, Some, None, refl, sym, ap, ◌∙◌, arith, ⊎_elim}
+use Rattle.std.proofs.Common.{◌≡◌, ◌≤◌, ◌<◌, ◌+◌, ◌-◌, ◌*◌, ◌/◌, ℕ, List, [], ◌∷◌, ◌++◌, length, set, min, get_or, slice_get, slice_index, Option, Some, None, String, refl, sym, ap, ◌∙◌, arith, ⊎_elim}
 use Rattle.std.proofs.lemmas.List.{length-append, length-set, get_or-set_same, get_or-set_other, get_or_append_left, get_or_push}
 use Rattle.std.proofs.lemmas.Bool.{cases_eq, cases_lt}
 use Rattle.std.proofs.lemmas.Option.{slice_get_within}
-use Rattle.ordered_map.specs.inside.Slots.{somes, here, live_to, AreCounted, IsLive}
-use Rattle.ordered_map.proofs.SlotLemmas.{live_next, live_past, live_rises, live_within, live_taken_after, live_taken_before, live_put_before, live_put_after, live_all}
+use Rattle.std.specs.declared.alloc.Global.{Global}
+use Rattle.ordered_map.specs.declared.slot.Slot.{Slot}
+use Rattle.ordered_map.specs.inside.Slots.{AreCounted, here, keys_in, live_to, somes}
+use Rattle.ordered_map.proofs.SlotLemmas.{live_next, live_gap, live_past, live_rises, live_within, live_taken_after, live_taken_before, live_put_before, live_put_after, live_all, length_keys}
 
 module _ {X : Type 0} where
   -- a count fits among the items
   pub count_fits : (items : List (Option X)) (counts : List ℕ) (block : ℕ) → AreCounted items counts → block < length counts → live_to items (256 * block) + slice_index counts block ≤ length (somes items)
   count_fits items counts block counted within = omega (arith, counted.each block within, live_within items (256 * (block + 1)))
+
+  pub count_small : (items : List (Option X)) (counts : List ℕ) (block : ℕ) → AreCounted items counts → block < length counts → slice_index counts block ≤ 256
+  count_small items counts block counted within = omega (arith, counted.each block within, live_gap items (256 * block) (256 * (block + 1)) (omega arith))
 
   -- a block with an item begins within the places
   pub block_begins : (items : List (Option X)) (counts : List ℕ) (block : ℕ) → AreCounted items counts → block < length counts → 0 < slice_index counts block → 256 * block < length items
@@ -136,3 +141,13 @@ module _ {X : Type 0} where
         enough = enough;
         each = λ block fits. omega (arith, are block fits, live_min items (256 * (block + 1)) all, live_min items (256 * block) all);
       }
+
+-- ---- counts of slots
+
+module _ {V : Type 0} (slots : List (Slot V)) (counts : List ℕ) (counted : AreCounted (keys_in slots) counts) where
+  pub count_put : (key : String Global) (count : ℕ) → length slots / 256 < length counts → count ≡ slice_index counts (length slots / 256)
+      → AreCounted (keys_in slots ++ Some key ∷ []) (set counts (length slots / 256) (count + 1))
+  count_put key count within is = rw (is, ← length_keys slots) (put_counted (keys_in slots) counts key counted (omega (arith, within, length_keys slots)))
+
+  pub count_put_new : (key : String Global) → length counts ≤ length slots / 256 → AreCounted (keys_in slots ++ Some key ∷ []) (counts ++ 1 ∷ [])
+  count_put_new key full = put_counted_new (keys_in slots) counts key counted (omega (arith, full, length_keys slots))

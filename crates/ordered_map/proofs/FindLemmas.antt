@@ -31,7 +31,7 @@ module _ {K V : Type 0} (test : K → Bool) where
   found (None ∷ items) zero entry at passes is = absurd (cc)
   found (None ∷ items) (suc place) entry at passes is =
       let rest = found items place entry at passes (later None items place is) in
-      record { value = rest.value; key = rest.key; index = rest.index; removed = rest.removed }
+      record { value = rest.value; key = rest.key; index = omega (arith, rest.index); removed = rest.removed }
   found (Some first ∷ items) zero entry at passes is =
       let same : first ≡ entry = cc in
       record { value = rw (same, passes) refl; key = rw (same, passes) refl; index = rw (same, passes) refl; removed = rw (same, passes) refl }

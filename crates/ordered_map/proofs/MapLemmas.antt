@@ -1,14 +1,15 @@
 -- What the calls of a map make of its slots.
-use Rattle.std.proofs.Common.{◌≡◌, ◌<◌, ◌≤◌, ◌+◌, ℕ, zero, suc, Bool, true, false, List, [], ◌∷◌, ◌++◌, length, map, set, slice_get, position, Option, Some, None, String, string_bytes, bytes_eq, refl, sym, ap, ◌∙◌, subst, arith}
+use Rattle.std.proofs.Common.{◌≡◌, ◌<◌, ◌≤◌, ◌+◌, ℕ, zero, suc, Bool, true, false, List, [], ◌∷◌, ◌++◌, length, map, set, slice_get, position, option_map, Bor, Option, Some, None, String, string_bytes, bytes_eq, refl, sym, ap, ◌∙◌, subst, arith, one-add, zero-add}
 use Rattle.std.proofs.lemmas.List.{map-set, map-append, set-append_left, length-map}
 use Rattle.std.proofs.lemmas.Option.{slice_get_within}
 use Rattle.std.proofs.lemmas.Slice.Eq.{bytes_eq-Decides}
+use Rattle.std.specs.Map.Iter.{deref_pair}
 use Rattle.std.specs.Map.{keys_of, lookup, lookup_key, remove_entry, values_of}
 use Rattle.std.specs.declared.alloc.Global.{Global}
-use Rattle.ordered_map.specs.Entries.{is_key, set_value_at, slot_entry}
+use Rattle.ordered_map.specs.Entries.{Entries, is_key, set_value_at, slot_entry, with_value_at}
 use Rattle.ordered_map.specs.declared.slot.Slot.{Slot}
 use Rattle.ordered_map.specs.declared.slot.Slot.TheVariants.{Vacant, Live}
-use Rattle.ordered_map.specs.inside.Slots.{ArePlaced, IsLive, IsOrderedMap, entries_in, keys_in, live_to, slot_key, somes}
+use Rattle.ordered_map.specs.inside.Slots.{ArePlaced, IsLive, IsOrderedMap, entries_in, keys_in, live_to, slot_key, somes, with_value}
 use Rattle.ordered_map.proofs.SlotLemmas.{IsEntryAt, entries_are, entry_at, key_at, live_keys, slot_of_key, somes-append, somes_at}
 use Rattle.ordered_map.proofs.FindLemmas.{IsMissing, found, missing, position_found, position_missing}
 use Rattle.ordered_map.proofs.PlaceLemmas.{no_place, only_place}
@@ -37,13 +38,35 @@ module _ {V : Type 0} where
       → entries_in (set slots slot (Live key value)) ≡ set_value_at (entries_in slots) (live_to (keys_in slots) slot) value
   entries_written [] slot key old value at = absurd (cc)
   entries_written (first ∷ slots) zero key old value at = let same : first ≡ Live key old = cc in rw same refl
-  entries_written (Vacant ∷ slots) (suc slot) key old value at = entries_written slots slot key old value at
-  entries_written (Live first kept ∷ slots) (suc slot) key old value at = ap (λ rest. (first, kept) ∷ rest) (entries_written slots slot key old value at)
+  entries_written (Vacant ∷ slots) (suc slot) key old value at = rw zero-add (entries_written slots slot key old value at)
+  entries_written (Live first kept ∷ slots) (suc slot) key old value at = rw one-add (ap (λ rest. (first, kept) ∷ rest) (entries_written slots slot key old value at))
 
   pub keys_written : (slots : List (Slot V)) (slot : ℕ) (key : String Global) (old value : V) → slice_get slots slot ≡ Some (Live key old) → keys_in (set slots slot (Live key value)) ≡ keys_in slots
   keys_written [] slot key old value at = refl
   keys_written (first ∷ slots) zero key old value at = let same : first ≡ Live key old = cc in rw same refl
   keys_written (first ∷ slots) (suc slot) key old value at = ap (λ (rest : List (Option (String Global))). slot_key first ∷ rest) (keys_written slots slot key old value at)
+
+  -- the map of slots, with another value in one of them
+  pub view_written : (slots : List (Slot V)) (slot index : ℕ) (key : String Global) (old value : V) (now : Slot V) → slice_get slots slot ≡ Some (Live key old) → live_to (keys_in slots) slot ≡ index → now ≡ Live key old
+      → ◌≡◌ {A = Entries V} (record { entries = entries_in (set slots slot (with_value now value)) }) (with_value_at (record { entries = entries_in slots }) index value)
+  view_written slots slot index key old value now at is same =
+      rw (same, ← is) (ap (λ (entries : List (String Global × V)). record { entries = entries }) (entries_written slots slot key old value at))
+
+  pub keys_kept : (slots : List (Slot V)) (slot : ℕ) (key : String Global) (old value : V) (now : Slot V) → slice_get slots slot ≡ Some (Live key old) → now ≡ Live key old → keys_in (set slots slot (with_value now value)) ≡ keys_in slots
+  keys_kept slots slot key old value now at same = rw same (keys_written slots slot key old value at)
+
+  -- ---- an entry that is read
+
+  pub record IsSeen (entry : Option (Bor (String Global) × Bor V)) (key : String Global) (value : V) : Type 0 where
+    pub key_is : option_map (λ (pair : Bor (String Global) × Bor V). pair.0.now) entry ≡ Some key
+    pub value_is : option_map (λ (pair : Bor (String Global) × Bor V). pair.1.now) entry ≡ Some value
+
+  pub seen : (entry : Option (Bor (String Global) × Bor V)) (key : String Global) (value : V) → option_map deref_pair entry ≡ Some (key, value) → IsSeen entry key value
+  seen None key value is = absurd (cc)
+  seen (Some pair) key value is = record {
+    key_is = ap (λ (found : Option (String Global × V)). option_map (λ (both : String Global × V). both.0) found) is;
+    value_is = ap (λ (found : Option (String Global × V)). option_map (λ (both : String Global × V). both.1) found) is;
+  }
 
   -- ---- an entry at an index
 

@@ -1,5 +1,5 @@
 -- The slot of each key, as entries are looked up, put in and taken out.
-use Rattle.std.proofs.Common.{◌≡◌, ◌≤◌, ◌<◌, ◌+◌, ℕ, zero, suc, Bool, true, false, cond, List, [], ◌∷◌, ◌++◌, length, map, set, slice_get, Option, Some, None, String, string_bytes, bytes_eq, refl, sym, ap, ◌∙◌, subst, arith, ⊎_elim}
+use Rattle.std.proofs.Common.{◌≡◌, ◌≤◌, ◌<◌, ◌+◌, ℕ, zero, suc, Bool, true, false, cond, ◌&&◌, if◌then◌else◌, is_some, List, [], ◌∷◌, ◌++◌, length, map, set, slice_get, Option, Some, None, String, string_bytes, bytes_eq, refl, sym, ap, ◌∙◌, subst, arith, ⊎_elim}
 use Rattle.std.proofs.lemmas.Bool.{cases_Bool, cases_eq, cases_lt, false_from_ne_true}
 use Rattle.std.proofs.lemmas.List.{length-set, set-append_left}
 use Rattle.std.proofs.lemmas.Option.{slice_get_within}
@@ -46,7 +46,7 @@ module _ {X : Type 0} where
 -- ---- a key that is looked up
 
 module _ {V : Type 0} where
-  key_of_entry : {V : Type 0} (slots : List (Slot V)) (slot : ℕ) (entry : String Global × V) → slice_get (map slot_entry slots) slot ≡ Some (Some entry) → slice_get (keys_in slots) slot ≡ Some (Some entry.0)
+  key_of_entry : (slots : List (Slot V)) (slot : ℕ) (entry : String Global × V) → slice_get (map slot_entry slots) slot ≡ Some (Some entry) → slice_get (keys_in slots) slot ≡ Some (Some entry.0)
   key_of_entry [] slot entry at = absurd (cc)
   key_of_entry (Vacant ∷ slots) zero entry at = absurd (cc)
   key_of_entry (Live key value ∷ slots) zero entry at = let same : (key, value) ≡ entry = cc in ap (λ (pair : String Global × V). Some (Some pair.0)) same
@@ -174,3 +174,62 @@ placed_moved keys place next placed key slot is updates =
     twice : (b : Bool) (x y z : Option ℕ) → cond b x z ≡ cond b x (cond b y z)
     twice true x y z = refl
     twice false x y z = refl
+
+-- ---- places that are set again
+
+-- a key with a place has another
+pub place_set : (place next : List ℕ → Option ℕ) (key : List ℕ) (slot : ℕ) → is_some (place key) ≡ true → ((others : List ℕ) → next others ≡ update bytes_eq place key (Some slot) others)
+    → (bytes : List ℕ) → next bytes ≡ (if bytes_eq key bytes && is_some (place bytes) then Some slot else place bytes)
+place_set place next key slot found updates bytes =
+    ⊎_elim
+    (λ (is : bytes_eq key bytes ≡ true).
+    let same : key ≡ bytes = (bytes_eq-Decides key bytes).0 is in
+    let some : is_some (place bytes) ≡ true = subst (λ (name : List ℕ). is_some (place name) ≡ true) same found in
+    updates bytes ∙ rw (is, some) refl)
+    (λ (not : bytes_eq key bytes ≡ false). updates bytes ∙ rw not refl)
+    (cases_Bool (bytes_eq key bytes))
+
+-- the keys of the first slots have them as their places, and each key that had a place has one
+pub record IsNumbered (keys : List (Option (String Global))) (old place : List ℕ → Option ℕ) (slots : ℕ) : Type 0 where
+  pub found : (slot : ℕ) (key : String Global) → slot < slots → slice_get keys slot ≡ Some (Some key) → place (string_bytes key) ≡ Some slot
+  pub same : (bytes : List ℕ) → is_some (place bytes) ≡ is_some (old bytes)
+
+module _ (keys : List (Option (String Global))) (old : List ℕ → Option ℕ) where
+  pub numbered_none : IsNumbered keys old old 0
+  numbered_none = record { found = λ slot key below at. absurd (omega (arith, below)); same = λ bytes. refl }
+
+  module _ (place next : List ℕ → Option ℕ) (slot : ℕ) (is : IsNumbered keys old place slot) where
+    pub numbered_vacant : slice_get keys slot ≡ Some None → IsNumbered keys old place (slot + 1)
+    numbered_vacant vacant = record {
+      found = λ other key below at.
+          ⊎_elim
+          (λ (same : other ≡ slot). let bad : Some None ≡ Some (Some key) = sym vacant ∙ ap (slice_get keys) (sym same) ∙ at in absurd (cc))
+          (λ (apart : other ≡ slot → ⊥). is.found other key (omega (arith, below, apart)) at)
+          (cases_eq other slot);
+      same = is.same;
+    }
+
+    pub numbered_live : AreUnlike keys → (key : String Global) → slice_get keys slot ≡ Some (Some key) → is_some (old (string_bytes key)) ≡ true
+        → ((bytes : List ℕ) → next bytes ≡ (if bytes_eq (string_bytes key) bytes && is_some (place bytes) then Some slot else place bytes)) → IsNumbered keys old next (slot + 1)
+    numbered_live unlike key here had sets = record {
+      found = λ other second below at.
+          ⊎_elim
+          (λ (same : other ≡ slot).
+          let both : Some (Some key) ≡ Some (Some second) = sym here ∙ ap (slice_get keys) (sym same) ∙ at in
+          let equal : key ≡ second = cc in
+          let has : is_some (place (string_bytes key)) ≡ true = is.same (string_bytes key) ∙ had in
+          let goes : next (string_bytes key) ≡ Some slot = sets (string_bytes key) ∙ rw (bytes_same (string_bytes key), has) refl in
+          rw (← equal, same) goes)
+          (λ (apart : other ≡ slot → ⊥).
+          let differ : bytes_eq (string_bytes key) (string_bytes second) ≡ false
+          = bytes_apart (string_bytes key) (string_bytes second) (λ equal. apart (sym (unlike.same slot other key second here at equal))) in
+          sets (string_bytes second) ∙ rw differ (is.found other second (omega (arith, below, apart)) at))
+          (cases_eq other slot);
+      same = λ bytes. ap is_some (sets bytes) ∙ (by (bytes_eq (string_bytes key) bytes) (place bytes) ∙ is.same bytes);
+    }
+      where
+        by : (b : Bool) (found : Option ℕ) → is_some (if b && is_some found then Some slot else found) ≡ is_some found
+        by true None = refl
+        by true (Some other) = refl
+        by false None = refl
+        by false (Some other) = refl

@@ -30,16 +30,18 @@ fn live_before<V>(slots: &[Slot<V>], counts: &[usize], slot: usize) -> usize
     live
 }
 
-/// Returns the slot, from a slot on, before which so many have an entry.
-fn live_from<V>(slots: &[Slot<V>], first: usize, count: usize) -> Option<usize>
+/// Returns the slot, from a block on, before which so many have an entry.
+fn live_from<V>(slots: &[Slot<V>], block: usize, count: usize) -> Option<usize>
+    requires { 256 * block < length slots.now }
     ensures found { IfSome result (λ slot. IsLive (keys_in slots.now) slot) }
     ensures count { IfSome result (λ slot. live_to (keys_in slots.now) slot
-        ≡ live_to (keys_in slots.now) first + count) }
+        ≡ live_to (keys_in slots.now) (256 * block) + count) }
     ensures none { IfNone result
-        (length (somes (keys_in slots.now)) ≤ live_to (keys_in slots.now) first + count) }
+        (length (somes (keys_in slots.now)) ≤ live_to (keys_in slots.now) (256 * block) + count) }
 {
+    let len = slots.len();
     let mut left = count;
-    for slot in first..slots.len() {
+    for slot in BLOCK * block..len {
         if slots[slot].is_live() {
             if left == 0 {
                 return Some(slot);
@@ -60,7 +62,7 @@ fn live_at<V>(slots: &[Slot<V>], counts: &[usize], index: usize) -> Option<usize
     let mut left = index;
     for block in 0..counts.len() {
         if left < counts[block] {
-            return live_from(slots, BLOCK * block, left);
+            return live_from(slots, block, left);
         }
         left -= counts[block];
     }
@@ -124,6 +126,7 @@ pub(crate) fn count_next<V>(counts: &mut Vec<usize>, slots: &[Slot<V>])
 pub(crate) fn vacate<V>(slots: &mut [Slot<V>], counts: &mut [usize], slot: usize) -> Slot<V>
     requires counted { AreCounted (keys_in slots.old) counts.old }
     requires live { IsLive (keys_in slots.old) slot }
+    requires within { slot < length slots.old }
     ensures counted { AreCounted (keys_in slots.new) counts.new }
     ensures slots { slots.new ≡ slice_set slots.old slot Vacant }
     ensures taken { slice_get slots.old slot ≡ Some result }

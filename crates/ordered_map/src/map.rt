@@ -80,7 +80,7 @@ impl<V> OrderedMap<V> {
     pub fn is_empty(&self) -> bool
         ensures { IsTrue result ↔ (length self.now.entries ≡ 0) }
     {
-        self.live == 0
+        self.len() == 0
     }
 
     /// Returns whether there is an entry of a key. Costs a hash look-up.
@@ -180,11 +180,12 @@ impl<V: Drop> OrderedMap<V> {
         self.counts.reserve(1)?;
         let replaced = self.places.insert(key.clone()?, self.slots.len())?;
         count_next(&mut self.counts, &self.slots);
+        let vacant = self.slots.len() - self.live;
         self.slots.push_reserved(Slot::Live(key, value));
-        self.live += 1;
         if let Some(slot) = replaced {
             vacate(&mut self.slots, &mut self.counts, slot);
-            self.live -= 1;
+        } else {
+            self.live = self.slots.len() - vacant;
         }
         self.pack_if_sparse();
         Ok(())
@@ -212,7 +213,7 @@ impl<V: Drop> OrderedMap<V> {
         ensures { self.new ≡ self.old }
     {
         let vacant = self.slots.len() - self.live;
-        if vacant > self.live + MAX_VACANT {
+        if vacant.saturating_sub(self.live) > MAX_VACANT {
             self.pack();
         }
     }
