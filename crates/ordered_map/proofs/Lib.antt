@@ -4,3 +4,4 @@ pub mod FindLemmas
 pub mod PlaceLemmas
 pub mod PackLemmas
 pub mod MapLemmas
+pub mod UpdateLemmas

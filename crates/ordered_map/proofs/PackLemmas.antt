@@ -82,7 +82,7 @@ module _ {V : Type 0} where
               let goes : next (string_bytes was.key) ≡ Some now.slot = found now.slot was.key now.at in
               let both : Some now.slot ≡ Some slot = sym goes ∙ ap next was.same ∙ is in
               let equal : now.slot ≡ slot = cc in
-              record { key = was.key; at = rw (← equal) now.at; same = was.same };
+              record { key = was.key; at = subst (λ (n : ℕ). slice_get (keys_in (packed slots)) n ≡ Some (Some was.key)) equal now.at; same = was.same };
         }
       where
         slot_in : (found : Option ℕ) → is_some found ≡ true → ℕ

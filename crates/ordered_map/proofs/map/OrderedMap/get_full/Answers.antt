@@ -1,5 +1,5 @@
 use Rattle.std.proofs.Common.{◌≡◌, ◌∙◌, None, Some, ap, arith, slice_get, sym}
-use Rattle.std.proofs.lemmas.Option.{get_or_from_slice_get, some_pair_parts}
+use Rattle.std.proofs.lemmas.Option.{get_or_from_slice_get, none-some, some_pair_parts}
 use Rattle.std.specs.HashMap.{get_by_text}
 use Rattle.ordered_map.specs.Entries.{is_key, slot_entry}
 use Rattle.ordered_map.specs.inside.Slots.{entries_in}
@@ -28,20 +28,17 @@ index-requires g c = omega (arith, (placed_at c.self.inside.slots.items c.self.i
 pub returns-in_err-key-clause-index : goal.returns-in_err-key-clause-index
 returns-in_err-key-clause-index g c =
     let there = placed_at c.self.inside.slots.items c.self.inside.counts.items (get_by_text c.self.inside.places) c.self.inside.live c.self.invariant c.args.key.now c.in_ok-slot.field-0.now (sym c.in_ok-slot.ensures.value) in
-    let bad : None ≡ Some (there.key, there.value) = c.in_err-key.ensures ∙ ap slot_entry (c.index.ensures ∙ get_or_from_slice_get c.self.inside.slots.items c.in_ok-slot.field-0.now _ c.index.result.now there.at) in
-    absurd (cc)
+    absurd (none-some (there.key, there.value) (c.in_err-key.ensures ∙ ap slot_entry (c.index.ensures ∙ get_or_from_slice_get c.self.inside.slots.items c.in_ok-slot.field-0.now _ c.index.result.now there.at)))
 
 pub returns-in_err-key-clause-key : goal.returns-in_err-key-clause-key
 returns-in_err-key-clause-key g c =
     let there = placed_at c.self.inside.slots.items c.self.inside.counts.items (get_by_text c.self.inside.places) c.self.inside.live c.self.invariant c.args.key.now c.in_ok-slot.field-0.now (sym c.in_ok-slot.ensures.value) in
-    let bad : None ≡ Some (there.key, there.value) = c.in_err-key.ensures ∙ ap slot_entry (c.index.ensures ∙ get_or_from_slice_get c.self.inside.slots.items c.in_ok-slot.field-0.now _ c.index.result.now there.at) in
-    absurd (cc)
+    absurd (none-some (there.key, there.value) (c.in_err-key.ensures ∙ ap slot_entry (c.index.ensures ∙ get_or_from_slice_get c.self.inside.slots.items c.in_ok-slot.field-0.now _ c.index.result.now there.at)))
 
 pub returns-in_err-key-clause-value : goal.returns-in_err-key-clause-value
 returns-in_err-key-clause-value g c =
     let there = placed_at c.self.inside.slots.items c.self.inside.counts.items (get_by_text c.self.inside.places) c.self.inside.live c.self.invariant c.args.key.now c.in_ok-slot.field-0.now (sym c.in_ok-slot.ensures.value) in
-    let bad : None ≡ Some (there.key, there.value) = c.in_err-key.ensures ∙ ap slot_entry (c.index.ensures ∙ get_or_from_slice_get c.self.inside.slots.items c.in_ok-slot.field-0.now _ c.index.result.now there.at) in
-    absurd (cc)
+    absurd (none-some (there.key, there.value) (c.in_err-key.ensures ∙ ap slot_entry (c.index.ensures ∙ get_or_from_slice_get c.self.inside.slots.items c.in_ok-slot.field-0.now _ c.index.result.now there.at)))
 
 pub index_of-index-requires-clause-within : goal.index_of-index-requires-clause-within
 index_of-index-requires-clause-within g c = rw c.deref.ensures.value (placed_at c.self.inside.slots.items c.self.inside.counts.items (get_by_text c.self.inside.places) c.self.inside.live c.self.invariant c.args.key.now c.in_ok-slot.field-0.now (sym c.in_ok-slot.ensures.value)).within
