@@ -1,5 +1,5 @@
 -- The table of documents as an ordered map keeps it.
-use Rattle.std.proofs.Common.{◌≡◌, ◌+◌, ℕ, ℤ, Bool, true, false, List, [], ◌∷◌, ◌++◌, length, map, Option, Some, None, option_map, is_some, String, string_bytes, bytes_eq, refl, sym, ap, ◌∙◌, arith, ⊎_elim}
+use Rattle.std.proofs.Common.{◌≡◌, ◌≤◌, ◌+◌, ℕ, ℤ, Bool, true, false, List, [], ◌∷◌, ◌++◌, length, map, Option, Some, None, option_map, is_some, String, string_bytes, bytes_eq, refl, sym, ap, ◌∙◌, arith, ⊎_elim}
 use Rattle.std.proofs.lemmas.Bool.{cases_Bool}
 use Rattle.std.proofs.lemmas.Slice.Eq.{bytes_eq-Decides}
 use Rattle.std.proofs.lemmas.List.{map-append}
@@ -67,6 +67,11 @@ table-remove_entry uri [] = refl
 table-remove_entry uri (first ∷ es) =
     ⊎_elim (λ (at : bytes_eq uri (string_bytes first.0) ≡ true). rw at refl)
     (λ (not : bytes_eq uri (string_bytes first.0) ≡ false). rw not (ap (λ (table : List DocumentItem). entry_of first ∷ table) (table-remove_entry uri es))) (cases_Bool (bytes_eq uri (string_bytes first.0)))
+
+pub remove_entry-few : {K X : Type 0} (test : K → Bool) (es : List (K × X)) → length (remove_entry test es) ≤ length es
+remove_entry-few test [] = omega arith
+remove_entry-few test (first ∷ es) =
+    ⊎_elim (λ (is : test first.0 ≡ true). rw is (omega arith)) (λ (not : test first.0 ≡ false). rw not (omega (arith, remove_entry-few test es))) (cases_Bool (test first.0))
 
 -- ---- a document that is opened
 
