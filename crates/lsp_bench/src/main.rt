@@ -5,11 +5,13 @@
 //! given, looks up positions, reads and writes
 //! messages, and makes a few keystrokes in documents and through both ends of a session. `lsp_bench
 //! edits` composes batches of changes, and
-//! `lsp_bench documents` makes a thousand keystrokes in each document. `lsp_bench pairs` makes a
-//! million in five rounds through both ends of a session.
+//! `lsp_bench documents` makes a thousand keystrokes in each document. `lsp_bench closing` opens and
+//! closes 65,536 documents. `lsp_bench pairs` makes a
+//! million keystrokes in five rounds through both ends of a session.
 //! `lsp_bench parse` frames and parses what standard input has, and prints how much that was.
 #![tactic(auto)]
 
+mod closing;
 mod documents;
 mod edits;
 mod frames;
@@ -30,6 +32,7 @@ fn main(rt: HostRuntime) -> io::Result<()> {
     match word.as_str() {
         "edits" => edits::run(&rt),
         "documents" => documents::run(&rt, 1_000),
+        "closing" => closing::run(&rt, 65_536),
         "pairs" => pairs::run(&rt, 200_000),
         "parse" => parse(&rt),
         number => match number.parse() {
@@ -44,6 +47,7 @@ fn run<R: Runtime + AllocGlobal>(rt: &R, megabytes: u16) -> io::Result<()> {
     lines::run(rt, megabytes)?;
     messages::run(rt, megabytes)?;
     documents::run(rt, 10)?;
+    closing::run(rt, 1_000)?;
     pairs::run(rt, 2_000)
 }
 

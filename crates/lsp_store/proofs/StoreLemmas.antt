@@ -1,13 +1,10 @@
 -- What the calls of a store make of it.
-use Rattle.std.proofs.Common.{◌≡◌, ◌≤◌, ◌<◌, ◌+◌, ◌-◌, ℕ, ℤ, Bool, true, false, not, ◌&&◌, List, [], ◌∷◌, length, map, Option, Some, None, Ok, option_map, is_some, slice_get, String, string_bytes, refl, sym, ap, ◌∙◌, subst, arith, inr}
+use Rattle.std.proofs.Common.{◌≡◌, ◌≤◌, ◌<◌, ◌+◌, ◌-◌, ◌++◌, ℕ, ℤ, Bool, true, false, not, ◌&&◌, List, [], ◌∷◌, length, map, Option, Some, None, Ok, option_map, is_some, slice_get, String, string_bytes, refl, sym, ap, ◌∙◌, subst, arith, inr}
 use Rattle.std.proofs.lemmas.Bool.{lt-ltb, le-ltb, le-leb, lt-leb}
 use Rattle.std.proofs.lemmas.List.{length-append, length-map}
 use Rattle.std.proofs.lemmas.Option.{slice_get-map}
-use Rattle.std.specs.List.{position_or_len}
-use Rattle.std.specs.Map.{keys_of, lookup, lookup_key, set_value, remove_entry}
-use Rattle.std.specs.String.{string_eq}
+use Rattle.std.specs.Map.{lookup, lookup_key, set_value, remove_entry}
 use Rattle.std.specs.declared.alloc.Global.{Global}
-use Rattle.indexmap.specs.IndexMap.{insert_entry, move_index}
 use Rattle.lsp_frame.specs.Limits.{Bounds}
 use Rattle.lsp_text.specs.declared.encoding.Encoding.{Encoding}
 use Rattle.lsp_text.specs.Units.{units_in}
@@ -75,12 +72,10 @@ module _ (limits : Bounds) (es : List (String Global × Stored)) (kept : StoreDa
   others_open uri is =
       ap (λ n. n + 1) (others_seen uri (length (after_close (map entry_of es) uri)) refl) ∙ (others_but_one (map entry_of es) uri (is_some-entry_at uri es ∙ is) ∙ length-map es entry_of)
 
-  module _ (uri : String Global) (stored : Stored) (entry : DocumentItem) (is : entry_under (string_bytes uri) stored ≡ entry) (index : ℕ) (put next : List (String Global × Stored))
-      (index_is : index ≡ position_or_len (string_eq uri) (keys_of es)) (put_is : put ≡ insert_entry string_eq es uri stored) (next_is : next ≡ move_index put index (length put - 1)) where
+  module _ (uri : String Global) (stored : Stored) (entry : DocumentItem) (is : entry_under (string_bytes uri) stored ≡ entry) (next : List (String Global × Stored))
+      (next_is : next ≡ remove_entry (at_uri (string_bytes uri)) es ++ (uri, stored) ∷ []) where
     opened_table : map entry_of next ≡ after_open (map entry_of es) entry
-    opened_table =
-        ap (map entry_of) next_is ∙ ((λ i. map entry_of (move_index (put_is i) (index_is i) (length (put_is i) - 1)))
-        ∙ (table-opened es uri stored ∙ ap (after_open (map entry_of es)) is))
+    opened_table = ap (map entry_of) next_is ∙ (table-opened es uri stored ∙ ap (after_open (map entry_of es)) is)
 
     pub opened : open_refusal kept.limits kept.table entry ≡ None → Takes kept (opens entry) (seen limits next)
     opened may =

@@ -1,15 +1,10 @@
 -- The table of documents as an ordered map keeps it.
-use Rattle.std.proofs.Common.{◌≡◌, ◌+◌, ◌-◌, ℕ, ℤ, Bool, true, false, List, [], ◌∷◌, ◌++◌, length, map, remove, slice_get, Option, Some, None, option_map, is_some, String, string_bytes, bytes_eq, refl, sym, ap, ap₂, ◌∙◌, arith, ⊎_elim}
+use Rattle.std.proofs.Common.{◌≡◌, ◌≤◌, ◌+◌, ℕ, ℤ, Bool, true, false, List, [], ◌∷◌, ◌++◌, length, map, Option, Some, None, option_map, is_some, String, string_bytes, bytes_eq, refl, sym, ap, ◌∙◌, arith, ⊎_elim}
 use Rattle.std.proofs.lemmas.Bool.{cases_Bool}
 use Rattle.std.proofs.lemmas.Slice.Eq.{bytes_eq-Decides}
 use Rattle.std.proofs.lemmas.List.{map-append}
-use Rattle.std.proofs.lemmas.List.Edits.{remove-append_right}
-use Rattle.std.specs.List.{position_or_len}
-use Rattle.std.specs.Map.{keys_of, lookup, lookup_key, set_value, remove_entry}
-use Rattle.std.specs.String.{string_eq}
+use Rattle.std.specs.Map.{lookup, lookup_key, set_value, remove_entry}
 use Rattle.std.specs.declared.alloc.Global.{Global}
-use Rattle.indexmap.specs.IndexMap.{insert_entry, move_index}
-use Rattle.indexmap.proofs.RemoveLemmas.{moved_last}
 use Rattle.lsp_edit.specs.Batch.{Edit}
 use Rattle.lsp_store.specs.declared.store.stored.Stored.{Stored}
 use Rattle.lsp_message.specs.Params.{DocumentItem}
@@ -73,67 +68,19 @@ table-remove_entry uri (first ∷ es) =
     ⊎_elim (λ (at : bytes_eq uri (string_bytes first.0) ≡ true). rw at refl)
     (λ (not : bytes_eq uri (string_bytes first.0) ≡ false). rw not (ap (λ (table : List DocumentItem). entry_of first ∷ table) (table-remove_entry uri es))) (cases_Bool (bytes_eq uri (string_bytes first.0)))
 
+pub remove_entry-few : {K X : Type 0} (test : K → Bool) (es : List (K × X)) → length (remove_entry test es) ≤ length es
+remove_entry-few test [] = omega arith
+remove_entry-few test (first ∷ es) =
+    ⊎_elim (λ (is : test first.0 ≡ true). rw is (omega arith)) (λ (not : test first.0 ≡ false). rw not (omega (arith, remove_entry-few test es))) (cases_Bool (test first.0))
+
 -- ---- a document that is opened
-
--- What is put in at a key, and the entries before and after it.
-record IsPutIn (es : List (String Global × Stored)) (key : String Global) (stored : Stored) : Type 0 where
-  before : List (String Global × Stored)
-  after : List (String Global × Stored)
-  at : String Global × Stored
-  entries : insert_entry string_eq es key stored ≡ before ++ at ∷ after
-  index : position_or_len (string_eq key) (keys_of es) ≡ length before
-  same : entry_of at ≡ entry_of (key, stored)
-  others : map entry_of (before ++ after) ≡ after_close (map entry_of es) (string_bytes key)
-
-put_in : (es : List (String Global × Stored)) (key : String Global) (stored : Stored) → IsPutIn es key stored
-put_in [] key stored = record { before = []; after = []; at = (key, stored); entries = refl; index = refl; same = refl; others = refl }
-put_in (first ∷ es) key stored =
-    ⊎_elim
-    (λ (is : bytes_eq (string_bytes key) (string_bytes first.0) ≡ true). record {
-      before = [];
-      after = es;
-      at = (first.0, stored);
-      entries = rw is refl;
-      index = rw is refl;
-      same = ap (λ (uri : List ℕ). entry_under uri stored) (sym ((bytes_eq-Decides (string_bytes key) (string_bytes first.0)).0 is));
-      others = rw is refl;
-    })
-    (λ (not : bytes_eq (string_bytes key) (string_bytes first.0) ≡ false).
-    let rest = put_in es key stored in
-    record {
-      before = first ∷ rest.before;
-      after = rest.after;
-      at = rest.at;
-      entries = rw not (ap (λ (more : List (String Global × Stored)). first ∷ more) rest.entries);
-      index = rw not (omega (arith, rest.index));
-      same = rest.same;
-      others = rw not (ap (λ (table : List DocumentItem). entry_of first ∷ table) rest.others);
-    })
-    (cases_Bool (bytes_eq (string_bytes key) (string_bytes first.0)))
-
-item_between : {X : Type 0} (before after : List X) (x : X) → slice_get (before ++ x ∷ after) (length before) ≡ Some x
-item_between [] after x = refl
-item_between (first ∷ before) after x = item_between before after x
-
-without_item : {X : Type 0} (before after : List X) (x : X) → remove (before ++ x ∷ after) (length before) ≡ before ++ after
-without_item before after x =
-    let first : length before - length before ≡ 0 = omega arith in
-    remove-append_right before (x ∷ after) (length before) (length before) refl (omega arith) ∙ ap (λ n. before ++ remove (x ∷ after) n) first
 
 -- what is put in goes last, whether or not its URI was there
 pub table-opened : (es : List (String Global × Stored)) (key : String Global) (stored : Stored)
-    → map entry_of (move_index (insert_entry string_eq es key stored) (position_or_len (string_eq key) (keys_of es)) (length (insert_entry string_eq es key stored) - 1))
-    ≡ after_open (map entry_of es) (entry_of (key, stored))
+    → map entry_of (remove_entry (at_uri (string_bytes key)) es ++ (key, stored) ∷ []) ≡ after_open (map entry_of es) (entry_of (key, stored))
 table-opened es key stored =
-    let put = put_in es key stored in
-    let xs : List (String Global × Stored) = put.before ++ put.at ∷ put.after in
-    let moved : move_index xs (length put.before) (length xs - 1) ≡ (put.before ++ put.after) ++ put.at ∷ []
-    = moved_last xs (length put.before) put.at (item_between put.before put.after put.at)
-    ∙ ap (λ (more : List (String Global × Stored)). more ++ put.at ∷ []) (without_item put.before put.after put.at) in
-    (λ i. map entry_of (move_index (put.entries i) (put.index i) (length (put.entries i) - 1)))
-    ∙ (ap (map entry_of) moved
-    ∙ (map-append entry_of (put.before ++ put.after) (put.at ∷ [])
-    ∙ ap₂ (λ (table : List DocumentItem) (entry : DocumentItem). table ++ entry ∷ []) put.others put.same))
+    map-append entry_of (remove_entry (at_uri (string_bytes key)) es) ((key, stored) ∷ [])
+    ∙ ap (λ (table : List DocumentItem). table ++ entry_of (key, stored) ∷ []) (table-remove_entry (string_bytes key) es)
 
 -- ---- how many others there are
 

@@ -21,10 +21,10 @@ use crate::store::document::Document;
 use crate::store::documents::Documents;
 use crate::store::plan::Plan;
 use crate::store::stored::Stored;
-use indexmap::IndexMap;
 use lsp_edit::Change;
 use lsp_frame::Limits;
 use lsp_text::Encoding;
+use ordered_map::OrderedMap;
 use std::alloc::{AllocError, Global};
 use std::marker::Model;
 
@@ -33,7 +33,7 @@ use std::marker::Model;
 #[derive(Debug, Drop)]
 pub struct Store {
     pub(crate) limits: Limits,
-    pub(crate) documents: IndexMap<String, Stored>,
+    pub(crate) documents: OrderedMap<Stored>,
 }
 
 impl Model for Store {
@@ -55,7 +55,7 @@ impl Store {
     {
         Store {
             limits,
-            documents: IndexMap::new(alloc),
+            documents: OrderedMap::new(alloc),
         }
     }
 
@@ -91,7 +91,8 @@ impl Store {
     }
 
     /// Returns the document at an index, in order of opening from 0. There is none from
-    /// [`Store::len`] on. Costs one step.
+    /// [`Store::len`] on. Costs one step, and once documents were closed at most a step for each 256
+    /// documents and some 256 more ([`ordered_map::OrderedMap::get_index`]).
     pub fn at(&self, index: usize) -> Option<Document<'_>>
         ensures { result ≡ slice_get self.now.table index }
     {
@@ -99,7 +100,8 @@ impl Store {
         Some(Document::new(uri, stored))
     }
 
-    /// Returns the open documents in order of opening. Each costs one step.
+    /// Returns the open documents in order of opening. Each costs one step, and once documents were
+    /// closed a few more.
     pub fn iter(&self) -> Documents<'_>
         ensures { result ≡ self.now.table }
     {
@@ -160,9 +162,8 @@ impl Store {
     ///
     /// Refuses, in this order, with [`StoreFault::AlreadyOpen`], [`StoreFault::TooManyDocuments`]
     /// and, where the text has more than `max_text` bytes, [`StoreFault::TextTooLong`]; and with
-    /// [`StoreFault::NoMemory`]. The texts are moved in, not copied. Costs a few hash look-ups and a
-    /// search through the text for its lines. Where it replaces a document, each that was opened
-    /// later costs a step more.
+    /// [`StoreFault::NoMemory`]. The texts are moved in; the URI is copied once. Costs a few hash
+    /// look-ups and a search through the text for its lines.
     pub fn open(
         &mut self,
         uri: String,
@@ -196,8 +197,7 @@ impl Store {
     {
         self.may_open(&uri, &text)?;
         let stored = Stored::new(*self.documents.allocator(), language, version, text)?;
-        let (index, _replaced) = self.documents.insert_full(uri, stored)?;
-        self.documents.move_index(index, self.documents.len() - 1);
+        self.documents.insert_last(uri, stored)?;
         Ok(())
     }
 
@@ -303,15 +303,15 @@ impl Store {
 
     /// Closes an open document; the others keep their order (LSP 3.17, DidCloseTextDocument).
     ///
-    /// Refuses with [`StoreFault::NotOpen`]. Takes no memory. Costs a hash look-up, and one step
-    /// for each document that was opened later.
+    /// Refuses with [`StoreFault::NotOpen`]. Takes no memory. Costs a hash look-up and, whichever
+    /// document it is, a few steps more ([`ordered_map::OrderedMap::remove`]).
     pub fn close(&mut self, uri: &str) -> Result<(), StoreFault>
         ensures taken { OnOk result (Takes self.old (closes uri.now) self.new) }
         ensures unchanged { OnErr result (self.new ≡ self.old) }
         ensures error { IfErr result
             (λ fault. (fault ≡ NotOpen) × IsRefused self.old (closes uri.now) fault) }
     {
-        let Some(_) = self.documents.shift_remove(uri) else {
+        let Some(_) = self.documents.remove(uri) else {
             return Err(StoreFault::NotOpen);
         };
         Ok(())

@@ -6,7 +6,7 @@ ghost use Rattle.lsp_store.specs.Opened.{entry_of};
 
 use crate::store::document::Document;
 use crate::store::stored::Stored;
-use indexmap::map;
+use ordered_map::Iter;
 use std::iter::FusedIterator;
 use std::marker::Model;
 
@@ -14,7 +14,7 @@ use std::marker::Model;
 /// borrows from the store. Clauses see the list of the remaining documents.
 #[derive(Debug, Drop)]
 pub struct Documents<'a> {
-    entries: map::Iter<'a, String, Stored>,
+    entries: Iter<'a, Stored>,
 }
 
 impl<'a> Model for Documents<'a> {
@@ -29,7 +29,7 @@ impl<'a> Model for Documents<'a> {
 
 impl<'a> Documents<'a> {
     /// Returns the documents of a store's entries.
-    pub(crate) fn new(entries: map::Iter<'a, String, Stored>) -> Self
+    pub(crate) fn new(entries: Iter<'a, Stored>) -> Self
         ensures { result ≡ map entry_of entries.entry }
     {
         Documents { entries }

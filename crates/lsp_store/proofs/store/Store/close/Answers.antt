@@ -1,5 +1,7 @@
-use Rattle.std.proofs.Common.{refl}
+use Rattle.std.proofs.Common.{ap, arith, length, refl}
+use Rattle.ordered_map.specs.Entries.{is_key}
 use Rattle.lsp_store.proofs.StoreLemmas.{close_absent, closed}
+use Rattle.lsp_store.proofs.TableLemmas.{remove_entry-few}
 use Rattle.lsp_store.proofs.store.Store.close.Goals as goal
 
 pub returns-in_default-clause-error : goal.returns-in_default-clause-error
@@ -7,3 +9,6 @@ returns-in_default-clause-error c = (refl, close_absent c.self.inside.limits c.s
 
 pub returns-clause-taken : goal.returns-clause-taken
 returns-clause-taken c = closed c.self.inside.limits c.self.inside.documents.entries c.args.self.now c.self.view_is c.args.uri.now _ c.in-Some.ensures.value _ c.in-Some.ensures.entries
+
+pub invariant_of-self-2 : goal.invariant_of-self-2
+invariant_of-self-2 c = omega (arith, ap length c.in-Some.ensures.entries, remove_entry-few (is_key c.args.uri.now) c.self.inside.documents.entries, c.self.invariant)

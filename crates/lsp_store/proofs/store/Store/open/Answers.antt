@@ -1,7 +1,6 @@
-use Rattle.std.proofs.Common.{◌≡◌, ◌∙◌, ◌-◌, Err, ap, inr, rules, w32, to_z, of_z, string_bytes}
+use Rattle.std.proofs.Common.{◌≡◌, Err, inr, rules, w32, to_z, of_z, string_bytes}
 use Rattle.std.proofs.lemmas.Int.{to_z-of_z}
 use Rattle.std.proofs.lemmas.Result.{err_from_is_err_and}
-use Rattle.indexmap.specs.IndexMap.{move_index}
 use Rattle.lsp_store.specs.declared.fault.StoreFault.TheVariants.{NoMemory}
 use Rattle.lsp_store.proofs.StoreLemmas.{opened, opened_few}
 use Rattle.lsp_store.proofs.store.Store.open.Goals as goal
@@ -14,15 +13,13 @@ returns-in_err-may_open-clause-error c =
 pub invariant_of-self-2 : goal.invariant_of-self-2
 invariant_of-self-2 c =
     let version : to_z w32 (of_z w32 c.args.version) ≡ c.args.version = to_z-of_z w32 c.args.version (search rules) in
-    opened_few c.self.inside.limits c.self.inside.documents.entries c.args.self.now c.self.view_is c.args.uri c.in_ok-stored.stored _ (rw version at (c.in_ok-stored.ensures (string_bytes c.args.uri)))
-    c.in_ok-index.index _ _ c.in_ok-index.ensures.index c.in_ok-index.ensures.entries (c.move_index.ensures.entries ∙ ap (λ n. move_index c.insert_full.new.self.entries c.in_ok-index.index (n - 1)) c.len.ensures.len)
+    opened_few c.self.inside.limits c.self.inside.documents.entries c.args.self.now c.self.view_is c.args.uri c.in_ok-stored.stored _ (rw version at (c.in_ok-stored.ensures (string_bytes c.args.uri))) _ c.in_ok-insert_last.ensures.inserted
     (rw c.deref.ensures at c.in_ok-may_open.ensures.room)
 
 pub returns-clause-taken : goal.returns-clause-taken
 returns-clause-taken c =
     let version : to_z w32 (of_z w32 c.args.version) ≡ c.args.version = to_z-of_z w32 c.args.version (search rules) in
-    opened c.self.inside.limits c.self.inside.documents.entries c.args.self.now c.self.view_is c.args.uri c.in_ok-stored.stored _ (rw version at (c.in_ok-stored.ensures (string_bytes c.args.uri)))
-    c.in_ok-index.index _ _ c.in_ok-index.ensures.index c.in_ok-index.ensures.entries (c.move_index.ensures.entries ∙ ap (λ n. move_index c.insert_full.new.self.entries c.in_ok-index.index (n - 1)) c.len.ensures.len)
+    opened c.self.inside.limits c.self.inside.documents.entries c.args.self.now c.self.view_is c.args.uri c.in_ok-stored.stored _ (rw version at (c.in_ok-stored.ensures (string_bytes c.args.uri))) _ c.in_ok-insert_last.ensures.inserted
     (rw (c.deref.ensures, c.deref-2.ensures) at (c.in_ok-may_open.ensures.may (string_bytes c.args.language) c.args.version))
 
 pub returns-in_err-may_open-clause-memory : goal.returns-in_err-may_open-clause-memory
@@ -38,6 +35,6 @@ pub returns-in_err-stored-clause-memory : goal.returns-in_err-stored-clause-memo
 returns-in_err-stored-clause-memory c = λ e.
     rw (c.deref.ensures, c.deref-2.ensures) at (c.in_ok-may_open.ensures.may (string_bytes c.args.language) c.args.version)
 
-pub returns-in_err-index-clause-memory : goal.returns-in_err-index-clause-memory
-returns-in_err-index-clause-memory c = λ e.
+pub returns-in_err-insert_last-clause-memory : goal.returns-in_err-insert_last-clause-memory
+returns-in_err-insert_last-clause-memory c = λ e.
     rw (c.deref.ensures, c.deref-2.ensures) at (c.in_ok-may_open.ensures.may (string_bytes c.args.language) c.args.version)

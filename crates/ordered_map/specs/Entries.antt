@@ -1,0 +1,31 @@
+-- An ordered map as callers see it: the list of its entries.
+use Rattle.std.specs.Prelude.{ℕ, zero, suc, Bool, List, [], ◌∷◌, Option, Some, None, String, string_bytes}
+use Rattle.std.specs.Str.{bytes_eq}
+use Rattle.std.specs.declared.alloc.Global.{Global}
+use Rattle.ordered_map.specs.declared.slot.Slot.{Slot}
+use Rattle.ordered_map.specs.declared.slot.Slot.TheVariants.{Vacant, Live}
+
+-- The keys with their values, in order of insertion.
+pub record Entries (V : Type 0) : Type 0 where
+  pub entries : List (String Global × V)
+
+-- The entry of a slot.
+abbrev pub slot_entry : {V : Type 0} → Slot V → Option (String Global × V)
+slot_entry Vacant = None
+slot_entry (Live key value) = Some (key, value)
+
+-- A key has these bytes.
+abbrev pub is_key : List ℕ → String Global → Bool
+is_key bytes key = bytes_eq bytes (string_bytes key)
+
+module _ {V : Type 0} where
+  -- The entries, with another value at an index.
+  abbrev pub set_value_at : List (String Global × V) → ℕ → V → List (String Global × V)
+  set_value_at [] index value = []
+  set_value_at (entry ∷ entries) zero value = (entry.0, value) ∷ entries
+  set_value_at (entry ∷ entries) (suc index) value = entry ∷ set_value_at entries index value
+
+  -- The map with another value at an index.
+  abbrev pub with_value_at : Entries V → ℕ → V → Entries V
+  with_value_at ordered index value
+      = record { entries = set_value_at ordered.entries index value }
