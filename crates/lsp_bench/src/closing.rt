@@ -47,7 +47,7 @@ fn time_orders<R: Runtime + AllocGlobal>(rt: &R, count: u32) -> io::Result<()> {
 fn uris(alloc: Global, count: u32) -> Result<Vec<String>, AllocError> {
     let mut uris = Vec::new(alloc);
     for number in 0..count {
-        uris.push(format!(alloc; "file:///home/user/project/src/module_{number}.rs")?)?;
+        uris.push(format!(in alloc; "file:///home/user/project/src/module_{number}.rs")?)?;
     }
     Ok(uris)
 }

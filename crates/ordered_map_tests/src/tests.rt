@@ -23,7 +23,7 @@ fn new_pair(alloc: Global) -> Pair {
 
 /// Returns the key of a number.
 fn key_of(alloc: Global, number: u32) -> Result<String, AllocError> {
-    format!(alloc; "file:///{number}")
+    format!(in alloc; "file:///{number}")
 }
 
 /// Returns the index of a key in a plain list.
