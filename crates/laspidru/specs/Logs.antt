@@ -6,11 +6,11 @@ use Rattle.lsp_frame.specs.declared.fault.FrameFault.TheVariants as frame
 use Rattle.lsp_stream.specs.declared.fault.EngineFault.{EngineFault}
 use Rattle.lsp_stream.specs.declared.fault.EngineFault.TheVariants.{Read, Frame, Truncated, BodyTooLong, TooManyTurns, BadLog}
 use Rattle.lsp_log.specs.Log.{LogRules, Record}
-use Rattle.lsp_replay.specs.declared.engines.Settings.{Settings}
+use Rattle.lsp_replay.specs.declared.commands.Settings.{Settings}
 use Rattle.lsp_replay.specs.declared.outcome.Outcome.{Outcome}
 use Rattle.lsp_replay.specs.RunOutput.{RunOutput}
 use Rattle.lsp_replay.specs.Engine.{state_of}
-use Rattle.lsp_replay.specs.Engines.{as_converted, as_log, converted, report, verdicts}
+use Rattle.lsp_replay.specs.Commands.{as_converted, as_log, converted, report, verdicts}
 use Rattle.lsp_replay.specs.Laws.{IsConverted, IsCanonicalLog, IsSquashed, Wrote}
 use Rattle.lsp_replay.specs.Squashed.{normalised}
 use Rattle.lsp_replay.specs.AllRecords.{RanOver}

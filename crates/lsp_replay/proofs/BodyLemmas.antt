@@ -20,7 +20,7 @@ use Rattle.lsp_text.specs.Units.{units_in}
 use Rattle.lsp_replay.specs.declared.session.joining.Writing.{Writing}
 use Rattle.lsp_replay.specs.declared.session.joining.Writing.TheVariants.{AsItIs, TooLong, Continues, Begins}
 use Rattle.lsp_replay.specs.declared.session.writing.Appended.{Appended}
-use Rattle.lsp_replay.specs.Engines.{canonical_change_body, canonical_if, canonical_of_record, change_in}
+use Rattle.lsp_replay.specs.Commands.{canonical_change_body, canonical_if, canonical_of_record, change_in}
 use Rattle.lsp_replay.specs.Session.{Session, Verdict, judge_at, judge_from, judge_incoming}
 use Rattle.lsp_replay.specs.inside.Bodies.{BodyData, from_client, from_server, IsReceived, body_read, canonical_read, change_of, judge_read}
 use Rattle.lsp_replay.specs.inside.Joining.{IsChangeWriting, IsOpenAfter, IsWriting, refusal_of}

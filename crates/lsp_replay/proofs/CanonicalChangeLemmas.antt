@@ -25,7 +25,7 @@ use Rattle.lsp_store.proofs.SquashLemmas.{squash_accepted}
 use Rattle.lsp_server.specs.Incoming.{incoming_of, did_change}
 use Rattle.lsp_server.specs.Step.{State, edit_from_data, session_encoding}
 use Rattle.lsp_server.proofs.EditLemmas.{edits_back}
-use Rattle.lsp_replay.specs.Engines.{canonical_change_body}
+use Rattle.lsp_replay.specs.Commands.{canonical_change_body}
 use Rattle.lsp_replay.specs.inside.Joining.{refusal_of, server_after}
 use Rattle.lsp_replay.specs.Squashed.{joined_by}
 use Rattle.lsp_replay.proofs.PutLemmas.{put, change_puts}

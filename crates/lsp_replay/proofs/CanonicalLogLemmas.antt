@@ -24,7 +24,7 @@ use Rattle.lsp_server.specs.Answer.{AnswerData, Sent, changed, as_sent}
 use Rattle.lsp_server.specs.Incoming.{did_change}
 use Rattle.lsp_server.specs.Step.{State, edit_from_data, session_encoding, obeyed, change_command, step_in}
 use Rattle.lsp_replay.specs.Session.{Session, Verdict, answered, recorded, bad, Judged, judged, judge_incoming, hear_for, heard, settle_by, settle_in, result_for}
-use Rattle.lsp_replay.specs.Engines.{canonical_if, written, writes, ends}
+use Rattle.lsp_replay.specs.Commands.{canonical_if, written, writes, ends}
 use Rattle.lsp_log.specs.declared.record.Version.{Version}
 use Rattle.lsp_log.specs.Log.{Record}
 use Rattle.lsp_replay.specs.inside.Verdicts.{IsAppended}

@@ -16,7 +16,7 @@ use Rattle.lsp_log.specs.Log.{Record}
 use Rattle.lsp_stream.specs.declared.fault.EngineFault.TheVariants.{BadLog, BodyTooLong}
 use Rattle.lsp_stream.specs.Ports.{one_more}
 use Rattle.lsp_frame.specs.Frame.{frame}
-use Rattle.lsp_replay.specs.Engines.{change_in, canonical_if, canonical_change_body}
+use Rattle.lsp_replay.specs.Commands.{change_in, canonical_if, canonical_change_body}
 use Rattle.lsp_replay.specs.inside.Joining.{refusal_of, server_after}
 use Rattle.lsp_replay.specs.Session.{Session, Verdict, answered, recorded, bad, Judged, judge, judge_from, judge_incoming, counted}
 use Rattle.lsp_replay.specs.Squashed.{Run, faulty, change_output, step_if}

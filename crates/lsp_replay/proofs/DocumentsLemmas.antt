@@ -13,7 +13,7 @@ use Rattle.lsp_log.specs.Log.{LogRules, Record}
 use Rattle.lsp_log.specs.Laws.{FirstLaw, VersionLaw}
 use Rattle.lsp_message.specs.Message.{IdData}
 use Rattle.lsp_replay.specs.Documents.{Kept, Selection, after_kept, after_left_out, is_due, kept_in, output_of_kept, record_stays, waiting_after, with_due, with_line}
-use Rattle.lsp_replay.specs.Engines.{RecordOutput, canonical_of_record, continue_with, ends, front_of, normalising, run_output_in, unless_bad, writes, written}
+use Rattle.lsp_replay.specs.Commands.{RecordOutput, canonical_of_record, continue_with, ends, front_of, normalising, run_output_in, unless_bad, writes, written}
 use Rattle.lsp_replay.specs.Run.{IsEngineRun}
 use Rattle.lsp_replay.specs.RunOutput.{RunOutput, stopped, written_first}
 use Rattle.lsp_replay.specs.Session.{Session, Verdict, answered, bad, judge, judge_at, recorded}
@@ -21,7 +21,7 @@ use Rattle.lsp_replay.specs.Squashed.{Run, Squashing, Step, faulty, squash_step,
 use Rattle.lsp_replay.specs.inside.Bodies.{BodyData, body_read}
 use Rattle.lsp_replay.specs.inside.Documents.{each_of_kept, squashed_of_kept}
 use Rattle.lsp_replay.specs.inside.Engine.{IsLoopRun}
-use Rattle.lsp_replay.specs.inside.Engines.{each_output}
+use Rattle.lsp_replay.specs.inside.Commands.{each_output}
 use Rattle.lsp_replay.specs.inside.Reads.{IsKept, IsLeftOut, stays_read, waiting_read}
 use Rattle.lsp_replay.specs.inside.RunOutput.{IsRecordFault, after}
 use Rattle.lsp_replay.specs.inside.Squashed.{IsSquashStep, step_at}

@@ -26,7 +26,7 @@ use Rattle.lsp_server.specs.Step.{State, edit_from_data, session_encoding}
 use Rattle.lsp_log.specs.declared.record.Version.{Version}
 use Rattle.lsp_replay.specs.declared.session.joining.Writing.{Writing}
 use Rattle.lsp_replay.specs.declared.session.joining.Writing.TheVariants.{AsItIs, TooLong, Continues, Begins}
-use Rattle.lsp_replay.specs.Engines.{canonical_if}
+use Rattle.lsp_replay.specs.Commands.{canonical_if}
 use Rattle.lsp_replay.specs.Session.{Session, answered, judge_incoming}
 use Rattle.lsp_replay.specs.inside.Joining.{IsOpenIn, IsOpenAfter, IsLonger, IsBegun, IsWriting, IsChangeWriting, refusal_of, server_after}
 

@@ -20,7 +20,7 @@ use Rattle.lsp_log.specs.declared.record.Head.{Head}
 use Rattle.lsp_log.specs.Log.{Record}
 use Rattle.lsp_replay.specs.Session.{Session, Verdict, answered, recorded, bad, Judged, judged, judge, judge_at, judge_from, judge_incoming, handled, hear_for, heard, settle_by, settle_in, result_for, is_ended, is_early, is_new, expected_of, count_if, is_refused}
 use Rattle.lsp_stream.specs.Ports.{one_more}
-use Rattle.lsp_replay.specs.Engines.{change_in, canonical_if, canonical_of_record, canonical_change_body}
+use Rattle.lsp_replay.specs.Commands.{change_in, canonical_if, canonical_of_record, canonical_change_body}
 use Rattle.lsp_replay.proofs.CanonicalLogLemmas.{accepted, heard_has_none}
 use Rattle.lsp_replay.proofs.AskedLemmas.{IsProperIncoming, asked_proper}
 use Rattle.lsp_replay.proofs.StateLemmas.{IsHeldState, step_on_held}

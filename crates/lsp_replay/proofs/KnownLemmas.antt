@@ -17,7 +17,7 @@ use Rattle.lsp_replay.specs.declared.session.Verdict as declared
 use Rattle.lsp_replay.specs.declared.session.known.About.{About}
 use Rattle.lsp_replay.specs.declared.session.known.Noted.{Noted}
 use Rattle.lsp_replay.specs.RunOutput.{written_first}
-use Rattle.lsp_replay.specs.Engines.{RecordOutput, continue_with, writes}
+use Rattle.lsp_replay.specs.Commands.{RecordOutput, continue_with, writes}
 use Rattle.lsp_replay.specs.Lines.{Known, LineView, known_after, line_output, lines_in, uri_of}
 use Rattle.lsp_replay.specs.Mentions.{is_mention, last_for}
 use Rattle.lsp_replay.specs.Notes.{notes_if, notes_of, notes_on, ranged_after}

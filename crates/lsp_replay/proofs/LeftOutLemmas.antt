@@ -18,7 +18,7 @@ use Rattle.lsp_log.specs.declared.record.Side.{Side}
 use Rattle.lsp_log.specs.declared.record.Side.TheVariants.{Client, Server}
 use Rattle.lsp_log.specs.Log.{Record}
 use Rattle.lsp_replay.specs.Documents.{is_answer_to, is_kept_method, message_stays, record_stays}
-use Rattle.lsp_replay.specs.Engines.{canonical_if, change_in}
+use Rattle.lsp_replay.specs.Commands.{canonical_if, change_in}
 use Rattle.lsp_replay.specs.Session.{Session, Verdict, answered, recorded, bad, Judged, judged, judge, judge_from, judge_incoming, handled, hear_for, heard, counted, count_if, result_for, is_change, is_early, is_ended, is_new, is_refused, is_running, expected_of, expected_after}
 use Rattle.lsp_replay.proofs.NumberedLemmas.{IsAlike}
 

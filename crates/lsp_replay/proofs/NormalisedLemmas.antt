@@ -15,7 +15,7 @@ use Rattle.lsp_log.specs.declared.record.Head.{Head}
 use Rattle.lsp_log.specs.Log.{Record, Log, IsRecord, AreRecords, IsVersion, together, record_bytes, mark_of, line_of, version_line, is_line_due}
 use Rattle.lsp_replay.specs.RunOutput.{RunOutput, written_first}
 use Rattle.lsp_replay.specs.Session.{Session, Verdict, answered, recorded, bad, Judged, judge, opened}
-use Rattle.lsp_replay.specs.Engines.{View, RecordOutput, writes, ends, continue_with, unless_bad, run_output_in, normalising, replaying, canonical_output, canonical_of_record, written, front_of, line_if, log_config, canonical_log}
+use Rattle.lsp_replay.specs.Commands.{View, RecordOutput, writes, ends, continue_with, unless_bad, run_output_in, normalising, replaying, canonical_output, canonical_of_record, written, front_of, line_if, log_config, canonical_log}
 use Rattle.lsp_replay.specs.Laws.{CanonicalLogLaw, all_of}
 use Rattle.lsp_replay.proofs.StateLemmas.{IsHeldState}
 use Rattle.lsp_replay.proofs.LineLemmas.{is_version_one}

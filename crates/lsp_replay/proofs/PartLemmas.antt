@@ -11,7 +11,7 @@ use Rattle.lsp_log.specs.Log.{LogRules, Record}
 use Rattle.lsp_log.specs.Laws.{FirstLaw, VersionLaw}
 use Rattle.lsp_replay.specs.RunOutput.{RunOutput, written_first, stopped}
 use Rattle.lsp_replay.specs.Session.{Session, Verdict, answered, recorded, bad, judge, outcome_of, opened}
-use Rattle.lsp_replay.specs.Engines.{RecordOutput, writes, ends, continue_with, unless_bad, log_config}
+use Rattle.lsp_replay.specs.Commands.{RecordOutput, writes, ends, continue_with, unless_bad, log_config}
 use Rattle.lsp_replay.specs.Parts.{PartData, last_text_in, part_bytes, part_outcome, part_step, part_output, next_text, is_last, end_bytes, end_outcome, replayed_in}
 use Rattle.lsp_replay.specs.Run.{IsEngineRun}
 use Rattle.lsp_replay.specs.inside.Engine.{IsLoopRun}

@@ -29,7 +29,7 @@ use Rattle.lsp_store.specs.Laws.{IsWithin}
 use Rattle.lsp_replay.proofs.JoiningLemmas.{uri_at}
 use Rattle.lsp_replay.proofs.SingleLemmas.{IsSingle, is_single, single_record}
 use Rattle.lsp_replay.specs.RunOutput.{written_first}
-use Rattle.lsp_replay.specs.Engines.{run_output_in, replaying, front_of, line_if, change_in, canonical_change_body}
+use Rattle.lsp_replay.specs.Commands.{run_output_in, replaying, front_of, line_if, change_in, canonical_change_body}
 use Rattle.lsp_replay.specs.inside.Joining.{server_after}
 use Rattle.lsp_replay.specs.Session.{Session, answered, bad, judge}
 use Rattle.lsp_replay.specs.Squashed.{Run, joined_by, change_output, longer, squash_step, squashed_in, run_bytes, end_bytes}

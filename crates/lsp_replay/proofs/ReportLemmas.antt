@@ -5,7 +5,7 @@ use Rattle.std.specs.List.{slice_get}
 use Rattle.std.proofs.lemmas.List.{drop_more}
 use Rattle.std.proofs.lemmas.Option.{slice_get_within, get_or_from_slice_get}
 use Rattle.lsp_message.specs.Params.{DocumentItem}
-use Rattle.lsp_replay.specs.Engines.{document_line, report_from}
+use Rattle.lsp_replay.specs.Commands.{document_line, report_from}
 
 -- a document's line, and then those behind it
 pub report_goes_on : (index : ℕ) (table : List DocumentItem) (entry : DocumentItem) → slice_get table index ≡ Some entry

@@ -17,7 +17,7 @@ use Rattle.lsp_replay.specs.RunOutput.{RunOutput}
 use Rattle.lsp_replay.specs.Session.{Session, judge}
 use Rattle.lsp_replay.specs.Engine.{Reached, PortState, WroteRecords}
 use Rattle.lsp_replay.specs.inside.Engine.{IsLoopRun, Ran, Stopped, Broken, RanOut, RanOutAtEnd, AtEnd, BreaksAtEnd, IsRunFault, RefusesInput}
-use Rattle.lsp_replay.specs.Engines.{View, continue_with, run_output_in}
+use Rattle.lsp_replay.specs.Commands.{View, continue_with, run_output_in}
 use Rattle.lsp_replay.specs.Squashed.{Run, squash_step, squashed_in}
 use Rattle.lsp_replay.specs.Run.{IsEngineRun}
 use Rattle.lsp_replay.specs.AllRecords.{EndedBy, Passed, PassedEnd, CutAtEnd, ShortAtEnd, IsFaultReported, IsRunReport, RanOver}

@@ -27,7 +27,7 @@ use Rattle.lsp_server.specs.declared.phase.Phase.TheVariants.{New, Running, Down
 use Rattle.lsp_server.specs.Incoming.{did_change, incoming_of}
 use Rattle.lsp_server.specs.Step.{State, step_in, step_on, obeyed, edit_from_data, session_encoding}
 use Rattle.lsp_server.proofs.EditLemmas.{edits_back}
-use Rattle.lsp_replay.specs.Engines.{canonical_change_body}
+use Rattle.lsp_replay.specs.Commands.{canonical_change_body}
 use Rattle.lsp_replay.proofs.CanonicalLogLemmas.{within}
 use Rattle.lsp_replay.proofs.AskedLemmas.{IsProperAsked}
 use Rattle.lsp_replay.proofs.StateLemmas.{IsHeldState}

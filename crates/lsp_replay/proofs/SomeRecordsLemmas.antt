@@ -5,7 +5,7 @@ use Rattle.std.specs.List.{starts_with}
 use Rattle.std.proofs.lemmas.Bool.{cases_Bool}
 use Rattle.std.specs.Io.KnownBytes.{Appends}
 use Rattle.lsp_frame.proofs.FaultLemmas.{one_front}
-use Rattle.lsp_replay.specs.declared.engines.Settings.{Settings}
+use Rattle.lsp_replay.specs.declared.commands.Settings.{Settings}
 use Rattle.lsp_replay.specs.declared.outcome.Outcome.{Outcome}
 use Rattle.lsp_stream.specs.declared.fault.EngineFault.{EngineFault}
 use Rattle.lsp_stream.specs.declared.fault.EngineFault.TheVariants.{Read, Write, Frame, Truncated, BodyTooLong, NoMemory, TooManyTurns, BadLog}
@@ -20,7 +20,7 @@ use Rattle.lsp_replay.specs.RunOutput.{RunOutput}
 use Rattle.lsp_replay.specs.Engine.{PortState, Reached, WroteRecords, last_of, state_of}
 use Rattle.lsp_replay.specs.inside.Engine.{AtEnd, BreaksAtEnd, Broken, BrokenAtEnd, IsRunFault, Ran, RanOut, RanOutAtEnd, RefusesInput, Stopped, TurnsRanOut}
 use Rattle.lsp_replay.specs.AllRecords.{CutAtEnd, EndedBy, IsFaultReported, IsFirstPart, IsRunReport, IsShort, Passed, RanOver, ShortAtEnd}
-use Rattle.lsp_replay.specs.Engines.{report}
+use Rattle.lsp_replay.specs.Commands.{report}
 use Rattle.lsp_replay.specs.Laws.{ReportLaw}
 use Rattle.lsp_replay.specs.Run.{Engine, IsEngineRun}
 

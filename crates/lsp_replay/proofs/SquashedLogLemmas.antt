@@ -12,11 +12,11 @@ use Rattle.lsp_log.specs.declared.record.Version.{Version}
 use Rattle.lsp_log.specs.declared.record.Version.TheVariants.{One, Two}
 use Rattle.lsp_log.specs.Log.{Record, Log, IsRecord, AreRecords, together, record_bytes, mark_of, line_of, version_line, is_line_due}
 use Rattle.lsp_log.proofs.LogLemmas.{due_after}
-use Rattle.lsp_replay.specs.declared.engines.Settings.{Settings}
+use Rattle.lsp_replay.specs.declared.commands.Settings.{Settings}
 use Rattle.lsp_replay.specs.declared.outcome.Outcome.{Outcome}
 use Rattle.lsp_stream.specs.declared.fault.EngineFault.{EngineFault}
 use Rattle.lsp_replay.specs.RunOutput.{RunOutput}
-use Rattle.lsp_replay.specs.Engines.{change_in, run_output_in, front_of, continue_with, line_if, canonical_if, log_config, replaying, report}
+use Rattle.lsp_replay.specs.Commands.{change_in, run_output_in, front_of, continue_with, line_if, canonical_if, log_config, replaying, report}
 use Rattle.lsp_replay.specs.Laws.{SquashedLaw, IsSquashed, LeavesAlike, all_of}
 use Rattle.lsp_replay.specs.Session.{Session, answered, bad, judge, opened}
 use Rattle.lsp_replay.specs.Squashed.{Run, Step, squash_step, squashed_in, squashed, end_bytes, other_step}

@@ -33,7 +33,7 @@ use Rattle.lsp_stream.specs.Ports.{one_more}
 use Rattle.lsp_replay.specs.declared.session.joining.Writing.{Writing}
 use Rattle.lsp_replay.specs.declared.session.writing.Appended.{Appended}
 use Rattle.lsp_replay.specs.declared.session.writing.Appended.TheVariants.{Body}
-use Rattle.lsp_replay.specs.Engines.{canonical_change_body, canonical_if, canonical_of_record, change_in}
+use Rattle.lsp_replay.specs.Commands.{canonical_change_body, canonical_if, canonical_of_record, change_in}
 use Rattle.lsp_replay.specs.Session.{Session, Judged, Verdict, answered, counted, judge_at, judge_incoming, judged}
 use Rattle.lsp_replay.specs.inside.Bodies.{BodyData, IsChangeTaken, IsReceived, body_read, canonical_read, change_of, judge_read}
 use Rattle.lsp_replay.specs.inside.Joining.{IsBegun, IsChangeWriting, IsFramed, IsLonger, IsOpenAfter, IsOpenIn, IsWriting, body_unless, change_body_if, refusal_of, server_after}

@@ -12,9 +12,9 @@ use Rattle.lsp_server.specs.Answer.{reply, changed, dropped, ignored, refused, e
 use Rattle.lsp_server.specs.Incoming.{IncomingData, incoming_of}
 use Rattle.lsp_stream.specs.declared.fault.EngineFault.TheVariants.{BadLog}
 use Rattle.lsp_log.specs.Log.{Record}
-use Rattle.lsp_replay.specs.declared.engines.traced.Details.{Details}
+use Rattle.lsp_replay.specs.declared.commands.traced.Details.{Details}
 use Rattle.lsp_replay.specs.RunOutput.{RunOutput, written_first}
-use Rattle.lsp_replay.specs.Engines.{canonical_of_record, check_line, checking, code_word, continue_with, log_config, replaying, report_from, run_output_in, unless_bad, verdict_word, writes}
+use Rattle.lsp_replay.specs.Commands.{canonical_of_record, check_line, checking, code_word, continue_with, log_config, replaying, report_from, run_output_in, unless_bad, verdict_word, writes}
 use Rattle.lsp_replay.specs.Session.{Session, Verdict, answered, recorded, bad, opened, Judged, judge}
 use Rattle.lsp_replay.specs.Lines.{Known, known_after, lines_in, nothing_known, uri_of}
 use Rattle.lsp_replay.specs.Mentions.{last_for}

@@ -14,11 +14,11 @@ use Rattle.lsp_log.specs.declared.record.Version.{Version}
 use Rattle.lsp_log.specs.declared.record.Side.{Side}
 use Rattle.lsp_log.specs.declared.record.Side.TheVariants.{Client, Server}
 use Rattle.lsp_log.specs.Log.{Record}
-use Rattle.lsp_replay.specs.declared.engines.traced.Details.{Details}
+use Rattle.lsp_replay.specs.declared.commands.traced.Details.{Details}
 use Rattle.lsp_replay.specs.declared.session.tracing.Traced.{Traced}
 use Rattle.lsp_replay.specs.declared.session.writing.Appended.{Appended}
 use Rattle.lsp_replay.specs.declared.session.writing.Appended.TheVariants.{Body, TooLong}
-use Rattle.lsp_replay.specs.Engines.{canonical_of_record}
+use Rattle.lsp_replay.specs.Commands.{canonical_of_record}
 use Rattle.lsp_replay.specs.Lines.{Known}
 use Rattle.lsp_replay.specs.Session.{Session, bad, Judged, judged, judge, judge_from, judge_incoming, handled, hear_for, heard, settle_by, settle_in, result_for, is_ended, is_early}
 use Rattle.lsp_replay.specs.Trace.{first_members, trace_line, within}

@@ -4,7 +4,7 @@ use Rattle.std.specs.Prelude.{⊤, if◌then◌else◌, Result, Ok, Err, IfOk}
 use Rattle.std.specs.Io.KnownBytes.{Consumes}
 use Rattle.lsp_frame.specs.Frame.{frame}
 use Rattle.lsp_frame.specs.Limits.{AreInRange}
-use Rattle.lsp_replay.specs.declared.engines.Settings.{Settings}
+use Rattle.lsp_replay.specs.declared.commands.Settings.{Settings}
 use Rattle.lsp_replay.specs.declared.outcome.Outcome.{Outcome}
 use Rattle.lsp_stream.specs.declared.fault.EngineFault.{EngineFault}
 use Rattle.lsp_stream.specs.declared.fault.EngineFault.TheVariants.{BodyTooLong}
@@ -13,7 +13,7 @@ use Rattle.lsp_replay.specs.RunOutput.{RunOutput}
 use Rattle.lsp_replay.specs.Session.{Session, Verdict, answered, recorded, bad, judge, opened}
 use Rattle.lsp_replay.specs.Engine.{PortState}
 use Rattle.lsp_replay.specs.inside.Engine.{Ran, AtEnd, Stopped}
-use Rattle.lsp_replay.specs.Engines.{RecordOutput, writes, ends, continue_with, unless_bad, run_output_in, normalising, written, canonical_of_record, front_of, canonical_output, converting, line_before, reply_record, as_log, as_converted, log_config, canonical_log, converted}
+use Rattle.lsp_replay.specs.Commands.{RecordOutput, writes, ends, continue_with, unless_bad, run_output_in, normalising, written, canonical_of_record, front_of, canonical_output, converting, line_before, reply_record, as_log, as_converted, log_config, canonical_log, converted}
 use Rattle.lsp_replay.specs.Laws.{IsCanonicalLog, IsConverted, IsSquashed, Wrote, all_of}
 use Rattle.lsp_replay.specs.Squashed.{squashed}
 use Rattle.lsp_replay.proofs.SquashedLemmas.{stops_in}

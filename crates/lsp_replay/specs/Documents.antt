@@ -14,10 +14,10 @@ use Rattle.lsp_log.specs.declared.record.Side.{Side}
 use Rattle.lsp_log.specs.declared.record.Side.TheVariants.{Client, Server}
 use Rattle.lsp_log.specs.declared.record.Head.{Head}
 use Rattle.lsp_log.specs.Log.{Record, Log, IsReadAs}
-use Rattle.lsp_replay.specs.declared.engines.Settings.{Settings}
+use Rattle.lsp_replay.specs.declared.commands.Settings.{Settings}
 use Rattle.lsp_replay.specs.declared.outcome.Outcome.{Outcome}
 use Rattle.lsp_replay.specs.RunOutput.{RunOutput}
-use Rattle.lsp_replay.specs.Engines.{as_log, canonical_log, log_config, report}
+use Rattle.lsp_replay.specs.Commands.{as_log, canonical_log, log_config, report}
 use Rattle.lsp_replay.specs.Laws.{LeavesAlike, all_of}
 use Rattle.lsp_replay.specs.Run.{Engine}
 use Rattle.lsp_replay.specs.Session.{Session, is_ended, is_running, judge, opened, same_id}

@@ -1,7 +1,6 @@
 pub mod RunOutput
 pub mod Engine
 pub mod Session
-pub mod Engines
 pub mod Squashed
 pub mod Laws
 pub mod AllRecords
@@ -15,3 +14,4 @@ pub mod Lines
 pub mod Trace
 pub mod Explained
 pub mod inside
+pub mod Commands

@@ -12,7 +12,7 @@ use Rattle.lsp_log.specs.declared.record.Side.TheVariants.{Client}
 use Rattle.lsp_log.specs.Log.{Record}
 use Rattle.lsp_replay.specs.declared.notes.Note.{Note}
 use Rattle.lsp_replay.specs.RunOutput.{RunOutput}
-use Rattle.lsp_replay.specs.Engines.{RecordOutput, continue_with, unless_bad, writes}
+use Rattle.lsp_replay.specs.Commands.{RecordOutput, continue_with, unless_bad, writes}
 use Rattle.lsp_replay.specs.Mentions.{Mention, is_mention, mentioned}
 use Rattle.lsp_replay.specs.Notes.{notes_of, ranged_after}
 use Rattle.lsp_replay.specs.Session.{Session, Judged, Verdict, answered, is_change, judge, outcome_of}

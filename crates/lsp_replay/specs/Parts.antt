@@ -4,13 +4,13 @@ use Rattle.std.specs.String.{string_bytes}
 use Rattle.lsp_message.specs.Params.{DocumentItem}
 use Rattle.lsp_store.specs.Table.{entry_at}
 use Rattle.lsp_log.specs.Log.{Record}
-use Rattle.lsp_replay.specs.declared.engines.parts.Part.{Part}
-use Rattle.lsp_replay.specs.declared.engines.Settings.{Settings}
+use Rattle.lsp_replay.specs.declared.commands.parts.Part.{Part}
+use Rattle.lsp_replay.specs.declared.commands.Settings.{Settings}
 use Rattle.lsp_replay.specs.declared.outcome.Missing.{Missing}
 use Rattle.lsp_replay.specs.declared.outcome.Missing.TheVariants as missing
 use Rattle.lsp_replay.specs.declared.outcome.Outcome.{Outcome}
 use Rattle.lsp_replay.specs.RunOutput.{RunOutput}
-use Rattle.lsp_replay.specs.Engines.{RecordOutput, writes, ends, continue_with, unless_bad, report_from, as_log, log_config}
+use Rattle.lsp_replay.specs.Commands.{RecordOutput, writes, ends, continue_with, unless_bad, report_from, as_log, log_config}
 use Rattle.lsp_replay.specs.Run.{Engine}
 use Rattle.lsp_replay.specs.Session.{Session, Judged, judge, opened, outcome_of}
 

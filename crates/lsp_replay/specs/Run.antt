@@ -6,11 +6,11 @@ use Rattle.lsp_stream.specs.declared.fault.EngineFault.TheVariants.{NoMemory, To
 use Rattle.lsp_stream.specs.Ports.{Ports}
 use Rattle.lsp_stream.specs.Turns.{StaysFlushed}
 use Rattle.lsp_log.specs.Log.{LogRules, Record}
-use Rattle.lsp_replay.specs.declared.engines.Settings.{Settings}
+use Rattle.lsp_replay.specs.declared.commands.Settings.{Settings}
 use Rattle.lsp_replay.specs.declared.outcome.Outcome.{Outcome}
 use Rattle.lsp_replay.specs.RunOutput.{RunOutput}
 use Rattle.lsp_replay.specs.Engine.{Called, NonePassedOver, WroteRecords, state_of}
-use Rattle.lsp_replay.specs.Engines.{as_converted, as_log, as_stream, converted, replies, report, verdicts}
+use Rattle.lsp_replay.specs.Commands.{as_converted, as_log, as_stream, converted, replies, report, verdicts}
 use Rattle.lsp_replay.specs.Laws.{Wrote}
 use Rattle.lsp_replay.specs.Squashed.{normalised}
 use Rattle.lsp_replay.specs.AllRecords.{RanOver}

@@ -10,13 +10,13 @@ use Rattle.lsp_store.specs.Table.{Refusal, entry_at}
 use Rattle.lsp_server.specs.Incoming.{incoming_of}
 use Rattle.lsp_server.specs.Step.{State, session_encoding, edit_from_data}
 use Rattle.lsp_server.specs.Answer.{changed}
-use Rattle.lsp_replay.specs.declared.engines.Settings.{Settings}
+use Rattle.lsp_replay.specs.declared.commands.Settings.{Settings}
 use Rattle.lsp_replay.specs.declared.outcome.Outcome.{Outcome}
 use Rattle.lsp_stream.specs.declared.fault.EngineFault.{EngineFault}
 use Rattle.lsp_stream.specs.declared.fault.EngineFault.TheVariants.{BadLog, BodyTooLong}
 use Rattle.lsp_log.specs.Log.{Record}
 use Rattle.lsp_replay.specs.RunOutput.{RunOutput}
-use Rattle.lsp_replay.specs.Engines.{continue_with, front_of, change_in, canonical_change_body, line_if, log_config, canonical_log}
+use Rattle.lsp_replay.specs.Commands.{continue_with, front_of, change_in, canonical_change_body, line_if, log_config, canonical_log}
 use Rattle.lsp_replay.specs.Session.{Session, Verdict, answered, bad, Judged, judge, opened, outcome_of}
 
 -- ---- a run: accepted changes of one document, one after another

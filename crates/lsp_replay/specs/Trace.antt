@@ -14,11 +14,11 @@ use Rattle.lsp_log.specs.declared.record.Head.{Head}
 use Rattle.lsp_log.specs.declared.record.Side.{Side}
 use Rattle.lsp_log.specs.declared.record.Side.TheVariants.{Client, Server}
 use Rattle.lsp_log.specs.Log.{Record}
-use Rattle.lsp_replay.specs.declared.engines.Settings.{Settings}
-use Rattle.lsp_replay.specs.declared.engines.traced.Details.{Details}
+use Rattle.lsp_replay.specs.declared.commands.Settings.{Settings}
+use Rattle.lsp_replay.specs.declared.commands.traced.Details.{Details}
 use Rattle.lsp_replay.specs.declared.notes.Note.{Note}
 use Rattle.lsp_replay.specs.RunOutput.{RunOutput}
-use Rattle.lsp_replay.specs.Engines.{as_log, canonical_of_record, change_in, log_config, report, report_from, verdict_word, verdicts}
+use Rattle.lsp_replay.specs.Commands.{as_log, canonical_of_record, change_in, log_config, report, report_from, verdict_word, verdicts}
 use Rattle.lsp_replay.specs.Lines.{Known, LineView, lines_in, nothing_known, uri_of}
 use Rattle.lsp_replay.specs.Mentions.{last_for}
 use Rattle.lsp_replay.specs.Notes.{notes_of, notes_words}

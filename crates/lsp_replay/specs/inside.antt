@@ -11,9 +11,9 @@ pub mod Progress
 pub mod Verdicts
 pub mod Documents
 pub mod Engine
-pub mod Engines
 pub mod Run
 pub mod Reads
 pub mod RunOutput
 pub mod Squashed
 pub mod Tracing
+pub mod Commands

@@ -1,17 +1,302 @@
-//! The commands, each as what it does with a record and at the end of a log. `front` writes
-//! what comes before a record's frame, `reasons` why a record was refused, and
-//! `noted` what is suspicious of one that was accepted.
+//! The calls: each is an engine, from a reader to a writer, over a server.
+//!
+//! Each contract says what the output and the result are by all records that are complete in the
+//! bytes that were read (`all_records`).
 
-pub(crate) mod checking;
-pub(crate) mod converting;
-pub(crate) mod documents;
-pub(crate) mod explaining;
-mod front;
-pub(crate) mod normalising;
-pub(crate) mod noted;
-pub(crate) mod partial;
-pub(crate) mod reasons;
-pub(crate) mod replaying;
-pub(crate) mod serving;
-pub(crate) mod squashing;
-pub(crate) mod tracing;
+ghost use Rattle.std.specs.Prelude.{◌≡◌, true, false};
+ghost use Rattle.lsp_frame.specs.Limits.{AreInRange};
+ghost use Rattle.lsp_stream.specs.Ports.{ports};
+ghost use Rattle.lsp_replay.specs.Commands.{log_config};
+ghost use Rattle.lsp_replay.specs.Laws.{IsConverted, IsCanonicalLog, IsSquashed};
+ghost use Rattle.lsp_replay.specs.Run.{IsEngineRun, WritesLog};
+ghost use Rattle.lsp_replay.specs.Run.{serve_engine, check_engine, replay_engine, normalise_engine, convert_engine};
+ghost use Rattle.lsp_replay.specs.inside.Run.{each_engine, squash_engine};
+
+mod documents;
+mod explained;
+mod parts;
+mod traced;
+
+pub use crate::commands::documents::normalise_documents;
+pub use crate::commands::explained::explain;
+pub use crate::commands::parts::{Part, replay_part};
+pub use crate::commands::traced::{Details, trace};
+use crate::engine::{InputRules, run_engine, run_on};
+use crate::handler::checking::Check;
+use crate::handler::converting::Convert;
+use crate::handler::normalising::Normalise;
+use crate::handler::replaying::Replay;
+use crate::handler::serving::Serve;
+use crate::handler::squashing::Squashing;
+use crate::outcome::Outcome;
+use lsp_frame::Limits;
+use lsp_server::{ChangeForm, Config, EncodingChoice};
+use lsp_stream::{Duplex, EngineFault, Sink, Source};
+use lsp_text::Encoding;
+use std::alloc::Global;
+
+/// How a log is read.
+#[derive(Clone, Copy, Debug, PartialEq, Eq)]
+pub struct Settings {
+    pub limits: Limits,
+    /// The encoding of positions in a log of version 1; one of version 2 says its own.
+    pub encoding: Encoding,
+    /// Does [`normalise`] write changes of one document that follow each other as one message? The
+    /// other commands ignore it.
+    pub squash: bool,
+}
+
+impl Default for Settings {
+    ghost use Rattle.lsp_replay.specs.Commands.{default_settings};
+
+    ghost is_default = { λ settings. settings ≡ default_settings };
+
+    /// The default limits, UTF-16, and each change as a message of its own.
+    fn default() -> Settings {
+        Settings {
+            limits: Limits::default(),
+            encoding: Encoding::Utf16,
+            squash: false,
+        }
+    }
+}
+
+impl Settings {
+    /// The server of a log command.
+    fn config(&self) -> Config
+        ensures value { result ≡ log_config self.now }
+        ensures in_range { AreInRange self.now.limits }
+    {
+        // States that the limits are in their ranges.
+        let _ = self.limits.max_body();
+        Config {
+            limits: self.limits,
+            choice: EncodingChoice::Fixed(self.encoding),
+            sync: ChangeForm::Incremental,
+        }
+    }
+
+    /// Are the changes of a run written as one message?
+    fn joins_runs(&self) -> bool
+        ensures { result ≡ self.now.squash }
+    {
+        self.squash
+    }
+
+    /// How the log is read. With `only_one` version 2 is refused.
+    fn rules(&self, only_one: bool) -> InputRules
+        ensures { result
+            ≡ record { limits = self.now.limits; versions = true; only_one = only_one } }
+    {
+        InputRules {
+            limits: self.limits,
+            versions: true,
+            only_one,
+        }
+    }
+}
+
+/// Runs a server's end of a session (LSP 3.17, Lifecycle Messages). Writes each reply as soon as
+/// the client's message is complete, and flushes it before more is read ([`serve_on`] has that as a
+/// clause). Ends at `exit`, with its status, and reads nothing after it. If the input ends without
+/// one, the status is 1.
+///
+/// # Errors
+/// Each fault of [`EngineFault`], but [`EngineFault::BodyTooLong`] and [`EngineFault::BadLog`]. A
+/// message that the server refuses is no fault.
+///
+/// # Costs
+/// At most `max_turns` reads, writes and flushes. The time is linear in the input, plus what the
+/// messages cost. Memory is for the open documents, one message and one piece of 65,536 bytes.
+pub fn serve<R: Source, W: Sink>(
+    alloc: Global,
+    reader: &mut R,
+    writer: &mut W,
+    config: Config,
+    max_turns: u64,
+) -> Result<Outcome, EngineFault>
+    ensures run { IsEngineRun (serve_engine config) max_turns
+        (ports (R.seen reader.old) (W.seen writer.old))
+        (ports (R.seen reader.new) (W.seen writer.new)) result }
+{
+    let mut ends = Duplex::new(reader, writer);
+    serve_on(alloc, &mut ends, config, max_turns)
+}
+
+/// Runs [`serve`] over both ends of a connection. Each read comes after all that was written is
+/// passed on, so [`Duplex::read_early`] stays as it was. The writer must have passed on all that it
+/// took before.
+pub fn serve_on<R: Source, W: Sink>(
+    alloc: Global,
+    ends: &mut Duplex<'_, R, W>,
+    config: Config,
+    max_turns: u64,
+) -> Result<Outcome, EngineFault>
+    ensures run { IsEngineRun (serve_engine config) max_turns
+        (ports (R.seen ends.old.reader.now) (W.seen ends.old.writer.now))
+        (ports (R.seen ends.new.reader.now) (W.seen ends.new.writer.now)) result }
+    // No read came before all that was written was passed on.
+    ensures in_time { (W.seen ends.old.writer.now).flushed ≡ true →
+        ends.new.read_early ≡ ends.old.read_early }
+    ensures same_reader { ends.new.reader.ghost_name ≡ ends.old.reader.ghost_name }
+    ensures same_writer { ends.new.writer.ghost_name ≡ ends.old.writer.ghost_name }
+{
+    let rules = InputRules {
+        limits: config.limits,
+        versions: false,
+        only_one: false,
+    };
+    let mut serve = Serve::new(alloc, config);
+    run_on(alloc, ends, &mut serve, rules, max_turns)
+}
+
+/// Writes a line for each record of a log, with its number, from 1, and a word for what a server
+/// answers to it. It is written as soon as the record is complete. The status is 1 if something was
+/// refused, else 0.
+///
+/// Errors, costs and memory are those of [`serve`], and [`EngineFault::BadLog`].
+pub fn check<R: Source, W: Sink>(
+    alloc: Global,
+    reader: &mut R,
+    writer: &mut W,
+    settings: Settings,
+    max_turns: u64,
+) -> Result<Outcome, EngineFault>
+    ensures run { IsEngineRun (check_engine settings) max_turns
+        (ports (R.seen reader.old) (W.seen writer.old))
+        (ports (R.seen reader.new) (W.seen writer.new)) result }
+{
+    let rules = settings.rules(false);
+    let mut check = Check::new(alloc, settings.config());
+    run_engine(alloc, reader, writer, &mut check, rules, max_turns)
+}
+
+/// Writes the documents that are open at the end of a log: a line of JSON for each, in order of
+/// opening. The status is 1 if something was refused, else 0. After a fault while reading nothing
+/// is written.
+///
+/// Errors, costs and memory are those of [`serve`], and [`EngineFault::BadLog`].
+pub fn replay<R: Source, W: Sink>(
+    alloc: Global,
+    reader: &mut R,
+    writer: &mut W,
+    settings: Settings,
+    max_turns: u64,
+) -> Result<Outcome, EngineFault>
+    ensures run { IsEngineRun (replay_engine settings) max_turns
+        (ports (R.seen reader.old) (W.seen writer.old))
+        (ports (R.seen reader.new) (W.seen writer.new)) result }
+{
+    let rules = settings.rules(false);
+    let mut replay = Replay::new(alloc, settings.config());
+    run_engine(alloc, reader, writer, &mut replay, rules, max_turns)
+}
+
+/// Makes a log of version 2 of a log of version 1. Writes the line of version 2, then each record
+/// with its mark, and after it the server's reply, if there is one. The status is 1 if something
+/// was refused, else 0. A log of version 2 is refused as soon as its line was read.
+///
+/// Errors, costs and memory are those of [`serve`], and [`EngineFault::BadLog`].
+pub fn convert<R: Source, W: Sink>(
+    alloc: Global,
+    reader: &mut R,
+    writer: &mut W,
+    settings: Settings,
+    max_turns: u64,
+) -> Result<Outcome, EngineFault>
+    ensures run { IsEngineRun (convert_engine settings) max_turns
+        (ports (R.seen reader.old) (W.seen writer.old))
+        (ports (R.seen reader.new) (W.seen writer.new)) result }
+    // What was written is a log of which `replay` reports the same, where no reply in it is over
+    // the limit.
+    ensures converted { WritesLog settings (IsConverted settings)
+        (ports (R.seen reader.old) (W.seen writer.old))
+        (ports (R.seen reader.new) (W.seen writer.new)) result }
+{
+    let rules = settings.rules(true);
+    let mut convert = Convert::new(alloc, settings.config());
+    run_engine(alloc, reader, writer, &mut convert, rules, max_turns)
+}
+
+/// Writes a log in which each accepted change is its canonical message, and everything else is as
+/// it was, byte for byte. The status is 1 if something was refused, else 0.
+///
+/// With `squash` accepted changes of one document, with no other record between them, are a run. A
+/// run is written once it has ended: as the one canonical message of all its batches, under the
+/// last version. If that message has more than `max_changes` changes, or its body is over the
+/// limit, each change is written as without squash.
+///
+/// # Errors
+/// [`EngineFault::BodyTooLong`] at an accepted change whose canonical body is over the limit,
+/// [`EngineFault::BadLog`], and those of [`serve`]. After a fault a run that hasn't ended isn't
+/// written.
+///
+/// # Costs
+/// Those of [`serve`]. With `squash` a run of k changes costs some k log k more. It keeps the run's
+/// old text, its canonical messages, and its batches together.
+pub fn normalise<R: Source, W: Sink>(
+    alloc: Global,
+    reader: &mut R,
+    writer: &mut W,
+    settings: Settings,
+    max_turns: u64,
+) -> Result<Outcome, EngineFault>
+    ensures run { IsEngineRun (normalise_engine settings) max_turns
+        (ports (R.seen reader.old) (W.seen writer.old))
+        (ports (R.seen reader.new) (W.seen writer.new)) result }
+    // Without squash, what was written is a log of which `replay` reports the same, and its own
+    // canonical form.
+    ensures canonical_log { settings.squash ≡ false → WritesLog settings (IsCanonicalLog settings)
+        (ports (R.seen reader.old) (W.seen writer.old))
+        (ports (R.seen reader.new) (W.seen writer.new)) result }
+    // With squash, it is a log of which `replay` reports the same documents and the same status,
+    // and its own squashed form.
+    ensures squashed { settings.squash ≡ true → WritesLog settings (IsSquashed settings)
+        (ports (R.seen reader.old) (W.seen writer.old))
+        (ports (R.seen reader.new) (W.seen writer.new)) result }
+{
+    if settings.joins_runs() {
+        return normalise_squashed(alloc, reader, writer, settings, max_turns);
+    }
+    normalise_each(alloc, reader, writer, settings, max_turns)
+}
+
+/// Runs `normalise` without squash.
+fn normalise_each<R: Source, W: Sink>(
+    alloc: Global,
+    reader: &mut R,
+    writer: &mut W,
+    settings: Settings,
+    max_turns: u64,
+) -> Result<Outcome, EngineFault>
+    ensures run { IsEngineRun (each_engine settings) max_turns
+        (ports (R.seen reader.old) (W.seen writer.old))
+        (ports (R.seen reader.new) (W.seen writer.new)) result }
+    ensures canonical_log { WritesLog settings (IsCanonicalLog settings)
+        (ports (R.seen reader.old) (W.seen writer.old))
+        (ports (R.seen reader.new) (W.seen writer.new)) result }
+{
+    let rules = settings.rules(false);
+    let mut normalise = Normalise::new(alloc, settings.config());
+    run_engine(alloc, reader, writer, &mut normalise, rules, max_turns)
+}
+
+/// Runs `normalise` with squash.
+fn normalise_squashed<R: Source, W: Sink>(
+    alloc: Global,
+    reader: &mut R,
+    writer: &mut W,
+    settings: Settings,
+    max_turns: u64,
+) -> Result<Outcome, EngineFault>
+    ensures run { IsEngineRun (squash_engine settings) max_turns
+        (ports (R.seen reader.old) (W.seen writer.old))
+        (ports (R.seen reader.new) (W.seen writer.new)) result }
+    ensures squashed { WritesLog settings (IsSquashed settings)
+        (ports (R.seen reader.old) (W.seen writer.old))
+        (ports (R.seen reader.new) (W.seen writer.new)) result }
+{
+    let rules = settings.rules(false);
+    let mut squashing = Squashing::new(alloc, settings.config());
+    run_engine(alloc, reader, writer, &mut squashing, rules, max_turns)
+}

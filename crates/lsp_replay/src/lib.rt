@@ -1,14 +1,13 @@
 //! The engines of the log commands and of a server: each runs from a reader to a writer, over a
 //! server's end. The streams (`lsp_stream`) are re-exported.
 //!
-//! - `engines`: `serve` and `serve_on`, `check` and `explain`, `trace`, `replay` and `replay_part`,
+//! - `commands`: `serve` and `serve_on`, `check` and `explain`, `trace`, `replay` and `replay_part`,
 //!   `normalise` and `normalise_documents`, and `convert`.
-//! - `engine`: the one loop from a reader to a writer; a `handler` makes the output of each record
-//!   and of the end.
+//! - `engine`: the one loop from a reader to a writer.
 //! - `session`: a server over the records of a log, and what is counted.
-//! - `commands`: the handlers, `serving`, `checking`, `explaining`, `tracing`, `replaying`, `partial`
-//!   (of a part of a log), `normalising`, `squashing`, `documents` (of records that stay) and
-//!   `converting`.
+//! - `handler`: what is written for each record and for the end. Its modules are the handlers,
+//!   `serving`, `checking`, `explaining`, `tracing`, `replaying`, `partial` (of a part of a log),
+//!   `normalising`, `squashing`, `documents` (of records that stay) and `converting`.
 //! - `members`: what a line of JSON is put together from.
 //! - `mentions`: which record opened, closed or refused a document last.
 //! - `notes`: what of an accepted message is suspicious.
@@ -18,7 +17,6 @@
 
 mod commands;
 mod engine;
-mod engines;
 mod handler;
 mod laws;
 mod members;
@@ -27,7 +25,7 @@ mod notes;
 mod outcome;
 mod session;
 
-pub use engines::{
+pub use commands::{
     Details, Part, Settings, check, convert, explain, normalise, normalise_documents, replay,
     replay_part, serve, serve_on, trace,
 };

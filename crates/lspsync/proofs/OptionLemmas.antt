@@ -4,8 +4,8 @@ use Rattle.std.specs.Prelude.{codes, Option, Some, None, IfSome, IsSome, Result,
 use Rattle.std.specs.Str.Parse.{IsNumeral, digits_value, without_leading_plus}
 use Rattle.clap.specs.Matches.{ReadsOne, found_of, one_text}
 use Rattle.clap.specs.declared.parser.matches.ArgMatches.{ArgMatches}
-use Rattle.lsp_replay.specs.declared.engines.Settings.{Settings}
-use Rattle.lsp_replay.specs.declared.engines.parts.Part.{Part}
+use Rattle.lsp_replay.specs.declared.commands.Settings.{Settings}
+use Rattle.lsp_replay.specs.declared.commands.parts.Part.{Part}
 use Rattle.lspsync.specs.Call.{AreSettings, HasNumber, HasNumberOrNone, IsCallNamed, IsLogPart, is_whole, whole}
 use Rattle.lspsync.specs.declared.command_line.Call.{Call}
 use Rattle.lspsync.specs.declared.command_line.Call.TheVariants as call

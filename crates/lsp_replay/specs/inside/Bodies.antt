@@ -10,7 +10,7 @@ use Rattle.lsp_server.specs.Incoming.{IncomingData, did_change, incoming_of}
 use Rattle.lsp_server.specs.Seen.{incoming_view}
 use Rattle.lsp_replay.specs.declared.session.RecordBody.{RecordBody}
 use Rattle.lsp_replay.specs.declared.session.RecordBody.TheVariants.{Client, Server}
-use Rattle.lsp_replay.specs.Engines.{change_in, canonical_if}
+use Rattle.lsp_replay.specs.Commands.{change_in, canonical_if}
 use Rattle.lsp_replay.specs.Session.{Session, Judged, Verdict, counted, judge_incoming, hear_for}
 
 -- What a client's record in a log of a version asks of the server, or the body of a server's

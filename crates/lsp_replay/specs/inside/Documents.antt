@@ -1,9 +1,9 @@
 -- What only proofs and private contracts use of `Documents`.
 use Rattle.std.specs.Prelude.{List, None, false}
 use Rattle.lsp_log.specs.Log.{Record}
-use Rattle.lsp_replay.specs.declared.engines.Settings.{Settings}
+use Rattle.lsp_replay.specs.declared.commands.Settings.{Settings}
 use Rattle.lsp_replay.specs.Documents.{Selection, kept_in, nothing_selected, output_of_kept}
-use Rattle.lsp_replay.specs.Engines.{as_log, log_config, normalising, run_output_in}
+use Rattle.lsp_replay.specs.Commands.{as_log, log_config, normalising, run_output_in}
 use Rattle.lsp_replay.specs.Run.{Engine}
 use Rattle.lsp_replay.specs.RunOutput.{RunOutput}
 use Rattle.lsp_replay.specs.Session.{Session, opened}

@@ -3,7 +3,7 @@ use Rattle.std.specs.Prelude.{ℕ, ◌++◌, List, codes, decimal, option_map}
 use Rattle.std.specs.String.{string_bytes}
 use Rattle.lsp_server.specs.Incoming.{IncomingData}
 use Rattle.lsp_replay.specs.declared.session.known.Noted.{Noted}
-use Rattle.lsp_replay.specs.Engines.{change_in, verdict_word}
+use Rattle.lsp_replay.specs.Commands.{change_in, verdict_word}
 use Rattle.lsp_replay.specs.Explained.{explanation, remark}
 use Rattle.lsp_replay.specs.Session.{Session}
 use Rattle.lsp_replay.specs.inside.Verdicts.{verdict_view}

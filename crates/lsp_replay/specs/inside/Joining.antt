@@ -10,7 +10,7 @@ use Rattle.lsp_server.specs.Answer.{changed}
 use Rattle.lsp_server.specs.Step.{State, edit_from_data, session_encoding}
 use Rattle.lsp_replay.specs.declared.session.joining.Writing.{Writing}
 use Rattle.lsp_replay.specs.declared.session.joining.Writing.TheVariants.{AsItIs, TooLong, Continues, Begins}
-use Rattle.lsp_replay.specs.Engines.{canonical_if, canonical_change_body}
+use Rattle.lsp_replay.specs.Commands.{canonical_if, canonical_change_body}
 use Rattle.lsp_replay.specs.Session.{Verdict, answered}
 use Rattle.lsp_replay.specs.Squashed.{joined_by}
 

@@ -1,7 +1,7 @@
 -- What only proofs and private contracts use of `Parts`.
 use Rattle.std.specs.Prelude.{ℕ, List, Option, option_map}
 use Rattle.std.specs.String.{string_bytes}
-use Rattle.lsp_replay.specs.declared.commands.partial.ReplayPart.{ReplayPart}
+use Rattle.lsp_replay.specs.declared.handler.partial.ReplayPart.{ReplayPart}
 use Rattle.lsp_replay.specs.Parts.{last_text_in, part_of}
 
 -- The last text of the part's document, by the text that was kept when it was closed.

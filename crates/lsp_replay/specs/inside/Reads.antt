@@ -10,7 +10,7 @@ use Rattle.lsp_replay.specs.declared.session.joining.Writing.{Writing}
 use Rattle.lsp_replay.specs.declared.session.selecting.Selected.{Selected}
 use Rattle.lsp_replay.specs.declared.session.writing.Appended.{Appended}
 use Rattle.lsp_replay.specs.Documents.{Selection, after_kept, after_left_out, is_answer_to, is_due, message_stays, record_stays, waiting_for}
-use Rattle.lsp_replay.specs.Engines.{canonical_of_record, change_in}
+use Rattle.lsp_replay.specs.Commands.{canonical_of_record, change_in}
 use Rattle.lsp_replay.specs.Session.{Session, bad, judge_at, same_id}
 use Rattle.lsp_replay.specs.inside.Bodies.{BodyData, body_read, body_view, from_client, from_server}
 use Rattle.lsp_replay.specs.inside.Joining.{IsWriting}

@@ -4,11 +4,11 @@ use Rattle.std.specs.String.{string_bytes}
 use Rattle.lsp_log.specs.declared.record.Head.{Head}
 use Rattle.lsp_message.specs.Message.{reading}
 use Rattle.lsp_server.specs.Incoming.{IncomingData, incoming_of}
-use Rattle.lsp_replay.specs.declared.engines.traced.Details.{Details}
+use Rattle.lsp_replay.specs.declared.commands.traced.Details.{Details}
 use Rattle.lsp_replay.specs.declared.session.tracing.Traced.{Traced}
 use Rattle.lsp_replay.specs.declared.session.writing.Appended.{Appended}
 use Rattle.lsp_replay.specs.declared.session.writing.Appended.TheVariants.{Body}
-use Rattle.lsp_replay.specs.Engines.{canonical_of_record, verdict_word}
+use Rattle.lsp_replay.specs.Commands.{canonical_of_record, verdict_word}
 use Rattle.lsp_replay.specs.Lines.{Known}
 use Rattle.lsp_replay.specs.Session.{Session, judge_at}
 use Rattle.lsp_replay.specs.Trace.{body_json, document_after, is_changed, is_json, last_members, notes_json, reason_json, text_json, version_json}

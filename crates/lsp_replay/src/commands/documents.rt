@@ -1,143 +1,87 @@
-//! `normalise` of the records that are about the session and the documents' texts. All others are
-//! left out.
+//! `normalise` of the records that are about the session and the documents' texts.
 
-ghost use Rattle.std.specs.Prelude.{◌≡◌, ◌||◌, refl, false};
-ghost use Rattle.lsp_replay.specs.Documents.{nothing_selected};
-ghost use Rattle.lsp_replay.specs.Session.{opened};
-ghost use Rattle.lsp_replay.specs.inside.Documents.{each_of_kept, squashed_of_kept};
+ghost use Rattle.std.specs.Prelude.{◌≡◌, false, true};
+ghost use Rattle.lsp_stream.specs.Ports.{ports};
+ghost use Rattle.lsp_replay.specs.Documents.{WritesDocuments, documents_engine};
+ghost use Rattle.lsp_replay.specs.Run.{IsEngineRun};
+ghost use Rattle.lsp_replay.specs.inside.Documents.{each_documents_engine, squashed_documents_engine};
 
-use crate::commands::front::push_line;
-use crate::commands::normalising::Normalise;
-use crate::commands::squashing::Squashing;
-use crate::handler::{Given, Handler, Output};
+use crate::commands::Settings;
+use crate::engine::run_engine;
+use crate::handler::documents::{Documents, SquashedDocuments};
 use crate::outcome::Outcome;
-use crate::session::selecting::Selection;
-use lsp_log::Head;
-use lsp_server::Config;
-use lsp_stream::EngineFault;
+use lsp_stream::{EngineFault, Sink, Source};
 use std::alloc::Global;
 
-/// The output of a record that is left out, and with squash that of each record.
-const FILLED: Given = Given {
-    output: Output::Bytes,
-    end: None,
-};
-
-/// Writes each record that stays as `normalise` does.
-#[derive(Drop)]
-pub struct Documents {
-    pub normalise: Normalise,
-    pub selection: Selection,
+/// Writes a log as [`normalise`](crate::normalise) does, and leaves out each record that is neither
+/// about the session nor about a document's text. So with `squash` all that was done to a document
+/// between two saves becomes one message.
+///
+/// Of the client's messages these stay: `initialize`, `initialized`, `shutdown`, `exit`, `didOpen`,
+/// `didChange`, `didClose`, `didSave`, and each that is refused (LSP 3.17, Lifecycle Messages, Text
+/// Document Synchronization). Of the server's records the response to the last request that stayed
+/// stays. The status is 1 if something was refused, else 0. The counts are those of the records
+/// that stay.
+///
+/// Errors and costs are those of [`normalise`](crate::normalise).
+pub fn normalise_documents<R: Source, W: Sink>(
+    alloc: Global,
+    reader: &mut R,
+    writer: &mut W,
+    settings: Settings,
+    max_turns: u64,
+) -> Result<Outcome, EngineFault>
+    ensures run { IsEngineRun (documents_engine settings) max_turns
+        (ports (R.seen reader.old) (W.seen writer.old))
+        (ports (R.seen reader.new) (W.seen writer.new)) result }
+    // What was written is a log of which `replay` reports the same documents, the same status and
+    // as many refusals.
+    ensures documents { WritesDocuments settings
+        (ports (R.seen reader.old) (W.seen writer.old))
+        (ports (R.seen reader.new) (W.seen writer.new)) result }
+{
+    if settings.joins_runs() {
+        return documents_squashed(alloc, reader, writer, settings, max_turns);
+    }
+    documents_each(alloc, reader, writer, settings, max_turns)
 }
 
-impl Documents {
-    /// Starts before the first record, over a new server.
-    pub fn new(alloc: Global, config: Config) -> Documents
-        ensures session { result.normalise.session ≡ opened config }
-        ensures selection { result.selection ≡ nothing_selected }
-    {
-        Documents {
-            normalise: Normalise::new(alloc, config),
-            selection: Selection::new(),
-        }
-    }
+/// Runs `normalise_documents` without squash.
+fn documents_each<R: Source, W: Sink>(
+    alloc: Global,
+    reader: &mut R,
+    writer: &mut W,
+    settings: Settings,
+    max_turns: u64,
+) -> Result<Outcome, EngineFault>
+    ensures run { IsEngineRun (each_documents_engine settings) max_turns
+        (ports (R.seen reader.old) (W.seen writer.old))
+        (ports (R.seen reader.new) (W.seen writer.new)) result }
+    ensures documents { settings.squash ≡ false → WritesDocuments settings
+        (ports (R.seen reader.old) (W.seen writer.old))
+        (ports (R.seen reader.new) (W.seen writer.new)) result }
+{
+    let rules = settings.rules(false);
+    let mut documents = Documents::new(alloc, settings.config());
+    run_engine(alloc, reader, writer, &mut documents, rules, max_turns)
 }
 
-impl Handler for Documents {
-    ghost run_output = { λ documents.
-        each_of_kept documents.normalise.session documents.selection };
-
-    ghost FLUSHES = { false };
-
-    const FLUSHES: bool = false;
-
-    ghost parts = { λ documents. 0 };
-
-    ghost silent = { λ _. refl };
-
-    ghost unstopped = { λ _. refl };
-
-    fn handle(
-        &mut self,
-        head: Head,
-        raw: &[u8],
-        body: &[u8],
-        buffer: &mut Vec<u8>,
-    ) -> Result<Given, EngineFault> {
-        let session = &mut self.normalise.session;
-        let Some(selected) = self.selection.select(session, head, body)? else {
-            return Ok(FILLED);
-        };
-        let (head, read) = (selected.head, selected.read);
-        let output = self.normalise.write_read(head, raw, read, buffer)?;
-        Ok(Given::more(output))
-    }
-
-    fn finish(
-        &mut self,
-        line_due: bool,
-        buffer: &mut Vec<u8>,
-    ) -> Result<Option<Outcome>, EngineFault> {
-        push_line(buffer, self.selection.is_due() || line_due)?;
-        Ok(Some(self.normalise.session.outcome()))
-    }
-}
-
-/// Writes the records that stay as `normalise` does with squash.
-#[derive(Drop)]
-pub struct SquashedDocuments {
-    pub squashing: Squashing,
-    pub selection: Selection,
-}
-
-impl SquashedDocuments {
-    /// Starts before the first record, over a new server.
-    pub fn new(alloc: Global, config: Config) -> SquashedDocuments
-        ensures squashing { result.squashing ≡ record { session = opened config; run = None } }
-        ensures selection { result.selection ≡ nothing_selected }
-    {
-        SquashedDocuments {
-            squashing: Squashing::new(alloc, config),
-            selection: Selection::new(),
-        }
-    }
-}
-
-impl Handler for SquashedDocuments {
-    ghost run_output = { λ documents. squashed_of_kept documents.squashing documents.selection };
-
-    ghost FLUSHES = { false };
-
-    const FLUSHES: bool = false;
-
-    ghost parts = { λ documents. 0 };
-
-    ghost silent = { λ _. refl };
-
-    ghost unstopped = { λ _. refl };
-
-    fn handle(
-        &mut self,
-        head: Head,
-        raw: &[u8],
-        body: &[u8],
-        buffer: &mut Vec<u8>,
-    ) -> Result<Given, EngineFault> {
-        let Some(selected) = self.squashing.select(&mut self.selection, head, body)? else {
-            return Ok(FILLED);
-        };
-        let (head, read) = (selected.head, selected.read);
-        self.squashing.write_read(head, raw, read, buffer)?;
-        Ok(FILLED)
-    }
-
-    fn finish(
-        &mut self,
-        line_due: bool,
-        buffer: &mut Vec<u8>,
-    ) -> Result<Option<Outcome>, EngineFault> {
-        self.squashing.push_open(buffer)?;
-        push_line(buffer, self.selection.is_due() || line_due)?;
-        Ok(Some(self.squashing.outcome()))
-    }
+/// Runs `normalise_documents` with squash.
+fn documents_squashed<R: Source, W: Sink>(
+    alloc: Global,
+    reader: &mut R,
+    writer: &mut W,
+    settings: Settings,
+    max_turns: u64,
+) -> Result<Outcome, EngineFault>
+    ensures run { IsEngineRun (squashed_documents_engine settings) max_turns
+        (ports (R.seen reader.old) (W.seen writer.old))
+        (ports (R.seen reader.new) (W.seen writer.new)) result }
+    ensures documents { settings.squash ≡ true → WritesDocuments settings
+        (ports (R.seen reader.old) (W.seen writer.old))
+        (ports (R.seen reader.new) (W.seen writer.new)) result }
+{
+    let rules = settings.rules(false);
+    let mut documents = SquashedDocuments::new(alloc, settings.config());
+    run_engine(alloc, reader, writer, &mut documents, rules, max_turns)
 }

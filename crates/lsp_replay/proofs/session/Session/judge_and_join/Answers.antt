@@ -2,7 +2,7 @@ use Rattle.std.proofs.Common.{sym, subst, refl}
 use Rattle.lsp_message.specs.Message.{reading}
 use Rattle.lsp_message.specs.Seen.{change_view}
 use Rattle.lsp_server.specs.Incoming.{incoming_of}
-use Rattle.lsp_replay.specs.Engines.{change_in}
+use Rattle.lsp_replay.specs.Commands.{change_in}
 use Rattle.lsp_replay.specs.Session.{Session, Verdict}
 use Rattle.lsp_replay.specs.inside.Bodies.{body_view}
 use Rattle.lsp_replay.specs.inside.Joining.{IsOpenAfter, IsWriting}

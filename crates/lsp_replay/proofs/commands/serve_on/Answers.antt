@@ -1,0 +1,14 @@
+use Rattle.std.proofs.Common.{false, refl}
+use Rattle.lsp_replay.specs.Session.{opened}
+use Rattle.lsp_replay.specs.Commands.{serving}
+use Rattle.lsp_replay.proofs.RunReportLemmas.{run_of}
+use Rattle.lsp_replay.proofs.commands.serve_on.Goals as goal
+
+pub returns-clause-run : goal.returns-clause-run
+returns-clause-run g c =
+    let run = rw c.new-serve.ensures.session at c.run_on.ensures.run in
+    let whole = rw c.new-serve.ensures.session at c.run_on.ensures.whole in
+    run_of c.run_on.ensures.first c.run_on.ensures.version serving (opened c.args.config) false run (λ _. whole (λ _. refl))
+
+pub returns-clause-in_time : goal.returns-clause-in_time
+returns-clause-in_time g c = c.run_on.ensures.in_time refl

@@ -1,0 +1,297 @@
+-- The output of each engine for the records of a log.
+use Rattle.std.specs.Prelude.{ℕ, Bool, true, false, ◌==◌, ◌++◌, if◌then◌else◌, nat_lt, length, map, drop, List, [], ◌∷◌, Option, Some, None, Result, Ok, Err, codes, decimal, flat_map}
+use Rattle.lsp_frame.specs.Frame.{frame}
+use Rattle.lsp_frame.specs.Limits.{default_limits}
+use Rattle.lsp_text.specs.declared.encoding.Encoding.TheVariants.{Utf16}
+use Rattle.lsp_text.specs.Units.{units_in}
+use Rattle.lsp_edit.specs.declared.fault.EditFault.{EditFault}
+use Rattle.lsp_edit.specs.declared.fault.EditFault.TheVariants.{InsideCharacter, ReversedRange, NoMemory as NoMemoryToEdit}
+use Rattle.lsp_message.specs.declared.outgoing.ErrorCode.{ErrorCode}
+use Rattle.lsp_message.specs.declared.outgoing.ErrorCode.TheVariants.{ParseError, InvalidRequest, MethodNotFound, InvalidParams, ServerNotInitialized}
+use Rattle.lsp_message.specs.Message.{reading}
+use Rattle.lsp_message.specs.Outgoing.{document_text}
+use Rattle.lsp_message.specs.Params.{DocumentItem, ChangeData}
+use Rattle.lsp_store.specs.Message.{canonical_body}
+use Rattle.lsp_store.specs.declared.fault.StoreFault.{StoreFault}
+use Rattle.lsp_store.specs.declared.fault.StoreFault.TheVariants.{AlreadyOpen, TooManyDocuments, TextTooLong, NotOpen, StaleVersion, TooManyChanges, Edit}
+use Rattle.lsp_server.specs.declared.answer.Refusal.{Refusal}
+use Rattle.lsp_server.specs.declared.answer.Refusal.TheVariants.{InvalidParams as BadParams, Store}
+use Rattle.lsp_server.specs.Incoming.{IncomingData, incoming_of, did_change}
+use Rattle.lsp_server.specs.Step.{State, session_encoding, edit_from_data}
+use Rattle.lsp_server.specs.Answer.{AnswerData, reply, changed, dropped, ignored, refused, exits, already_ended, Sent}
+use Rattle.lsp_replay.specs.declared.outcome.Outcome.{Outcome}
+use Rattle.lsp_stream.specs.declared.fault.EngineFault.{EngineFault}
+use Rattle.lsp_stream.specs.declared.fault.EngineFault.TheVariants.{BadLog, BodyTooLong}
+use Rattle.lsp_log.specs.declared.record.Head.{Head}
+use Rattle.lsp_log.specs.Log.{LogRules, Record, version_line, mark_of}
+use Rattle.lsp_replay.specs.RunOutput.{RunOutput, written_first, stopped}
+use Rattle.lsp_server.specs.declared.config.Config.{Config}
+use Rattle.lsp_server.specs.declared.config.EncodingChoice.TheVariants.{Fixed}
+use Rattle.lsp_server.specs.declared.config.ChangeForm.TheVariants.{Incremental}
+use Rattle.lsp_replay.specs.declared.commands.Settings.{Settings}
+use Rattle.lsp_replay.specs.Session.{Session, opened, Verdict, answered, recorded, bad, Judged, judge, outcome_of}
+
+-- ---- every engine judges the records by a session
+
+-- The output of a record, and the result with which it ends the run, if it does.
+pub record RecordOutput : Type 0 where
+  pub out : List ℕ
+  pub end : Option (Result Outcome EngineFault)
+
+-- Some output, after which the run continues.
+abbrev pub writes : List ℕ → RecordOutput
+writes out = record { out = out; end = None }
+
+-- Some output, after which the run ends with this result.
+abbrev pub ends : List ℕ → Result Outcome EngineFault → RecordOutput
+ends out answer = record { out = out; end = Some answer }
+
+-- A record's output, and then that of the records after it, unless the run has ended.
+abbrev pub continue_with : List ℕ → Option (Result Outcome EngineFault) → RunOutput → RunOutput
+continue_with out None c = written_first out c
+continue_with out (Some answer) c = stopped out answer
+
+-- How an engine reads a log. `record_output` is a record's output, from the session before it and
+-- the judgement of it. `end_output` is the output at the end, `outcome` the outcome then.
+pub record View : Type 0 where
+  pub record_output : Session → Record → Judged → RecordOutput
+  pub end_output : Session → Bool → List ℕ
+  pub outcome : Session → Outcome
+
+-- The output of an engine for records that a session judges one after another.
+abbrev pub run_output_in : View → Session → List Record → RunOutput
+run_output_in view s []
+    = record { out = []; stop = None; last = view.end_output s; outcome = view.outcome s }
+run_output_in view s (r ∷ rs) =
+    continue_with (view.record_output s r (judge s r)).out (view.record_output s r (judge s r)).end
+    (run_output_in view (judge s r).session rs)
+
+-- A record that can't be in a log ends the run of a log command, at the record's first byte.
+abbrev pub unless_bad : Record → Verdict → RecordOutput → RecordOutput
+unless_bad r bad given = ends [] (Err (BadLog r.head.place))
+unless_bad r verdict given = given
+
+-- ---- `serve`: each reply as it comes, up to `exit`
+
+-- A reply is written, and `exit` ends the run with its status.
+abbrev pub served : Session → AnswerData Sent → RecordOutput
+served s (reply m) = writes m.frame
+served s (exits status)
+    = ends [] (Ok (record (outcome_of s) { status = status }))
+served s answer = writes []
+
+-- The same by the judgement of a record. Only a client's record is answered.
+abbrev pub serve_output : Session → Verdict → RecordOutput
+serve_output s (answered answer) = served s answer
+serve_output s verdict = writes []
+
+-- If the input ends without `exit`, the status is 1.
+abbrev pub serving : View
+serving = record {
+  record_output = λ s r j. serve_output j.session j.verdict;
+  end_output = λ s line_due. [];
+  outcome = λ s. record (outcome_of s) { status = 1 };
+}
+
+-- ---- `check`: a line for each record, its number and a word
+
+-- The word of a reply: `reply`, or its error code (LSP 3.17, Response Message).
+abbrev pub code_word : Option ErrorCode → List ℕ
+code_word None = codes "reply"
+code_word (Some ParseError) = codes "error -32700"
+code_word (Some InvalidRequest) = codes "error -32600"
+code_word (Some MethodNotFound) = codes "error -32601"
+code_word (Some InvalidParams) = codes "error -32602"
+code_word (Some ServerNotInitialized) = codes "error -32002"
+
+-- The letters of a change that has no result, as docs/PROTOCOL.md lists them.
+abbrev pub edit_label : EditFault → List ℕ
+edit_label (InsideCharacter change side) = codes "E1"
+edit_label (ReversedRange change) = codes "E2"
+edit_label NoMemoryToEdit = []
+
+-- The letters of a command that the documents refuse.
+abbrev pub store_label : StoreFault → List ℕ
+store_label AlreadyOpen = codes "S1"
+store_label TooManyDocuments = codes "S2"
+store_label TextTooLong = codes "S3"
+store_label NotOpen = codes "S4"
+store_label (StaleVersion held) = codes "S5"
+store_label TooManyChanges = codes "S6"
+store_label (Edit fault) = edit_label fault
+store_label fault = []
+
+-- The letters of a refusal: those of invalid parameters, or of the documents.
+abbrev pub label : Refusal → List ℕ
+label BadParams = codes "M4"
+label (Store fault) = store_label fault
+
+-- The word of what a server answers to a message.
+abbrev pub word_of : AnswerData Sent → List ℕ
+word_of (reply m) = code_word m.code
+word_of changed = codes "changed"
+word_of dropped = codes "dropped"
+word_of ignored = codes "ignored"
+word_of (refused refusal) = codes "refused " ++ label refusal
+word_of (exits status) = codes "exit " ++ decimal status
+word_of already_ended = []
+
+-- The word of a record: `server` for one of the server's.
+abbrev pub verdict_word : Verdict → List ℕ
+verdict_word (answered answer) = word_of answer
+verdict_word recorded = codes "server"
+verdict_word bad = []
+
+-- A line of `check`: the record's number and its word.
+abbrev pub check_line : ℕ → Verdict → List ℕ
+check_line n verdict = decimal n ++ codes " " ++ verdict_word verdict ++ codes "\n"
+
+-- `check` writes a line for each record, and nothing at the end.
+abbrev pub checking : View
+checking = record {
+  record_output = λ s r j. unless_bad r j.verdict (writes (check_line j.session.records j.verdict));
+  end_output = λ s line_due. [];
+  outcome = outcome_of;
+}
+
+-- ---- `replay`: at the end a line for each open document, in order of opening
+
+-- A document's line: its object without spaces, as `textDocument/didOpen` has it, and a line feed.
+unfoldable pub document_line : DocumentItem → List ℕ
+document_line entry = document_text entry ++ codes "\n"
+
+-- The lines of the documents from an index on.
+abbrev pub report_from : ℕ → List DocumentItem → List ℕ
+report_from index table = flat_map document_line (drop index table)
+
+-- `replay` writes nothing for a record, and at the end the documents' lines from an index on.
+abbrev pub replaying_from : ℕ → View
+replaying_from index = record {
+  record_output = λ s r j. unless_bad r j.verdict (writes []);
+  end_output = λ s line_due. report_from index s.server.table;
+  outcome = outcome_of;
+}
+
+-- `replay` from the first document on.
+abbrev pub replaying : View
+replaying = replaying_from 0
+
+-- ---- `normalise`: each accepted change as its canonical message, and every other byte as it is
+
+-- The parameters of a `didChange`, if they are valid.
+abbrev pub change_in : IncomingData → Option ChangeData
+change_in (did_change params) = params
+change_in m = None
+
+-- The body of the canonical message of a batch on the documents of a server.
+abbrev pub canonical_change_body : State → ChangeData → List ℕ
+canonical_change_body server p
+    = canonical_body (units_in (session_encoding server)) server.table p.uri p.version
+    (map edit_from_data p.changes)
+
+-- The line of version 2, if it is due.
+abbrev pub line_if : Bool → List ℕ
+line_if line_due = if line_due then version_line else []
+
+-- The bytes before a record's frame: the line of version 2, if it is due, and the record's mark.
+abbrev pub front_of : Head → List ℕ
+front_of head = line_if head.line_due ++ mark_of head.version head.side
+
+-- The canonical body of an accepted change. Other records have none.
+abbrev pub canonical_if : State → Option ChangeData → Verdict → Option (List ℕ)
+canonical_if server (Some p) (answered changed) = Some (canonical_change_body server p)
+canonical_if server change verdict = None
+
+-- The same from the bytes of the record's body.
+abbrev pub canonical_of_record : Session → List ℕ → Verdict → Option (List ℕ)
+canonical_of_record s body verdict
+    = canonical_if s.server (change_in (incoming_of (reading body))) verdict
+
+-- A record is written with its own frame, or with the frame of its canonical body, unless that is
+-- too long.
+abbrev pub written : ℕ → Record → List ℕ → Option (List ℕ) → RecordOutput
+written max_body r front None = writes (front ++ r.raw)
+written max_body r front (Some body) = if nat_lt max_body (length body) then
+    ends [] (Err (BodyTooLong r.head.place)) else writes (front ++ frame body)
+
+-- The output of `normalise` for a record.
+abbrev pub canonical_output : Session → Record → Judged → RecordOutput
+canonical_output s r j
+    = written s.server.config.limits.max_body r (front_of r.head)
+    (canonical_of_record s r.body j.verdict)
+
+-- `normalise` writes each record, and at the end nothing. A log of version 2 without records is its
+-- line.
+abbrev pub normalising : View
+normalising = record {
+  record_output = λ s r j. unless_bad r j.verdict (canonical_output s r j);
+  end_output = λ s line_due. line_if line_due;
+  outcome = outcome_of;
+}
+
+-- ---- `convert`: a log of version 2, with the replies in it
+
+-- The record of a server's reply: its mark and its frame.
+abbrev pub reply_record : Verdict → List ℕ
+reply_record (answered (reply m)) = codes "<" ++ m.frame
+reply_record verdict = []
+
+-- The line of version 2 comes before the first record, or alone if there is none.
+abbrev pub line_before : Session → List ℕ
+line_before s = if s.records == 0 then version_line else []
+
+-- `convert` writes each record with its mark, and after it the reply.
+abbrev pub converting : View
+converting = record {
+  record_output = λ s r j.
+      unless_bad r j.verdict
+      (writes (line_before s ++ codes ">" ++ r.raw ++ reply_record j.verdict));
+  end_output = λ s line_due. line_before s;
+  outcome = outcome_of;
+}
+
+-- ---- the engines, from their settings and an input's records to their output
+
+-- The server of the log commands: it is incremental, with the encoding that the user names.
+abbrev pub log_config : Settings → Config
+log_config settings
+    = record { limits = settings.limits; choice = Fixed settings.encoding; sync = Incremental }
+
+-- How a log is read where a user sets nothing: by the default limits, in UTF-16, each change by
+-- itself.
+abbrev pub default_settings : Settings
+default_settings = record { limits = default_limits; encoding = Utf16; squash = false }
+
+-- The output of `serve`.
+abbrev pub replies : Config → List Record → RunOutput
+replies config = run_output_in serving (opened config)
+
+-- The output of `check`.
+abbrev pub verdicts : Settings → List Record → RunOutput
+verdicts settings = run_output_in checking (opened (log_config settings))
+
+-- The output of `replay`.
+abbrev pub report : Settings → List Record → RunOutput
+report settings = run_output_in replaying (opened (log_config settings))
+
+-- The output of `normalise` without squash.
+abbrev pub canonical_log : Settings → List Record → RunOutput
+canonical_log settings = run_output_in normalising (opened (log_config settings))
+
+-- The output of `convert`.
+abbrev pub converted : Settings → List Record → RunOutput
+converted settings = run_output_in converting (opened (log_config settings))
+
+-- How each input is read: `serve` reads frames without a log's line, and the log commands read both
+-- versions. `convert` refuses version 2.
+abbrev pub as_stream : Config → LogRules
+as_stream config = record { max_body = config.limits.max_body; versions = false; only_one = false }
+
+-- A log of either version.
+abbrev pub as_log : Settings → LogRules
+as_log settings = record { max_body = settings.limits.max_body; versions = true; only_one = false }
+
+-- A log, of which version 2 is refused.
+abbrev pub as_converted : Settings → LogRules
+as_converted settings
+    = record { max_body = settings.limits.max_body; versions = true; only_one = true }

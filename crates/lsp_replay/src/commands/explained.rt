@@ -1,0 +1,37 @@
+//! `check` with reasons.
+
+ghost use Rattle.std.specs.Prelude.{◌≡◌};
+ghost use Rattle.lsp_stream.specs.Ports.{ports};
+ghost use Rattle.lsp_replay.specs.Explained.{explain_engine};
+ghost use Rattle.lsp_replay.specs.Run.{IsEngineRun};
+
+use crate::commands::Settings;
+use crate::engine::run_engine;
+use crate::handler::explaining::Explain;
+use crate::outcome::Outcome;
+use lsp_stream::{EngineFault, Sink, Source};
+use std::alloc::Global;
+
+/// Writes a line for each record of a log, as [`check`](crate::check) does; where it was refused the
+/// document, why, and the record that opened, closed or refused the document last; where it is
+/// suspicious the document and notes; at the end what to do next. The status is 1 if something was
+/// refused, else 0.
+///
+/// Errors and memory are those of [`check`](crate::check), with the URIs of 64 documents more. A body
+/// that is refused or a change is read once more. The notes of a change of a range cost what the
+/// change costs, those of several changes a copy of the text.
+pub fn explain<R: Source, W: Sink>(
+    alloc: Global,
+    reader: &mut R,
+    writer: &mut W,
+    settings: Settings,
+    max_turns: u64,
+) -> Result<Outcome, EngineFault>
+    ensures run { IsEngineRun (explain_engine settings) max_turns
+        (ports (R.seen reader.old) (W.seen writer.old))
+        (ports (R.seen reader.new) (W.seen writer.new)) result }
+{
+    let rules = settings.rules(false);
+    let mut explain = Explain::new(alloc, settings.config());
+    run_engine(alloc, reader, writer, &mut explain, rules, max_turns)
+}

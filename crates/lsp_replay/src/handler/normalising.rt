@@ -1,0 +1,173 @@
+//! `normalise`: writes a log in which each accepted change is its canonical message.
+
+ghost use Rattle.std.specs.Prelude.{ℕ, ◌≡◌, ◌≤◌, ◌-◌, ◌⊎◌, ◌++◌, List, [], length, drop, vec_len, Option, false, refl, IfOk, IfErr, OnOk, Err};
+ghost use Rattle.lsp_frame.specs.Frame.{frame};
+ghost use Rattle.lsp_log.specs.Log.{mark_of};
+ghost use Rattle.lsp_replay.specs.inside.RunOutput.{IsRecordFault, output_of};
+ghost use Rattle.lsp_replay.specs.Session.{judge_at, opened};
+ghost use Rattle.lsp_replay.specs.Commands.{normalising, run_output_in, line_if, front_of, written, writes, ends};
+ghost use Rattle.lsp_replay.specs.inside.Commands.{each_output};
+ghost use Rattle.lsp_replay.specs.inside.Reads.{IsReadOf};
+ghost use Rattle.lsp_replay.specs.inside.Verdicts.{IsAppended};
+
+use crate::handler::front::{line_bytes, mark_bytes, push_front, push_line};
+use crate::handler::{Given, Handler, Output};
+use crate::outcome::Outcome;
+use crate::session::writing::Appended;
+use crate::session::{RecordBody, Session, in_log};
+use lsp_frame::{put_before, put_header};
+use lsp_log::Head;
+use lsp_server::Config;
+use lsp_stream::EngineFault;
+use std::alloc::{AllocError, Global};
+
+/// Writes each record as it is, and an accepted change as its canonical message.
+#[derive(Drop)]
+pub struct Normalise {
+    pub session: Session,
+}
+
+impl Normalise {
+    /// Starts before the first record, over a new server.
+    pub fn new(alloc: Global, config: Config) -> Normalise
+        ensures session { result.session ≡ opened config }
+    {
+        let session = Session::new(alloc, config);
+        Normalise { session }
+    }
+
+    /// Writes the record that was read: an accepted change as its canonical message, any other as
+    /// it is. A bad record, and a canonical body over the limit, end the run.
+    pub(super) fn write_read(
+        &mut self,
+        head: Head,
+        raw: &[u8],
+        read: RecordBody<'_>,
+        buffer: &mut Vec<u8>,
+    ) -> Result<Output, EngineFault>
+        requires { buffer.old.items ≡ [] }
+        ensures session { (body : List ℕ) → IsReadOf head body read.entry →
+            OnOk result (self.new.session ≡ (judge_at self.old.session head body).session) }
+        ensures output { (body : List ℕ) → IsReadOf head body read.entry → IfOk result
+            (λ output. each_output self.old.session
+            (record { head = head; raw = raw.now; body = body })
+            ≡ writes (output_of output raw.now buffer.new.items)) }
+        ensures error { (body : List ℕ) → IsReadOf head body read.entry → IfErr result
+            (λ fault. (fault ≡ EngineFault.NoMemory)
+            ⊎ (IsRecordFault fault × (each_output self.old.session
+            (record { head = head; raw = raw.now; body = body }) ≡ ends [] (Err fault)))) }
+    {
+        buffer.resize(FRONT_ROOM, 0)?;
+        let (verdict, appended) = self.session.judge_and_write(read, buffer)?;
+        in_log(&verdict, head.place)?;
+        push_record(buffer, head, raw, appended)
+    }
+}
+
+impl Handler for Normalise {
+    ghost run_output = { λ normalise. run_output_in normalising normalise.session };
+
+    ghost FLUSHES = { false };
+
+    const FLUSHES: bool = false;
+
+    ghost parts = { λ normalise. 0 };
+
+    ghost silent = { λ _. refl };
+
+    ghost unstopped = { λ _. refl };
+
+    fn handle(
+        &mut self,
+        head: Head,
+        raw: &[u8],
+        body: &[u8],
+        buffer: &mut Vec<u8>,
+    ) -> Result<Given, EngineFault> {
+        let read = self.session.read(head, body)?;
+        let output = self.write_read(head, raw, read, buffer)?;
+        Ok(Given::more(output))
+    }
+
+    fn finish(
+        &mut self,
+        line_due: bool,
+        buffer: &mut Vec<u8>,
+    ) -> Result<Option<Outcome>, EngineFault> {
+        push_line(buffer, line_due)?;
+        Ok(Some(self.session.outcome()))
+    }
+}
+
+/// Room before a body for what is written there: the line of version 2, a mark and a header.
+const FRONT_ROOM: usize = 64;
+
+/// Writes a record with its mark: as it is, or as its canonical message, whose body is in `buffer`
+/// after the room.
+#[tactic(auto, using(crate::proofs::CanonicalLogLemmas::appended_none, crate::proofs::CanonicalLogLemmas::appended_framed, crate::proofs::CanonicalLogLemmas::appended_too_long))]
+fn push_record(
+    buffer: &mut Vec<u8>,
+    head: Head,
+    raw: &[u8],
+    appended: Option<Appended>,
+) -> Result<Output, EngineFault>
+    requires { FRONT_ROOM ≤ vec_len buffer.old }
+    ensures ok { IfOk result
+        (λ output. (max_body : ℕ) (canonical_log : Option (List ℕ)) (body room : List ℕ) →
+        length room ≡ FRONT_ROOM →
+        IsAppended max_body canonical_log appended room buffer.old.items →
+        written max_body (record { head = head; raw = raw.now; body = body })
+        (front_of head) canonical_log ≡ writes (output_of output raw.now buffer.new.items)) }
+    ensures error { IfErr result
+        (λ fault. (fault ≡ EngineFault.NoMemory) ⊎ ((fault ≡ EngineFault.BodyTooLong head.place)
+        × ((max_body : ℕ) (canonical_log : Option (List ℕ)) (body room : List ℕ) →
+        length room ≡ FRONT_ROOM →
+        IsAppended max_body canonical_log appended room buffer.old.items →
+        written max_body (record { head = head; raw = raw.now; body = body })
+        (front_of head) canonical_log ≡ ends [] (Err (EngineFault.BodyTooLong head.place))))) }
+{
+    let Some(appended) = appended else {
+        return Ok(push_as_it_is(buffer, head, raw)?);
+    };
+    within_limit(appended, head.place)?;
+    let start = put_front(buffer, head);
+    Ok(Output::BytesFrom(start))
+}
+
+/// Refuses a canonical body over the limit, of the record at this offset.
+fn within_limit(appended: Appended, place: u64) -> Result<(), EngineFault>
+    ensures ok { OnOk result (appended ≡ Appended.Body) }
+    ensures error { IfErr result
+        (λ fault. (fault ≡ EngineFault.BodyTooLong place) × (appended ≡ Appended.TooLong)) }
+{
+    match appended {
+        Appended::Body => Ok(()),
+        Appended::TooLong => Err(EngineFault::BodyTooLong { place }),
+    }
+}
+
+/// Writes a record with its mark, as it is.
+fn push_as_it_is(buffer: &mut Vec<u8>, head: Head, raw: &[u8]) -> Result<Output, AllocError>
+    ensures { IfOk result (λ output. output_of output raw.now buffer.new.items
+        ≡ front_of head ++ raw.now) }
+{
+    buffer.clear();
+    push_front(buffer, head)?;
+    if buffer.is_empty() {
+        return Ok(Output::Frame);
+    }
+    buffer.extend_from_slice(raw)?;
+    Ok(Output::Bytes)
+}
+
+/// Writes the line of version 2, if it is due, the mark and the header into the room right before a
+/// body. Returns the index where they begin.
+fn put_front(buffer: &mut [u8], head: Head) -> usize
+    requires { FRONT_ROOM ≤ length buffer.old }
+    ensures { drop result buffer.new ≡ line_if head.line_due
+        ++ (mark_of head.version head.side ++ frame (drop FRONT_ROOM buffer.old)) }
+{
+    let header = put_header(buffer, FRONT_ROOM);
+    let mark = put_before(buffer, header, mark_bytes(head));
+    put_before(buffer, mark, line_bytes(head.line_due))
+}

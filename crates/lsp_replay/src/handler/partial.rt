@@ -1,0 +1,161 @@
+//! `replay` of a part of a log: the documents after a record, or the last text of one document.
+
+ghost use Rattle.std.specs.Prelude.{◌≡◌, ◌++◌, ℕ, Bool, List, Option, None, refl, IfOk, OnOk, false, option_map, string_bytes};
+ghost use Rattle.lsp_message.specs.Params.{DocumentItem};
+ghost use Rattle.lsp_store.specs.Table.{entry_at};
+ghost use Rattle.lsp_log.specs.Log.{Record};
+ghost use Rattle.lsp_replay.specs.RunOutput.{RunOutput};
+ghost use Rattle.lsp_replay.specs.Session.{opened, outcome_of};
+ghost use Rattle.lsp_replay.specs.Commands.{report_from};
+ghost use Rattle.lsp_replay.specs.Parts.{is_last, last_text, part_bytes, part_of, part_outcome, replayed_in};
+ghost use Rattle.lsp_replay.specs.inside.Parts.{last_of};
+
+use crate::commands::Part;
+use crate::handler::replaying::push_document_line;
+use crate::handler::{Given, Handler, Output};
+use crate::outcome::{Missing, Outcome};
+use crate::session::Session;
+use lsp_log::Head;
+use lsp_server::Config;
+use lsp_store::Store;
+use lsp_stream::EngineFault;
+use std::alloc::{AllocError, Global};
+
+/// Writes the documents after the part's last record, or the last text of one.
+#[derive(Drop)]
+pub struct ReplayPart {
+    pub session: Session,
+    pub part: Part,
+    // The text that the part's document had when it was closed last.
+    pub kept: Option<String>,
+}
+
+impl ReplayPart {
+    /// Starts before the first record, over a new server.
+    pub fn new(alloc: Global, config: Config, part: Part) -> ReplayPart
+        ensures { replayed_in (part_of result.part) (last_of result) result.session
+            ≡ replayed_in (part_of part) None (opened config) }
+    {
+        let session = Session::new(alloc, config);
+        ReplayPart {
+            session,
+            part,
+            kept: None,
+        }
+    }
+
+    /// Was the last record the part's last one?
+    fn is_last(&self) -> bool
+        ensures { result ≡ is_last self.now.part.at self.now.session.records }
+    {
+        match self.part.at {
+            Some(at) => at == self.session.records(),
+            None => false,
+        }
+    }
+
+    /// Returns the last text of the document with this URI, in a copy.
+    fn last_text(&self, alloc: Global, uri: &str) -> Result<Option<String>, AllocError>
+        ensures { IfOk result (λ found. option_map string_bytes found
+            ≡ last_text (option_map string_bytes self.now.kept)
+            (entry_at self.now.session.server.table uri.now)) }
+    {
+        if let Some(document) = self.session.server().store().get(uri) {
+            return Ok(Some(document.text().to_string(alloc)?));
+        }
+        match &self.kept {
+            Some(kept) => Ok(Some(String::from_str(alloc, kept)?)),
+            None => Ok(None),
+        }
+    }
+
+    /// Writes what is printed of the part, and returns the outcome.
+    fn push_report(&self, buffer: &mut Vec<u8>) -> Result<Outcome, AllocError>
+        ensures bytes { OnOk result (buffer.new.items ≡ buffer.old.items
+            ++ part_bytes (part_of self.now.part).uri (last_of self.now)
+            self.now.session.server.table) }
+        ensures outcome { IfOk result (λ outcome. outcome
+            ≡ part_outcome (part_of self.now.part).uri (last_of self.now)
+            (outcome_of self.now.session)) }
+    {
+        let outcome = self.session.outcome();
+        let Some(uri) = &self.part.uri else {
+            push_documents(buffer, self.session.server().store())?;
+            return Ok(outcome);
+        };
+        let Some(text) = self.last_text(*buffer.allocator(), uri)? else {
+            return Ok(Outcome {
+                status: 1,
+                missing: Some(Missing::Document),
+                ..outcome
+            });
+        };
+        buffer.extend_from_slice(text.as_bytes())?;
+        Ok(outcome)
+    }
+}
+
+impl Handler for ReplayPart {
+    ghost run_output = { λ replay.
+        replayed_in (part_of replay.part) (last_of replay) replay.session };
+
+    ghost FLUSHES = { false };
+
+    const FLUSHES: bool = false;
+
+    ghost parts = { λ replay. 0 };
+
+    ghost silent = { λ _. refl };
+
+    ghost unstopped = { λ _. refl };
+
+    fn handle(
+        &mut self,
+        head: Head,
+        _raw: &[u8],
+        body: &[u8],
+        buffer: &mut Vec<u8>,
+    ) -> Result<Given, EngineFault> {
+        self.session
+            .accept_and_keep(head, body, &self.part.uri, &mut self.kept)?;
+        if !self.is_last() {
+            return Ok(Given::more(Output::Bytes));
+        }
+        let outcome = self.push_report(buffer)?;
+        Ok(Given {
+            output: Output::Bytes,
+            end: Some(outcome),
+        })
+    }
+
+    fn finish(
+        &mut self,
+        _line_due: bool,
+        buffer: &mut Vec<u8>,
+    ) -> Result<Option<Outcome>, EngineFault> {
+        if self.part.at.is_some() {
+            return Ok(Some(Outcome {
+                status: 1,
+                missing: Some(Missing::Record),
+                ..self.session.outcome()
+            }));
+        }
+        Ok(Some(self.push_report(buffer)?))
+    }
+}
+
+/// Writes a line for each open document, in order of opening.
+fn push_documents(buffer: &mut Vec<u8>, documents: &Store) -> Result<(), AllocError>
+    ensures { OnOk result
+        (buffer.new.items ≡ buffer.old.items ++ report_from 0 documents.now.table) }
+{
+    let mut next = 0;
+    'documents: while next < documents.len() {
+        let Some(document) = documents.at(next) else {
+            return Ok(());
+        };
+        push_document_line(buffer, &document)?;
+        next += 1;
+    }
+    Ok(())
+}

@@ -1,0 +1,96 @@
+//! `replay`: the documents that are open at the end of a log.
+
+ghost use Rattle.std.specs.Prelude.{◌≡◌, ◌++◌, ◌-◌, refl, OnOk, length, false};
+ghost use Rattle.lsp_replay.specs.Session.{opened};
+ghost use Rattle.lsp_replay.specs.Commands.{replaying, replaying_from, run_output_in, document_line};
+
+use crate::handler::{Given, Handler, Output};
+use crate::outcome::Outcome;
+use crate::session::Session;
+use lsp_log::Head;
+use lsp_message::push_document;
+use lsp_server::Config;
+use lsp_store::Document;
+use lsp_stream::EngineFault;
+use std::alloc::{AllocError, Global};
+
+/// Writes a line for each document that is open at the end, in order of opening.
+#[derive(Drop)]
+pub struct Replay {
+    pub session: Session,
+    // The index of the next document to be written.
+    pub next: usize,
+}
+
+impl Replay {
+    /// Starts before the first record, over a new server.
+    pub fn new(alloc: Global, config: Config) -> Replay
+        ensures session { result.session ≡ opened config }
+        ensures run_output { run_output_in (replaying_from result.next) result.session
+            ≡ run_output_in replaying (opened config) }
+    {
+        let session = Session::new(alloc, config);
+        Replay { session, next: 0 }
+    }
+}
+
+impl Handler for Replay {
+    ghost run_output = { λ replay. run_output_in (replaying_from replay.next) replay.session };
+
+    ghost FLUSHES = { false };
+
+    const FLUSHES: bool = false;
+
+    ghost parts = { λ replay. length replay.session.server.table - replay.next };
+
+    ghost silent = { λ _. refl };
+
+    ghost unstopped = { λ _. refl };
+
+    fn handle(
+        &mut self,
+        head: Head,
+        _raw: &[u8],
+        body: &[u8],
+        _buffer: &mut Vec<u8>,
+    ) -> Result<Given, EngineFault> {
+        self.session.accept(head, body)?;
+        Ok(Given::more(Output::Bytes))
+    }
+
+    fn finish(
+        &mut self,
+        _line_due: bool,
+        buffer: &mut Vec<u8>,
+    ) -> Result<Option<Outcome>, EngineFault> {
+        let documents = self.session.server().store();
+        if self.next >= documents.len() {
+            return Ok(Some(self.session.outcome()));
+        }
+        let Some(document) = documents.at(self.next) else {
+            return Ok(Some(self.session.outcome()));
+        };
+        push_document_line(buffer, &document)?;
+        self.next += 1;
+        Ok(None)
+    }
+}
+
+/// Appends a document's line. Its text is joined first.
+pub(super) fn push_document_line(
+    buffer: &mut Vec<u8>,
+    document: &Document<'_>,
+) -> Result<(), AllocError>
+    ensures { OnOk result (buffer.new.items ≡ buffer.old.items ++ document_line document.now) }
+{
+    let text = document.text().to_string(*buffer.allocator())?;
+    push_document(
+        buffer,
+        document.uri(),
+        document.language(),
+        document.version(),
+        &text,
+    )?;
+    buffer.extend_from_slice(b"\n")?;
+    Ok(())
+}
